@@ -4,12 +4,14 @@
 mod cycle;
 mod items;
 mod level;
+mod outside;
 mod record;
 mod wave;
 
 pub use cycle::{Cycle, LookList, Moment, MomentList, PushList};
 pub use items::Items;
 pub use level::{Drive, Level};
+pub use outside::{Failed, NoMemory, Shelf, ShelfFault, Sink, SinkFault};
 pub use record::{By, Fail, FailList, Record, RecordList, Trial, TrialList, Verdict};
 pub use wave::{
     Act, Event, EventList, Look, Push, Table, TableList, Text, TextList, Wave, WaveList,
