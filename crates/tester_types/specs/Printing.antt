@@ -1,6 +1,8 @@
 -- What a piece of a line prints as.
-use Rattle.std.specs.Prelude.{ℕ, Bool, List, [], ◌∷◌, ◌++◌, ◌&&◌, nat_le, if◌then◌else◌}
+use Rattle.std.specs.Prelude.{ℕ, Bool, List, [], ◌∷◌, ◌++◌, ◌&&◌, nat_le, decimal, if◌then◌else◌}
 use Rattle.std.specs.List.{list_all}
+use Rattle.tester_types.specs.declared.printing.Piece.{Piece}
+use Rattle.tester_types.specs.declared.printing.Piece.TheVariants.{Text, Number, Name, Title}
 
 -- a byte that stands for itself in a name that is printed bare: 0x21 to 0x7E
 abbrev pub is_bare : ℕ → Bool
@@ -19,3 +21,10 @@ printed_name (byte ∷ bytes) = if list_all is_bare (byte ∷ bytes) then byte �
 abbrev pub printed_title : List ℕ → List ℕ
 printed_title [] = 45 ∷ []
 printed_title (byte ∷ bytes) = printed_name (byte ∷ bytes)
+
+-- what a piece prints as
+abbrev pub piece_text : Piece → List ℕ
+piece_text (Text text) = text.now
+piece_text (Number number) = decimal number
+piece_text (Name name) = printed_name name.now
+piece_text (Title name) = printed_title name.now

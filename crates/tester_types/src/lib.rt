@@ -5,6 +5,7 @@ mod cycle;
 mod items;
 mod level;
 mod outside;
+mod printing;
 mod record;
 mod wave;
 
@@ -12,6 +13,7 @@ pub use cycle::{Cycle, LookList, Moment, MomentList, PushList};
 pub use items::Items;
 pub use level::{Drive, Level};
 pub use outside::{Failed, NoMemory, Shelf, ShelfFault, Sink, SinkFault};
+pub use printing::{Piece, Printed, put_all, put_each};
 pub use record::{By, Fail, FailList, Record, RecordList, Trial, TrialList, Verdict};
 pub use wave::{
     Act, Event, EventList, Look, Push, Table, TableList, Text, TextList, Wave, WaveList,
