@@ -1,2 +1,4 @@
 pub mod Outside
 pub mod Printing
+pub mod Memory
+pub mod Desk

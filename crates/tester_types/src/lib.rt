@@ -2,16 +2,22 @@
 #![tactic(auto)]
 
 mod cycle;
+mod desk;
 mod items;
 mod level;
+mod mem_shelf;
+mod mem_sink;
 mod outside;
 mod printing;
 mod record;
 mod wave;
 
 pub use cycle::{Cycle, LookList, Moment, MomentList, PushList};
+pub use desk::{Ask, Desk, Gate, ListDesk, OpenGate, SilentDesk};
 pub use items::Items;
 pub use level::{Drive, Level};
+pub use mem_shelf::MemShelf;
+pub use mem_sink::MemSink;
 pub use outside::{Failed, NoMemory, Shelf, ShelfFault, Sink, SinkFault};
 pub use printing::{Piece, Printed, put_all, put_each};
 pub use record::{By, Fail, FailList, Record, RecordList, Trial, TrialList, Verdict};

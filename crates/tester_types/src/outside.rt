@@ -3,6 +3,8 @@
 ghost use Rattle.std.specs.Prelude.{◌≡◌, ℕ, ◌<◌, ◌≤◌, List, Option, length, take, IfOk, OnErr};
 ghost use Rattle.tester_types.specs.Outside.{HasRisen, gained, Files, Loads, FailsBy};
 
+ghost use Rattle.tester_types.specs.declared.outside.ShelfFault.TheVariants as ShelfFault;
+
 use std::alloc::{AllocError, AllocFailed, Global};
 use std::error::Error;
 use std::fmt;
@@ -39,6 +41,14 @@ pub enum ShelfFault {
     /// It has more bytes than there was room for.
     TooLong,
     NoMemory,
+}
+
+impl From<AllocError> for ShelfFault {
+    ghost from_gives = { λ _ e. e ≡ ShelfFault.NoMemory };
+
+    fn from(_e: AllocError) -> ShelfFault {
+        ShelfFault::NoMemory
+    }
 }
 
 /// A place with named files. It may tell what they hold, and it counts its faults.
