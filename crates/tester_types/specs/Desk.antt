@@ -1,5 +1,5 @@
 -- What a desk has said, and what the desk with a list says.
-use Rattle.std.specs.Prelude.{◌≡◌, ℕ, ◌<◌, ◌≤◌, ◌+◌, ◌==◌, Bool, true, false, List, take, length, count_by, min}
+use Rattle.std.specs.Prelude.{◌≡◌, ℕ, ◌<◌, ◌≤◌, ◌==◌, Bool, false, List, take, count_by}
 use Rattle.tester_types.specs.declared.desk.Ask.{Ask}
 use Rattle.tester_types.specs.declared.desk.Ask.TheVariants.{Nothing, Stop}
 

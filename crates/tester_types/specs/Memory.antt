@@ -1,5 +1,5 @@
 -- What the sink and the shelf in memory do, call by call.
-use Rattle.std.specs.Prelude.{◌≡◌, ℕ, ◌+◌, ◌-◌, ◌^◌, ◌<◌, ◌≤◌, Bool, true, false, List, [], ◌∷◌, ◌++◌, ◌&&◌, ◌||◌, ◌==◌, nat_le, nat_lt, length, take, map, min, Option, Some, None, Result, Ok, Err, Vec, string_bytes, ◌⊎◌, if◌then◌else◌, String}
+use Rattle.std.specs.Prelude.{◌≡◌, ℕ, ◌+◌, ◌-◌, ◌^◌, ◌<◌, ◌≤◌, Bool, true, false, List, [], ◌++◌, ◌&&◌, ◌||◌, ◌==◌, nat_le, nat_lt, length, take, map, min, Option, Some, None, Result, Ok, Err, Vec, string_bytes, ◌⊎◌, if◌then◌else◌, String}
 use Rattle.std.specs.List.{list_any}
 use Rattle.std.specs.declared.alloc.Global.{Global}
 use Rattle.tester_types.specs.declared.outside.ShelfFault.{ShelfFault}
@@ -51,10 +51,10 @@ put_takes (Some taken) piece = take taken piece
 -- a sink after a put of this piece
 abbrev pub after_put : SinkState → List ℕ → SinkState
 after_put s piece = record s {
-    bytes = s.bytes ++ put_takes (how_much s (length piece)) piece;
-    calls = one_more s.calls;
-    faults = if is_fault (how_much s (length piece)) (length piece) then one_more s.faults else s.faults
-  }
+  bytes = s.bytes ++ put_takes (how_much s (length piece)) piece;
+  calls = one_more s.calls;
+  faults = if is_fault (how_much s (length piece)) (length piece) then one_more s.faults else s.faults;
+}
 
 -- a shelf in memory: its files, the calls that fail, and how many calls and faults there were
 pub record ShelfState : Type 0 where
@@ -78,9 +78,9 @@ load_fails s = is_named s.failing (one_more s.calls)
 -- a shelf after a load
 abbrev pub after_load : ShelfState → ShelfState
 after_load s = record s {
-    calls = one_more s.calls;
-    faults = if load_fails s then one_more s.faults else s.faults
-  }
+  calls = one_more s.calls;
+  faults = if load_fails s then one_more s.faults else s.faults;
+}
 
 -- what a load answers: a failure where the call is one that fails or the file isn't there; else its bytes,
 -- or that they are too long

@@ -46,6 +46,7 @@ impl SilentDesk {
 
 impl Desk for SilentDesk {
     ghost stops = { λ _ _. 0 };
+
     ghost asked = { λ d. d.asked };
 
     fn next(&mut self) -> Ask
@@ -89,6 +90,7 @@ impl ListDesk {
 
 impl Desk for ListDesk {
     ghost stops = { stops_said };
+
     ghost asked = { λ d. d.asked };
 
     fn next(&mut self) -> Ask

@@ -24,3 +24,6 @@ pub use record::{By, Fail, FailList, Record, RecordList, Trial, TrialList, Verdi
 pub use wave::{
     Act, Event, EventList, Look, Push, Table, TableList, Text, TextList, Wave, WaveList,
 };
+
+#[cfg(test)]
+mod tests;

@@ -21,10 +21,10 @@ impl Model for MemShelf {
     ghost Value = { ShelfState };
 
     ghost view = { λ s. record {
-        files = files_seen s.files.items;
-        failing = s.failing.items;
-        calls = s.calls;
-        faults = s.faults;
+      files = files_seen s.files.items;
+      failing = s.failing.items;
+      calls = s.calls;
+      faults = s.faults;
     } };
 }
 
@@ -33,10 +33,10 @@ impl MemShelf {
     /// `failing` fail.
     pub fn new(files: Vec<(String, Vec<u8>)>, failing: Vec<u64>) -> MemShelf
         ensures { result ≡ record {
-            files = files_seen files.items;
-            failing = failing.items;
-            calls = 0;
-            faults = 0;
+          files = files_seen files.items;
+          failing = failing.items;
+          calls = 0;
+          faults = 0;
         } }
     {
         MemShelf {
@@ -69,6 +69,7 @@ fn find_file<'a>(files: &'a [(String, Vec<u8>)], name: &str) -> Option<&'a [u8]>
 
 impl Shelf for MemShelf {
     ghost told = { λ s. Some s.files };
+
     ghost faults = { λ s. s.faults };
 
     fn load(&mut self, alloc: Global, name: &str, room: usize) -> Result<Vec<u8>, ShelfFault>

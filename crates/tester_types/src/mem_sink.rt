@@ -24,13 +24,13 @@ impl Model for MemSink {
     ghost Value = { SinkState };
 
     ghost view = { λ s. record {
-        bytes = s.bytes.items;
-        room = s.room;
-        most = s.most;
-        failing = s.failing.items;
-        empty = s.empty.items;
-        calls = s.calls;
-        faults = s.faults;
+      bytes = s.bytes.items;
+      room = s.room;
+      most = s.most;
+      failing = s.failing.items;
+      empty = s.empty.items;
+      calls = s.calls;
+      faults = s.faults;
     } };
 
     ghost invariant = { λ s. (vec_len s.bytes ≤ s.room) × (s.room ≤ vec_capacity s.bytes) };
@@ -48,13 +48,13 @@ impl MemSink {
     ) -> Result<MemSink, NoMemory>
         requires { 1 ≤ most }
         ensures { IfOk result (λ s. s ≡ record {
-            bytes = [];
-            room = room;
-            most = most;
-            failing = failing.items;
-            empty = empty.items;
-            calls = 0;
-            faults = 0;
+          bytes = [];
+          room = room;
+          most = most;
+          failing = failing.items;
+          empty = empty.items;
+          calls = 0;
+          faults = 0;
         }) }
     {
         let bytes = Vec::with_capacity(alloc, room)?;
@@ -105,6 +105,7 @@ fn is_fault(much: Option<usize>, len: usize) -> bool
 
 impl Sink for MemSink {
     ghost told = { λ s. Some s.bytes };
+
     ghost faults = { λ s. s.faults };
 
     fn put(&mut self, piece: &[u8]) -> Result<usize, Failed>

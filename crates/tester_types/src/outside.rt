@@ -2,7 +2,6 @@
 
 ghost use Rattle.std.specs.Prelude.{◌≡◌, ℕ, ◌<◌, ◌≤◌, List, Option, length, take, IfOk, OnErr};
 ghost use Rattle.tester_types.specs.Outside.{HasRisen, gained, Files, Loads, FailsBy};
-
 ghost use Rattle.tester_types.specs.declared.outside.ShelfFault.TheVariants as ShelfFault;
 
 use std::alloc::{AllocError, AllocFailed, Global};
