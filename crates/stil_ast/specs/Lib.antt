@@ -1,0 +1,4 @@
+pub mod State
+pub mod Statements
+pub mod Run
+pub mod Cycles

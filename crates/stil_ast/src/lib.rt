@@ -1,0 +1,2 @@
+//! The typed data of STIL blocks, and what patterns mean.
+#![tactic(auto)]
