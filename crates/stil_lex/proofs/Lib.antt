@@ -1,0 +1,10 @@
+pub mod Pairs
+pub mod Spans
+pub mod Found
+pub mod Words
+pub mod Quotes
+pub mod Fronts
+pub mod Pieces
+pub mod Refusals
+pub mod Readings
+pub mod Loop

@@ -1,0 +1,6 @@
+pub mod Bytes
+pub mod Pieces
+pub mod Tokens
+pub mod Faults
+pub mod Text
+pub mod Step

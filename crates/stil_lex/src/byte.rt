@@ -1,0 +1,90 @@
+//! The bytes of a text, and how many stand together at its front.
+
+ghost use Rattle.std.specs.Prelude.{◌≡◌, ◌≤◌, length, ◌==◌, count_by};
+ghost use Rattle.std.specs.List.{prefix_len, position_or_len};
+ghost use Rattle.stil_lex.specs.Bytes.{is_blank, is_word, is_printing, may_be_quoted, starts_pair};
+ghost use Rattle.stil_lex.specs.Step.{pair_place};
+
+#[tactic(auto, unfolding(crate::specs::Bytes::is_blank))]
+pub(crate) fn is_blank(b: u8) -> bool
+    ensures { result ≡ is_blank b }
+{
+    b == b' ' || b == b'\t' || b == b'\n' || b == 0x0C || b == b'\r'
+}
+
+#[tactic(auto, unfolding(crate::specs::Bytes::is_word))]
+pub(crate) fn is_word(b: u8) -> bool
+    ensures { result ≡ is_word b }
+{
+    (b'a' <= b && b <= b'z') || (b'A' <= b && b <= b'Z') || (b'0' <= b && b <= b'9') || b == b'_'
+}
+
+#[tactic(auto, unfolding(crate::specs::Bytes::is_printing))]
+pub(crate) fn is_printing(b: u8) -> bool
+    ensures { result ≡ is_printing b }
+{
+    b'!' <= b && b <= b'~'
+}
+
+#[tactic(auto, unfolding(crate::specs::Bytes::may_be_quoted))]
+pub(crate) fn may_be_quoted(b: u8) -> bool
+    ensures { result ≡ may_be_quoted b }
+{
+    (b' ' <= b && b <= b'~') || is_blank(b)
+}
+
+/// Whether the text begins with these two bytes.
+pub(crate) fn starts_pair(text: &[u8], first: u8, second: u8) -> bool
+    ensures { result ≡ starts_pair first second text.now }
+{
+    match text {
+        [x, y, ..] => *x == first && *y == second,
+        _ => false,
+    }
+}
+
+/// How many bytes stand before the first such pair, or all.
+pub(crate) fn pair_place(text: &[u8], first: u8, second: u8) -> usize
+    ensures place { result ≡ pair_place first second text.now }
+    ensures within { result ≤ length text.now }
+{
+    for at in 0..text.len() {
+        if starts_pair(&text[at..], first, second) {
+            return at;
+        }
+    }
+    text.len()
+}
+
+/// How many bytes stand before the first `byte`, or all.
+pub(crate) fn place_of(text: &[u8], byte: u8) -> usize
+    ensures { result ≡ position_or_len (λ b. b == byte) text.now }
+{
+    text.iter().take_while(|b| **b != byte).count()
+}
+
+pub(crate) fn blanks_len(text: &[u8]) -> usize
+    ensures len { result ≡ prefix_len is_blank text.now }
+    ensures within { result ≤ length text.now }
+{
+    text.iter().take_while(|b| is_blank(**b)).count()
+}
+
+pub(crate) fn word_len(text: &[u8]) -> usize
+    ensures { result ≡ prefix_len is_word text.now }
+{
+    text.iter().take_while(|b| is_word(**b)).count()
+}
+
+pub(crate) fn quotable_len(text: &[u8]) -> usize
+    ensures { result ≡ prefix_len may_be_quoted text.now }
+{
+    text.iter().take_while(|b| may_be_quoted(**b)).count()
+}
+
+/// How many line feeds stand in the text.
+pub(crate) fn line_feeds(text: &[u8]) -> usize
+    ensures { result ≡ count_by (λ b. b == 10) text.now }
+{
+    text.iter().filter(|b| **b == b'\n').count()
+}
