@@ -1,3 +1,4 @@
+pub mod StandardFacts
 pub mod Pairs
 pub mod Spans
 pub mod Found

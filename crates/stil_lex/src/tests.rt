@@ -1,18 +1,18 @@
 use super::*;
 use std::test::Fail;
 
-fn fault_of(rt: &HostRuntime, bytes: &[u8]) -> Option<LexFault> {
-    if bytes.len() > 1000 {
-        return None;
+/// The fault of a short text.
+fn fault_of(rt: &HostRuntime, text: &[u8]) -> Option<LexFault> {
+    if text.len() > 1000 {
+        return Some(LexFault::NoMemory);
     }
-    lex(rt.alloc(), bytes).err()
+    lex(rt.alloc(), text).err()
 }
 
 #[test]
 fn a_head_is_cut_into_its_tokens(rt: HostRuntime) -> Result<(), Fail> {
     let text = b"Ann {* x *}\nW \"a b\" '1+2';";
     let tokens = lex(rt.alloc(), text)?;
-    assert_eq!(rt; tokens.len(), 4);
     let items = tokens.as_slice();
     assert_eq!(rt; items.len(), 4);
     assert_eq!(rt; items[0].kind, TokenKind::Word);
@@ -23,4 +23,36 @@ fn a_head_is_cut_into_its_tokens(rt: HostRuntime) -> Result<(), Fail> {
     assert_eq!(rt; items[3].kind, TokenKind::Sign(b';'));
     assert_eq!(rt; items[3].line, 2);
     Ok(())
+}
+
+#[test]
+fn good_texts_have_no_fault(rt: HostRuntime) {
+    assert_eq!(rt; fault_of(&rt, b""), None);
+    assert_eq!(rt; fault_of(&rt, b"STIL"), None);
+    assert_eq!(rt; fault_of(&rt, b"Ann x; // caf\xC3\xA9"), None);
+    assert_eq!(rt; fault_of(&rt, b"a /* \xFF\n * / */ b"), None);
+    assert_eq!(rt; fault_of(&rt, b"Ann\n{* \x00 } * *} '\n\"' \"'\""), None);
+}
+
+#[test]
+fn a_text_that_is_cut_has_its_open_place(rt: HostRuntime) {
+    assert_eq!(rt; fault_of(&rt, b"W \"abc"), Some(LexFault::OpenQuote(2)));
+    assert_eq!(rt; fault_of(&rt, b"a 'b\xFF"), Some(LexFault::OpenQuote(2)));
+    assert_eq!(rt; fault_of(&rt, b"a /* b"), Some(LexFault::OpenComment(2)));
+    assert_eq!(rt; fault_of(&rt, b"/*/"), Some(LexFault::OpenComment(0)));
+    assert_eq!(rt;
+        fault_of(&rt, b"a; Ann {* b } *"),
+        Some(LexFault::OpenComment(3))
+    );
+    assert_eq!(rt; fault_of(&rt, b"Ann {*}"), Some(LexFault::OpenComment(0)));
+}
+
+#[test]
+fn a_byte_that_nothing_may_hold_has_its_place(rt: HostRuntime) {
+    assert_eq!(rt; fault_of(&rt, b"abc\x7F"), Some(LexFault::BadByte(3)));
+    assert_eq!(rt; fault_of(&rt, b"\n\x80 'a"), Some(LexFault::BadByte(1)));
+    assert_eq!(rt;
+        fault_of(&rt, b"'a\x01\x02' \x03"),
+        Some(LexFault::BadByte(2))
+    );
 }
