@@ -1,0 +1,8 @@
+mod StandardFacts
+pub mod InstantLemmas
+pub mod SortLemmas
+pub mod WaveLemmas
+pub mod DriveLemmas
+pub mod GroupLemmas
+pub mod SignalLemmas
+pub mod MomentLemmas
