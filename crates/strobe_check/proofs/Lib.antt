@@ -1,0 +1,9 @@
+mod StandardFacts
+pub mod LookLemmas
+pub mod ExtentLemmas
+pub mod FailLemmas
+pub mod PlaceLemmas
+pub mod CycleLemmas
+pub mod SensedLemmas
+pub mod HistoryLemmas
+pub mod UnderwayLemmas

@@ -1,0 +1,15 @@
+//! Strobes: which looks of a cycle fail.
+//!
+//! A [`Checker`] is shown each moment of each cycle with the levels after it. It judges edge looks by the
+//! level of their instant, and windows from their opening up to the signal's next look or the cycle's end.
+#![tactic(auto)]
+
+mod checker;
+mod judge;
+mod look;
+mod tally;
+
+pub use checker::Checker;
+
+#[cfg(test)]
+mod tests;
