@@ -1,8 +1,7 @@
 -- One more entry adds its own fails at the end of a cycle's, signal by signal.
-use Rattle.std.proofs.Common.{◌≡◌, ℕ, zero, suc, ◌+◌, ◌<◌, Bool, eqb, List, [], ◌∷◌, ◌++◌, length, map, filter, refl, sym, ap, ◌∙◌, arith, zero-add}
+use Rattle.std.proofs.Common.{◌≡◌, ℕ, ◌<◌, Bool, eqb, List, [], ◌∷◌, ◌++◌, length, map, filter, refl, ap, ◌∙◌, arith, zero-add}
 use Rattle.std.proofs.lemmas.Bool.{cond-true, cond-false, eq-eqb, ne_eqb}
-use Rattle.std.proofs.lemmas.List.{append-nil, map-append, map-id, length_push}
-use Rattle.std.proofs.lemmas.List.FromFn.{map-range_with_len_more}
+use Rattle.std.proofs.lemmas.List.{append-nil, map-append, length_push}
 use Rattle.std.proofs.lemmas.List.Concat.{flat_map-append}
 use Rattle.std.proofs.lemmas.List.Elements.{filter-append}
 use Rattle.std.specs.List.{AllByRecursion, flat_map, range_with_len}
@@ -12,6 +11,7 @@ use Rattle.strobe_check.specs.Entry.{Entry, looks_at, level_of, fail_at}
 use Rattle.strobe_check.specs.Fails.{fails_of, at_place, bound_signals, fails}
 use Rattle.strobe_check.specs.History.{open_window}
 use Rattle.strobe_check.specs.Step.{failed}
+use Rattle.strobe_check.proofs.Lists.{flat_map-same, flat_map-below, range-push}
 use Rattle.strobe_check.proofs.FailLemmas.{fail_here, fails_of-push}
 use Rattle.strobe_check.proofs.PlaceLemmas.{fails_of-below}
 
@@ -27,17 +27,20 @@ at_place-append : (place : ℕ) (xs ys : List (ℕ × Fail))
     → at_place place (xs ++ ys) ≡ at_place place xs ++ at_place place ys
 at_place-append place xs ys =
     ap (map (λ (fail : ℕ × Fail). fail.1)) (filter-append (λ fail. eqb fail.0 place) xs ys)
-    ∙ map-append (λ (fail : ℕ × Fail). fail.1) (filter (λ fail. eqb fail.0 place) xs) (filter (λ fail. eqb fail.0 place) ys)
+    ∙ map-append (λ (fail : ℕ × Fail). fail.1) (filter (λ fail. eqb fail.0 place) xs)
+    (filter (λ fail. eqb fail.0 place) ys)
 
 at_place-none : (place : ℕ) (xs : List (ℕ × Fail)) → AllByRecursion (λ fail. fail.0 < place) xs
     → at_place place xs ≡ []
 at_place-none place [] below = refl
 at_place-none place (x ∷ xs) below =
-    ap (map (λ (fail : ℕ × Fail). fail.1)) (cond-false _ _ _ (ne_eqb x.0 place (λ e. omega (arith, below.0))))
+    ap (map (λ (fail : ℕ × Fail). fail.1))
+    (cond-false _ _ _ (ne_eqb x.0 place (λ e. omega (arith, below.0))))
     ∙ at_place-none place xs below.1
 
 at_place-here : (signal place : ℕ) (entry : Entry) (looks : List Look)
-    → at_place place (map (fail_here signal (place, entry)) looks) ≡ map (λ look. fail_at signal look entry) looks
+    → at_place place (map (fail_here signal (place, entry)) looks)
+    ≡ map (λ look. fail_at signal look entry) looks
 at_place-here signal place entry [] = refl
 at_place-here signal place entry (look ∷ looks) =
     ap (map (λ (fail : ℕ × Fail). fail.1)) (cond-true _ _ _ (eq-eqb place place refl))
@@ -52,48 +55,33 @@ at_place-other signal place other entry (look ∷ looks) apart =
 
 -- a place of the entries before
 fails-before : (signal place : ℕ) (entries : List Entry) (entry : Entry) → place < length entries
-    → at_place place (fails_of signal (entries ++ entry ∷ [])) ≡ at_place place (fails_of signal entries)
+    → at_place place (fails_of signal (entries ++ entry ∷ []))
+    ≡ at_place place (fails_of signal entries)
 fails-before signal place entries entry before =
     ap (at_place place) (fails_of-push signal entries entry)
     ∙ at_place-append place (fails_of signal entries) _
-    ∙ ap (λ l. at_place place (fails_of signal entries) ++ l) (at_place-other signal (length entries) place entry _ (λ e. omega arith))
+    ∙ ap (λ l. at_place place (fails_of signal entries) ++ l)
+    (at_place-other signal (length entries) place entry _ (λ e. omega arith))
     ∙ append-nil _
 
 -- the place of the new entry
 fails-new : (signal : ℕ) (entries : List Entry) (entry : Entry)
-    → at_place (length entries) (fails_of signal (entries ++ entry ∷ [])) ≡ new_fails entries entry signal
+    → at_place (length entries) (fails_of signal (entries ++ entry ∷ []))
+    ≡ new_fails entries entry signal
 fails-new signal entries entry =
     let place = length entries in
     let looks = failed (level_of signal entry) (open_window signal entries) (looks_at signal entry.moment) in
     ap (at_place place) (fails_of-push signal entries entry)
     ∙ at_place-append place (fails_of signal entries) (map (fail_here signal (place, entry)) looks)
-    ∙ ap (λ l. l ++ at_place place (map (fail_here signal (place, entry)) looks)) (at_place-none place (fails_of signal entries) (fails_of-below signal entries))
+    ∙ ap (λ l. l ++ at_place place (map (fail_here signal (place, entry)) looks))
+    (at_place-none place (fails_of signal entries) (fails_of-below signal entries))
     ∙ at_place-here signal place entry looks
 
 -- ---- all signals
 
-flat_map-same : {X Y : Type 0} (f g : X → List Y) → ((x : X) → f x ≡ g x) → (xs : List X)
-    → flat_map f xs ≡ flat_map g xs
-flat_map-same f g same [] = refl
-flat_map-same f g same (x ∷ xs) =
-    ap (λ l. l ++ flat_map f xs) (same x) ∙ ap (λ l. g x ++ l) (flat_map-same f g same xs)
-
--- functions that agree at the places from a on below a bound
-flat_map-below : {Y : Type 0} (f g : ℕ → List Y) (bound a n : ℕ) → a + n ≡ bound
-    → ((k : ℕ) → k < bound → f k ≡ g k)
-    → flat_map f (range_with_len a n) ≡ flat_map g (range_with_len a n)
-flat_map-below f g bound a zero upto same = refl
-flat_map-below f g bound a (suc n) upto same =
-    ap (λ l. l ++ flat_map f (range_with_len (a + 1) n)) (same a (omega arith))
-    ∙ ap (λ l. g a ++ l) (flat_map-below f g bound (a + 1) n (omega arith) same)
-
-range-push : (a n : ℕ) → range_with_len a (n + 1) ≡ range_with_len a n ++ (a + n) ∷ []
-range-push a n =
-    sym (map-id (range_with_len a (n + 1))) ∙ map-range_with_len_more (λ k. k) a n (a + n) refl
-    ∙ ap (λ l. l ++ (a + n) ∷ []) (map-id (range_with_len a n))
-
 pub fails-push : (bound : List Bool) (entries : List Entry) (entry : Entry)
-    → fails bound (entries ++ entry ∷ []) ≡ fails bound entries ++ flat_map (new_fails entries entry) (bound_signals bound)
+    → fails bound (entries ++ entry ∷ [])
+    ≡ fails bound entries ++ flat_map (new_fails entries entry) (bound_signals bound)
 unfolding fails
 fails-push bound entries entry =
     let n = length entries in
@@ -103,5 +91,7 @@ fails-push bound entries entry =
     ap (λ k. flat_map after (range_with_len 0 k)) (length_push entries entry)
     ∙ ap (flat_map after) (range-push 0 n ∙ ap (λ k. range_with_len 0 n ++ k ∷ []) (zero-add n))
     ∙ flat_map-append after (range_with_len 0 n) (n ∷ [])
-    ∙ ap (λ l. l ++ (after n ++ [])) (flat_map-below after before n 0 n (zero-add n) (λ k lt. flat_map-same _ _ (λ signal. fails-before signal k entries entry lt) signals))
-    ∙ ap (λ l. flat_map before (range_with_len 0 n) ++ l) (append-nil (after n) ∙ flat_map-same _ (new_fails entries entry) (λ signal. fails-new signal entries entry) signals)
+    ∙ ap (λ l. l ++ (after n ++ []))
+    (flat_map-below after before n 0 n (zero-add n) (λ k lt. flat_map-same _ _ (λ signal. fails-before signal k entries entry lt) signals))
+    ∙ ap (λ l. flat_map before (range_with_len 0 n) ++ l)
+    (append-nil (after n) ∙ flat_map-same _ (new_fails entries entry) (λ signal. fails-new signal entries entry) signals)

@@ -30,21 +30,28 @@ grow_last-append entry (x ∷ x' ∷ xs) y ys = ap (λ l. x ∷ l) (grow_last-ap
 
 -- ---- an entry with looks at the signal
 
-until_look-looked : (signal : ℕ) (later : List (ℕ × Entry)) (entry : ℕ × Entry) (look : Look) (ls : List Look)
+until_look-looked : (signal : ℕ) (later : List (ℕ × Entry)) (entry : ℕ × Entry) (look : Look)
+    (ls : List Look)
     → looks signal entry ≡ look ∷ ls
     → until_look signal (later ++ entry ∷ []) ≡ until_look signal later
 until_look-looked signal [] entry look ls is = ap (λ l. if_none l (entry ∷ [])) is
 until_look-looked signal (here ∷ later) entry look ls is =
-    ap (λ l. if_none (looks signal here) (here ∷ l)) (until_look-looked signal later entry look ls is)
+    ap (λ l. if_none (looks signal here) (here ∷ l))
+    (until_look-looked signal later entry look ls is)
 
-pub extents-looked : (signal : ℕ) (entries : List (ℕ × Entry)) (entry : ℕ × Entry) (look : Look) (ls : List Look)
+pub extents-looked : (signal : ℕ) (entries : List (ℕ × Entry)) (entry : ℕ × Entry) (look : Look)
+    (ls : List Look)
     → looks signal entry ≡ look ∷ ls
-    → extents signal (entries ++ entry ∷ []) ≡ extents signal entries ++ extents_here (look ∷ ls) entry []
+    → extents signal (entries ++ entry ∷ [])
+    ≡ extents signal entries ++ extents_here (look ∷ ls) entry []
 extents-looked signal [] entry look ls is = append-nil _ ∙ ap (λ l. extents_here l entry []) is
 extents-looked signal (here ∷ later) entry look ls is =
-    ap (λ l. extents_here (looks signal here) here l ++ extents signal (later ++ entry ∷ [])) (until_look-looked signal later entry look ls is)
-    ∙ ap (λ l. extents_here (looks signal here) here (until_look signal later) ++ l) (extents-looked signal later entry look ls is)
-    ∙ sym (append_assoc (extents_here (looks signal here) here (until_look signal later)) (extents signal later) (extents_here (look ∷ ls) entry []))
+    ap (λ l. extents_here (looks signal here) here l ++ extents signal (later ++ entry ∷ []))
+    (until_look-looked signal later entry look ls is)
+    ∙ ap (λ l. extents_here (looks signal here) here (until_look signal later) ++ l)
+    (extents-looked signal later entry look ls is)
+    ∙ sym
+    (append_assoc (extents_here (looks signal here) here (until_look signal later)) (extents signal later) (extents_here (look ∷ ls) entry []))
 
 -- ---- an entry without
 
@@ -110,7 +117,8 @@ quiet_or_looked signal (here ∷ later) entry is =
         })
 
 inside_last-more : (look : Look) (here entry : ℕ × Entry) (later : List (ℕ × Entry))
-    → inside_last look here (later ++ entry ∷ []) ≡ cond (is_window look) (inside_last look here later ++ entry ∷ []) (inside_last look here later)
+    → inside_last look here (later ++ entry ∷ [])
+    ≡ cond (is_window look) (inside_last look here later ++ entry ∷ []) (inside_last look here later)
 inside_last-more Low here entry later = refl
 inside_last-more High here entry later = refl
 inside_last-more Off here entry later = refl
@@ -142,7 +150,8 @@ extents-quiet signal (here ∷ later) entry is =
   where
     by : IsQuiet signal later entry ⊎ IsLooked signal later entry
         → extents signal (later ++ entry ∷ []) ≡ grow_last entry (extents signal later)
-        → extents signal (here ∷ later ++ entry ∷ []) ≡ grow_last entry (extents signal (here ∷ later))
+        → extents signal (here ∷ later ++ entry ∷ [])
+        ≡ grow_last entry (extents signal (here ∷ later))
     by (inl quiet) later_too =
         let ls = looks signal here in
         let before = ap (λ l. extents_here ls here l ++ extents signal later) quiet.until

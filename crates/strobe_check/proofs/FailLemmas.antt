@@ -1,5 +1,5 @@
 -- The fails of one signal: what one more entry adds to them, and the window that it leaves open.
-use Rattle.std.proofs.Common.{◌≡◌, ℕ, suc, ◌+◌, Bool, true, false, cond, not, ◌&&◌, List, [], ◌∷◌, ◌++◌, length, map, Option, Some, None, refl, sym, ap, ◌∙◌, arith, add-zero, zero-add}
+use Rattle.std.proofs.Common.{◌≡◌, ℕ, Bool, true, false, cond, not, ◌&&◌, List, [], ◌∷◌, ◌++◌, length, map, Option, Some, None, refl, sym, ap, ◌∙◌, zero-add}
 use Rattle.std.proofs.lemmas.List.{append-nil, append_assoc}
 use Rattle.std.proofs.lemmas.List.Elements.{filter_map-append}
 use Rattle.std.proofs.lemmas.List.Folds.{list_all-append}
@@ -15,6 +15,7 @@ use Rattle.strobe_check.specs.Extent.{Extent, inside_last, inside_followed, exte
 use Rattle.strobe_check.specs.Fails.{meets, fail_of, fails_of}
 use Rattle.strobe_check.specs.History.{open_in, last_open, open_window}
 use Rattle.strobe_check.specs.Step.{opened, window_after, failed_edges, failed_window, failed, left_open}
+use Rattle.strobe_check.proofs.Lists.{enumerate_from-push, cons_option-append}
 use Rattle.strobe_check.proofs.ExtentLemmas.{looks, extent, grow, grow_last, extents-looked, extents-quiet}
 
 -- the fail of a look at an entry, with its place
@@ -24,51 +25,62 @@ fail_here signal entry look = (entry.0, fail_at signal look entry.1)
 abbrev pub level : ℕ → ℕ × Entry → Level
 level signal entry = level_of signal entry.1
 
-cons_option-append : {X : Type 0} (o : Option X) (xs ys : List X)
-    → cons_option o (xs ++ ys) ≡ cons_option o xs ++ ys
-cons_option-append None xs ys = refl
-cons_option-append (Some x) xs ys = refl
+-- the first of the entries that doesn't meet a look, and its fail in front of others
+abbrev unmet : ℕ → Look → List (ℕ × Entry) → Option (ℕ × Entry)
+unmet signal look inside = find (λ e. not (meets signal look e)) inside
+
+abbrev with_fail : ℕ → Look → Option (ℕ × Entry) → List (ℕ × Fail) → List (ℕ × Fail)
+with_fail signal look entry rest = cons_option (option_map (λ e. fail_here signal e look) entry) rest
+
+-- the fail of a window at an entry, and the window itself if it has been met so far
+abbrev window_fails : ℕ → ℕ × Entry → Option Look → List (ℕ × Fail)
+window_fails signal entry window = map (fail_here signal entry) (failed_window (level signal entry) window)
+
+abbrev window_if : Bool → Look → Option Look
+window_if b look = cond b (Some look) None
 
 -- ---- an entry without looks at the signal
 
+window_here : (signal : ℕ) (entry : ℕ × Entry) (look : Look) (b : Bool)
+    → with_fail signal look (cond (not b) (Some entry) None) [] ≡ map (fail_here signal entry) (cond b [] (look ∷ []))
+window_here signal entry look true = refl
+window_here signal entry look false = refl
+
+-- a first entry inside: it meets the look, or the others count for nothing
+grow-first : (signal : ℕ) (look : Look) (entry first : ℕ × Entry) (inside : List (ℕ × Entry)) (b : Bool)
+    → with_fail signal look (unmet signal look (inside ++ entry ∷ [])) []
+    ≡ with_fail signal look (unmet signal look inside) []
+    ++ window_fails signal entry (window_if (list_all (meets signal look) inside) look)
+    → with_fail signal look (cond (not b) (Some first) (unmet signal look (inside ++ entry ∷ []))) []
+    ≡ with_fail signal look (cond (not b) (Some first) (unmet signal look inside)) []
+    ++ window_fails signal entry (window_if (b && list_all (meets signal look) inside) look)
+grow-first signal look entry first inside true rest = rest
+grow-first signal look entry first inside false rest = refl
+
 -- a window that has been met so far, or hasn't
 grow-fails : (signal : ℕ) (look : Look) (entry : ℕ × Entry) (inside : List (ℕ × Entry))
-    → cons_option (option_map (λ e. fail_here signal e look) (find (λ e. not (meets signal look e)) (inside ++ entry ∷ []))) []
-    ≡ cons_option (option_map (λ e. fail_here signal e look) (find (λ e. not (meets signal look e)) inside)) []
-    ++ map (fail_here signal entry) (failed_window (level signal entry) (cond (list_all (meets signal look) inside) (Some look) None))
-grow-fails signal look entry [] = by (is_met look (level signal entry))
-  where
-    by : (b : Bool)
-        → cons_option (option_map (λ e. fail_here signal e look) (cond (not b) (Some entry) None)) [] ≡ map (fail_here signal entry) (cond b [] (look ∷ []))
-    by true = refl
-    by false = refl
-grow-fails signal look entry (e ∷ es) = by (meets signal look e) (grow-fails signal look entry es)
-  where
-    after : List (ℕ × Entry) → List (ℕ × Fail)
-    after l = cons_option (option_map (λ x. fail_here signal x look) (find (λ x. not (meets signal look x)) l)) []
-
-    by : (b : Bool)
-        → after (es ++ entry ∷ []) ≡ after es ++ map (fail_here signal entry) (failed_window (level signal entry) (cond (list_all (meets signal look) es) (Some look) None))
-        → cons_option (option_map (λ x. fail_here signal x look) (cond (not b) (Some e) (find (λ x. not (meets signal look x)) (es ++ entry ∷ [])))) []
-        ≡ cons_option (option_map (λ x. fail_here signal x look) (cond (not b) (Some e) (find (λ x. not (meets signal look x)) es))) []
-        ++ map (fail_here signal entry) (failed_window (level signal entry) (cond (b && list_all (meets signal look) es) (Some look) None))
-    by true rest = rest
-    by false rest = refl
+    → with_fail signal look (unmet signal look (inside ++ entry ∷ [])) []
+    ≡ with_fail signal look (unmet signal look inside) []
+    ++ window_fails signal entry (window_if (list_all (meets signal look) inside) look)
+grow-fails signal look entry [] = window_here signal entry look (is_met look (level signal entry))
+grow-fails signal look entry (e ∷ es) =
+    grow-first signal look entry e es (meets signal look e) (grow-fails signal look entry es)
 
 fails-grow : (signal : ℕ) (entry : ℕ × Entry) (x : Extent)
     → cons_option (fail_of signal (grow entry x)) []
-    ≡ cons_option (fail_of signal x) [] ++ map (fail_here signal entry) (failed_window (level signal entry) (open_in signal x))
+    ≡ cons_option (fail_of signal x) [] ++ window_fails signal entry (open_in signal x)
 fails-grow signal entry x = by (is_window x.look)
   where
     by : (b : Bool)
-        → cons_option (option_map (λ e. fail_here signal e x.look) (find (λ e. not (meets signal x.look e)) (cond b (x.inside ++ entry ∷ []) x.inside))) []
-        ≡ cons_option (fail_of signal x) [] ++ map (fail_here signal entry) (failed_window (level signal entry) (cond (b && list_all (meets signal x.look) x.inside) (Some x.look) None))
+        → with_fail signal x.look (unmet signal x.look (cond b (x.inside ++ entry ∷ []) x.inside)) []
+        ≡ cons_option (fail_of signal x) []
+        ++ window_fails signal entry (window_if (b && list_all (meets signal x.look) x.inside) x.look)
     by true = grow-fails signal x.look entry x.inside
     by false = sym (append-nil _)
 
 fails-grow_last : (signal : ℕ) (entry : ℕ × Entry) (xs : List Extent)
     → filter_map (fail_of signal) (grow_last entry xs)
-    ≡ filter_map (fail_of signal) xs ++ map (fail_here signal entry) (failed_window (level signal entry) (last_open signal xs))
+    ≡ filter_map (fail_of signal) xs ++ window_fails signal entry (last_open signal xs)
 fails-grow_last signal entry [] = refl
 fails-grow_last signal entry (x ∷ []) = fails-grow signal entry x
 fails-grow_last signal entry (x ∷ y ∷ xs) =
@@ -85,19 +97,17 @@ open_in-grow : (signal : ℕ) (entry : ℕ × Entry) (x : Extent)
     → open_in signal (grow entry x) ≡ left_open (level signal entry) (open_in signal x)
 open_in-grow signal entry x = by (is_window x.look)
   where
-    met : List (ℕ × Entry) → Bool
-    met l = list_all (meets signal x.look) l
-
     one : (c : Bool)
-        → cond (c && (meets signal x.look entry && true)) (Some x.look) None ≡ left_open (level signal entry) (cond c (Some x.look) None)
+        → window_if (c && (meets signal x.look entry && true)) x.look
+        ≡ left_open (level signal entry) (window_if c x.look)
     one true = and_true (meets signal x.look entry) (Some x.look) None
     one false = refl
 
     by : (b : Bool)
-        → cond (b && list_all (meets signal x.look) (cond b (x.inside ++ entry ∷ []) x.inside)) (Some x.look) None
-        ≡ left_open (level signal entry) (cond (b && list_all (meets signal x.look) x.inside) (Some x.look) None)
+        → window_if (b && list_all (meets signal x.look) (cond b (x.inside ++ entry ∷ []) x.inside)) x.look
+        ≡ left_open (level signal entry) (window_if (b && list_all (meets signal x.look) x.inside) x.look)
     by true =
-        ap (λ b. cond b (Some x.look) None) (list_all-append (meets signal x.look) x.inside (entry ∷ []))
+        ap (λ b. window_if b x.look) (list_all-append (meets signal x.look) x.inside (entry ∷ []))
         ∙ one (list_all (meets signal x.look) x.inside)
     by false = refl
 
@@ -118,16 +128,10 @@ open-grow_last signal entry (x ∷ y ∷ xs) =
 -- ---- an entry with looks at the signal
 
 edge_here : (signal : ℕ) (entry : ℕ × Entry) (look : Look) (edges window : List Look) (b : Bool)
-    → cons_option (option_map (λ e. fail_here signal e look) (cond (not b) (Some entry) None)) (map (fail_here signal entry) (edges ++ window))
+    → with_fail signal look (cond (not b) (Some entry) None) (map (fail_here signal entry) (edges ++ window))
     ≡ map (fail_here signal entry) (cond (not b) (look ∷ edges) edges ++ window)
 edge_here signal entry look edges window true = refl
 edge_here signal entry look edges window false = refl
-
-window_here : (signal : ℕ) (entry : ℕ × Entry) (look : Look) (b : Bool)
-    → cons_option (option_map (λ e. fail_here signal e look) (cond (not b) (Some entry) None)) []
-    ≡ map (fail_here signal entry) (cond b [] (look ∷ []))
-window_here signal entry look true = refl
-window_here signal entry look false = refl
 
 -- the last look of the instant
 fails-last : (signal : ℕ) (entry : ℕ × Entry) (look : Look)
@@ -146,8 +150,10 @@ fails-last signal entry Close = refl
 
 -- a look that another one follows
 fails-followed : (signal : ℕ) (entry : ℕ × Entry) (look : Look) (edges window : List Look)
-    → cons_option (fail_of signal (record { look = look; inside = inside_followed look entry })) (map (fail_here signal entry) (edges ++ window))
-    ≡ map (fail_here signal entry) (cond (is_edge look && not (is_met look (level signal entry))) (look ∷ edges) edges ++ window)
+    → cons_option (fail_of signal (extent look (inside_followed look entry)))
+    (map (fail_here signal entry) (edges ++ window))
+    ≡ map (fail_here signal entry)
+    (cond (is_edge look && not (is_met look (level signal entry))) (look ∷ edges) edges ++ window)
 fails-followed signal entry Low edges window =
     edge_here signal entry Low edges window (is_met Low (level signal entry))
 fails-followed signal entry High edges window =
@@ -164,7 +170,8 @@ fails-here : (signal : ℕ) (entry : ℕ × Entry) (window : Option Look) (look 
     ≡ map (fail_here signal entry) (failed (level signal entry) window (look ∷ ls))
 fails-here signal entry window look [] = fails-last signal entry look
 fails-here signal entry window look (next ∷ ls) =
-    ap (cons_option (fail_of signal (record { look = look; inside = inside_followed look entry }))) (fails-here signal entry window next ls)
+    ap (cons_option (fail_of signal (extent look (inside_followed look entry))))
+    (fails-here signal entry window next ls)
     ∙ fails-followed signal entry look (failed_edges (level signal entry) (next ∷ ls))
     (failed_window (level signal entry) (window_after window (next ∷ ls)))
 
@@ -175,7 +182,8 @@ last_open-append signal (x ∷ []) y ys = refl
 last_open-append signal (x ∷ x' ∷ xs) y ys = last_open-append signal (x' ∷ xs) y ys
 
 open-last : (signal : ℕ) (entry : ℕ × Entry) (look : Look)
-    → open_in signal (record { look = look; inside = inside_last look entry [] }) ≡ left_open (level signal entry) (opened look)
+    → open_in signal (extent look (inside_last look entry []))
+    ≡ left_open (level signal entry) (opened look)
 open-last signal entry Low = refl
 open-last signal entry High = refl
 open-last signal entry Off = refl
@@ -187,8 +195,10 @@ open-last signal entry OffWindow =
     and_true (is_met OffWindow (level signal entry)) (Some OffWindow) None
 open-last signal entry Close = refl
 
-open-here : (signal : ℕ) (entry : ℕ × Entry) (window : Option Look) (xs : List Extent) (look : Look) (ls : List Look)
-    → last_open signal (xs ++ extents_here (look ∷ ls) entry []) ≡ left_open (level signal entry) (window_after window (look ∷ ls))
+open-here : (signal : ℕ) (entry : ℕ × Entry) (window : Option Look) (xs : List Extent) (look : Look)
+    (ls : List Look)
+    → last_open signal (xs ++ extents_here (look ∷ ls) entry [])
+    ≡ left_open (level signal entry) (window_after window (look ∷ ls))
 open-here signal entry window xs look [] =
     last_open-append signal xs _ [] ∙ open-last signal entry look
 open-here signal entry window xs look (next ∷ ls) =
@@ -197,16 +207,6 @@ open-here signal entry window xs look (next ∷ ls) =
     ∙ open-here signal entry window (xs ++ x ∷ []) next ls
 
 -- ---- one more entry of a cycle
-
-enumerate_from-push : (n : ℕ) (entries : List Entry) (entry : Entry)
-    → enumerate_from n (entries ++ entry ∷ []) ≡ enumerate_from n entries ++ (n + length entries, entry) ∷ []
-enumerate_from-push n [] entry = ap (λ k. (k, entry) ∷ []) (sym (add-zero n))
-enumerate_from-push n (e ∷ es) entry =
-    ap (λ l. (n, e) ∷ l) (enumerate_from-push (n + 1) es entry)
-    ∙ ap (λ k. (n, e) ∷ (enumerate_from (n + 1) es ++ (k, entry) ∷ [])) (shift n (length es))
-  where
-    shift : (m k : ℕ) → m + 1 + k ≡ m + suc k
-    shift m k = omega arith
 
 fails-push : (signal : ℕ) (entries : List (ℕ × Entry)) (entry : ℕ × Entry) (ls : List Look)
     → looks signal entry ≡ ls
@@ -220,7 +220,8 @@ fails-push signal entries entry (look ∷ ls) is =
     let before = extents signal entries in
     ap (filter_map (fail_of signal)) (extents-looked signal entries entry look ls is)
     ∙ filter_map-append (fail_of signal) before (extents_here (look ∷ ls) entry [])
-    ∙ ap (λ l. filter_map (fail_of signal) before ++ l) (fails-here signal entry (last_open signal before) look ls)
+    ∙ ap (λ l. filter_map (fail_of signal) before ++ l)
+    (fails-here signal entry (last_open signal before) look ls)
 
 open-push : (signal : ℕ) (entries : List (ℕ × Entry)) (entry : ℕ × Entry) (ls : List Look)
     → looks signal entry ≡ ls
@@ -235,7 +236,8 @@ open-push signal entries entry (look ∷ ls) is =
     ∙ open-here signal entry (last_open signal before) before look ls
 
 pub numbered-push : (entries : List Entry) (entry : Entry)
-    → enumerate_from 0 (entries ++ entry ∷ []) ≡ enumerate_from 0 entries ++ (length entries, entry) ∷ []
+    → enumerate_from 0 (entries ++ entry ∷ [])
+    ≡ enumerate_from 0 entries ++ (length entries, entry) ∷ []
 numbered-push entries entry =
     enumerate_from-push 0 entries entry
     ∙ ap (λ k. enumerate_from 0 entries ++ (k, entry) ∷ []) (zero-add (length entries))
@@ -244,7 +246,8 @@ numbered-push entries entry =
 pub fails_of-push : (signal : ℕ) (entries : List Entry) (entry : Entry)
     → fails_of signal (entries ++ entry ∷ [])
     ≡ fails_of signal entries
-    ++ map (fail_here signal (length entries, entry)) (failed (level_of signal entry) (open_window signal entries) (looks_at signal entry.moment))
+    ++ map (fail_here signal (length entries, entry))
+    (failed (level_of signal entry) (open_window signal entries) (looks_at signal entry.moment))
 unfolding open_window
 fails_of-push signal entries entry =
     ap (λ l. filter_map (fail_of signal) (extents signal l)) (numbered-push entries entry)

@@ -29,7 +29,8 @@ cond_same true x = refl
 cond_same false x = refl
 
 open_windows-from : (n : ℕ) (bound : List Bool)
-    → map (λ signal. cond signal.1 (open_window signal.0 []) None) (enumerate_from n bound) ≡ replicate (length bound) None
+    → map (λ signal. cond signal.1 (open_window signal.0 []) None) (enumerate_from n bound)
+    ≡ replicate (length bound) None
 open_windows-from n [] = refl
 open_windows-from n (b ∷ bound) =
     ap (λ w. w ∷ map (λ signal. cond signal.1 (open_window signal.0 []) None) (enumerate_from (n + 1) bound))
@@ -48,7 +49,8 @@ length-open_windows bound entries =
 -- the window of one signal
 pub get_or-open_windows : (bound : List Bool) (entries : List Entry) (k : ℕ) (d : Option Look)
     → k < length bound
-    → get_or (open_windows bound entries) k d ≡ cond (get_or bound k false) (open_window k entries) None
+    → get_or (open_windows bound entries) k d
+    ≡ cond (get_or bound k false) (open_window k entries) None
 get_or-open_windows bound entries k d within =
     let window = λ (signal : ℕ × Bool). cond signal.1 (open_window signal.0 entries) None in
     get_or-map window (enumerate_from 0 bound) k (0, false) d (rw length-enumerate_from within)
@@ -106,7 +108,8 @@ unbound-sensed history held moment signal seen unbound =
     sym (is_sensed-watched history.bound history.entries moment signal
     ∙ ap (λ b. b && is_watched (open_window signal history.entries) signal moment.looks) is)
 
-pub bound-sensed : (history : History) (held : Held) (moment : Moment) (signal : ℕ) (d window : Option Look)
+pub bound-sensed : (history : History) (held : Held) (moment : Moment) (signal : ℕ)
+    (d window : Option Look)
     → HasSeen history held
     → signal < length held.bound → get_or held.bound signal false ≡ true
     → window ≡ get_or held.windows signal d
@@ -114,7 +117,8 @@ pub bound-sensed : (history : History) (held : Held) (moment : Moment) (signal :
 bound-sensed history held moment signal d window seen within bound is =
     let here = ap (λ l. get_or l signal false) (sym seen.bound) ∙ bound in
     let left = is ∙ ap (λ l. get_or l signal d) seen.windows
-    ∙ get_or-open_windows history.bound history.entries signal d (subst (λ l. signal < length l) seen.bound within)
+    ∙ get_or-open_windows history.bound history.entries signal d
+    (subst (λ l. signal < length l) seen.bound within)
     ∙ ap (λ b. cond b (open_window signal history.entries) None) here in
     ap (λ o. is_watched o signal moment.looks) left
     ∙ sym (is_sensed-watched history.bound history.entries moment signal

@@ -1,4 +1,5 @@
 mod StandardFacts
+pub mod Lists
 pub mod LookLemmas
 pub mod ExtentLemmas
 pub mod FailLemmas

@@ -1,6 +1,6 @@
 -- What holds of each entry of a cycle holds of each entry inside an extent, and of the place of
 -- each fail.
-use Rattle.std.proofs.Common.{ℕ, ◌+◌, ◌<◌, Bool, true, false, cond, not, List, [], ◌∷◌, ◌++◌, length, Option, Some, subst, arith, zero-add}
+use Rattle.std.proofs.Common.{ℕ, ◌+◌, ◌<◌, Bool, true, false, cond, not, List, [], ◌∷◌, length, Option, Some, subst, arith, zero-add}
 use Rattle.std.specs.List.{AllByRecursion, cons_option, enumerate_from, filter_map, find}
 use Rattle.std.specs.Option.{option_map}
 use Rattle.tester_types.specs.declared.wave.Look.{Look}
@@ -9,20 +9,11 @@ use Rattle.strobe_check.specs.Look.{is_edge, is_window}
 use Rattle.strobe_check.specs.Entry.{Entry, fail_at}
 use Rattle.strobe_check.specs.Extent.{Extent, if_none, until_look, extents_here, extents}
 use Rattle.strobe_check.specs.Fails.{meets, fail_of, fails_of}
+use Rattle.strobe_check.proofs.Lists.{All-append, All-cond}
 use Rattle.strobe_check.proofs.ExtentLemmas.{looks}
 
 abbrev pub AreInside : (ℕ × Entry → Type 0) → List Extent → Type 0
 AreInside P xs = AllByRecursion (λ (x : Extent). AllByRecursion P x.inside) xs
-
-All-append : {X : Type 0} (P : X → Type 0) (xs ys : List X) → AllByRecursion P xs
-    → AllByRecursion P ys → AllByRecursion P (xs ++ ys)
-All-append P [] ys left right = right
-All-append P (x ∷ xs) ys left right = (left.0, All-append P xs ys left.1 right)
-
-All-cond : {X : Type 0} (P : X → Type 0) (b : Bool) (xs ys : List X) → AllByRecursion P xs
-    → AllByRecursion P ys → AllByRecursion P (cond b xs ys)
-All-cond P true xs ys left right = left
-All-cond P false xs ys left right = right
 
 inside-until_look : (P : ℕ × Entry → Type 0) (signal : ℕ) (entries : List (ℕ × Entry))
     → AllByRecursion P entries
@@ -36,7 +27,8 @@ inside-until_look P signal (entry ∷ later) all =
     by [] rest = (all.0, rest)
     by (look ∷ ls) rest = tt
 
-inside-here : (P : ℕ × Entry → Type 0) (ls : List Look) (here : ℕ × Entry) (later : List (ℕ × Entry))
+inside-here : (P : ℕ × Entry → Type 0) (ls : List Look) (here : ℕ × Entry)
+    (later : List (ℕ × Entry))
     → P here → AllByRecursion P later
     → AreInside P (extents_here ls here later)
 inside-here P [] here later one all = tt
@@ -71,14 +63,16 @@ abbrev found : ℕ → Look → Option (ℕ × Entry) → List (ℕ × Fail) →
 found signal look entry rest =
     cons_option (option_map (λ e. (e.0, fail_at signal look e.1)) entry) rest
 
-found-first : (P : ℕ → Type 0) (signal : ℕ) (look : Look) (b : Bool) (entry : ℕ × Entry) (later : Option (ℕ × Entry)) (rest : List (ℕ × Fail))
+found-first : (P : ℕ → Type 0) (signal : ℕ) (look : Look) (b : Bool) (entry : ℕ × Entry)
+    (later : Option (ℕ × Entry)) (rest : List (ℕ × Fail))
     → P entry.0 → AllByRecursion (λ fail. P fail.0) rest
     → AllByRecursion (λ fail. P fail.0) (found signal look later rest)
     → AllByRecursion (λ fail. P fail.0) (found signal look (cond b (Some entry) later) rest)
 found-first P signal look true entry later rest here before after = (here, before)
 found-first P signal look false entry later rest here before after = after
 
-found-place : (P : ℕ → Type 0) (signal : ℕ) (look : Look) (inside : List (ℕ × Entry)) (rest : List (ℕ × Fail))
+found-place : (P : ℕ → Type 0) (signal : ℕ) (look : Look) (inside : List (ℕ × Entry))
+    (rest : List (ℕ × Fail))
     → AllByRecursion (λ entry. P entry.0) inside → AllByRecursion (λ fail. P fail.0) rest
     → AllByRecursion (λ fail. P fail.0) (found signal look (find (λ e. not (meets signal look e)) inside) rest)
 found-place P signal look [] rest all before = before

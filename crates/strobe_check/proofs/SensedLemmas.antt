@@ -32,15 +32,18 @@ place-missing n (entry ∷ inside) below =
     ∙ place-missing n inside below.1
 
 all-met : (n signal : ℕ) (look : Look) (inside : List (ℕ × Entry)) → AreBelow n inside
-    → list_all (λ entry. eqb entry.0 n || meets signal look entry) inside ≡ list_all (meets signal look) inside
+    → list_all (λ entry. eqb entry.0 n || meets signal look entry) inside
+    ≡ list_all (meets signal look) inside
 all-met n signal look [] below = refl
 all-met n signal look (entry ∷ inside) below =
-    ap (λ b. (b || meets signal look entry) && list_all (λ e. eqb e.0 n || meets signal look e) inside) (ne_eqb entry.0 n (λ e. omega (arith, below.0)))
+    ap (λ b. (b || meets signal look entry) && list_all (λ e. eqb e.0 n || meets signal look e) inside)
+    (ne_eqb entry.0 n (λ e. omega (arith, below.0)))
     ∙ ap (λ b. meets signal look entry && b) (all-met n signal look inside below.1)
 
 watching-before : (n signal : ℕ) (x : Extent) → AreBelow n x.inside → is_watching n signal x ≡ false
 watching-before n signal x below =
-    ap (λ b. b && list_all (λ e. eqb e.0 n || meets signal x.look e) x.inside) (place-missing n x.inside below)
+    ap (λ b. b && list_all (λ e. eqb e.0 n || meets signal x.look e) x.inside)
+    (place-missing n x.inside below)
 
 none_watching : (n signal : ℕ) (xs : List Extent) → AreInside (λ entry. entry.0 < n) xs
     → list_any (is_watching n signal) xs ≡ false
@@ -83,7 +86,8 @@ watching-grow n signal entry x below = by (is_window x.look)
     all : list_all (λ e. eqb e.0 n || meets signal x.look e) (x.inside ++ (n, entry) ∷ []) ≡ list_all (meets signal x.look) x.inside
     all =
         list_all-append (λ e. eqb e.0 n || meets signal x.look e) x.inside ((n, entry) ∷ [])
-        ∙ ap (λ b. list_all (λ e. eqb e.0 n || meets signal x.look e) x.inside && ((b || meets signal x.look (n, entry)) && true)) (eq-eqb n n refl)
+        ∙ ap (λ b. list_all (λ e. eqb e.0 n || meets signal x.look e) x.inside && ((b || meets signal x.look (n, entry)) && true))
+        (eq-eqb n n refl)
         ∙ and_true (list_all (λ e. eqb e.0 n || meets signal x.look e) x.inside)
         ∙ all-met n signal x.look x.inside below
 
@@ -101,7 +105,8 @@ watching-grow_last n signal entry [] below = refl
 watching-grow_last n signal entry (x ∷ []) below =
     or_false _ ∙ watching-grow n signal entry x below.0
 watching-grow_last n signal entry (x ∷ y ∷ xs) below =
-    ap (λ b. b || list_any (is_watching n signal) (grow_last (n, entry) (y ∷ xs))) (watching-before n signal x below.0)
+    ap (λ b. b || list_any (is_watching n signal) (grow_last (n, entry) (y ∷ xs)))
+    (watching-before n signal x below.0)
     ∙ watching-grow_last n signal entry (y ∷ xs) below.1
 
 -- ---- a moment with looks at the signal
@@ -112,7 +117,8 @@ one_inside n signal entry look =
     ap (λ b. (b || false) && ((b || meets signal look (n, entry)) && true)) (eq-eqb n n refl)
 
 watching-last : (n signal : ℕ) (entry : Entry) (look : Look)
-    → is_watching n signal (extent look (inside_last look (n, entry) [])) ≡ (is_edge look || is_some (opened look))
+    → is_watching n signal (extent look (inside_last look (n, entry) []))
+    ≡ (is_edge look || is_some (opened look))
 watching-last n signal entry Low = one_inside n signal entry Low
 watching-last n signal entry High = one_inside n signal entry High
 watching-last n signal entry Off = one_inside n signal entry Off
@@ -138,9 +144,11 @@ watching-here n signal entry window look [] =
     or_false _ ∙ watching-last n signal entry look
     ∙ ap (λ b. b || is_some (opened look)) (sym (or_false (is_edge look)))
 watching-here n signal entry window look (next ∷ ls) =
-    ap (λ b. b || list_any (is_watching n signal) (extents_here (next ∷ ls) (n, entry) [])) (watching-followed n signal entry look)
+    ap (λ b. b || list_any (is_watching n signal) (extents_here (next ∷ ls) (n, entry) []))
+    (watching-followed n signal entry look)
     ∙ ap (λ b. is_edge look || b) (watching-here n signal entry window next ls)
-    ∙ sym (or_assoc (is_edge look) (list_any is_edge (next ∷ ls)) (is_some (window_after window (next ∷ ls))))
+    ∙ sym
+    (or_assoc (is_edge look) (list_any is_edge (next ∷ ls)) (is_some (window_after window (next ∷ ls))))
 
 -- ---- any moment
 
@@ -150,13 +158,15 @@ watching : (n signal : ℕ) (entries : List (ℕ × Entry)) (entry : Entry) (ls 
     ≡ (list_any is_edge ls || is_some (window_after (last_open signal (extents signal entries)) ls))
 watching n signal entries entry [] is below =
     ap (list_any (is_watching n signal)) (extents-quiet signal entries (n, entry) is)
-    ∙ watching-grow_last n signal entry (extents signal entries) (inside-extents (λ e. e.0 < n) signal entries below)
+    ∙ watching-grow_last n signal entry (extents signal entries)
+    (inside-extents (λ e. e.0 < n) signal entries below)
 watching n signal entries entry (look ∷ ls) is below =
     let before = extents signal entries in
     let here = extents_here (look ∷ ls) (n, entry) [] in
     ap (list_any (is_watching n signal)) (extents-looked signal entries (n, entry) look ls is)
     ∙ list_any-append (is_watching n signal) before here
-    ∙ ap (λ b. b || list_any (is_watching n signal) here) (none_watching n signal before (inside-extents (λ e. e.0 < n) signal entries below))
+    ∙ ap (λ b. b || list_any (is_watching n signal) here)
+    (none_watching n signal before (inside-extents (λ e. e.0 < n) signal entries below))
     ∙ watching-here n signal entry (last_open signal before) look ls
 
 -- whether a signal is sensed, by its open window and the moment's looks

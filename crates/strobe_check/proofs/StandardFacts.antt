@@ -32,7 +32,8 @@ second = false ∷ true ∷ []
 -- at the drive
 abbrev pulse : Look → List Entry
 pulse look =
-    entry 0 [] (One ∷ One ∷ []) ∷ entry 20 ((1, look) ∷ []) (One ∷ One ∷ []) ∷ entry 30 [] (Zero ∷ Zero ∷ [])
+    entry 0 [] (One ∷ One ∷ []) ∷ entry 20 ((1, look) ∷ []) (One ∷ One ∷ [])
+    ∷ entry 30 [] (Zero ∷ Zero ∷ [])
     ∷ entry 60 ((1, Close) ∷ []) (Zero ∷ Zero ∷ []) ∷ []
 
 pub window_fails_at_a_drive : fails second (pulse HighWindow) ≡ fail 30 1 HighWindow Zero ∷ []
@@ -57,7 +58,8 @@ once looks level = entry 5 (two looks) (level ∷ []) ∷ entry 9 [] (level ∷ 
     two [] = []
     two (look ∷ later) = (0, look) ∷ two later
 
-pub low_window_counts : fails (true ∷ []) (once (HighWindow ∷ LowWindow ∷ []) One) ≡ fail 5 0 LowWindow One ∷ []
+pub low_window_counts : fails (true ∷ [])
+    (once (HighWindow ∷ LowWindow ∷ []) One) ≡ fail 5 0 LowWindow One ∷ []
 unfolding fails
 low_window_counts = refl
 
@@ -75,7 +77,10 @@ close_closes = refl
 
 -- a window runs to the cycle's end, and fails once though two moments violate it
 pub window_fails_once : fails (true ∷ [])
-    (entry 1 ((0, OffWindow) ∷ []) (Z ∷ []) ∷ entry 2 [] (Z ∷ []) ∷ entry 3 [] (X ∷ []) ∷ entry 4 [] (One ∷ []) ∷ [])
+    (
+    entry 1 ((0, OffWindow) ∷ []) (Z ∷ []) ∷ entry 2 [] (Z ∷ []) ∷ entry 3 [] (X ∷ [])
+    ∷ entry 4 [] (One ∷ []) ∷ []
+    )
     ≡ fail 3 0 OffWindow X ∷ []
 unfolding fails
 window_fails_once = refl
@@ -86,7 +91,8 @@ pub in_order : fails (true ∷ true ∷ [])
     entry 1 ((0, LowWindow) ∷ (1, Low) ∷ (1, High) ∷ (1, Off) ∷ (1, OffWindow) ∷ []) (Zero ∷ X ∷ [])
     ∷ entry 2 ((1, Low) ∷ []) (One ∷ One ∷ []) ∷ []
     )
-    ≡ fail 1 1 Low X ∷ fail 1 1 High X ∷ fail 1 1 Off X ∷ fail 1 1 OffWindow X ∷ fail 2 0 LowWindow One ∷ fail 2 1 Low One ∷ []
+    ≡ fail 1 1 Low X ∷ fail 1 1 High X ∷ fail 1 1 Off X ∷ fail 1 1 OffWindow X
+    ∷ fail 2 0 LowWindow One ∷ fail 2 1 Low One ∷ []
 unfolding fails
 in_order = refl
 
@@ -107,7 +113,8 @@ pub failed_window_is_not : is_sensed (true ∷ []) (open_since One) (next []) 0 
 unfolding is_sensed
 failed_window_is_not = refl
 
-pub edge_is_sensed : is_sensed (true ∷ []) (open_since One) (next ((0, High) ∷ (0, Close) ∷ [])) 0 ≡ true
+pub edge_is_sensed : is_sensed (true ∷ []) (open_since One)
+    (next ((0, High) ∷ (0, Close) ∷ [])) 0 ≡ true
 unfolding is_sensed
 edge_is_sensed = refl
 

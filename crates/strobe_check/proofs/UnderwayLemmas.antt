@@ -1,99 +1,55 @@
 -- One more entry, signal after signal.
-use Rattle.std.proofs.Common.{◌≡◌, ℕ, suc, ◌+◌, ◌<◌, ◌≤◌, Bool, true, false, cond, List, [], ◌∷◌, ◌++◌, length, get_or, set, take, drop, map, filter, Option, None, refl, sym, ap, subst, ◌∙◌, arith, zero-add, add-zero}
-use Rattle.std.proofs.lemmas.List.{append-nil, append_assoc, map-append, take_more, drop_more, take_all, drop_all, set_at, get_or_at, length-take-le}
+use Rattle.std.proofs.Common.{◌≡◌, ℕ, ◌+◌, ◌<◌, ◌≤◌, Bool, true, false, cond, List, [], ◌∷◌, ◌++◌, length, get_or, set, take, drop, map, filter, Option, None, refl, sym, ap, subst, ◌∙◌, arith, zero-add}
+use Rattle.std.proofs.lemmas.List.{append-nil, append_assoc, map-append, take_more, take_all, drop_all}
 use Rattle.std.proofs.lemmas.List.Concat.{flat_map-append}
 use Rattle.std.proofs.lemmas.List.Elements.{filter-append}
 use Rattle.std.specs.List.{enumerate_from, flat_map}
 use Rattle.tester_types.specs.declared.wave.Look.{Look}
 use Rattle.tester_types.specs.declared.level.Level.{Level}
-use Rattle.tester_types.specs.declared.record.Fail.{Fail}
 use Rattle.strobe_check.specs.declared.judge.Sight.{Sight}
 use Rattle.strobe_check.specs.Entry.{Entry, looks_at, level_of}
 use Rattle.strobe_check.specs.Fails.{bound_signals, fails}
-use Rattle.strobe_check.specs.Count.{Count, HasCounted}
+use Rattle.strobe_check.specs.Count.{Count, HasCounted, Counts}
 use Rattle.strobe_check.specs.History.{History, all_fails, with_entry, open_window, open_windows, Held, HasSeen}
 use Rattle.strobe_check.specs.Step.{window_after, left_open, failed, fail_in}
+use Rattle.strobe_check.proofs.Lists.{enumerate_from-push, front_len, get_or-seam, set-seam, kept-seam}
 use Rattle.strobe_check.proofs.CycleLemmas.{new_fails, fails-push}
 use Rattle.strobe_check.proofs.FailLemmas.{open_window-push}
 use Rattle.strobe_check.proofs.HistoryLemmas.{length-open_windows, get_or-open_windows}
 
--- ---- a list that another one replaces from its front on
-
-seam : {X : Type 0} (xs ys : List X) (i : ℕ) (d : X) → i < length xs → length ys ≡ length xs
-    → take i xs ++ drop i ys ≡ take i xs ++ get_or ys i d ∷ drop (i + 1) ys
-seam xs ys i d within long = ap (λ l. take i xs ++ l) (drop_more ys i d (omega arith))
-
-front_len : {X : Type 0} (xs : List X) (i : ℕ) → i < length xs → length (take i xs) ≡ i
-front_len xs i within = length-take-le i xs (omega arith)
-
--- the next element is still that of the second list
-pub get_or-seam : {X : Type 0} (xs ys : List X) (i : ℕ) (d : X) → i < length xs
-    → length ys ≡ length xs
-    → get_or (take i xs ++ drop i ys) i d ≡ get_or ys i d
-get_or-seam xs ys i d within long =
-    ap (λ l. get_or l i d) (seam xs ys i d within long)
-    ∙ get_or_at (take i xs) (get_or ys i d) (drop (i + 1) ys) d i (front_len xs i within)
-
-front-more : {X : Type 0} (xs ys : List X) (i : ℕ) (d : X) → i < length xs
-    → take i xs ++ get_or xs i d ∷ ys ≡ take (i + 1) xs ++ ys
-front-more xs ys i d within =
-    sym (append_assoc (take i xs) (get_or xs i d ∷ []) ys)
-    ∙ ap (λ l. l ++ ys) (sym (take_more xs i d within))
-
--- it is replaced
-pub set-seam : {X : Type 0} (xs ys : List X) (i : ℕ) (d : X) → i < length xs → length ys ≡ length xs
-    → set (take i xs ++ drop i ys) i (get_or xs i d) ≡ take (i + 1) xs ++ drop (i + 1) ys
-set-seam xs ys i d within long =
-    ap (λ l. set l i (get_or xs i d)) (seam xs ys i d within long)
-    ∙ set_at (take i xs) (get_or ys i d) (drop (i + 1) ys) (get_or xs i d) i (front_len xs i within)
-    ∙ front-more xs (drop (i + 1) ys) i d within
-
--- it is the same in both
-pub kept-seam : {X : Type 0} (xs ys : List X) (i : ℕ) (d : X) → i < length xs
-    → length ys ≡ length xs → get_or ys i d ≡ get_or xs i d
-    → take i xs ++ drop i ys ≡ take (i + 1) xs ++ drop (i + 1) ys
-kept-seam xs ys i d within long same =
-    seam xs ys i d within long ∙ ap (λ x. take i xs ++ x ∷ drop (i + 1) ys) same
-    ∙ front-more xs (drop (i + 1) ys) i d within
-
 -- ---- the bound signals of a longer front
 
-enumerate-push : {X : Type 0} (n : ℕ) (xs : List X) (y : X)
-    → enumerate_from n (xs ++ y ∷ []) ≡ enumerate_from n xs ++ (n + length xs, y) ∷ []
-enumerate-push n [] y = ap (λ k. (k, y) ∷ []) (sym (add-zero n))
-enumerate-push n (x ∷ xs) y =
-    ap (λ l. (n, x) ∷ l) (enumerate-push (n + 1) xs y)
-    ∙ ap (λ k. (n, x) ∷ (enumerate_from (n + 1) xs ++ (k, y) ∷ [])) (shift n (length xs))
-  where
-    shift : (m k : ℕ) → m + 1 + k ≡ m + suc k
-    shift m k = omega arith
-
 bound_signals-more : (bound : List Bool) (i : ℕ) → i < length bound
-    → bound_signals (take (i + 1) bound) ≡ bound_signals (take i bound) ++ cond (get_or bound i false) (i ∷ []) []
+    → bound_signals (take (i + 1) bound)
+    ≡ bound_signals (take i bound) ++ cond (get_or bound i false) (i ∷ []) []
 bound_signals-more bound i within =
     let test = λ (signal : ℕ × Bool). signal.1 in
     let number = λ (signal : ℕ × Bool). signal.0 in
     let front = enumerate_from 0 (take i bound) in
     let numbered = ap (enumerate_from 0) (take_more bound i false within)
-    ∙ enumerate-push 0 (take i bound) (get_or bound i false)
-    ∙ ap (λ k. front ++ (k, get_or bound i false) ∷ []) (zero-add (length (take i bound)) ∙ front_len bound i within) in
+    ∙ enumerate_from-push 0 (take i bound) (get_or bound i false)
+    ∙ ap (λ k. front ++ (k, get_or bound i false) ∷ [])
+    (zero-add (length (take i bound)) ∙ front_len bound i within) in
     ap (λ l. map number (filter test l)) numbered
     ∙ ap (map number) (filter-append test front ((i, get_or bound i false) ∷ []))
     ∙ map-append number (filter test front) (filter test ((i, get_or bound i false) ∷ []))
     ∙ ap (λ l. map number (filter test front) ++ l) (one i (get_or bound i false))
   where
     one : (k : ℕ) (b : Bool)
-        → map (λ (signal : ℕ × Bool). signal.0) (filter (λ (signal : ℕ × Bool). signal.1) ((k, b) ∷ [])) ≡ cond b (k ∷ []) []
+        → map (λ (signal : ℕ × Bool). signal.0) (filter (λ (signal : ℕ × Bool). signal.1) ((k, b) ∷ []))
+        ≡ cond b (k ∷ []) []
     one k true = refl
     one k false = refl
 
 -- ---- an entry up to a signal
 
 -- the signals below i have been judged at the entry, and the others haven't
-pub record IsUnderway (history : History) (entry : Entry) (i : ℕ) (bound : List Bool) (windows : List (Option Look)) (count : Count) : Type 0 where
+pub record IsUnderway (history : History) (entry : Entry) (i : ℕ) (bound : List Bool)
+    (windows : List (Option Look)) (count : Count) : Type 0 where
   pub same : bound ≡ history.bound
   pub opened : windows
-      ≡ take i (open_windows history.bound (history.entries ++ entry ∷ [])) ++ drop i (open_windows history.bound history.entries)
+      ≡ take i (open_windows history.bound (history.entries ++ entry ∷ []))
+      ++ drop i (open_windows history.bound history.entries)
   pub counted : HasCounted history.keep
       (all_fails history ++ flat_map (new_fails history.entries entry) (bound_signals (take i history.bound))) count
 
@@ -134,20 +90,22 @@ fails-more : (history : History) (entry : Entry) (i : ℕ) (b : Bool) → i < le
 fails-more history entry i b within is =
     let news = new_fails history.entries entry in
     let front = bound_signals (take i history.bound) in
-    ap (flat_map news) (bound_signals-more history.bound i within ∙ ap (λ c. front ++ cond c (i ∷ []) []) is)
+    ap (flat_map news)
+    (bound_signals-more history.bound i within ∙ ap (λ c. front ++ cond c (i ∷ []) []) is)
     ∙ flat_map-append news front (cond b (i ∷ []) []) ∙ ap (λ l. flat_map news front ++ l) (one b)
   where
     one : (c : Bool)
-        → flat_map (new_fails history.entries entry) (cond c (i ∷ []) []) ≡ cond c (new_fails history.entries entry i) []
+        → flat_map (new_fails history.entries entry) (cond c (i ∷ []) [])
+        ≡ cond c (new_fails history.entries entry i) []
     one true = append-nil (new_fails history.entries entry i)
     one false = refl
 
-pub IsUnderway-judged : (history : History) (entry : Entry) (i : ℕ) (bound : List Bool) (windows : List (Option Look)) (count after : Count)
-    (window next : Option Look) (level : Level) → IsUnderway history entry i bound windows count → i < length bound
-    → get_or bound i false ≡ true → window ≡ get_or windows i window → level ≡ level_of i entry
+pub IsUnderway-judged : (history : History) (entry : Entry) (i : ℕ) (bound : List Bool)
+    (windows : List (Option Look)) (count after : Count)
+    (window next : Option Look) (level : Level) → IsUnderway history entry i bound windows count
+    → i < length bound → get_or bound i false ≡ true → window ≡ get_or windows i window → level ≡ level_of i entry
     → next ≡ left_open level (window_after window (looks_at i entry.moment))
-    → ((keep : ℕ) (fails : List Fail) → HasCounted keep fails count
-    → HasCounted keep (fails ++ map (fail_in (sight_of i level entry)) (failed level window (looks_at i entry.moment))) after)
+    → Counts (map (fail_in (sight_of i level entry)) (failed level window (looks_at i entry.moment))) count after
     → IsUnderway history entry (i + 1) bound (set windows i next) after
 IsUnderway-judged history entry i bound windows count after window next level before within is_bound read is left counts =
     let entries = history.entries in
@@ -172,7 +130,8 @@ IsUnderway-judged history entry i bound windows count after window next level be
     ∙ ap (λ w. map (fail_in (sight_of i (level_of i entry) entry)) (failed (level_of i entry) w looks)) was in
     let sofar = flat_map (new_fails entries entry) (bound_signals (take i history.bound)) in
     let all = append_assoc (all_fails history) sofar _
-    ∙ ap (λ l. all_fails history ++ l) (ap (λ l. sofar ++ l) news ∙ sym (fails-more history entry i true place here)) in
+    ∙ ap (λ l. all_fails history ++ l)
+    (ap (λ l. sofar ++ l) news ∙ sym (fails-more history entry i true place here)) in
     record {
       same = before.same;
       opened =
@@ -182,7 +141,8 @@ IsUnderway-judged history entry i bound windows count after window next level be
       counted = subst (λ l. HasCounted history.keep l after) all (counts history.keep _ before.counted);
     }
 
-pub IsUnderway-unbound : (history : History) (entry : Entry) (i : ℕ) (bound : List Bool) (windows : List (Option Look)) (count : Count)
+pub IsUnderway-unbound : (history : History) (entry : Entry) (i : ℕ) (bound : List Bool)
+    (windows : List (Option Look)) (count : Count)
     → IsUnderway history entry i bound windows count → i < length bound
     → get_or bound i false ≡ false
     → IsUnderway history entry (i + 1) bound windows count
@@ -198,7 +158,8 @@ IsUnderway-unbound history entry i bound windows count before within is_bound =
     record {
       same = before.same;
       opened = before.opened
-          ∙ kept-seam (after_entry history entry) (before_entry history) i None (within_after history entry i place) (same_long history entry)
+          ∙ kept-seam (after_entry history entry) (before_entry history) i None (within_after history entry i place)
+          (same_long history entry)
           (none_before ∙ sym none_after);
       counted = subst (λ l. HasCounted history.keep (all_fails history ++ l) count) (sym all) before.counted;
     }
@@ -210,15 +171,19 @@ pub HasSeen-entry : (history : History) (entry : Entry) (i : ℕ) (held : Held)
 HasSeen-entry history entry i held done all =
     let past = subst (λ l. length l ≤ i) done.same all in
     let news = flat_map (new_fails history.entries entry) (bound_signals history.bound) in
-    let whole : all_fails history ++ flat_map (new_fails history.entries entry) (bound_signals (take i history.bound)) ≡ all_fails (with_entry history entry) =
-    ap (λ l. all_fails history ++ flat_map (new_fails history.entries entry) (bound_signals l)) (take_all i history.bound past)
+    let whole : all_fails history ++ flat_map (new_fails history.entries entry) (bound_signals (take i history.bound))
+    ≡ all_fails (with_entry history entry) =
+    ap (λ l. all_fails history ++ flat_map (new_fails history.entries entry) (bound_signals l))
+    (take_all i history.bound past)
     ∙ append_assoc history.closed (fails history.bound history.entries) news
     ∙ ap (λ l. history.closed ++ l) (sym (fails-push history.bound history.entries entry)) in
     record {
       bound = done.same;
       windows = done.opened
-          ∙ ap (λ l. l ++ drop i (before_entry history)) (take_all i (after_entry history entry) (omega (arith, length-open_windows history.bound (history.entries ++ entry ∷ []))))
-          ∙ ap (λ l. after_entry history entry ++ l) (drop_all i (before_entry history) (omega (arith, length-open_windows history.bound history.entries)))
+          ∙ ap (λ l. l ++ drop i (before_entry history))
+          (take_all i (after_entry history entry) (omega (arith, length-open_windows history.bound (history.entries ++ entry ∷ []))))
+          ∙ ap (λ l. after_entry history entry ++ l)
+          (drop_all i (before_entry history) (omega (arith, length-open_windows history.bound history.entries)))
           ∙ append-nil _;
       count = subst (λ l. HasCounted history.keep l held.count) whole done.counted;
     }

@@ -1,8 +1,7 @@
 //! The checker of a try's strobes.
 
-ghost use Rattle.std.specs.Prelude.{◌≡◌, ◌-◌, ◌^◌, ◌≤◌, length, min, take, IfOk};
-ghost use Rattle.strobe_check.specs.History.{History, HasSeen, numbered, fresh, with_entry, with_cycle_closed, all_fails};
-ghost use Rattle.strobe_check.specs.Sensed.{is_sensed};
+ghost use Rattle.std.specs.Prelude.{◌≡◌, ◌≤◌, length, IfOk};
+ghost use Rattle.strobe_check.specs.History.{HasSeen, numbered, fresh, SeesEntry, SeesEnd, Answers, sensed, total_of, kept_of};
 
 use crate::judge::{Sight, is_watched, judge};
 use crate::tally::Tally;
@@ -34,8 +33,8 @@ impl Model for Checker {
 }
 
 impl Checker {
-    /// A checker that keeps the first `keep` fails. `bound` says of each signal whether it is bound; no look
-    /// is made of one that isn't.
+    /// A checker that keeps the first `keep` fails. `bound` says of each signal whether it is bound; no
+    /// look is made of one that isn't.
     pub fn make(alloc: Global, bound: &[bool], keep: u16) -> Result<Checker, NoMemory>
         ensures { IfOk result (λ checker. HasSeen (fresh (numbered bound.now) keep) checker) }
     {
@@ -47,10 +46,10 @@ impl Checker {
         })
     }
 
-    /// Whether the signal is to be sensed at the next moment of the open cycle: it has an edge look there, or
-    /// a window that is open after the moment's looks and hasn't failed.
+    /// Whether the signal is to be sensed at the next moment of the open cycle: it has an edge look there,
+    /// or a window that is open after the moment's looks and hasn't failed.
     pub fn wanted(&self, moment: &Moment, signal: u16) -> bool
-        ensures { (history : History) → HasSeen history self.now → result ≡ is_sensed history.bound history.entries moment.now signal }
+        ensures { Answers (sensed moment.now signal) self.now result }
     {
         let at = usize::from(signal);
         if at >= self.windows.len() || !self.bound[at] {
@@ -59,13 +58,16 @@ impl Checker {
         is_watched(self.windows[at], moment.looks.as_slice(), signal)
     }
 
-    /// Judges the next moment of the open cycle, with one level a signal after the moment's drives. It has the
-    /// numbers of its executive and its cycle, and the cycle's mark.
+    /// Judges the next moment of the open cycle, with one level a signal after the moment's drives. It has
+    /// the numbers of its executive and its cycle, and the cycle's mark.
+    ///
+    /// It goes over the moment's looks once for each bound signal, and takes no memory.
     pub fn look(&mut self, exec: u16, cycle: u64, mark: u32, moment: &Moment, levels: &[Level])
         requires { length self.old.bound ≤ length levels.now }
         ensures same { self.new.bound ≡ self.old.bound }
-        ensures seen { (history : History) → HasSeen history self.old
-            → HasSeen (with_entry history (record { exec = exec; cycle = cycle; mark = mark; moment = moment.now; levels = levels.now })) self.new }
+        ensures seen { SeesEntry
+            (record { exec = exec; cycle = cycle; mark = mark; moment = moment.now; levels = levels.now })
+            self.old self.new }
     {
         let looks = moment.looks.as_slice();
         for signal in 0..self.windows.len() {
@@ -86,21 +88,21 @@ impl Checker {
     /// Closes the open cycle and with it all windows.
     pub fn close_cycle(&mut self)
         ensures same { self.new.bound ≡ self.old.bound }
-        ensures seen { (history : History) → HasSeen history self.old → HasSeen (with_cycle_closed history) self.new }
+        ensures seen { SeesEnd self.old self.new }
     {
         self.windows.fill(None);
     }
 
     /// How many fails there were, up to the largest `u64`.
     pub fn total(&self) -> u64
-        ensures { (history : History) → HasSeen history self.now → result ≡ min (length (all_fails history)) (2 ^ 64 - 1) }
+        ensures { Answers total_of self.now result }
     {
         self.tally.total()
     }
 
     /// The kept fails in their order.
     pub fn kept(self) -> FailList
-        ensures { (history : History) → HasSeen history self → result ≡ take history.keep (all_fails history) }
+        ensures { Answers kept_of self result }
     {
         self.tally.into_kept()
     }

@@ -1,8 +1,7 @@
 //! The looks at one signal at one moment.
 
-ghost use Rattle.std.specs.Prelude.{◌≡◌, ℕ, ◌++◌, List, map};
-ghost use Rattle.tester_types.specs.declared.record.Fail.{Fail as OneFail};
-ghost use Rattle.strobe_check.specs.Count.{HasCounted};
+ghost use Rattle.std.specs.Prelude.{◌≡◌, map};
+ghost use Rattle.strobe_check.specs.Count.{Counts};
 ghost use Rattle.strobe_check.specs.Step.{looks_of, has_edge, is_watched, window_after, failed_edges, failed_window, failed, left_open, fail_in};
 
 use crate::look::{is_edge, is_met, opened};
@@ -75,9 +74,11 @@ pub(crate) fn judge(
     looks: &[(u16, Look)],
     sight: &Sight,
 ) -> Option<Look>
-    ensures stays { result ≡ left_open sight.now.level (window_after window (looks_of sight.now.signal looks.now)) }
-    ensures counted { (keep : ℕ) (fails : List OneFail) → HasCounted keep fails tally.old
-        → HasCounted keep (fails ++ map (fail_in sight.now) (failed sight.now.level window (looks_of sight.now.signal looks.now))) tally.new }
+    ensures stays { result
+        ≡ left_open sight.now.level (window_after window (looks_of sight.now.signal looks.now)) }
+    ensures counted { Counts
+        (map (fail_in sight.now) (failed sight.now.level window (looks_of sight.now.signal looks.now)))
+        tally.old tally.new }
 {
     judge_edges(tally, looks, sight);
     judge_window(tally, after_looks(window, looks, sight.signal), sight)
@@ -85,8 +86,9 @@ pub(crate) fn judge(
 
 /// Counts the edge looks that fail.
 fn judge_edges(tally: &mut Tally, looks: &[(u16, Look)], sight: &Sight)
-    ensures { (keep : ℕ) (fails : List OneFail) → HasCounted keep fails tally.old
-        → HasCounted keep (fails ++ map (fail_in sight.now) (failed_edges sight.now.level (looks_of sight.now.signal looks.now))) tally.new }
+    ensures { Counts
+        (map (fail_in sight.now) (failed_edges sight.now.level (looks_of sight.now.signal looks.now)))
+        tally.old tally.new }
 {
     for (signal, look) in looks {
         if *signal == sight.signal && is_edge(*look) && !is_met(*look, sight.level) {
@@ -98,8 +100,7 @@ fn judge_edges(tally: &mut Tally, looks: &[(u16, Look)], sight: &Sight)
 /// Counts the window if it fails, and answers it if it doesn't.
 fn judge_window(tally: &mut Tally, window: Option<Look>, sight: &Sight) -> Option<Look>
     ensures stays { result ≡ left_open sight.now.level window }
-    ensures counted { (keep : ℕ) (fails : List OneFail) → HasCounted keep fails tally.old
-        → HasCounted keep (fails ++ map (fail_in sight.now) (failed_window sight.now.level window)) tally.new }
+    ensures counted { Counts (map (fail_in sight.now) (failed_window sight.now.level window)) tally.old tally.new }
 {
     match window {
         Some(look) if !is_met(look, sight.level) => {

@@ -1,8 +1,7 @@
 //! A count of fails that keeps the first of them.
 
-ghost use Rattle.std.specs.Prelude.{◌≡◌, ◌≤◌, [], ◌∷◌, ◌++◌, List, IfOk};
-ghost use Rattle.tester_types.specs.declared.record.Fail.{Fail as OneFail};
-ghost use Rattle.strobe_check.specs.Count.{HasCounted};
+ghost use Rattle.std.specs.Prelude.{◌≡◌, [], ◌∷◌, IfOk};
+ghost use Rattle.strobe_check.specs.Count.{HasCounted, Counts};
 
 use std::alloc::Global;
 use std::marker::Model;
@@ -41,7 +40,7 @@ impl Tally {
 
     /// One more fail.
     pub fn count(&mut self, fail: Fail)
-        ensures { (keep : _) (fails : List OneFail) → HasCounted keep fails self.old → HasCounted keep (fails ++ fail ∷ []) self.new }
+        ensures { Counts (fail ∷ []) self.old self.new }
     {
         if self.kept.len() < self.keep {
             self.kept.push_reserved(fail);

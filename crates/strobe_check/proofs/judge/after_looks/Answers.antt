@@ -10,8 +10,10 @@ loop-of-preserved c =
     elim c.if-of-signal.branch [
       | then-of-signal w ↦
           w.window-is ∙ w.opened-window.ensures
-          ∙ sym (window_after-own c.args.window c.args.signal looks i _ c.loop-of-test.true w.if-of-signal.true)
+          ∙ sym
+          (window_after-own c.args.window c.args.signal looks i _ c.loop-of-test.true w.if-of-signal.true)
       | else-of-signal w ↦
           w.window-is ∙ c.loop-of.invariant
-          ∙ sym (window_after-other c.args.window c.args.signal looks i _ c.loop-of-test.true w.if-of-signal.false)
+          ∙ sym
+          (window_after-other c.args.window c.args.signal looks i _ c.loop-of-test.true w.if-of-signal.false)
     ]

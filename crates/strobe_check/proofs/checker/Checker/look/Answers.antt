@@ -34,10 +34,12 @@ loop-signal-preserved c =
             windows_len = before.windows_len;
             most = before.most;
             levels_len = before.levels_len;
-            underway = λ history seen. IsUnderway-unbound history _ i _ _ _ (before.underway history seen) within (sym read ∙ w.if-index.false);
+            underway = λ history seen.
+                IsUnderway-unbound history _ i _ _ _ (before.underway history seen) within (sym read ∙ w.if-index.false);
           })
     ]
 
 pub returns-clause-seen : goal.returns-clause-seen
 returns-clause-seen c = λ history seen.
-    HasSeen-entry history _ _ _ (c.loop-signal.invariant.underway history seen) (omega (arith, c.loop-signal.invariant.bound_len))
+    let after = c.loop-signal.invariant in
+    HasSeen-entry history _ _ _ (after.underway history seen) (omega (arith, after.bound_len))

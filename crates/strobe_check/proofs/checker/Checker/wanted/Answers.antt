@@ -38,4 +38,5 @@ returns c = λ history seen.
     let window = c.index-2.ensures
     ∙ ap (λ k. get_or c.self.inside.windows.items k c.index-2.result.now) c.from-at.ensures in
     c.is_watched.ensures ∙ ap (is_watched c.index-2.result.now signal) c.as_slice.ensures
-    ∙ bound-sensed history _ c.args.moment.now signal _ _ held (omega (arith, c.from-at.ensures)) is_bound window
+    ∙ bound-sensed history _ c.args.moment.now signal _ _ held
+    (omega (arith, c.from-at.ensures)) is_bound window
