@@ -9,3 +9,4 @@ pub mod Pieces
 pub mod Refusals
 pub mod Readings
 pub mod Loop
+pub mod Slowly

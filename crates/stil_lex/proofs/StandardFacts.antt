@@ -1,10 +1,10 @@
 -- Known texts, read by the definitions alone.
-use Rattle.std.proofs.Common.{◌≡◌, ℕ, Bool, true, false, List, [], ◌∷◌, ◌++◌, length, refl, sym, ap, ◌∙◌, inl, inr}
+use Rattle.std.proofs.Common.{◌≡◌, ℕ, true, false, List, [], ◌∷◌, refl, sym, ap, ◌∙◌, inl, inr}
 use Rattle.std.proofs.lemmas.Bool.{false≢true}
 use Rattle.std.specs.List.{list_all}
 use Rattle.std.specs.Prelude.{codes}
 use Rattle.stil_lex.specs.Bytes.{begins_with, is_blank, is_word, is_printing, may_be_quoted}
-use Rattle.stil_lex.specs.Pieces.{Piece, gap, token, IsWord, IsBlank, IsGap, IsGap.blank, IsGap.comment, IsGap.line_comment, IsGap.annotation}
+use Rattle.stil_lex.specs.Pieces.{gap, token, IsWord, IsGap.blank, IsGap.comment, IsGap.annotation}
 use Rattle.stil_lex.specs.Tokens.{Reads}
 use Rattle.stil_lex.specs.Faults.{Refuses}
 use Rattle.stil_lex.specs.Step.{is_ann}

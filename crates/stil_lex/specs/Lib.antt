@@ -4,3 +4,4 @@ pub mod Tokens
 pub mod Faults
 pub mod Text
 pub mod Step
+pub mod Slow

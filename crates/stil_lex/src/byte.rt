@@ -58,7 +58,8 @@ pub(crate) fn pair_place(text: &[u8], first: u8, second: u8) -> usize
 
 /// How many bytes stand before the first `byte`, or all.
 pub(crate) fn place_of(text: &[u8], byte: u8) -> usize
-    ensures { result ≡ position_or_len (λ b. b == byte) text.now }
+    ensures place { result ≡ position_or_len (λ b. b == byte) text.now }
+    ensures within { result ≤ length text.now }
 {
     text.iter().take_while(|b| **b != byte).count()
 }

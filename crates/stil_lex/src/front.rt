@@ -55,7 +55,7 @@ fn closed_front(
     }
 }
 
-fn is_ann(word: &[u8]) -> bool
+pub(crate) fn is_ann(word: &[u8]) -> bool
     ensures { result ≡ is_ann word.now }
 {
     match word {
@@ -66,7 +66,7 @@ fn is_ann(word: &[u8]) -> bool
 
 /// How many bytes open an annotation behind `Ann`, or 0.
 #[tactic(auto, unfolding(crate::specs::Step::mark_len))]
-fn mark_len(text: &[u8]) -> usize
+pub(crate) fn mark_len(text: &[u8]) -> usize
     requires { length text.now ≤ 16777216 }
     ensures len { result ≡ mark_len text.now }
     ensures within { result ≤ length text.now }

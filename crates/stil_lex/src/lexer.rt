@@ -16,7 +16,7 @@ use crate::token::{Token, TokenKind};
 use std::alloc::{AllocError, Global};
 
 /// Appends the token, where it has a kind: a gap has none.
-fn keep(
+pub(crate) fn keep(
     tokens: &mut Vec<Token>,
     kind: Option<TokenKind>,
     start: usize,

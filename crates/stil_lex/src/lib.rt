@@ -16,4 +16,6 @@ pub use list::TokenList;
 pub use token::{Token, TokenKind};
 
 #[cfg(test)]
+mod slow;
+#[cfg(test)]
 mod tests;

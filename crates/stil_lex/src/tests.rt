@@ -1,4 +1,5 @@
 use super::*;
+use crate::slow::slow_lex;
 use std::test::Fail;
 
 /// The fault of a short text.
@@ -55,4 +56,40 @@ fn a_byte_that_nothing_may_hold_has_its_place(rt: HostRuntime) {
         fault_of(&rt, b"'a\x01\x02' \x03"),
         Some(LexFault::BadByte(2))
     );
+}
+
+/// Whether both lexers give the same tokens, or none.
+fn agree(rt: &HostRuntime, text: &[u8]) -> Result<bool, Fail> {
+    if text.len() > 1000 {
+        return Ok(false);
+    }
+    let fast = lex(rt.alloc(), text).ok();
+    let slow = slow_lex(rt.alloc(), text)?;
+    let fast = format!(in rt.alloc(); "{fast:?}")?;
+    let slow = format!(in rt.alloc(); "{slow:?}")?;
+    Ok(fast.as_str() == slow.as_str())
+}
+
+/// A text whose slow reading agrees, and that of each of its prefixes.
+fn agree_on_prefixes(rt: &HostRuntime, text: &[u8]) -> Result<bool, Fail> {
+    for len in 0..text.len() {
+        if !agree(rt, &text[..len])? {
+            return Ok(false);
+        }
+    }
+    agree(rt, text)
+}
+
+#[test]
+fn the_slow_lexer_agrees_on_every_prefix(rt: HostRuntime) -> Result<(), Fail> {
+    let text = b"STIL 1.0; // a\nAnn {* b *} Ann\nW \"t\"; /* c\n*/ 'x+\ty'/2; \"\x01\" ~";
+    assert!(rt; agree_on_prefixes(&rt, text)?);
+    assert!(rt; agree(&rt, b"/*/ Ann {*}")?);
+    assert!(rt;
+        agree_on_prefixes(
+            &rt,
+            b"STIL 1.0;\nSignals { a In; y Out; }\nTiming t { WaveformTable w {\nPeriod '100ns';\nWaveforms {\na { 01 { '0ns' D/U; } }\ny { LHX { '40ns' L/H/X; } }\n} } }\nPattern p {\nW w;\nV { a=0; y=H; }\nV { a=1; y=L; }\nV { y=X; }\n}\nPatternBurst b { PatList { p; } }\nPatternExec { Timing t; PatternBurst b; }\n"
+        )?
+    );
+    Ok(())
 }

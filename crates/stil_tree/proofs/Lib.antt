@@ -1,0 +1,11 @@
+pub mod StandardFacts
+pub mod Lists
+pub mod Steps
+pub mod Runs
+pub mod Reached
+pub mod Sound
+pub mod Levels
+pub mod Standing
+pub mod Forests
+pub mod Spots
+pub mod Slowly

@@ -1,0 +1,98 @@
+//! The block of a place, which a fault names.
+
+ghost use Rattle.std.specs.Prelude.{◌≡◌, ◌+◌, ◌-◌, ◌≤◌, ◌<◌, ◌^◌, length, take, slice_get};
+ghost use Rattle.stil_tree.specs.Blocks.{BeginsAt, IsBlock, may_name, keyword_at, name_if};
+ghost use Rattle.stil_tree.specs.Step.{spot_behind};
+
+use crate::builder::is_sign;
+use stil_lex::{Token, TokenKind};
+
+/// Where the open statement outside all braces begins, and how many braces are open.
+#[derive(Clone, Copy)]
+struct Spot {
+    start: usize,
+    braces: usize,
+}
+
+/// The spot behind a token with the index `at`.
+#[tactic(auto, unfolding(crate::specs::Step::spot_behind))]
+fn spot_behind(spot: Spot, at: usize, token: &Token) -> Spot
+    requires few { spot.braces ≤ at }
+    requires small { at < 2 ^ 63 }
+    ensures spot { result ≡ spot_behind spot.start spot.braces at token.now }
+    ensures few { result.braces ≤ at + 1 }
+{
+    let Spot { start, braces } = spot;
+    if is_sign(token, b'{') {
+        Spot {
+            start,
+            braces: braces + 1,
+        }
+    } else if is_sign(token, b'}') {
+        let start = if braces == 1 { at + 1 } else { start };
+        Spot {
+            start,
+            braces: braces.saturating_sub(1),
+        }
+    } else if is_sign(token, b';') && braces == 0 {
+        Spot {
+            start: at + 1,
+            braces,
+        }
+    } else {
+        spot
+    }
+}
+
+/// Where the statement outside all braces that is open behind the tokens begins.
+fn block_start(tokens: &[Token]) -> usize
+    ensures { BeginsAt tokens.now result }
+{
+    let mut spot = Spot {
+        start: 0,
+        braces: 0,
+    };
+    for (at, token) in tokens.iter().enumerate() {
+        spot = spot_behind(spot, at, token);
+    }
+    spot.start
+}
+
+fn may_name(kind: TokenKind) -> bool
+    ensures { result ≡ may_name kind }
+{
+    matches!(kind, TokenKind::Word | TokenKind::Name)
+}
+
+fn keyword_at(tokens: &[Token], index: usize) -> Option<usize>
+    ensures { result ≡ keyword_at tokens.now index }
+{
+    if index < tokens.len() {
+        Some(index)
+    } else {
+        None
+    }
+}
+
+fn name_at(tokens: &[Token], index: usize) -> Option<usize>
+    ensures { result ≡ name_if (slice_get tokens.now index) index }
+{
+    if index < tokens.len() && may_name(tokens[index].kind) {
+        Some(index)
+    } else {
+        None
+    }
+}
+
+/// The tokens of the keyword and of the name of the block that is open behind the first `upto` tokens.
+///
+/// The block is the statement outside all braces. Its keyword is its first token, and its name its second, where that is
+/// a Word or a Name.
+pub fn enclosing(tokens: &[Token], upto: usize) -> (Option<usize>, Option<usize>)
+    requires { upto ≤ length tokens.now }
+    ensures { IsBlock (take upto tokens.now) result }
+{
+    let read = &tokens[..upto];
+    let start = block_start(read);
+    (keyword_at(read, start), name_at(read, start + 1))
+}

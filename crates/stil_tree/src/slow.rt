@@ -1,0 +1,153 @@
+//! A plain slow reader of statements, whose contract is the grammar: it looks for the end of each block, and then reads the block.
+
+ghost use Rattle.std.specs.Prelude.{◌≡◌, ◌+◌, ◌≤◌, length, IfOk, IfSome, OnOk};
+ghost use Rattle.std.specs.List.{position_or_len};
+ghost use Rattle.stil_tree.specs.Marks.{is_mark, is_sign};
+ghost use Rattle.stil_tree.specs.Trees.{Trees, trees};
+ghost use Rattle.stil_tree.specs.Step.{join};
+ghost use Rattle.stil_tree.specs.Memory.{trees_of};
+ghost use Rattle.stil_tree.specs.Grammar.{ParsesAt, Parses};
+ghost use Rattle.stil_tree.specs.Slow.{IsFirst, before, plain_before};
+
+use crate::builder::is_sign;
+use crate::stmt::{Stmt, StmtList};
+use std::alloc::{AllocError, Global};
+use stil_lex::Token;
+
+fn is_mark(token: &Token) -> bool
+    ensures { result ≡ is_mark token.now }
+{
+    is_sign(token, b';') || is_sign(token, b'{') || is_sign(token, b'}')
+}
+
+/// How many tokens stand before the first mark.
+fn head_len(tokens: &[Token]) -> usize
+    ensures len { result ≡ position_or_len is_mark tokens.now }
+    ensures within { result ≤ length tokens.now }
+{
+    tokens.iter().take_while(|t| !is_mark(t)).count()
+}
+
+/// Where the block ends of which these tokens are the rest, or the tokens' end.
+fn block_len(tokens: &[Token]) -> usize
+    ensures within { result ≤ length tokens.now }
+{
+    let mut open = 0u32;
+    for (at, token) in tokens.iter().enumerate() {
+        if is_sign(token, b'{') {
+            open = open.saturating_add(1);
+        } else if is_sign(token, b'}') {
+            if open == 0 {
+                return at;
+            }
+            open -= 1;
+        }
+    }
+    tokens.len()
+}
+
+/// What stands at the front of tokens: a statement, or none where a `;` is skipped, and how many tokens it takes.
+struct First {
+    stmt: Option<Stmt>,
+    len: usize,
+}
+
+/// A statement that `;` ends. One without head tokens is skipped.
+fn plain_statement(first: u32, count: u32) -> Option<Stmt>
+    ensures { (more : Trees) → before result more ≡ plain_before first count more }
+{
+    if count == 0 {
+        return None;
+    }
+    Some(Stmt {
+        first,
+        count,
+        body: None,
+    })
+}
+
+/// Appends the statement, where there is one.
+fn add(stmts: &mut Vec<Stmt>, stmt: Option<Stmt>) -> Result<(), AllocError>
+    ensures { OnOk result ((more : Trees) → join (trees_of stmts.new.items) more ≡ join (trees_of stmts.old.items) (before stmt more)) }
+{
+    if let Some(stmt) = stmt {
+        stmts.push(stmt)?;
+    }
+    Ok(())
+}
+
+/// The statement at the front of tokens whose first has the index `at`, or none.
+#[cycle(slow)]
+fn statement(
+    alloc: Global,
+    tokens: &[Token],
+    at: usize,
+    depth: usize,
+) -> Result<Option<First>, AllocError>
+    requires small { at + length tokens.now ≤ 16777216 }
+    requires levels { depth ≤ 16 }
+    ensures { IfOk result (λ found. IfSome found (λ f. IsFirst depth at f.stmt f.len tokens.now)) }
+{
+    let count = head_len(tokens);
+    if count == tokens.len() {
+        return Ok(None);
+    }
+    let mark = &tokens[count];
+    if is_sign(mark, b';') {
+        return Ok(Some(First {
+            stmt: plain_statement(at as u32, count as u32),
+            len: count + 1,
+        }));
+    }
+    if !is_sign(mark, b'{') || depth == 16 {
+        return Ok(None);
+    }
+    let rest = &tokens[count + 1..];
+    let len = block_len(rest);
+    if len == rest.len() || !is_sign(&rest[len], b'}') {
+        return Ok(None);
+    }
+    let Some(body) = level(alloc, &rest[..len], at + count + 1, depth + 1)? else {
+        return Ok(None);
+    };
+    Ok(Some(First {
+        stmt: Some(Stmt {
+            first: at as u32,
+            count: count as u32,
+            body: Some(body),
+        }),
+        len: count + 1 + len + 1,
+    }))
+}
+
+/// The statements that the tokens are, whose first has the index `at`, or none.
+#[cycle(slow)]
+fn level(
+    alloc: Global,
+    tokens: &[Token],
+    at: usize,
+    depth: usize,
+) -> Result<Option<StmtList>, AllocError>
+    requires small { at + length tokens.now ≤ 16777216 }
+    requires levels { depth ≤ 16 }
+    ensures { IfOk result (λ found. IfSome found (λ list. ParsesAt depth at (trees list) tokens.now)) }
+{
+    let mut stmts = Vec::new(alloc);
+    let mut read = 0usize;
+    while read < tokens.len() {
+        let Some(First { stmt, len }) = statement(alloc, &tokens[read..], at + read, depth)? else {
+            return Ok(None);
+        };
+        add(&mut stmts, stmt)?;
+        read += len;
+    }
+    Ok(Some(StmtList::from_vec(stmts)))
+}
+
+/// The statements of the tokens, or none.
+pub(crate) fn slow_forest(alloc: Global, tokens: &[Token]) -> Result<Option<StmtList>, AllocError>
+    requires { length tokens.now ≤ 16777216 }
+    ensures { IfOk result (λ found. IfSome found (λ list. Parses tokens.now (trees list))) }
+{
+    level(alloc, tokens, 0, 0)
+}

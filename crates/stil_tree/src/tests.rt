@@ -1,0 +1,119 @@
+use super::*;
+use crate::slow::slow_forest;
+use std::test::Fail;
+use stil_lex::{Token, lex};
+
+/// The fault of a short text's tokens.
+fn fault_of(rt: &HostRuntime, text: &[u8]) -> Option<TreeFault> {
+    if text.len() > 1000 {
+        return Some(TreeFault::NoMemory);
+    }
+    let Ok(tokens) = lex(rt.alloc(), text) else {
+        return Some(TreeFault::NoMemory);
+    };
+    if tokens.len() > 1000 {
+        return Some(TreeFault::NoMemory);
+    }
+    forest(rt.alloc(), tokens.as_slice()).err()
+}
+
+#[test]
+fn statements_keep_their_heads_and_blocks(rt: HostRuntime) -> Result<(), Fail> {
+    let tokens = lex(rt.alloc(), b"STIL 1.0;; Signals { a In; }")?;
+    assert_eq!(rt; tokens.len(), 12);
+    let list = forest(rt.alloc(), tokens.as_slice())?;
+    let stmts = list.as_slice();
+    assert_eq!(rt; stmts.len(), 2);
+    assert_eq!(rt; stmts[0].first, 0);
+    assert_eq!(rt; stmts[0].count, 4);
+    assert!(rt; stmts[0].body.is_none());
+    assert_eq!(rt; stmts[1].first, 6);
+    assert_eq!(rt; stmts[1].count, 1);
+    let body = stmts[1].body.as_ref().ok_or("a block")?;
+    assert_eq!(rt; body.len(), 1);
+    Ok(())
+}
+
+#[test]
+fn good_texts_have_no_fault(rt: HostRuntime) {
+    assert_eq!(rt; fault_of(&rt, b""), None);
+    assert_eq!(rt; fault_of(&rt, b";;"), None);
+    assert_eq!(rt; fault_of(&rt, b"{ }"), None);
+    assert_eq!(rt;
+        fault_of(&rt, b"{{{{{{{{{{{{{{{{ a; }}}}}}}}}}}}}}}}"),
+        None
+    );
+}
+
+#[test]
+fn the_first_refusal_has_its_token(rt: HostRuntime) {
+    assert_eq!(rt; fault_of(&rt, b"a; b"), Some(TreeFault::OpenStatement(2)));
+    assert_eq!(rt; fault_of(&rt, b"a; }"), Some(TreeFault::StrayClose(2)));
+    assert_eq!(rt; fault_of(&rt, b"a }"), Some(TreeFault::StrayClose(1)));
+    assert_eq!(rt;
+        fault_of(&rt, b"a { b } c"),
+        Some(TreeFault::OpenStatement(2))
+    );
+    assert_eq!(rt;
+        fault_of(&rt, b"a { b { c; "),
+        Some(TreeFault::OpenBlock(3))
+    );
+    assert_eq!(rt; fault_of(&rt, b"a { b; c"), Some(TreeFault::OpenBlock(1)));
+    assert_eq!(rt;
+        fault_of(&rt, b"{{{{{{{{{{{{{{{{ { }"),
+        Some(TreeFault::TooDeep(16))
+    );
+}
+
+#[test]
+fn a_place_has_its_block(rt: HostRuntime) -> Result<(), Fail> {
+    let tokens = lex(rt.alloc(), b"A; Timing \"t\" { W; } } x")?;
+    let items = tokens.as_slice();
+    assert_eq!(rt; items.len(), 10);
+    assert_eq!(rt; enclosing(items, 2), (None, None));
+    assert_eq!(rt; enclosing(items, 3), (Some(2), None));
+    assert_eq!(rt; enclosing(items, 7), (Some(2), Some(3)));
+    assert_eq!(rt; enclosing(items, 8), (None, None));
+    assert_eq!(rt; enclosing(items, 10), (Some(8), Some(9)));
+    Ok(())
+}
+
+/// Whether both readers give the same statements, or none.
+fn agree(rt: &HostRuntime, tokens: &[Token]) -> Result<bool, Fail> {
+    if tokens.len() > 1000 {
+        return Ok(false);
+    }
+    let fast = forest(rt.alloc(), tokens).ok();
+    let slow = slow_forest(rt.alloc(), tokens)?;
+    let fast = format!(in rt.alloc(); "{fast:?}")?;
+    let slow = format!(in rt.alloc(); "{slow:?}")?;
+    Ok(fast.as_str() == slow.as_str())
+}
+
+/// Whether both readers agree on a text's tokens, and on each of their prefixes.
+fn agree_on_prefixes(rt: &HostRuntime, text: &[u8]) -> Result<bool, Fail> {
+    if text.len() > 1000 {
+        return Ok(false);
+    }
+    let tokens = lex(rt.alloc(), text)?;
+    let items = tokens.as_slice();
+    for len in 0..items.len() {
+        if !agree(rt, &items[..len])? {
+            return Ok(false);
+        }
+    }
+    agree(rt, items)
+}
+
+#[test]
+fn the_slow_reader_agrees_on_every_prefix(rt: HostRuntime) -> Result<(), Fail> {
+    let text = b"STIL 1.0;; Timing \"t\" { W { Period '1us'; } } { a; { } } } Z";
+    assert!(rt; agree_on_prefixes(&rt, text)?);
+    assert!(rt;
+        agree_on_prefixes(
+            &rt,
+            b"STIL 1.0;\nSignals { a In; y Out; }\nTiming t { WaveformTable w {\nPeriod '100ns';\nWaveforms {\na { 01 { '0ns' D/U; } }\ny { LHX { '40ns' L/H/X; } }\n} } }\nPattern p {\nW w;\nV { a=0; y=H; }\nV { a=1; y=L; }\nV { y=X; }\n}\nPatternBurst b { PatList { p; } }\nPatternExec { Timing t; PatternBurst b; }\n"
+        )?
+    );
+    Ok(())
+}
