@@ -93,3 +93,10 @@ fn the_slow_lexer_agrees_on_every_prefix(rt: HostRuntime) -> Result<(), Fail> {
     );
     Ok(())
 }
+
+#[test]
+fn a_fault_is_printed_with_its_place(rt: HostRuntime) -> Result<(), Fail> {
+    let line = LexFault::OpenQuote(7).to_string(rt.alloc())?;
+    assert_eq!(rt; line.as_str(), "quote without an end at 7");
+    Ok(())
+}

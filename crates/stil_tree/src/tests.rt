@@ -117,3 +117,10 @@ fn the_slow_reader_agrees_on_every_prefix(rt: HostRuntime) -> Result<(), Fail> {
     );
     Ok(())
 }
+
+#[test]
+fn a_fault_is_printed_with_its_token(rt: HostRuntime) -> Result<(), Fail> {
+    let line = TreeFault::StrayClose(7).to_string(rt.alloc())?;
+    assert_eq!(rt; line.as_str(), "stray closing brace at token 7");
+    Ok(())
+}
