@@ -1,8 +1,9 @@
 -- The dated cycles of an executive: each has a vector, and starts where those before it have ended.
-use Rattle.std.specs.Prelude.{ℕ, List, map, take, length, sum_by}
+use Rattle.std.specs.Prelude.{ℕ, List, map, take, sum_by}
 use Rattle.std.specs.List.{enumerate_from}
 use Rattle.stil_ast.specs.State.{Vector}
 
+-- a cycle: its number, its start, and its vector
 pub record Dated : Type 0 where
   pub number : ℕ
   pub start : ℕ
@@ -14,4 +15,5 @@ starts_at period vectors number = sum_by period (take number vectors)
 
 -- the cycles that vectors make, in order
 abbrev pub dated : (Vector → ℕ) → List Vector → List Dated
-dated period vectors = map (λ v. record { number = v.0; start = starts_at period vectors v.0; vector = v.1 }) (enumerate_from 0 vectors)
+dated period vectors =
+    map (λ v. record { number = v.0; start = starts_at period vectors v.0; vector = v.1 }) (enumerate_from 0 vectors)

@@ -1,2 +1,44 @@
-//! The typed data of STIL blocks, and what patterns mean.
+//! The typed data of STIL blocks, and what patterns mean (IEEE 1450-1999).
 #![tactic(auto)]
+
+mod blocks;
+mod body;
+mod data;
+mod executive;
+mod fault;
+mod laws;
+mod name;
+mod scan;
+mod signal;
+mod timing;
+mod variable;
+
+pub use blocks::{Blocks, BodyDef, BodyDefList, DefBlock, DefBlockList, Pattern, PatternList};
+pub use body::{Assignment, AssignmentList, PatAction, PatBody, PatStmt, Step};
+pub use data::{ItemRun, VecItem, VecText};
+pub use executive::{
+    Burst, BurstItem, BurstItemList, BurstList, BurstWord, ExecDecl, ExecDeclList,
+};
+pub use fault::{StilFault, StilKind, StilRefusal};
+pub use laws::{
+    call_gives_back, cycles_follow, flat_tree_agrees, loop_splits, macro_is_its_body,
+    shift_is_in_order, signal_keeps_character,
+};
+pub use name::{IndexRange, NameRef, Named, NamedList, Quoted, SigRef, WordList};
+pub use scan::{
+    CellDecl, CellDeclList, CellsDecl, ChainDecl, ChainDeclList, ScanBlock, ScanBlockList,
+};
+pub use signal::{
+    Direction, GroupBlock, GroupBlockList, GroupDecl, GroupDeclList, SignalDecl, SignalDeclList,
+};
+pub use timing::{
+    ActList, EventDecl, EventDeclList, SignalWaves, SignalWavesList, TableDecl, TableDeclList,
+    TimingBlock, TimingBlockList, WaveDecl, WaveDeclList,
+};
+pub use variable::{
+    Category, CategoryList, Choice, Choices, Selection, SelectionList, Selector, SelectorList,
+    SpecBlock, SpecBlockList, VariableDecl, VariableDeclList, VariableValue,
+};
+
+#[cfg(test)]
+mod tests;

@@ -1,0 +1,12 @@
+pub mod ThinLaws
+pub mod StandardFacts
+pub mod RunLemmas
+pub mod CallLemmas
+pub mod LetterLemmas
+pub mod MacroLemmas
+pub mod CycleLemmas
+pub mod KeepLemmas
+pub mod ShiftLemmas
+pub mod BodyLemmas
+pub mod FlatSteps
+pub mod FlatLemmas

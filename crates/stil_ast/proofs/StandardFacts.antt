@@ -1,0 +1,7 @@
+-- Known texts, whose cycles and refusals the definitions must give. Each is computed from the definitions alone.
+pub mod Texts
+pub mod Lines
+pub mod Runs
+pub mod Rows
+pub mod Refusals
+pub mod Choices

@@ -1,0 +1,143 @@
+//! Why a STIL text is refused.
+
+ghost use Rattle.std.specs.Prelude.{◌≡◌};
+ghost use Rattle.stil_ast.specs.KindName.{kind_name};
+ghost use Rattle.stil_ast.specs.declared.fault.StilRefusal.TheVariants.{NoMemory};
+
+use std::alloc::{AllocError, AllocFailed};
+use std::error::Error;
+use std::fmt;
+use tester_types::Text;
+
+/// The kind of a fault of a STIL text.
+#[derive(Clone, Copy, Debug, PartialEq, Eq)]
+pub enum StilKind {
+    BadByte,
+    OpenQuote,
+    OpenComment,
+    OpenBlock,
+    OpenStatement,
+    StrayClose,
+    TooDeep,
+    NoHeader,
+    Shape,
+    LeftOut,
+    OutOfRange,
+    Twice,
+    NoExec,
+    UnknownName,
+    Cyclic,
+    BadExpr,
+    ZeroDivisor,
+    NotWhole,
+    NoPeriod,
+    EventOutside,
+    EventOrder,
+    Width,
+    NoData,
+    ShiftForm,
+    NoTable,
+    NoWave,
+    TooLarge,
+    TooManyCycles,
+}
+
+impl StilKind {
+    /// The word by which it is printed.
+    pub fn name(self) -> &'static str
+        ensures { result.now ≡ kind_name self }
+    {
+        match self {
+            StilKind::BadByte => "BadByte",
+            StilKind::OpenQuote => "OpenQuote",
+            StilKind::OpenComment => "OpenComment",
+            StilKind::OpenBlock => "OpenBlock",
+            StilKind::OpenStatement => "OpenStatement",
+            StilKind::StrayClose => "StrayClose",
+            StilKind::TooDeep => "TooDeep",
+            StilKind::NoHeader => "NoHeader",
+            StilKind::Shape => "Shape",
+            StilKind::LeftOut => "LeftOut",
+            StilKind::OutOfRange => "OutOfRange",
+            StilKind::Twice => "Twice",
+            StilKind::NoExec => "NoExec",
+            StilKind::UnknownName => "UnknownName",
+            StilKind::Cyclic => "Cyclic",
+            StilKind::BadExpr => "BadExpr",
+            StilKind::ZeroDivisor => "ZeroDivisor",
+            StilKind::NotWhole => "NotWhole",
+            StilKind::NoPeriod => "NoPeriod",
+            StilKind::EventOutside => "EventOutside",
+            StilKind::EventOrder => "EventOrder",
+            StilKind::Width => "Width",
+            StilKind::NoData => "NoData",
+            StilKind::ShiftForm => "ShiftForm",
+            StilKind::NoTable => "NoTable",
+            StilKind::NoWave => "NoWave",
+            StilKind::TooLarge => "TooLarge",
+            StilKind::TooManyCycles => "TooManyCycles",
+        }
+    }
+}
+
+impl fmt::Display for StilKind {
+    ghost use Rattle.std.specs.Prelude.{Some};
+    ghost use Rattle.stil_ast.specs.KindName.{kind_name};
+
+    ghost output = { λ kind. Some (kind_name kind) };
+
+    fn fmt<W: fmt::Write>(&self, f: &mut fmt::Formatter<W>) -> fmt::Result {
+        f.write_str(self.name())
+    }
+}
+
+/// A fault, with the top-level statement in which it stands.
+#[derive(Debug, Drop)]
+pub struct StilFault {
+    pub kind: StilKind,
+    /// The keyword of the top-level statement; empty where there is none.
+    pub block: Text,
+    /// Its name; empty where it has none.
+    pub name: Text,
+    /// From 1.
+    pub line: u32,
+}
+
+/// Why a reader gave up.
+#[derive(Debug, Drop)]
+pub enum StilRefusal {
+    NoMemory,
+    Fault(StilFault),
+}
+
+impl fmt::Display for StilRefusal {
+    ghost use Rattle.std.specs.Prelude.{Some};
+    ghost use Rattle.stil_ast.specs.RefusalText.{refusal_text};
+
+    ghost output = { λ refusal. Some (refusal_text refusal) };
+
+    fn fmt<W: fmt::Write>(&self, f: &mut fmt::Formatter<W>) -> fmt::Result {
+        match self {
+            StilRefusal::NoMemory => write!(f, "out of memory"),
+            StilRefusal::Fault(fault) => write!(f, "{} at line {}", fault.kind, fault.line),
+        }
+    }
+}
+
+impl Error for StilRefusal {}
+
+impl From<AllocError> for StilRefusal {
+    ghost from_gives = { λ _ refusal. refusal ≡ NoMemory };
+
+    fn from(_error: AllocError) -> StilRefusal {
+        StilRefusal::NoMemory
+    }
+}
+
+impl<T: Drop> From<AllocFailed<T>> for StilRefusal {
+    ghost from_gives = { λ _ refusal. refusal ≡ NoMemory };
+
+    fn from(_error: AllocFailed<T>) -> StilRefusal {
+        StilRefusal::NoMemory
+    }
+}

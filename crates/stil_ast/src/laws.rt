@@ -1,0 +1,38 @@
+//! Laws of the language: what its definitions say, as a test engineer expects it.
+
+ghost use Rattle.stil_ast.specs.Laws.{LoopSplits, MacroIsItsBody, CallGivesBack, ShiftIsInOrder, SignalKeepsCharacter, CyclesFollow, FlatTreeAgrees};
+
+/// A Loop of m + n runs is a Loop of m and then one of n.
+pub fn loop_splits()
+    ensures { LoopSplits }
+{}
+
+/// A Macro without arguments is its body, where the body takes no data and its calls go at most 63 deep.
+pub fn macro_is_its_body()
+    ensures { MacroIsItsBody }
+{}
+
+/// After a Call the table, the characters and the arguments are the caller's.
+pub fn call_gives_back()
+    ensures { CallGivesBack }
+{}
+
+/// A Shift of a signal's data shifts each character once, in order.
+pub fn shift_is_in_order()
+    ensures { ShiftIsInOrder }
+{}
+
+/// A signal that nothing assigns keeps its character, in each vector and behind the statements.
+pub fn signal_keeps_character()
+    ensures { SignalKeepsCharacter }
+{}
+
+/// Cycle k + 1 of an executive starts where cycle k ends.
+pub fn cycles_follow()
+    ensures { CyclesFollow }
+{}
+
+/// The flat tree of a pattern has the pattern's run, where no `#` and no Shift stands in a Loop.
+pub fn flat_tree_agrees()
+    ensures { FlatTreeAgrees }
+{}
