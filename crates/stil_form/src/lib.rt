@@ -1,0 +1,18 @@
+//! What all readers of block forms share: the parts and heads of statements, the clause of a reader's answer, and the
+//! loop that finds the first fault in text order.
+#![tactic(auto)]
+
+mod fault;
+mod laws;
+mod part;
+mod reader;
+mod word;
+
+pub use fault::{FormFault, FormKind};
+pub use laws::first_refused;
+pub use part::{Mark, Part, body, head, parts};
+pub use reader::{Form, is_skipped, read_each, read_unskipped};
+pub use word::{is_word, name_of, number_of};
+
+#[cfg(test)]
+mod tests;
