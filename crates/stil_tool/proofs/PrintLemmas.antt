@@ -1,0 +1,84 @@
+-- A loop that puts a text line by line: what was written, and what is left, are the whole.
+use Rattle.std.proofs.Common.{◌≡◌, ℕ, suc, ◌+◌, ◌*◌, ◌^◌, ◌<◌, List, ◌∷◌, ◌++◌, length, drop, get_or, Option, sym, ap, ◌∙◌, subst, arith, replicate, Result}
+use Rattle.std.proofs.Math.Seq.{drop-cons}
+use Rattle.std.proofs.lemmas.Nat.{mul-lt}
+use Rattle.std.specs.List.{flat_map}
+use Rattle.tester_types.specs.declared.outside.SinkFault.{SinkFault}
+use Rattle.tester_types.specs.Outside.{gained, GainsFront, Puts}
+use Rattle.tester_types.proofs.OutsideLemmas.{gained-gained, puts_stops, puts_last, front_more, front_behind}
+use Rattle.stil_tool.specs.declared.thin.ThinText.{ThinText}
+use Rattle.stil_tool.specs.CyclesText.{cycle_line}
+use Rattle.stil_tool.specs.Rows.{rows_text, row_line, row_after}
+use Rattle.stil_tool.specs.Thin.{cycles_of}
+use Rattle.stil_tool.proofs.RowsLemmas.{rows-are-cycles}
+
+suc-plus : (i : ℕ) → suc i ≡ i + 1
+suc-plus i = omega arith
+
+-- what is left begins with the item at hand
+pub drop-item : {X : Type 0} (items : List X) (i : ℕ) (item : X) → i < length items → item ≡ get_or items i item →
+    drop i items ≡ item ∷ drop (i + 1) items
+drop-item items i item within is =
+    drop-cons items i item within ∙ ap (λ x. x ∷ drop (suc i) items) (sym is) ∙ ap (λ j. item ∷ drop j items) (suc-plus i)
+
+-- a fault in the line at hand
+pub line_stops : (held before now : Option (List ℕ)) (whole written line rest : List ℕ) →
+    whole ≡ written ++ (line ++ rest) → before ≡ gained held written → GainsFront before line now → GainsFront held whole now
+line_stops held before now whole written line rest is first front =
+    subst (λ (all : List ℕ). GainsFront held all now) (sym is) (puts_stops held before now written line rest first front)
+
+-- the line at hand was written too
+pub line-written : (held before now : Option (List ℕ)) (written line : List ℕ) →
+    before ≡ gained held written → now ≡ gained before line → now ≡ gained held (written ++ line)
+line-written held before now written line first more =
+    more ∙ ap (λ was. gained was line) first ∙ gained-gained held written line
+
+-- the text of what is left begins with the line of the vector at hand
+pub rows_text-item : (text : ThinText) (number : ℕ) (row : List ℕ) (vs : List (List (ℕ × ℕ))) (given : List (ℕ × ℕ)) →
+    number < length vs → given ≡ get_or vs number given →
+    rows_text text number row (drop number vs)
+    ≡ row_line number (number * text.table.period) text.table.name (row_after given row)
+    ++ rows_text text (number + 1) (row_after given row) (drop (number + 1) vs)
+rows_text-item text number row vs given within is =
+    ap (rows_text text number row) (drop-item vs number given within is)
+
+-- a product of two numbers of 64 bits fits 128
+pub product_fits : (a b : ℕ) → a < 2 ^ 64 → b < 2 ^ 64 → a * b < 2 ^ 128
+product_fits a b small_a small_b = mul-lt a b (2 ^ 64) (2 ^ 64) small_a small_b
+
+-- the line at hand as the loop has it: the whole is what was written, this line, and what is left behind it
+pub whole-next : (text : ThinText) (number start : ℕ) (row row' name whole written : List ℕ)
+    (vs : List (List (ℕ × ℕ))) (given seen : List (ℕ × ℕ)) →
+    vs ≡ text.vectors → number < length vs → given ≡ get_or vs number given → seen ≡ given → row' ≡ row_after seen row →
+    start ≡ number * text.table.period → name ≡ text.table.name →
+    whole ≡ written ++ rows_text text number row (drop number text.vectors) →
+    whole ≡ written ++ (row_line number start name row' ++ rows_text text (number + 1) row' (drop (number + 1) text.vectors))
+whole-next text number start row row' name whole written vs given seen same within is seen_is row_is start_is name_is all =
+    let within' : number < length text.vectors = subst (λ (xs : List (List (ℕ × ℕ))). number < length xs) same within in
+    let is' : given ≡ get_or text.vectors number given = is ∙ ap (λ xs. get_or xs number given) same in
+    let after : row' ≡ row_after given row = row_is ∙ ap (λ g. row_after g row) seen_is in
+    all ∙ ap (λ t. written ++ t) (rows_text-item text number row text.vectors given within' is')
+    ∙ ap (λ r. written ++ (row_line number (number * text.table.period) text.table.name r
+    ++ rows_text text (number + 1) r (drop (number + 1) text.vectors))) (sym after)
+    ∙ ap (λ n. written ++ (row_line number (number * text.table.period) n row'
+    ++ rows_text text (number + 1) row' (drop (number + 1) text.vectors))) (sym name_is)
+    ∙ ap (λ s. written ++ (row_line number s name row' ++ rows_text text (number + 1) row' (drop (number + 1) text.vectors))) (sym start_is)
+
+-- three texts, one after another: a fault in the first, in the second, and how the last one ends
+pub first_stops : (held now : Option (List ℕ)) (a b c : List ℕ) → GainsFront held a now → GainsFront held ((a ++ b) ++ c) now
+first_stops held now a b c front = front_more held now (a ++ b) c (front_more held now a b front)
+
+pub second_stops : (held before now : Option (List ℕ)) (a b c : List ℕ) → before ≡ gained held a →
+    GainsFront before b now → GainsFront held ((a ++ b) ++ c) now
+second_stops held before now a b c first front =
+    front_more held now (a ++ b) c (front_behind held now a b (subst (λ (was : Option (List ℕ)). GainsFront was b now) first front))
+
+pub third_ends : (held before between now : Option (List ℕ)) (a b c : List ℕ) (r : Result (Unit {0}) SinkFault) →
+    before ≡ gained held a → between ≡ gained before b → Puts between c r now → Puts held ((a ++ b) ++ c) r now
+third_ends held before between now a b c r first second last =
+    puts_last held between now (a ++ b) c r (line-written held before between a b first second) last
+
+-- the text of the rows, from a row without characters on, is the text of the cycles
+pub rows-of : (text : ThinText) (row : List ℕ) → row ≡ replicate (length text.signals) 45 →
+    rows_text text 0 row text.vectors ≡ flat_map (cycle_line text.table.name) (cycles_of text)
+rows-of text row empty = ap (λ r. rows_text text 0 r text.vectors) empty ∙ rows-are-cycles text

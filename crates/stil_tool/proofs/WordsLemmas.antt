@@ -1,0 +1,23 @@
+-- The words of a command, read one by one.
+use Rattle.std.proofs.Common.{◌≡◌, ℕ, ◌<◌, ◌≤◌, true, List, [], ◌∷◌, length, get_or, nat_eq, sym, ap, ◌∙◌, arith, String, string_bytes}
+use Rattle.std.specs.declared.alloc.Global.{Global}
+use Rattle.std.specs.Cmp.Lexicographic.{pointwise, bytes_decides}
+use Rattle.stil_tool.specs.Offline.{words_seen}
+
+-- a list of two items
+pub two_items : {X : Type 0} (xs : List X) (a b : X) → 2 ≤ length xs → length xs < 3 →
+    a ≡ get_or xs 0 a → b ≡ get_or xs 1 b → xs ≡ a ∷ b ∷ []
+two_items [] a b least below first second = absurd (omega arith)
+two_items (x ∷ []) a b least below first second = absurd (omega arith)
+two_items (x ∷ y ∷ []) a b least below first second = ap (λ h. h ∷ y ∷ []) (sym first) ∙ ap (λ h. a ∷ h ∷ []) (sym second)
+two_items (x ∷ y ∷ z ∷ xs) a b least below first second = absurd (omega arith)
+
+-- two words, of which the first is this one
+pub two_words : (words : List (String Global)) (a b : String Global) (command seen file : List ℕ) →
+    2 ≤ length words → length words < 3 → a ≡ get_or words 0 a → b ≡ get_or words 1 b →
+    seen ≡ string_bytes a → true ≡ pointwise nat_eq seen command → file ≡ string_bytes b →
+    words_seen words ≡ command ∷ file ∷ []
+two_words words a b command seen file least below first second seen_is same file_is =
+    ap words_seen (two_items words a b least below first second)
+    ∙ ap (λ w. w ∷ string_bytes b ∷ []) (sym seen_is ∙ (bytes_decides seen command).0 (sym same))
+    ∙ ap (λ w. command ∷ w ∷ []) (sym file_is)
