@@ -1,0 +1,15 @@
+pub mod LineLemmas
+pub mod FormLemmas
+pub mod TextLemmas
+pub mod KeyLemmas
+pub mod NetLemmas
+pub mod ReaderLemmas
+pub mod SortLemmas
+pub mod WalkLemmas
+pub mod NextLemmas
+pub mod OrderLemmas
+pub mod NamesLemmas
+pub mod BuildLemmas
+pub mod ReadLemmas
+pub mod StandardFacts
+pub mod CallerLemmas

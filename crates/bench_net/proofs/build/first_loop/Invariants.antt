@@ -1,0 +1,11 @@
+use Rattle.std.proofs.Common.{◌≡◌, length, map}
+use Rattle.bench_net.specs.Givers.{loop_fault}
+use Rattle.bench_net.specs.Views.{form_of, key_texts}
+use Rattle.bench_net.proofs.build.first_loop.Given as goal
+
+abbrev pub invariant-loop-rest : goal.invariant-loop-rest
+invariant-loop-rest l = loop_fault (key_texts l.fn.names.keys) l.fn.left (map form_of l.rest)
+    ≡ loop_fault (key_texts l.fn.names.keys) l.fn.left (map form_of l.fn.lines)
+
+abbrev pub decreases-loop-rest : goal.decreases-loop-rest
+decreases-loop-rest l = length l.rest

@@ -1,0 +1,8 @@
+use Rattle.std.proofs.Common.{sym, ◌∙◌}
+use Rattle.std.specs.Str.{bytes_eq}
+use Rattle.bench_net.proofs.NetLemmas.{position-map}
+use Rattle.bench_net.proofs.table.place_among.Goals as goal
+
+pub returns : goal.returns
+returns c = c.get_index_of.ensures.index
+    ∙ sym (position-map (λ k. k.now) (bytes_eq c.args.net.now) c.args.nets.now.keys)

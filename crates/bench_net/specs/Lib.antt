@@ -1,0 +1,10 @@
+pub mod Wiring
+pub mod Circuit
+pub mod Inside
+pub mod Line
+pub mod Net
+pub mod Fault
+pub mod Givers
+pub mod Sorting
+pub mod Step
+pub mod Views

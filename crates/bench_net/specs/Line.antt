@@ -1,0 +1,123 @@
+-- What a line of a bench text says, by its spelling: an input, an output, or a net with its
+-- function and the nets that this reads.
+use Rattle.std.specs.Prelude.{◌≡◌, ◌==◌, ℕ, ◌<◌, Bool, true, false, not, ◌&&◌, ◌||◌, nat_le, List, [], ◌∷◌, ◌++◌, length, codes}
+use Rattle.std.specs.List.{AllPass}
+use Rattle.std.specs.Str.{str_eq_ignore_ascii_case}
+use Rattle.bench_net.specs.declared.gate.GateKind.TheVariants.{And, Nand, Or, Nor, Xor, Xnor, Not, Buf}
+use Rattle.bench_net.specs.declared.gate.Function.{Function}
+use Rattle.bench_net.specs.declared.gate.Function.TheVariants.{Logic, Register}
+use Rattle.bench_net.specs.declared.line.Mark.{Mark}
+use Rattle.bench_net.specs.declared.line.Mark.TheVariants.{Open, Close, Comma, Equals}
+
+-- a space or a tab
+abbrev pub is_blank : ℕ → Bool
+is_blank b = b == 32 || b == 9
+
+-- a visible ASCII byte that is none of ( ) , = #
+abbrev pub is_name_byte : ℕ → Bool
+is_name_byte b = nat_le 33 b && nat_le b 126 && not (b == 40) && not (b == 41) && not
+    (b == 44) && not (b == 61) && not (b == 35)
+
+-- a part of a line: a word, or one of the marks
+pub data Lexeme : Type 0 where
+  word : List ℕ → Lexeme
+  mark : Mark → Lexeme
+
+-- the byte of a mark
+abbrev pub mark_byte : Mark → ℕ
+mark_byte Open = 40
+mark_byte Close = 41
+mark_byte Comma = 44
+mark_byte Equals = 61
+
+-- how a part is written
+abbrev pub written : Lexeme → List ℕ
+written (word w) = w
+written (mark m) = mark_byte m ∷ []
+
+-- whether the text goes on with a name's byte
+abbrev pub goes_on : List ℕ → Bool
+goes_on [] = false
+goes_on (b ∷ bs) = is_name_byte b
+
+-- a word is one or more name bytes, as many as stand there
+abbrev pub IsPart : Lexeme → List ℕ → Type 0
+IsPart (word w) rest = (0 < length w) × AllPass is_name_byte w × (goes_on rest ≡ false)
+IsPart (mark m) rest = Unit {0}
+
+-- nothing, or a comment, which runs to the line's end
+abbrev pub IsComment : List ℕ → Type 0
+IsComment [] = Unit {0}
+IsComment (b ∷ bs) = b ≡ 35
+
+-- the text ends: blanks, and a comment at most
+pub record Ends (text : List ℕ) : Type 0 where
+  pub gap : List ℕ
+  pub rest : List ℕ
+  pub whole : text ≡ gap ++ rest
+  pub blank : AllPass is_blank gap
+  pub comment : IsComment rest
+
+-- the text begins with this part, after blanks, and goes on with the rest
+pub record Begins (part : Lexeme) (text rest : List ℕ) : Type 0 where
+  pub gap : List ℕ
+  pub whole : text ≡ gap ++ (written part ++ rest)
+  pub blank : AllPass is_blank gap
+  pub part_is : IsPart part rest
+
+-- the text is these parts in order, with blanks before, between and after them, and a comment at
+-- most behind them
+abbrev pub Spells : List Lexeme → List ℕ → Type 0
+Spells [] text = Ends text
+Spells (p ∷ ps) text = (rest : List ℕ) × Begins p text rest × Spells ps rest
+
+-- what a line says; it says nothing where it is empty
+pub data Form : Type 0 where
+  nothing : Form
+  input : List ℕ → Form
+  output : List ℕ → Form
+  gate : List ℕ → Function → List (List ℕ) → Form
+
+-- the name of a net has at most 1,024 bytes
+abbrev pub is_net : List ℕ → Bool
+is_net name = nat_le (length name) 1024
+
+-- the keyword of a function, in any case of its letters; BUF and BUFF are one function
+abbrev pub is_keyword : Function → List ℕ → Bool
+is_keyword (Logic And) w = str_eq_ignore_ascii_case w (codes "AND")
+is_keyword (Logic Nand) w = str_eq_ignore_ascii_case w (codes "NAND")
+is_keyword (Logic Or) w = str_eq_ignore_ascii_case w (codes "OR")
+is_keyword (Logic Nor) w = str_eq_ignore_ascii_case w (codes "NOR")
+is_keyword (Logic Xor) w = str_eq_ignore_ascii_case w (codes "XOR")
+is_keyword (Logic Xnor) w = str_eq_ignore_ascii_case w (codes "XNOR")
+is_keyword (Logic Not) w = str_eq_ignore_ascii_case w (codes "NOT")
+is_keyword (Logic Buf) w = str_eq_ignore_ascii_case w (codes "BUF")
+    || str_eq_ignore_ascii_case w (codes "BUFF")
+is_keyword Register w = str_eq_ignore_ascii_case w (codes "DFF")
+
+-- the net's name in parentheses
+abbrev pub enclosed : List ℕ → List Lexeme
+enclosed n = mark Open ∷ word n ∷ mark Close ∷ []
+
+-- one or more nets with commas between them, up to the closing parenthesis
+abbrev pub listed : List (List ℕ) → List Lexeme
+listed [] = []
+listed (p ∷ []) = word p ∷ mark Close ∷ []
+listed (p ∷ q ∷ ps) = word p ∷ mark Comma ∷ listed (q ∷ ps)
+
+-- the parts say this: INPUT(net), OUTPUT(net), or net = FUNCTION(net, net, ..)
+abbrev pub Writes : Form → List Lexeme → Type 0
+Writes nothing parts = parts ≡ []
+Writes (input n) parts = (w : List ℕ) × (str_eq_ignore_ascii_case w (codes "INPUT") ≡ true)
+    × (is_net n ≡ true) × (parts ≡ word w ∷ enclosed n)
+Writes (output n) parts = (w : List ℕ) × (str_eq_ignore_ascii_case w (codes "OUTPUT") ≡ true)
+    × (is_net n ≡ true) × (parts ≡ word w ∷ enclosed n)
+Writes (gate n f pins) parts = (w : List ℕ) × (is_keyword f w ≡ true) × (is_net n ≡ true)
+    × (0 < length pins) × AllPass is_net pins
+    × (parts ≡ word n ∷ mark Equals ∷ word w ∷ mark Open ∷ listed pins)
+
+-- the line says this
+pub record Says (line : List ℕ) (form : Form) : Type 0 where
+  pub parts : List Lexeme
+  pub spells : Spells parts line
+  pub writes : Writes form parts

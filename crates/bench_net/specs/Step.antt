@@ -1,0 +1,131 @@
+-- What the code computes of a line; no public clause cites it.
+use Rattle.std.specs.Prelude.{◌==◌, ℕ, suc, ◌||◌, List, [], ◌∷◌, take, drop, Option, Some, None, if◌then◌else◌, codes}
+use Rattle.std.specs.Option.{option_map, option_and_then}
+use Rattle.std.specs.Str.{bytes_eq, str_to_ascii_lowercase, str_eq_ignore_ascii_case}
+use Rattle.bench_net.specs.declared.gate.GateKind.TheVariants.{And, Nand, Or, Nor, Xor, Xnor, Not, Buf}
+use Rattle.bench_net.specs.declared.gate.Function.{Function}
+use Rattle.bench_net.specs.declared.gate.Function.TheVariants.{Logic, Register}
+use Rattle.bench_net.specs.declared.line.Mark.TheVariants.{Open, Close, Comma, Equals}
+use Rattle.bench_net.specs.Line.{is_blank, is_name_byte, is_net, Lexeme, word, mark, Form, nothing, input, output, gate}
+
+-- the text without the blanks in front
+abbrev pub skipped : List ℕ → List ℕ
+skipped [] = []
+skipped (b ∷ bs) = if is_blank b then skipped bs else b ∷ bs
+
+-- how many name bytes stand in front
+abbrev pub name_len : List ℕ → ℕ
+name_len [] = 0
+name_len (b ∷ bs) = if is_name_byte b then suc (name_len bs) else 0
+
+-- what stands at the front: nothing more, no part, or a part with the rest
+pub data Step : Type 0 where
+  ends : Step
+  bad : Step
+  begins : Lexeme → List ℕ → Step
+
+-- a byte that begins no name, and the rest
+abbrev pub sign_step : ℕ → List ℕ → Step
+sign_step b bs =
+    if b == 35 then ends
+    else (if b == 40 then begins (mark Open) bs
+    else (if b == 41 then begins (mark Close) bs
+    else (if b == 44 then begins (mark Comma) bs
+    else (if b == 61 then begins (mark Equals) bs
+    else bad))))
+
+-- what stands at the front of a text that begins with no blank
+abbrev pub front_step : List ℕ → Step
+front_step [] = ends
+front_step (b ∷ bs) =
+    if is_name_byte b then begins (word (take (name_len (b ∷ bs)) (b ∷ bs)))
+    (drop (name_len (b ∷ bs)) (b ∷ bs))
+    else sign_step b bs
+
+-- the function of a keyword in lower case
+abbrev pub function_named : List ℕ → Option Function
+function_named w =
+    if bytes_eq w (str_to_ascii_lowercase (codes "AND")) then Some (Logic And)
+    else (if bytes_eq w (str_to_ascii_lowercase (codes "NAND")) then Some (Logic Nand)
+    else (if bytes_eq w (str_to_ascii_lowercase (codes "OR")) then Some (Logic Or)
+    else (if bytes_eq w (str_to_ascii_lowercase (codes "NOR")) then Some (Logic Nor)
+    else (if bytes_eq w (str_to_ascii_lowercase (codes "XOR")) then Some (Logic Xor)
+    else (if bytes_eq w (str_to_ascii_lowercase (codes "XNOR")) then Some (Logic Xnor)
+    else (if bytes_eq w (str_to_ascii_lowercase (codes "NOT")) then Some (Logic Not)
+    else (if bytes_eq w (str_to_ascii_lowercase (codes "BUF"))
+    || bytes_eq w (str_to_ascii_lowercase (codes "BUFF")) then Some (Logic Buf)
+    else (if bytes_eq w (str_to_ascii_lowercase (codes "DFF")) then Some Register
+    else None))))))))
+
+-- the function of a keyword
+abbrev pub function_of : List ℕ → Option Function
+function_of w = function_named (str_to_ascii_lowercase w)
+
+-- the net in parentheses, behind the opening one
+abbrev pub enclosed_of : List Lexeme → Option (List ℕ)
+enclosed_of [] = None
+enclosed_of (mark m ∷ ps) = None
+enclosed_of (word n ∷ []) = None
+enclosed_of (word n ∷ word v ∷ ps) = None
+enclosed_of (word n ∷ mark Open ∷ ps) = None
+enclosed_of (word n ∷ mark Comma ∷ ps) = None
+enclosed_of (word n ∷ mark Equals ∷ ps) = None
+enclosed_of (word n ∷ mark Close ∷ []) = if is_net n then Some n else None
+enclosed_of (word n ∷ mark Close ∷ p ∷ ps) = None
+
+-- nothing behind the closing parenthesis
+abbrev pub last_pin : List Lexeme → Option (List (List ℕ))
+last_pin [] = Some []
+last_pin (p ∷ ps) = None
+
+-- one or more nets with commas between them, behind the opening parenthesis
+abbrev pub pins_read : List Lexeme → Option (List (List ℕ))
+pins_read [] = None
+pins_read (mark m ∷ ps) = None
+pins_read (word n ∷ []) = None
+pins_read (word n ∷ word v ∷ ps) = None
+pins_read (word n ∷ mark Open ∷ ps) = None
+pins_read (word n ∷ mark Equals ∷ ps) = None
+pins_read (word n ∷ mark Comma ∷ ps) = if is_net n then option_map (λ ns. n ∷ ns) (pins_read ps)
+    else None
+pins_read (word n ∷ mark Close ∷ ps) = if is_net n then option_map (λ ns. n ∷ ns) (last_pin ps)
+    else None
+
+-- what stands behind `net =`
+abbrev pub call_of : List ℕ → List Lexeme → Option Form
+call_of n [] = None
+call_of n (mark m ∷ ps) = None
+call_of n (word w ∷ []) = None
+call_of n (word w ∷ word v ∷ ps) = None
+call_of n (word w ∷ mark Close ∷ ps) = None
+call_of n (word w ∷ mark Comma ∷ ps) = None
+call_of n (word w ∷ mark Equals ∷ ps) = None
+call_of n (word w ∷ mark Open ∷ ps) = option_and_then (λ f. option_map (gate n f) (pins_read ps))
+    (function_of w)
+
+-- what stands behind `INPUT(` or `OUTPUT(`
+abbrev pub declared_of : List ℕ → List Lexeme → Option Form
+declared_of w ps =
+    if str_eq_ignore_ascii_case w (codes "INPUT") then option_map input (enclosed_of ps)
+    else (if str_eq_ignore_ascii_case w (codes "OUTPUT") then option_map output (enclosed_of ps)
+    else None)
+
+-- what stands behind the first word
+abbrev pub after_word : List ℕ → List Lexeme → Option Form
+after_word w [] = None
+after_word w (word v ∷ ps) = None
+after_word w (mark Open ∷ ps) = declared_of w ps
+after_word w (mark Close ∷ ps) = None
+after_word w (mark Comma ∷ ps) = None
+after_word w (mark Equals ∷ ps) = if is_net w then call_of w ps else None
+
+-- what the parts of a line that isn't empty say
+abbrev pub led_of : List Lexeme → Option Form
+led_of [] = None
+led_of (mark m ∷ ps) = None
+led_of (word w ∷ ps) = after_word w ps
+
+-- what the parts of a line say
+abbrev pub line_of : List Lexeme → Option Form
+line_of [] = Some nothing
+line_of (p ∷ ps) = led_of (p ∷ ps)
