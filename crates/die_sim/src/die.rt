@@ -1,0 +1,191 @@
+//! A die as it is: what its inputs and flip-flops keep, and the levels of all nets.
+ghost use Rattle.std.specs.Prelude.{◌≡◌, ℕ, ◌<◌, ◌≤◌, ◌+◌, ◌⊎◌, Bool, true, length, IfOk, Option, None, fold, replicate, count_by, slice_index_or, take};
+ghost use Rattle.tester_types.specs.declared.level.Level.TheVariants.{X};
+ghost use Rattle.bench_net.specs.Wiring.{gate_at};
+ghost use Rattle.bench_net.specs.Circuit.{IsWhole};
+ghost use Rattle.die_sim.specs.Die.{device_of, stuck, with_fault, fixed_of, is_clock, bind_at, IsBoundTo, IsFresh, level_of};
+ghost use Rattle.die_sim.specs.Moment.{AreDrives, IsStep};
+ghost use Rattle.die_sim.specs.Spread.{IsSpread};
+ghost use Rattle.die_sim.specs.Walk.{mark_at, AreFaultsWithin};
+
+use crate::image::{Bind, Binding, DieImage, StuckAt};
+use crate::moment::{bind_at, capture_all, clock_after, clock_edge, put_all};
+use crate::settle::{is_gate, refresh, walk};
+use crate::steps::Steps;
+use bench_net::Netlist;
+use std::alloc::{AllocError, Global};
+use std::marker::Model;
+use std::sync::Arc;
+use tester_types::{Drive, Level, NoMemory};
+
+/// A die as it is after each moment.
+#[derive(Drop)]
+pub struct DieState {
+    net: Arc<Netlist>,
+    bind: Arc<Binding>,
+    fixed: Vec<Option<Level>>,
+    clock: Level,
+    held: Vec<Level>,
+    levels: Vec<Level>,
+    marks: Vec<bool>,
+}
+
+impl Model for DieState {
+    ghost use Rattle.std.specs.Arc.{arc_value};
+    ghost use Rattle.die_sim.specs.Die.{Die};
+    ghost use Rattle.die_sim.specs.Walk.{IsKept};
+
+    ghost Value = { Die };
+
+    ghost view = { λ d. record { device = record { circuit = arc_value d.net; clock = (arc_value d.bind).clock; binds = (arc_value d.bind).nets; fixed = d.fixed.items }; state = record { clock = d.clock; held = d.held.items; levels = d.levels.items } } };
+
+    ghost invariant = { λ d. IsKept (record { circuit = arc_value d.net; clock = (arc_value d.bind).clock; binds = (arc_value d.bind).nets; fixed = d.fixed.items }) (record { clock = d.clock; held = d.held.items; levels = d.levels.items }) d.marks.items };
+}
+
+impl DieState {
+    /// A die as it is loaded: its clock, inputs and flip-flops are unknown, and all its nets are settled.
+    pub fn make(alloc: Global, die: &DieImage) -> Result<DieState, NoMemory>
+        ensures { IfOk result (λ d. (d.device ≡ device_of die.now) × IsFresh d.device d.state) }
+    {
+        let net = Arc::try_clone(&die.net)?;
+        let bind = Arc::try_clone(&die.bind)?;
+        let nets = net.nets();
+        let fixed = fixed_levels(alloc, nets, die.faults.as_slice())?;
+        let held = unknown_levels(alloc, nets)?;
+        let mut levels = unknown_levels(alloc, nets)?;
+        let mut marks = gate_marks(alloc, &net)?;
+        refresh(
+            &net,
+            fixed.as_slice(),
+            held.as_slice(),
+            &mut levels,
+            &mut marks,
+        );
+        walk(
+            &net,
+            fixed.as_slice(),
+            held.as_slice(),
+            &mut levels,
+            &mut marks,
+        );
+        Ok(DieState {
+            net,
+            bind,
+            fixed,
+            clock: Level::X,
+            held,
+            levels,
+            marks,
+        })
+    }
+
+    /// One moment: the flip-flops capture where the clock rises, the inputs take their levels, and all settles. Each
+    /// evaluation of a gate is one step.
+    pub fn apply<L>(&mut self, drives: &[(u16, Drive)], steps: &mut Steps<L>)
+        requires { AreDrives self.old.device drives.now }
+        ensures device { self.new.device ≡ self.old.device }
+        ensures step { IsStep self.old.device self.old.state self.new.state drives.now }
+        // The gates reachable from the inputs and flip-flops whose levels changed are the least such set.
+        ensures bound { (set : ℕ → Bool) → IsSpread self.old.device.circuit.net.drivers self.old.state.levels self.new.state.levels set → steps.new ≤ steps.old + count_by set self.old.device.circuit.order }
+    {
+        let evaluations = self.step(drives);
+        steps.add(evaluations);
+    }
+
+    /// One moment. Answers how many gates were evaluated.
+    fn step(&mut self, drives: &[(u16, Drive)]) -> usize
+        ensures device { self.new.device ≡ self.old.device }
+        ensures step { IsStep self.old.device self.old.state self.new.state drives.now }
+        ensures bound { (set : ℕ → Bool) → IsSpread self.old.device.circuit.net.drivers self.old.state.levels self.new.state.levels set → result ≤ count_by set self.old.device.circuit.order }
+    {
+        let clock = clock_after(self.bind.clock, self.clock, drives);
+        let edge = clock_edge(self.clock, clock);
+        capture_all(&self.net, edge, self.levels.as_slice(), &mut self.held);
+        put_all(&mut self.held, self.bind.nets.as_slice(), drives);
+        self.clock = clock;
+        refresh(
+            &self.net,
+            self.fixed.as_slice(),
+            self.held.as_slice(),
+            &mut self.levels,
+            &mut self.marks,
+        );
+        walk(
+            &self.net,
+            self.fixed.as_slice(),
+            self.held.as_slice(),
+            &mut self.levels,
+            &mut self.marks,
+        )
+    }
+
+    /// The level of a signal that is bound to a net, or is the clock.
+    pub fn level(&self, signal: u16) -> Level
+        requires { (is_clock self.now.device.clock signal ≡ true) ⊎ IsBoundTo (bind_at self.now.device.binds signal) }
+        ensures { result ≡ level_of self.now.device self.now.state signal }
+    {
+        match bind_at(self.bind.nets.as_slice(), signal) {
+            Bind::Free => self.clock,
+            Bind::Input(n) => self.levels[n as usize],
+            Bind::Output(n) => self.levels[n as usize],
+        }
+    }
+}
+
+/// The level at which a net is stuck.
+fn stuck(value: bool) -> Level
+    ensures { result ≡ stuck value }
+{
+    if value { Level::One } else { Level::Zero }
+}
+
+/// No fixed level for each net.
+fn unfixed(alloc: Global, nets: u32) -> Result<Vec<Option<Level>>, AllocError>
+    ensures { IfOk result (λ fixed. fixed.items ≡ replicate nets None) }
+{
+    let mut fixed = Vec::new(alloc);
+    for _ in 0..nets {
+        fixed.push(None)?;
+    }
+    Ok(fixed)
+}
+
+/// For each net the level at which a fault fixes it.
+fn fixed_levels(
+    alloc: Global,
+    nets: u32,
+    faults: &[StuckAt],
+) -> Result<Vec<Option<Level>>, AllocError>
+    requires { AreFaultsWithin nets faults.now }
+    ensures all { IfOk result (λ fixed. fixed.items ≡ fixed_of nets faults.now) }
+    ensures count { IfOk result (λ fixed. length fixed.items ≡ nets) }
+{
+    let mut fixed = unfixed(alloc, nets)?;
+    for fault in faults {
+        fixed[fault.net as usize] = Some(stuck(fault.value));
+    }
+    Ok(fixed)
+}
+
+/// X for each net.
+fn unknown_levels(alloc: Global, nets: u32) -> Result<Vec<Level>, AllocError>
+    ensures { IfOk result (λ levels. levels.items ≡ replicate nets X) }
+{
+    let mut levels = Vec::new(alloc);
+    for _ in 0..nets {
+        levels.push(Level::X)?;
+    }
+    Ok(levels)
+}
+
+/// A mark for each gate.
+fn gate_marks(alloc: Global, net: &Netlist) -> Result<Vec<bool>, AllocError>
+    ensures count { IfOk result (λ marks. length marks.items ≡ length net.now.net.names) }
+    ensures marks { IfOk result (λ marks. (n : ℕ) → n < length net.now.net.names → mark_at marks.items n ≡ gate_at net.now.net.drivers n) }
+{
+    let mut marks = Vec::new(alloc);
+    for n in 0..net.nets() {
+        marks.push(is_gate(net, n))?;
+    }
+    Ok(marks)
+}

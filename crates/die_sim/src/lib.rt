@@ -1,0 +1,23 @@
+//! Dies: what a die is after each moment, exactly, and the socket through which a tester meets a die.
+#![tactic(auto)]
+
+mod die;
+mod failing_socket;
+mod gate;
+mod image;
+mod moment;
+mod settle;
+mod sim;
+mod socket;
+mod steps;
+mod tape;
+mod tape_socket;
+
+pub use die::DieState;
+pub use failing_socket::FailingSocket;
+pub use image::{Bind, BindList, Binding, DieImage, FaultList, StuckAt};
+pub use sim::SimSocket;
+pub use socket::{Contact, Socket, SocketBox, SocketFault};
+pub use steps::Steps;
+pub use tape::Tape;
+pub use tape_socket::TapeSocket;
