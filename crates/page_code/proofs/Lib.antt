@@ -1,0 +1,12 @@
+pub mod ExecLaws
+pub mod ItemsLemmas
+pub mod LettersLemmas
+pub mod Lists
+pub mod LoadLemmas
+pub mod NestLemmas
+pub mod PartLaws
+pub mod ReaderLaws
+pub mod SizeLemmas
+pub mod StandardFacts
+pub mod WalkLemmas
+pub mod WaveLemmas

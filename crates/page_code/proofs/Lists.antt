@@ -1,0 +1,42 @@
+-- Lists whose items are each as they should be.
+use Rattle.std.proofs.Common.{◌≡◌, ℕ, zero, suc, ◌<◌, Bool, List, [], ◌∷◌, ◌++◌, ◌||◌, length, get_or, take, replicate, append_assoc, map, refl, sym, ap, subst, arith}
+use Rattle.std.proofs.lemmas.List.{append-nil}
+use Rattle.std.specs.List.{list_any, AllByRecursion}
+use Rattle.page_code.specs.Conditions.{EachBehind, Each}
+
+-- an item is as it should be behind those before it
+pub behind_at : {A : Type 0} (Fits : List A → A → Type 0) (before items : List A) (i : ℕ) (d : A) → EachBehind Fits before items → i < length items
+    → Fits (before ++ take i items) (get_or items i d)
+behind_at Fits before [] i d each lt = absurd (omega arith)
+behind_at {A} Fits before (x ∷ xs) zero d each lt = subst (λ (b : List A). Fits b x) (sym (append-nil before)) each.0
+behind_at {A} Fits before (x ∷ xs) (suc i) d each lt =
+    subst (λ (b : List A). Fits b (get_or xs i d)) (append_assoc before (x ∷ []) (take i xs)) (behind_at Fits (before ++ x ∷ []) xs i d each.1 (omega arith))
+
+-- what holds behind the items before holds of each
+pub each_all : {A : Type 0} (Fits : A → Type 0) (before items : List A) → EachBehind (λ before item. Fits item) before items → AllByRecursion Fits items
+each_all Fits before [] each = tt
+each_all Fits before (x ∷ xs) each = (each.0, each_all Fits (before ++ x ∷ []) xs each.1)
+
+pub all_each : {A : Type 0} (Fits : A → Type 0) (before items : List A) → AllByRecursion Fits items → EachBehind (λ before item. Fits item) before items
+all_each Fits before [] each = tt
+all_each Fits before (x ∷ xs) each = (each.0, all_each Fits (before ++ x ∷ []) xs each.1)
+
+pub all_at : {A : Type 0} (Fits : A → Type 0) (items : List A) (i : ℕ) (d : A) → AllByRecursion Fits items → i < length items → Fits (get_or items i d)
+all_at Fits [] i d each lt = absurd (omega arith)
+all_at Fits (x ∷ xs) zero d each lt = each.0
+all_at Fits (x ∷ xs) (suc i) d each lt = all_at Fits xs i d each.1 (omega arith)
+
+pub each_at : {A : Type 0} (Fits : A → Type 0) (items : List A) (i : ℕ) (d : A) → Each Fits items → i < length items → Fits (get_or items i d)
+each_at Fits items i d each lt = all_at Fits items i d (each_all Fits [] items each) lt
+
+pub all_append : {A : Type 0} (Fits : A → Type 0) (xs ys : List A) → AllByRecursion Fits xs → AllByRecursion Fits ys → AllByRecursion Fits (xs ++ ys)
+all_append Fits [] ys p q = q
+all_append Fits (x ∷ xs) ys p q = (p.0, all_append Fits xs ys p.1 q)
+
+pub list_any-map : {A B : Type 0} (test : B → Bool) (f : A → B) (xs : List A) → list_any test (map f xs) ≡ list_any (λ x. test (f x)) xs
+list_any-map test f [] = refl
+list_any-map test f (x ∷ xs) = ap (λ b. test (f x) || b) (list_any-map test f xs)
+
+pub all_replicate : {A : Type 0} (Fits : A → Type 0) (n : ℕ) (x : A) → Fits x → AllByRecursion Fits (replicate n x)
+all_replicate Fits zero x h = tt
+all_replicate Fits (suc n) x h = (h, all_replicate Fits n x h)

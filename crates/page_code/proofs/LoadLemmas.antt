@@ -1,0 +1,168 @@
+-- A code is read of its parts, and what is read is what is saved.
+use Rattle.std.proofs.Common.{◌≡◌, ℕ, ◌*◌, ◌^◌, ◌<◌, ◌≤◌, eqb, ltb, leb, cond, ◌&&◌, List, [], ◌++◌, length, Result, Ok, Err, refl, sym, ap, subst, ◌∙◌, arith, ◌⊎◌, inl, inr}
+use Rattle.std.specs.Int.{w16, w32}
+use Rattle.std.specs.List.{AllByRecursion}
+use Rattle.std.proofs.lemmas.Bool.{eqb-true, leb-true}
+use Rattle.std.proofs.lemmas.List.{append-nil, nil_from_length}
+use Rattle.tester_types.specs.declared.wave.Table.{Table}
+use Rattle.page_code.specs.declared.parts.CodeSignal.{CodeSignal}
+use Rattle.page_code.specs.declared.fault.Refusal.{Refusal}
+use Rattle.page_code.specs.declared.fault.Refusal.TheVariants.{BadCode}
+use Rattle.page_code.specs.declared.fault.ReadError.{ReadError}
+use Rattle.page_code.specs.declared.fault.ReadError.TheVariants as errors
+use Rattle.page_code.specs.Program.{Exec, Program}
+use Rattle.page_code.specs.Conditions.{IsRising, IsSignal, IsTable, IsProgram}
+use Rattle.page_code.specs.Spelling.{number, signal, table, program}
+use Rattle.page_code.specs.Saved.{Saved}
+use Rattle.page_code.specs.Fields.{◌>>=◌, Fails, Read, number_at, checked, items_at}
+use Rattle.page_code.specs.Reading.{head_at, signal_at, table_at, row_at, exec_at, program_at, whole_at, answered, load_of}
+use Rattle.page_code.specs.declared.fault.SavedFault.{SavedFault}
+use Rattle.page_code.specs.declared.fault.SavedFault.TheVariants as saved
+use Rattle.std.specs.Prelude.{MatchResult, IfOk}
+use Rattle.page_code.proofs.WaveLemmas.{are_rising}
+use Rattle.page_code.proofs.SizeLemmas.{behind_all}
+use Rattle.page_code.proofs.ReaderLaws.{IsBytes, bind_ok, guard_ok, wide16, number_reader, checked_reader, items_reader, ok_is}
+use Rattle.page_code.proofs.PartLaws.{signal_reader, table_reader}
+use Rattle.page_code.proofs.ExecLaws.{head_reader, program_reader}
+
+-- ---- the parts
+
+abbrev SignalCount : List ℕ → Read ℕ
+SignalCount bytes = checked (number_at w16) (λ count. leb count 1024) bytes
+
+abbrev TableCount : List ℕ → Read ℕ
+TableCount bytes = checked (number_at w16) (λ count. leb count 4096) bytes
+
+abbrev RowCount : ℕ → List ℕ → Read ℕ
+RowCount signals bytes = checked (number_at w32) (λ count. leb (count * signals) (2 ^ 28)) bytes
+
+abbrev ExecCount : List ℕ → Read ℕ
+ExecCount bytes = checked (number_at w16) (λ count. ltb 0 count && leb count 64) bytes
+
+-- what was read before the executives
+pub record ReadsEarlier (bytes : List ℕ) (signals : List CodeSignal) (tables : List Table) (rows : List (List ℕ)) (execs : ℕ) (rest : List ℕ) : Type 0 where
+  pub r1 : List ℕ
+  pub head : head_at bytes ≡ Ok (tt, r1)
+  pub c2 : ℕ
+  pub r2 : List ℕ
+  pub signal_count : checked (number_at w16) (λ count. leb count 1024) r1 ≡ Ok (c2, r2)
+  pub r3 : List ℕ
+  pub are_signals : items_at signal_at c2 [] r2 ≡ Ok (signals, r3)
+  pub c4 : ℕ
+  pub r4 : List ℕ
+  pub table_count : checked (number_at w16) (λ count. leb count 4096) r3 ≡ Ok (c4, r4)
+  pub r5 : List ℕ
+  pub are_tables : items_at (table_at (length signals)) c4 [] r4 ≡ Ok (tables, r5)
+  pub c6 : ℕ
+  pub r6 : List ℕ
+  pub row_count : checked (number_at w32) (λ count. leb (count * length signals) (2 ^ 28)) r5 ≡ Ok (c6, r6)
+  pub r7 : List ℕ
+  pub are_rows : items_at (row_at (length signals)) c6 [] r6 ≡ Ok (rows, r7)
+  pub exec_count : checked (number_at w16) (λ count. ltb 0 count && leb count 64) r7 ≡ Ok (execs, rest)
+
+-- and then the executives
+reads_on : (bytes : List ℕ) (signals : List CodeSignal) (tables : List Table) (rows : List (List ℕ)) (count : ℕ) (rest : List ℕ)
+    → ReadsEarlier bytes signals tables rows count rest
+    → program_at bytes ≡ (items_at (λ before. exec_at (length signals) tables rows) count [] rest >>= λ execs. Ok (record { signals = signals; tables = tables; rows = rows; execs = execs.0 }, execs.1))
+unfolding program_at
+reads_on bytes signals tables rows count rest e =
+    rw (e.head, e.signal_count, e.are_signals, e.table_count, e.are_tables, e.row_count, e.are_rows, e.exec_count) refl
+
+pub program_made : (bytes : List ℕ) (signals : List CodeSignal) (tables : List Table) (rows : List (List ℕ)) (count : ℕ) (rest : List ℕ) (execs : List Exec) (after : List ℕ)
+    → ReadsEarlier bytes signals tables rows count rest → items_at (λ before. exec_at (length signals) tables rows) count [] rest ≡ Ok (execs, after)
+    → program_at bytes ≡ Ok (record { signals = signals; tables = tables; rows = rows; execs = execs }, after)
+program_made bytes signals tables rows count rest execs after e last =
+    reads_on bytes signals tables rows count rest e ∙ rw last refl
+
+pub program_stops : (err : ReadError) (bytes : List ℕ) (signals : List CodeSignal) (tables : List Table) (rows : List (List ℕ)) (count : ℕ) (rest : List ℕ)
+    → ReadsEarlier bytes signals tables rows count rest → Fails err (items_at (λ before. exec_at (length signals) tables rows) count [] rest) → Fails err (program_at bytes)
+program_stops errors.NoMemory bytes signals tables rows count rest e last = tt
+program_stops (errors.Refused refusal) bytes signals tables rows count rest e last =
+    reads_on bytes signals tables rows count rest e ∙ rw last refl
+
+-- the waves of the tables are in order
+pub tables_rising : (bytes : List ℕ) (signals : List CodeSignal) (tables : List Table) (rows : List (List ℕ)) (count : ℕ) (rest : List ℕ) → IsBytes bytes
+    → ReadsEarlier bytes signals tables rows count rest → AllByRecursion (λ t. IsRising t.waves) tables
+tables_rising bytes signals tables rows count rest fits e =
+    let a = head_reader.takes bytes tt e.r1 fits e.head in
+    let small = checked_reader (number_at w16) (number w16) (λ n. n < 2 ^ 16) (λ count. leb count 1024) (number_reader w16 (2 ^ 16) wide16) in
+    let b = small.takes e.r1 e.c2 e.r2 a.1 e.signal_count in
+    let c = (items_reader signal_at signal IsSignal signal_reader e.c2).takes e.r2 signals e.r3 b.1 e.are_signals in
+    let many = checked_reader (number_at w16) (number w16) (λ n. n < 2 ^ 16) (λ count. leb count 4096) (number_reader w16 (2 ^ 16) wide16) in
+    let d = many.takes e.r3 e.c4 e.r4 c.1 e.table_count in
+    let few : e.c2 ≤ 1024 = leb-true e.c2 1024 b.2.1 in
+    let t = (items_reader (table_at (length signals)) table (IsTable (length signals)) (table_reader (length signals) (omega (arith, c.2.0))) e.c4).takes e.r4 tables e.r5 d.1 e.are_tables in
+    behind_all (IsTable (length signals)) (λ t. IsRising t.waves) (λ before t is. are_rising (length signals) t.period _ t.waves is.waves) [] tables t.2.1
+
+-- ---- the whole
+
+whole_guard : (p : Program × List ℕ) (q : Program) → cond (eqb (length p.1) 0) (Ok p.0) (Err (BadCode (length p.1))) ≡ Ok q → (p.1 ≡ []) × (p.0 ≡ q)
+whole_guard p q e = let g = guard_ok (eqb (length p.1) 0) (BadCode (length p.1)) p.0 q e in (nil_from_length p.1 (eqb-true (length p.1) 0 g.0), g.1)
+
+-- what is read is saved so
+pub read_saved : (bytes : List ℕ) (code : Program) → IsBytes bytes → whole_at bytes ≡ Ok code → Saved code bytes
+unfolding whole_at
+read_saved bytes code fits e =
+    let step = bind_ok (program_at bytes) _ code e in
+    let g = whole_guard step.0 code step.2 in
+    let t = program_reader.takes bytes step.0.0 step.0.1 fits step.1 in
+    subst (λ (p : Program). Saved p bytes) g.1
+    (record { conditions = t.2; spelled = t.0 ∙ ap (λ (x : List ℕ). program step.0.0 ++ x) g.0 ∙ append-nil (program step.0.0) })
+
+-- what is saved so is read
+pub saved_read : (bytes : List ℕ) (code : Program) → Saved code bytes → whole_at bytes ≡ Ok code
+unfolding whole_at
+saved_read bytes code saved =
+    let again : program_at bytes ≡ Ok (code, []) = ap program_at (saved.spelled ∙ sym (append-nil (program code))) ∙ program_reader.again code [] saved.conditions in
+    rw again refl
+
+-- a code that was read meets the conditions
+pub read_fits : (bytes : List ℕ) (code : Program) (rest : List ℕ) → IsBytes bytes → program_at bytes ≡ Ok (code, rest) → IsProgram code
+read_fits bytes code rest fits e = (program_reader.takes bytes code rest fits e).2
+
+-- ---- spellings
+
+pub one_code_is : (a b : Program) (x y : List ℕ) → IsProgram a → IsProgram b → program a ++ x ≡ program b ++ y → (a ≡ b) × (x ≡ y)
+one_code_is a b x y fits_a fits_b same =
+    let both = ok_is (a, x) (b, y) (sym (program_reader.again a x fits_a) ∙ ap program_at same ∙ program_reader.again b y fits_b) in
+    (ap (λ p. p.0) both, ap (λ p. p.1) both)
+
+-- ---- what load answers
+
+answered_ok : (size : ℕ) (read : Result Program Refusal) (code : Program) → answered size read ≡ Ok code → read ≡ Ok code
+answered_ok size (Ok p) code e = let same : p ≡ code = cc in ap Ok same
+answered_ok size (Err refusal) code e = absurd cc
+
+-- the code that is loaded is saved so
+pub is_found : (bytes : List ℕ) (r : Result Program SavedFault) → IsBytes bytes
+    → MatchResult r (λ code. load_of bytes ≡ Ok code) (λ e. (e ≡ saved.NoMemory) ⊎ (load_of bytes ≡ Err e)) → IfOk r (λ code. Saved code bytes)
+is_found bytes (Ok code) fits is = read_saved bytes code fits (answered_ok (length bytes) (whole_at bytes) code is)
+is_found bytes (Err e) fits is = tt
+
+abbrev good : Program → Result Program SavedFault
+good code = Ok code
+
+same_ok : (c code : Program) → good c ≡ good code → c ≡ code
+same_ok c code e = cc
+
+ok_err : (code : Program) (e : SavedFault) → good code ≡ Err e → ⊥
+ok_err code e same = cc
+
+-- no other is loaded, and nothing is refused
+pub is_only : (bytes : List ℕ) (r : Result Program SavedFault) (code : Program) → Saved code bytes
+    → MatchResult r (λ code. load_of bytes ≡ Ok code) (λ e. (e ≡ saved.NoMemory) ⊎ (load_of bytes ≡ Err e))
+    → MatchResult r (λ c. c ≡ code) (λ e. e ≡ saved.NoMemory)
+is_only bytes (Ok c) code is_saved is =
+    let other : answered (length bytes) (whole_at bytes) ≡ Ok code = ap (answered (length bytes)) (saved_read bytes code is_saved) in
+    same_ok c code (sym is ∙ other)
+is_only bytes (Err e) code is_saved (inl memory) = memory
+is_only bytes (Err e) code is_saved (inr refused) =
+    let other : answered (length bytes) (whole_at bytes) ≡ Ok code = ap (answered (length bytes)) (saved_read bytes code is_saved) in
+    absurd (ok_err code e (sym other ∙ refused))
+
+-- no spelling begins another
+pub none_begins : (code other : Program) (bytes longer rest : List ℕ) → Saved code bytes → Saved other longer → longer ≡ bytes ++ rest → (other ≡ code) × (rest ≡ [])
+none_begins code other bytes longer rest a b same =
+    let both = one_code_is other code [] rest b.conditions a.conditions
+    (append-nil (program other) ∙ sym b.spelled ∙ same ∙ ap (λ (x : List ℕ). x ++ rest) a.spelled) in
+    (both.0, sym both.1)

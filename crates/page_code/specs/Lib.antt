@@ -1,0 +1,11 @@
+pub mod Rows
+pub mod Program
+pub mod Letters
+pub mod Conditions
+pub mod Spelling
+pub mod Saved
+pub mod Fields
+pub mod Reading
+pub mod Nest
+pub mod Cycles
+pub mod Walk

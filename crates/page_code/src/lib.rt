@@ -1,0 +1,34 @@
+//! Compiled test programs: code that keeps its loops, the walk over its cycles, and its saved bytes.
+#![tactic(auto)]
+
+mod beginning;
+mod code;
+mod exec;
+mod fault;
+mod fields;
+mod laws;
+mod loading;
+mod parts;
+mod read_execs;
+mod read_instrs;
+mod read_tables;
+mod rows;
+mod saving;
+mod spelled;
+mod walker;
+mod wave_check;
+
+pub use beginning::walk;
+pub use code::Code;
+pub use exec::{CodeExec, CodeExecList};
+pub use fault::SavedFault;
+pub use laws::{no_spelling_begins_another, one_spelling};
+pub use loading::load;
+pub use page_meaning::{Entry, Instr};
+pub use parts::{CodeChain, CodeChainList, CodeSignal, CodeSignalList, Direction, InstrList};
+pub use rows::RowList;
+pub use saving::{save, saved_len};
+pub use walker::Walk;
+
+#[cfg(test)]
+mod tests;

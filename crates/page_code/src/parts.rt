@@ -1,0 +1,40 @@
+//! The parts of a code: its signals, chains and instructions.
+
+use page_meaning::Instr;
+use tester_types::{Items, Text, TextList};
+
+/// The direction of a signal (IEEE 1450, Signals).
+#[derive(Clone, Copy, Debug, PartialEq, Eq)]
+pub enum Direction {
+    In,
+    Out,
+    InOut,
+    Supply,
+    Pseudo,
+}
+
+/// A signal.
+#[derive(Debug, Drop)]
+pub struct CodeSignal {
+    pub name: Text,
+    pub direction: Direction,
+}
+
+/// Signals in declared order.
+pub type CodeSignalList = Items<CodeSignal>;
+
+/// A scan chain: its name, the number of its scan-out signal, how many cells it has, and the names of
+/// the cells, from the one next to the scan input on.
+#[derive(Debug, Drop)]
+pub struct CodeChain {
+    pub name: Text,
+    pub out: u16,
+    pub length: u32,
+    pub cells: TextList,
+}
+
+/// Chains in order.
+pub type CodeChainList = Items<CodeChain>;
+
+/// Instructions in order.
+pub type InstrList = Items<Instr>;

@@ -1,0 +1,235 @@
+//! Reading the instructions of a saved program.
+
+ghost use Rattle.std.specs.Prelude.{◌≡◌, ◌+◌, ◌-◌, ◌*◌, ◌^◌, ◌<◌, ◌≤◌, ◌&&◌, ◌||◌, ◌==◌, ◌++◌, ◌∷◌, true, false, [], not, nat_le, nat_lt, length, take, drop, ℕ, List, Ok, MatchResult, IfOk, IfSome};
+ghost use Rattle.std.specs.List.{list_all, list_any};
+ghost use Rattle.std.specs.Int.{w16, w32, w64, from_le_bytes};
+ghost use Rattle.page_code.specs.Fields.{Gives, Fails, known, piece_at, items_at};
+ghost use Rattle.page_code.specs.Reading.{are_zero, part, instr_of, follows, is_bounded, instr_with, instr_at};
+ghost use Rattle.page_code.specs.Conditions.{IsRising, IsNarrow};
+ghost use Rattle.std.specs.List.{AllByRecursion};
+ghost use Rattle.page_meaning.specs.Whole.{IsRest, IsWhole};
+ghost use Rattle.page_meaning.specs.declared.instr.Instr.TheVariants.{Done};
+ghost use Rattle.page_code.specs.Nest.{IsNest, depth_after, begins};
+
+use crate::fault::ReadError;
+use crate::fields::{bad, piece};
+use crate::parts::InstrList;
+use crate::rows::RowList;
+use crate::wave_check::has_each_wave;
+use page_meaning::{Instr, MOST_LOOPS, MOST_TIMES, cycles};
+use std::alloc::Global;
+use tester_types::Table;
+
+/// A number of 16 bits at a place.
+fn part16(bytes: &[u8], place: usize) -> u16
+    requires { place + 2 ≤ length bytes.now }
+    ensures { result ≡ from_le_bytes w16 (part place 2 bytes.now) }
+{
+    let (_, rest) = bytes.split_at(place);
+    let (front, _) = rest.split_at(2);
+    u16::from_le_bytes([front[0], front[1]])
+}
+
+/// A number of 32 bits at a place.
+fn part32(bytes: &[u8], place: usize) -> u32
+    requires { place + 4 ≤ length bytes.now }
+    ensures { result ≡ from_le_bytes w32 (part place 4 bytes.now) }
+{
+    let (_, rest) = bytes.split_at(place);
+    let (front, _) = rest.split_at(4);
+    u32::from_le_bytes([front[0], front[1], front[2], front[3]])
+}
+
+/// A number of 64 bits at a place.
+fn part64(bytes: &[u8], place: usize) -> u64
+    requires { place + 8 ≤ length bytes.now }
+    ensures { result ≡ from_le_bytes w64 (part place 8 bytes.now) }
+{
+    let (_, rest) = bytes.split_at(place);
+    let (front, _) = rest.split_at(8);
+    u64::from_le_bytes([
+        front[0], front[1], front[2], front[3], front[4], front[5], front[6], front[7],
+    ])
+}
+
+/// Whether so many bytes from a place on are zero.
+fn zeros(bytes: &[u8], place: usize, size: usize) -> bool
+    requires { place + size ≤ length bytes.now }
+    ensures { result ≡ are_zero (part place size bytes.now) }
+{
+    let (_, rest) = bytes.split_at(place);
+    let (front, _) = rest.split_at(size);
+    front.iter().all(|byte| *byte == 0)
+}
+
+/// The instruction that 16 bytes stand for.
+#[tactic(auto, unfolding(crate::specs::Reading::instr_of))]
+fn instr_of_bytes(raw: &[u8]) -> Option<Instr>
+    requires { length raw.now ≡ 16 }
+    ensures meaning { result ≡ instr_of raw.now }
+    ensures narrow { IfSome result IsNarrow }
+{
+    if raw[0] == 1 && raw[1] == 0 {
+        Some(Instr::Run {
+            table: part16(raw, 2),
+            row: part32(raw, 4),
+            mark: part32(raw, 8),
+            times: part32(raw, 12),
+        })
+    } else if raw[0] == 2 && zeros(raw, 1, 7) {
+        Some(Instr::Loop {
+            times: part64(raw, 8),
+        })
+    } else if raw[0] == 3 && zeros(raw, 1, 15) {
+        Some(Instr::End)
+    } else if raw[0] == 4 && zeros(raw, 1, 15) {
+        Some(Instr::Done)
+    } else {
+        None
+    }
+}
+
+/// The 16 bytes of an instruction, which is not judged yet.
+fn raw_instr(bytes: &[u8]) -> Result<(Instr, &[u8]), ReadError>
+    ensures read { Gives (λ x. (x.0, x.1.now)) result (known (piece_at 16) instr_of bytes.now) }
+    ensures narrow { IfOk result (λ x. IsNarrow x.0) }
+{
+    let (raw, rest) = piece(16, bytes)?;
+    match instr_of_bytes(raw) {
+        None => Err(bad(bytes)),
+        Some(instr) => Ok((instr, rest)),
+    }
+}
+
+/// The loops that are open behind the instructions that were read, and whether the last of these is a
+/// `Loop`.
+#[derive(Clone, Copy, Debug)]
+struct Nest {
+    depth: usize,
+    begun: bool,
+}
+
+impl Nest {
+    /// No loop is open before the first instruction.
+    fn new() -> Nest
+        ensures { IsNest [] result }
+    {
+        Nest {
+            depth: 0,
+            begun: false,
+        }
+    }
+
+    /// The loops that are open behind one more instruction.
+    fn after(self, instr: Instr) -> Nest
+        requires { self.depth ≤ 64 }
+        ensures { result ≡ record { depth = depth_after self.depth instr; begun = begins instr } }
+    {
+        match instr {
+            Instr::Loop { .. } => Nest {
+                depth: self.depth + 1,
+                begun: true,
+            },
+            Instr::End => Nest {
+                depth: self.depth.saturating_sub(1),
+                begun: false,
+            },
+            _ => Nest {
+                depth: self.depth,
+                begun: false,
+            },
+        }
+    }
+}
+
+/// Whether an instruction may stand, as the last one or not, inside these loops.
+fn may_stand(tables: &[Table], rows: &RowList, is_last: bool, nest: Nest, instr: Instr) -> bool
+    requires { AllByRecursion (λ table. IsRising table.waves) tables.now }
+    ensures { result ≡ follows tables.now rows.now is_last nest.depth nest.begun instr }
+{
+    match instr {
+        Instr::Run {
+            table,
+            row,
+            times,
+            ..
+        } => {
+            !is_last
+                && times > 0
+                && (table as usize) < tables.len()
+                && (row as usize) < rows.len()
+                && has_each_wave(
+                    tables[table as usize].waves.as_slice(),
+                    rows.row(row as usize),
+                )
+        }
+        Instr::Loop { times } => {
+            !is_last && times > 0 && times <= MOST_TIMES && nest.depth < MOST_LOOPS
+        }
+        Instr::End => !is_last && !nest.begun && nest.depth > 0,
+        Instr::Done => is_last && nest.depth == 0,
+    }
+}
+
+/// Whether these instructions run few enough cycles, where the last of them is a `Done`.
+fn is_within(instrs: &[Instr], last: Instr) -> bool
+    requires { last ≡ Done → IsRest 0 false instrs.now }
+    ensures { (before : List Instr) → instrs.now ≡ before ++ last ∷ [] → result ≡ is_bounded before last }
+{
+    match last {
+        Instr::Done => cycles(instrs) <= MOST_TIMES,
+        _ => true,
+    }
+}
+
+/// An instruction behind those before it, which is put at their end.
+#[tactic(auto, unfolding(crate::specs::Reading::instr_with))]
+fn instr<'a>(
+    tables: &[Table],
+    rows: &RowList,
+    is_last: bool,
+    nest: Nest,
+    instrs: &mut Vec<Instr>,
+    bytes: &'a [u8],
+) -> Result<(Instr, &'a [u8]), ReadError>
+    requires rising { AllByRecursion (λ table. IsRising table.waves) tables.now }
+    requires nest { IsNest instrs.old.items nest }
+    ensures narrow { IfOk result (λ x. IsNarrow x.0) }
+    ensures read { MatchResult result
+        (λ x. (instr_with tables.now rows.now is_last instrs.old.items bytes.now ≡ Ok (x.0, x.1.now)) × (instrs.new.items ≡ instrs.old.items ++ x.0 ∷ []))
+        (λ e. Fails e (instr_with tables.now rows.now is_last instrs.old.items bytes.now)) }
+{
+    let (instr, rest) = raw_instr(bytes)?;
+    if !may_stand(tables, rows, is_last, nest, instr) {
+        return Err(bad(bytes));
+    }
+    instrs.push(instr)?;
+    if !is_within(instrs, instr) {
+        return Err(bad(bytes));
+    }
+    Ok((instr, rest))
+}
+
+/// So many instructions.
+pub(crate) fn instrs<'a>(
+    alloc: Global,
+    tables: &[Table],
+    rows: &RowList,
+    count: u32,
+    bytes: &'a [u8],
+) -> Result<(InstrList, &'a [u8]), ReadError>
+    requires { AllByRecursion (λ table. IsRising table.waves) tables.now }
+    ensures read { Gives (λ x. (x.0, x.1.now)) result (items_at (instr_at tables.now rows.now count) count [] bytes.now) }
+    ensures whole { IfOk result (λ x. 0 < count → IsWhole x.0) }
+{
+    let mut instrs = Vec::new(alloc);
+    let mut nest = Nest::new();
+    let mut rest = bytes;
+    for place in 0..count {
+        let is_last = place + 1 == count;
+        let (last, after) = instr(tables, rows, is_last, nest, &mut instrs, rest)?;
+        nest = nest.after(last);
+        rest = after;
+    }
+    Ok((InstrList::from_vec(instrs), rest))
+}

@@ -1,0 +1,297 @@
+//! Reading the signals and the tables of a saved program.
+
+ghost use Rattle.std.specs.Prelude.{◌≡◌, ◌+◌, ◌*◌, ◌^◌, ◌<◌, ◌≤◌, ◌&&◌, true, [], not, nat_le, nat_lt, length};
+ghost use Rattle.std.specs.List.{list_all, list_any};
+ghost use Rattle.std.specs.Option.{option_map_or};
+ghost use Rattle.std.specs.Int.{w16, w32, w64};
+ghost use Rattle.page_code.specs.Letters.{direction_of, act_of, is_printable};
+ghost use Rattle.page_code.specs.Conditions.{last_of, is_named, latest, is_behind, wave_count};
+ghost use Rattle.page_code.specs.Fields.{Gives, byte_at, number_at, known, checked, items_at};
+ghost use Rattle.page_code.specs.Reading.{text_at, signal_at, event_at, pair_at, may_stand, wave_at, table_with, table_at};
+
+use crate::fault::ReadError;
+use crate::fields::{
+    are_printable, bad, byte, byte_to, character, name, number16_below, number32, number64,
+    raw_text,
+};
+use crate::parts::{CodeSignal, CodeSignalList, Direction};
+use std::alloc::Global;
+use tester_types::{Act, Event, EventList, Look, Push, Table, TableList, Text, Wave, WaveList};
+
+/// The direction of a number.
+fn direction_of_byte(byte: u8) -> Option<Direction>
+    ensures { result ≡ direction_of byte }
+{
+    match byte {
+        0 => Some(Direction::In),
+        1 => Some(Direction::Out),
+        2 => Some(Direction::InOut),
+        3 => Some(Direction::Supply),
+        4 => Some(Direction::Pseudo),
+        _ => None,
+    }
+}
+
+/// The act of a number.
+fn act_of_byte(byte: u8) -> Option<Act>
+    ensures { result ≡ act_of byte }
+{
+    match byte {
+        1 => Some(Act::Push(Push::Down)),
+        2 => Some(Act::Push(Push::Up)),
+        3 => Some(Act::Push(Push::Off)),
+        4 => Some(Act::Push(Push::Unknown)),
+        5 => Some(Act::Push(Push::Prior)),
+        6 => Some(Act::Look(Look::Low)),
+        7 => Some(Act::Look(Look::High)),
+        8 => Some(Act::Look(Look::Close)),
+        9 => Some(Act::Look(Look::Off)),
+        10 => Some(Act::Look(Look::LowWindow)),
+        11 => Some(Act::Look(Look::HighWindow)),
+        12 => Some(Act::Look(Look::OffWindow)),
+        _ => None,
+    }
+}
+
+/// A direction.
+fn direction(bytes: &[u8]) -> Result<(Direction, &[u8]), ReadError>
+    ensures { Gives (λ x. (x.0, x.1.now)) result (known byte_at direction_of bytes.now) }
+{
+    let (number, rest) = byte(bytes)?;
+    match direction_of_byte(number) {
+        None => Err(bad(bytes)),
+        Some(direction) => Ok((direction, rest)),
+    }
+}
+
+/// An act.
+fn act(bytes: &[u8]) -> Result<(Act, &[u8]), ReadError>
+    ensures { Gives (λ x. (x.0, x.1.now)) result (known byte_at act_of bytes.now) }
+{
+    let (number, rest) = byte(bytes)?;
+    match act_of_byte(number) {
+        None => Err(bad(bytes)),
+        Some(act) => Ok((act, rest)),
+    }
+}
+
+/// Whether a signal has this name.
+fn is_taken(name: &[u8], signals: &[CodeSignal]) -> bool
+    ensures { result ≡ list_any (is_named name.now) signals.now }
+{
+    signals.iter().any(|signal| name == signal.name.as_slice())
+}
+
+/// A name that no signal before has.
+#[tactic(auto, unfolding(crate::specs::Reading::text_at))]
+fn fresh_name<'a>(
+    alloc: Global,
+    before: &[CodeSignal],
+    bytes: &'a [u8],
+) -> Result<(Text, &'a [u8]), ReadError>
+    ensures { Gives (λ x. (x.0, x.1.now)) result (text_at (λ text. nat_lt 0 (length text) && not (list_any (is_named text) before.now)) bytes.now) }
+{
+    let (raw, rest) = raw_text(bytes)?;
+    if !are_printable(raw) || raw.is_empty() || is_taken(raw, before) {
+        return Err(bad(bytes));
+    }
+    Ok((Text::from_vec(Vec::from_slice(alloc, raw)?), rest))
+}
+
+/// A signal behind those before it.
+#[tactic(auto, unfolding(crate::specs::Reading::signal_at))]
+fn signal<'a>(
+    alloc: Global,
+    before: &[CodeSignal],
+    bytes: &'a [u8],
+) -> Result<(CodeSignal, &'a [u8]), ReadError>
+    ensures { Gives (λ x. (x.0, x.1.now)) result (signal_at before.now bytes.now) }
+{
+    let (direction, rest) = direction(bytes)?;
+    let (name, rest) = fresh_name(alloc, before, rest)?;
+    Ok((CodeSignal { name, direction }, rest))
+}
+
+/// So many signals.
+pub(crate) fn signals(
+    alloc: Global,
+    count: u16,
+    bytes: &[u8],
+) -> Result<(CodeSignalList, &[u8]), ReadError>
+    ensures { Gives (λ x. (x.0, x.1.now)) result (items_at signal_at count [] bytes.now) }
+{
+    let mut signals = Vec::new(alloc);
+    let mut rest = bytes;
+    for _ in 0..count {
+        let (signal, after) = signal(alloc, &signals, rest)?;
+        signals.push(signal)?;
+        rest = after;
+    }
+    Ok((CodeSignalList::from_vec(signals), rest))
+}
+
+/// The time of the last event, 0 where there is none.
+fn latest_time(events: &[Event]) -> u64
+    ensures { result ≡ latest events.now }
+{
+    match events.last() {
+        None => 0,
+        Some(event) => event.time,
+    }
+}
+
+/// An event behind those before it.
+#[tactic(auto, unfolding(crate::specs::Reading::event_at))]
+fn event<'a>(period: u64, before: &[Event], bytes: &'a [u8]) -> Result<(Event, &'a [u8]), ReadError>
+    ensures { Gives (λ x. (x.0, x.1.now)) result (event_at period before.now bytes.now) }
+{
+    let (time, rest) = number64(bytes)?;
+    if time < latest_time(before) || time >= period {
+        return Err(bad(bytes));
+    }
+    let (act, rest) = act(rest)?;
+    Ok((Event { time, act }, rest))
+}
+
+/// So many events.
+fn events(
+    alloc: Global,
+    period: u64,
+    count: u8,
+    bytes: &[u8],
+) -> Result<(EventList, &[u8]), ReadError>
+    ensures { Gives (λ x. (x.0, x.1.now)) result (items_at (event_at period) count [] bytes.now) }
+{
+    let mut events = Vec::new(alloc);
+    let mut rest = bytes;
+    for _ in 0..count {
+        let (event, after) = event(period, &events, rest)?;
+        events.push(event)?;
+        rest = after;
+    }
+    Ok((EventList::from_vec(events), rest))
+}
+
+/// A signal and a letter.
+#[tactic(auto, unfolding(crate::specs::Reading::pair_at))]
+fn pair(signals: usize, bytes: &[u8]) -> Result<(u16, u8, &[u8]), ReadError>
+    ensures { Gives (λ x. ((x.0, x.1), x.2.now)) result (pair_at signals bytes.now) }
+{
+    let (signal, rest) = number16_below(signals, bytes)?;
+    let (letter, rest) = character(rest)?;
+    Ok((signal, letter, rest))
+}
+
+/// Whether a signal and a letter stand behind those of the last wave.
+fn stands_behind(before: &[Wave], signal: u16, letter: u8) -> bool
+    ensures { result ≡ option_map_or (is_behind signal letter) (last_of before.now) true }
+{
+    match before.last() {
+        None => true,
+        Some(wave) => wave.signal < signal || (wave.signal == signal && wave.letter < letter),
+    }
+}
+
+/// A wave behind those before it, as one of at most so many.
+#[tactic(auto, unfolding(crate::specs::Reading::wave_at))]
+fn wave<'a>(
+    alloc: Global,
+    signals: usize,
+    period: u64,
+    most: usize,
+    before: &[Wave],
+    bytes: &'a [u8],
+) -> Result<(Wave, &'a [u8]), ReadError>
+    ensures { Gives (λ x. (x.0, x.1.now)) result (wave_at signals period most before.now bytes.now) }
+{
+    let (signal, letter, rest) = pair(signals, bytes)?;
+    if !stands_behind(before, signal, letter) || before.len() >= most {
+        return Err(bad(bytes));
+    }
+    let (count, rest) = byte_to(16, rest)?;
+    let (events, rest) = events(alloc, period, count, rest)?;
+    let wave = Wave {
+        signal,
+        letter,
+        events,
+    };
+    Ok((wave, rest))
+}
+
+/// So many waves.
+fn waves(
+    alloc: Global,
+    signals: usize,
+    period: u64,
+    most: usize,
+    count: u32,
+    bytes: &[u8],
+) -> Result<(WaveList, &[u8]), ReadError>
+    ensures { Gives (λ x. (x.0, x.1.now)) result (items_at (wave_at signals period most) count [] bytes.now) }
+{
+    let mut waves = Vec::new(alloc);
+    let mut rest = bytes;
+    for _ in 0..count {
+        let (wave, after) = wave(alloc, signals, period, most, &waves, rest)?;
+        waves.push(wave)?;
+        rest = after;
+    }
+    Ok((WaveList::from_vec(waves), rest))
+}
+
+/// A period, 1 to 10^12 femtoseconds.
+fn period(bytes: &[u8]) -> Result<(u64, &[u8]), ReadError>
+    ensures { Gives (λ x. (x.0, x.1.now)) result (checked (number_at w64) (λ n. nat_lt 0 n && nat_le n 1000000000000) bytes.now) }
+{
+    let (number, rest) = number64(bytes)?;
+    if number == 0 || number > 1_000_000_000_000 {
+        return Err(bad(bytes));
+    }
+    Ok((number, rest))
+}
+
+/// A table, which may have at most so many waves.
+#[tactic(auto, unfolding(crate::specs::Reading::table_with))]
+fn table(
+    alloc: Global,
+    signals: usize,
+    most: usize,
+    bytes: &[u8],
+) -> Result<(Table, &[u8]), ReadError>
+    ensures { Gives (λ x. (x.0, x.1.now)) result (table_with signals most bytes.now) }
+{
+    let (name, rest) = name(alloc, bytes)?;
+    let (period, rest) = period(rest)?;
+    let (count, rest) = number32(rest)?;
+    let (waves, rest) = waves(alloc, signals, period, most, count, rest)?;
+    let table = Table {
+        name,
+        period,
+        waves,
+    };
+    Ok((table, rest))
+}
+
+/// The most waves of all tables together.
+const MOST_WAVES: usize = 1048576;
+
+/// So many tables.
+pub(crate) fn tables(
+    alloc: Global,
+    signals: usize,
+    count: u16,
+    bytes: &[u8],
+) -> Result<(TableList, &[u8]), ReadError>
+    ensures { Gives (λ x. (x.0, x.1.now)) result (items_at (table_at signals) count [] bytes.now) }
+{
+    let mut tables = Vec::new(alloc);
+    let mut room = MOST_WAVES;
+    let mut rest = bytes;
+    for _ in 0..count {
+        let (table, after) = table(alloc, signals, room, rest)?;
+        room = room.saturating_sub(table.waves.len());
+        tables.push(table)?;
+        rest = after;
+    }
+    Ok((TableList::from_vec(tables), rest))
+}

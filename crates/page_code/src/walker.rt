@@ -1,0 +1,53 @@
+//! A walk over the cycles of an executive.
+
+ghost use Rattle.std.specs.Prelude.{◌≡◌, ◌^◌, ◌<◌, ◌++◌, [], IfNone, IfSome, option_to_list, length};
+ghost use Rattle.page_code.specs.Walk.{IsOf, IsOver, cycles_left};
+ghost use Rattle.page_code.specs.Cycles.{cycles_of};
+
+use crate::code::Code;
+use page_meaning::Course;
+use tester_types::Cycle;
+
+/// A place in the cycles of an executive. It keeps its open loops, at most 64, in place.
+#[derive(Debug, Drop)]
+pub struct Walk {
+    exec: u16,
+    start: u128,
+    course: Course,
+}
+
+impl Walk {
+    /// The next cycle, or `None` where they are used up. The code is the one that the walk was begun over.
+    pub fn next(&mut self, code: &Code) -> Option<Cycle>
+        requires { IsOver code.now self.old }
+        ensures over { IsOver code.now self.new }
+        ensures given { cycles_left code.now self.old ≡ option_to_list result ++ cycles_left code.now self.new }
+        ensures none { IfNone result (cycles_left code.now self.new ≡ []) }
+        ensures named { IfSome result (λ cycle. IsOf code.now cycle.table cycle.row) }
+        ensures early { IfSome result (λ cycle. cycle.start < 2 ^ 88) }
+    {
+        let entry = self.course.next(code.instructions(self.exec))?;
+        let start = self.start;
+        self.start += u128::from(code.table(entry.table).period);
+        Some(Cycle {
+            start,
+            table: entry.table,
+            row: entry.row,
+            mark: entry.mark,
+        })
+    }
+
+    /// The beginning of an executive's cycles.
+    pub(crate) fn begun(code: &Code, exec: u16) -> Walk
+        requires { exec < length code.now.execs }
+        ensures over { IsOver code.now result }
+        ensures coming { cycles_left code.now result ≡ cycles_of code.now exec }
+    {
+        let _conditions = code.signals();
+        Walk {
+            exec,
+            start: 0,
+            course: Course::new(),
+        }
+    }
+}

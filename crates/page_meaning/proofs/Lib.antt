@@ -1,0 +1,4 @@
+pub mod Bodies
+pub mod CountLemmas
+pub mod CourseLemmas
+pub mod StandardFacts

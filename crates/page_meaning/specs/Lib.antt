@@ -1,0 +1,4 @@
+pub mod Meaning
+pub mod Whole
+pub mod Count
+pub mod Course

@@ -1,0 +1,110 @@
+//! How many cycles instructions run, without unrolling them.
+
+ghost use Rattle.std.specs.Prelude.{◌≡◌, ◌+◌, ◌<◌, ◌≤◌, [], ◌∷◌, List, length, drop, map, min, ◌^◌, false, slice_index_or};
+ghost use Rattle.page_meaning.specs.Meaning.{cycle_count, body_counts};
+ghost use Rattle.page_meaning.specs.Whole.{IsRest};
+ghost use Rattle.page_meaning.specs.Count.{HasRoom, capped, capped_on_top, capped_closed};
+
+use crate::instr::{Instr, MOST_TIMES};
+use std::marker::Model;
+
+/// The numbers of cycles of the bodies that stand one in the other at a place, the innermost last.
+#[derive(Drop)]
+struct Sums {
+    sums: [u64; 65],
+    height: usize,
+}
+
+impl Model for Sums {
+    ghost use Rattle.std.specs.Prelude.{◌≡◌, ℕ, List, ◌≤◌, length};
+    ghost use Rattle.page_meaning.specs.Count.{stack};
+
+    ghost Value = { List ℕ };
+
+    ghost view = { λ s. stack s.height s.sums };
+
+    ghost invariant = { λ s. (s.height ≤ 65) × (length s.sums ≡ 65) };
+}
+
+impl Sums {
+    /// One body without a cycle.
+    fn new() -> Sums
+        ensures { result ≡ 0 ∷ [] }
+    {
+        Sums {
+            sums: [0; 65],
+            height: 1,
+        }
+    }
+
+    /// The number on top, 0 where there is none.
+    fn top(&self) -> u64
+        requires { 0 < length self.now }
+        ensures { result ≡ slice_index_or self.now 0 0 }
+    {
+        self.sums[self.height - 1]
+    }
+
+    /// A body begins, seen from its end.
+    fn open(&mut self)
+        requires { length self.old < 65 }
+        ensures { self.new ≡ 0 ∷ self.old }
+    {
+        self.sums[self.height] = 0;
+        self.height += 1;
+    }
+
+    /// The innermost body gets so many cycles more.
+    fn run(&mut self, times: u32)
+        requires { 0 < length self.old }
+        ensures { self.new ≡ capped_on_top times self.old }
+    {
+        let body = self.sums[self.height - 1];
+        self.sums[self.height - 1] = at_most(u64::from(times).saturating_add(body));
+    }
+
+    /// The innermost body runs so many times over, before the one round it goes on.
+    fn close(&mut self, times: u64)
+        requires { 1 < length self.old }
+        ensures { self.new ≡ capped_closed times self.old }
+    {
+        let body = self.sums[self.height - 1];
+        self.height -= 1;
+        let after = self.sums[self.height - 1];
+        self.sums[self.height - 1] = at_most(times.saturating_mul(body).saturating_add(after));
+    }
+
+    /// What the instruction in front makes of them.
+    fn put(&mut self, instr: Instr)
+        requires { HasRoom instr (length self.old) }
+        ensures { (rest : List Instr) → self.old ≡ map capped (body_counts rest) → self.new ≡ map capped (body_counts (instr ∷ rest)) }
+    {
+        match instr {
+            Instr::Run { times, .. } => self.run(times),
+            Instr::Loop { times } => self.close(times),
+            Instr::End => self.open(),
+            Instr::Done => *self = Sums::new(),
+        }
+    }
+}
+
+/// How many cycles the instructions of an executive run, or one more than the most where they are more.
+pub fn cycles(code: &[Instr]) -> u64
+    requires { IsRest 0 false code.now }
+    ensures { result ≡ min (cycle_count code.now) (2 ^ 48 + 1) }
+{
+    let mut sums = Sums::new();
+    let mut at = code.len();
+    while at > 0 {
+        at -= 1;
+        sums.put(code[at]);
+    }
+    sums.top()
+}
+
+/// The number, or one more than the most cycles of an executive where it is above.
+fn at_most(cycles: u64) -> u64
+    ensures { result ≡ capped cycles }
+{
+    cycles.min(MOST_TIMES + 1)
+}

@@ -1,0 +1,13 @@
+//! What the instructions of a test program mean: the cycles that they run, how many these are, and a
+//! walk that gives them one by one.
+#![tactic(auto)]
+
+mod count;
+mod course;
+mod instr;
+mod laws;
+
+pub use count::cycles;
+pub use course::Course;
+pub use instr::{Entry, Instr, MOST_LOOPS, MOST_TIMES};
+pub use laws::count_is_length;
