@@ -3,7 +3,7 @@
 
 Each text has statements of two tokens up to a stray closing brace, so that it is read to its end and then refused.
 Usage: bench/read.py [PROGRAM]"""
-import os, resource, subprocess, sys, tempfile, time
+import os, subprocess, sys, tempfile, time
 
 program = sys.argv[1] if len(sys.argv) > 1 else os.path.join(os.path.dirname(__file__), "../crates/stil/out/stil")
 

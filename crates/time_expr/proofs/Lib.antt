@@ -1,0 +1,3 @@
+pub mod DivisorLemmas
+pub mod LowestLemmas
+pub mod StandardFacts
