@@ -10,3 +10,4 @@ pub mod Refusals
 pub mod Readings
 pub mod Loop
 pub mod Slowly
+pub mod SlowlyBack

@@ -1,5 +1,5 @@
 -- What the plain slow lexer finds is a piece.
-use Rattle.std.proofs.Common.{◌≡◌, ℕ, ◌+◌, ◌≤◌, ◌<◌, true, false, ◌&&◌, ◌||◌, not, Option, Some, None, List, [], ◌∷◌, ◌++◌, length, take, drop, refl, sym, ap, subst, ◌∙◌, inl, inr, ◌⊎◌, arith, append_assoc, eq-eqb, length-append, get_or}
+use Rattle.std.proofs.Common.{◌≡◌, ℕ, ◌+◌, ◌<◌, true, false, ◌&&◌, ◌||◌, not, Option, Some, None, List, [], ◌∷◌, ◌++◌, length, take, drop, refl, sym, ap, ◌∙◌, inl, inr, ◌⊎◌, arith, append_assoc, eq-eqb, length-append, slice_index_or}
 use Rattle.std.specs.Prelude.{◌==◌, nat_lt, count_by}
 use Rattle.std.specs.List.{list_all, list_any, position_or_len}
 use Rattle.std.proofs.lemmas.Bool.{and_parts, and_cases, or_cases, or_parts, eqb-true, false≢true, ltb-true, not-true, lt-ltb, and_from}
@@ -10,7 +10,7 @@ use Rattle.stil_lex.specs.Tokens.{line_behind}
 use Rattle.stil_lex.specs.Step.{pair_place, is_ann, mark_len, kept}
 use Rattle.stil_lex.specs.declared.token.Token.{Token}
 use Rattle.stil_lex.specs.declared.token.TokenKind.{TokenKind}
-use Rattle.stil_lex.specs.Slow.{blank_test, closed_test, ends_or_begins, line_test, comment_test, opened_test, annotation_test, gap_test, word_test, quoted_rest_test, quoted_test, comments_test, sign_byte_test, Begins}
+use Rattle.stil_lex.specs.Slow.{blank_test, closed_test, ends_or_begins, line_test, comment_test, opened_test, annotation_test, gap_test, word_test, quoted_rest_test, quoted_test, comments_test, sign_byte_test, sign_test, Begins}
 use Rattle.stil_lex.proofs.Pairs.{pair_cases, starts_pair_is}
 use Rattle.stil_lex.proofs.Words.{is_ann_is, opened_from_mark, mark_len-opens}
 use Rattle.stil_lex.proofs.Found.{IsFront}
@@ -201,13 +201,8 @@ goes_on_slowly bytes at tokens kind len r b =
     let feeds = count_by (λ c. c == line_feed) (take len (drop at bytes)) in
     relined bytes (at + len) (line + feeds) (tokens ++ kept kind at (at + len) line) (goes_on bytes at line tokens kind len feeds r (begins_front (drop at bytes) kind len b) refl)
 
--- a text of one byte
-pub one_byte : (text : List ℕ) → 1 ≤ length text → length text < 2 → text ≡ get_or text 0 0 ∷ []
-one_byte [] some few = absurd (omega (arith, some))
-one_byte (b ∷ []) some few = refl
-one_byte (b ∷ c ∷ text) some few = absurd (omega (arith, few))
-
 -- a sign that is the whole text
-pub sign_text_is : (text after : List ℕ) → 1 ≤ length text → length text < 2 → sign_byte_test (get_or text 0 0) after ≡ true → IsSign (get_or text 0 0) text after
-sign_text_is text after some few h =
-    subst (λ (t : List ℕ). IsSign (get_or text 0 0) t after) (sym (one_byte text some few)) (sign_is (get_or text 0 0) after h)
+pub sign_text_is : (text after : List ℕ) → sign_test text after ≡ true → IsSign (slice_index_or text 0 0) text after
+sign_text_is [] after h = absurd (false≢true h)
+sign_text_is (b ∷ []) after h = sign_is b after h
+sign_text_is (b ∷ c ∷ text) after h = absurd (false≢true h)

@@ -1,15 +1,19 @@
 -- The bytes of a STIL text by what they may be part of (the lexical part of IEEE 1450-1999, in ASCII).
 use Rattle.std.specs.Prelude.{ℕ, Bool, false, ◌==◌, nat_le, ◌&&◌, ◌||◌, List, [], ◌∷◌}
 
+-- what ends a line
 abbrev pub line_feed : ℕ
 line_feed = 10
 
+-- what stands at both ends of a Name
 abbrev pub double_quote : ℕ
 double_quote = 34
 
+-- what stands at both ends of a Text
 abbrev pub single_quote : ℕ
 single_quote = 39
 
+-- the bytes of which the marks of comments and annotations are made
 abbrev pub slash : ℕ
 slash = 47
 

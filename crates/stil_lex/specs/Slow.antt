@@ -69,6 +69,12 @@ unfoldable pub sign_byte_test : ℕ → List ℕ → Bool
 sign_byte_test byte after =
     ((is_printing byte && not (is_word byte)) && not (byte == double_quote || byte == single_quote)) && not (comments_test byte after)
 
+-- a sign that is the whole text
+abbrev pub sign_test : List ℕ → List ℕ → Bool
+sign_test [] after = false
+sign_test (b ∷ []) after = sign_byte_test b after
+sign_test (b ∷ c ∷ text) after = false
+
 -- the text is a gap, or a token of the kind, before the text behind it
 abbrev pub IsKind : Option TokenKind → List ℕ → List ℕ → Type 0
 IsKind None text after = IsGap text after

@@ -1,11 +1,14 @@
-//! A plain slow lexer, whose contract is the definition: at each place it tries every length.
+//! A plain slow lexer, whose contract is the definition: at each place it tries every length. It gives the tokens of a text
+//! that has a reading, and none exactly where there is no reading.
 
-ghost use Rattle.std.specs.Prelude.{◌≡◌, ◌≤◌, length, IfOk, IfSome, IsTrue};
+ghost use Rattle.std.specs.Prelude.{◌≡◌, ◌≤◌, length, IfOk, IfSome, IfNone, IsTrue, List, ℕ, Option};
 ghost use Rattle.std.specs.List.{list_all, list_any};
 ghost use Rattle.stil_lex.specs.Bytes.{begins_with, is_word, may_be_quoted, line_feed};
 ghost use Rattle.stil_lex.specs.Tokens.{Reads};
 ghost use Rattle.stil_lex.specs.Pieces.{IsToken};
-ghost use Rattle.stil_lex.specs.Slow.{blank_test, closed_test, ends_or_begins, line_test, comment_test, opened_test, annotation_test, gap_test, word_test, quoted_rest_test, quoted_test, comments_test, sign_byte_test, IsKind, Begins};
+ghost use Rattle.stil_lex.specs.declared.token.Token.{Token};
+ghost use Rattle.stil_lex.specs.declared.token.TokenKind.{TokenKind};
+ghost use Rattle.stil_lex.specs.Slow.{blank_test, closed_test, ends_or_begins, line_test, comment_test, opened_test, annotation_test, gap_test, word_test, quoted_rest_test, quoted_test, comments_test, sign_byte_test, sign_test, IsKind, Begins};
 
 use crate::byte::{
     is_blank, is_printing, is_word, line_feeds, may_be_quoted, pair_place, place_of, starts_pair,
@@ -162,10 +165,21 @@ fn is_sign(byte: u8, after: &[u8]) -> bool
         && !opens_comment(byte, after)
 }
 
+/// Whether the whole text is a sign.
+fn is_sign_text(text: &[u8], after: &[u8]) -> bool
+    ensures { result ≡ sign_test text.now after.now }
+{
+    match text {
+        [byte] => is_sign(*byte, after),
+        _ => false,
+    }
+}
+
 fn token_kind(text: &[u8], after: &[u8]) -> Option<TokenKind>
     requires text { length text.now ≤ 16777216 }
     requires after { length after.now ≤ 16777216 }
-    ensures { IfSome result (λ kind. IsToken kind text.now after.now) }
+    ensures some { IfSome result (λ kind. IsToken kind text.now after.now) }
+    ensures none { IfNone result ((kind : TokenKind) → IsToken kind text.now after.now → ⊥) }
 {
     if is_whole_word(text, after) {
         return Some(TokenKind::Word);
@@ -176,16 +190,17 @@ fn token_kind(text: &[u8], after: &[u8]) -> Option<TokenKind>
     if is_quoted(text, b'\'') {
         return Some(TokenKind::Text);
     }
-    match text {
-        [byte] if is_sign(*byte, after) => Some(TokenKind::Sign(*byte)),
-        _ => None,
+    if is_sign_text(text, after) {
+        return Some(TokenKind::Sign(text[0]));
     }
+    None
 }
 
-/// The first gap or token at the front of a text, or none.
+/// The first gap or token at the front of a text, or none where no gap and no token stands there.
 fn first(text: &[u8]) -> Option<Front>
     requires { length text.now ≤ 16777216 }
-    ensures { IfSome result (λ f. Begins f.kind f.len text.now) }
+    ensures some { IfSome result (λ f. Begins f.kind f.len text.now) }
+    ensures none { IfNone result ((kind : Option TokenKind) (len : ℕ) → Begins kind len text.now → ⊥) }
 {
     for len in 1..text.len() + 1 {
         let front = &text[..len];
@@ -203,10 +218,11 @@ fn first(text: &[u8]) -> Option<Front>
     None
 }
 
-/// The tokens of a text, or none.
+/// The tokens of a text, or none where it has no reading.
 pub(crate) fn slow_lex(alloc: Global, bytes: &[u8]) -> Result<Option<TokenList>, AllocError>
     requires { length bytes.now ≤ 16777216 }
-    ensures { IfOk result (λ found. IfSome found (λ tokens. Reads bytes.now tokens)) }
+    ensures some { IfOk result (λ found. IfSome found (λ tokens. Reads bytes.now tokens)) }
+    ensures none { IfOk result (λ found. IfNone found ((tokens : List Token) → Reads bytes.now tokens → ⊥)) }
 {
     let mut tokens = Vec::new(alloc);
     let mut at = 0usize;

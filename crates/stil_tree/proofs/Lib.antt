@@ -8,4 +8,7 @@ pub mod Levels
 pub mod Standing
 pub mod Forests
 pub mod Spots
+pub mod Cuts
+pub mod SlowlyBack
 pub mod Slowly
+pub mod SlowBlocks

@@ -1,8 +1,7 @@
 -- The plain slow reader: statement by statement, whatever completes the rest completes the whole.
-use Rattle.std.proofs.Common.{◌≡◌, ◌⊎◌, ℕ, zero, suc, ◌+◌, ◌≤◌, ◌<◌, true, not, List, [], ◌∷◌, ◌++◌, length, take, drop, get_or, Option, Some, refl, sym, ap, ◌∙◌, subst, inl, inr, arith, length-append, append_assoc}
-use Rattle.std.specs.List.{list_any, position_or_len}
-use Rattle.std.proofs.lemmas.Bool.{or_from, cond-true, cond-false, cases_Bool}
-use Rattle.std.proofs.lemmas.List.{length-take-le, drop_at, get_or_at, drop-drop, drop_all, take-append-drop, length-drop, drop_more}
+use Rattle.std.proofs.Common.{◌≡◌, ℕ, zero, suc, ◌+◌, ◌≤◌, ◌<◌, true, List, [], ◌∷◌, ◌++◌, length, take, drop, get_or, Option, Some, refl, sym, ap, ◌∙◌, subst, arith}
+use Rattle.std.specs.List.{position_or_len}
+use Rattle.std.proofs.lemmas.List.{length-take-le, drop-drop, drop_all, take-append-drop, length-drop, drop_more}
 use Rattle.stil_lex.specs.declared.token.Token.{Token}
 use Rattle.stil_tree.specs.declared.stmt.Stmt.{Stmt}
 use Rattle.stil_tree.specs.declared.stmt.StmtList.{StmtList}
@@ -12,78 +11,13 @@ use Rattle.stil_tree.specs.Trees.{Trees, end, plain, block, in_front, trees, ent
 use Rattle.stil_tree.specs.Grammar.{most_levels, AreHead, ParsesAt, ParsesAt.nothing, ParsesAt.skipped, ParsesAt.ended, ParsesAt.nested}
 use Rattle.stil_tree.specs.Step.{join}
 use Rattle.stil_tree.specs.Memory.{trees_of}
-use Rattle.stil_tree.specs.Slow.{IsFirst, before, plain_before}
+use Rattle.stil_tree.specs.Slow.{IsFirst, before, plain_before, block_end}
 use Rattle.stil_tree.proofs.Lists.{entry_of-block, trees_of-push, join-in_front}
 use Rattle.stil_tree.proofs.Runs.{join-end, join_assoc}
+use Rattle.stil_tree.proofs.Steps.{is_kind-other}
 use Rattle.stil_tree.proofs.Sound.{ParsesAt-at}
-
--- tokens are a head, or a head with a mark behind it
-pub record FirstMark (tokens : List Token) : Type 0 where
-  pub head : List Token
-  pub mark : Token
-  pub rest : List Token
-  pub spelled : tokens ≡ head ++ mark ∷ rest
-  pub are_head : AreHead head
-  pub is_it : is_mark mark ≡ true
-  pub place : position_or_len is_mark tokens ≡ length head
-
-pub mark_cases : (tokens : List Token) → FirstMark tokens ⊎ (position_or_len is_mark tokens ≡ length tokens)
-mark_cases [] = inr refl
-mark_cases (t ∷ tokens) =
-    elim (cases_Bool (is_mark t)) [
-      | inl is ↦
-          inl record {
-            head = [];
-            mark = t;
-            rest = tokens;
-            spelled = refl;
-            are_head = refl;
-            is_it = is;
-            place = cond-false (not (is_mark t)) (1 + position_or_len is_mark tokens) 0 (ap not is);
-          }
-      | inr other ↦
-          let step = cond-true (not (is_mark t)) (1 + position_or_len is_mark tokens) 0 (ap not other) in
-          elim (mark_cases tokens) [
-            | inl f ↦
-                inl record {
-                  head = t ∷ f.head;
-                  mark = f.mark;
-                  rest = f.rest;
-                  spelled = ap (λ ts. t ∷ ts) f.spelled;
-                  are_head = or_from (is_mark t) (list_any is_mark f.head) other f.are_head;
-                  is_it = f.is_it;
-                  place = step ∙ omega (arith, f.place);
-                }
-            | inr all ↦ inr (step ∙ omega (arith, all))
-          ]
-    ]
-
--- the first mark of tokens, where it is within them
-pub record IsCut (tokens : List Token) (count : ℕ) (d : Token) : Type 0 where
-  pub head : List Token
-  pub rest : List Token
-  pub spelled : tokens ≡ head ++ get_or tokens count d ∷ rest
-  pub are_head : AreHead head
-  pub count_is : count ≡ length head
-  pub behind : drop (count + 1) tokens ≡ rest
-
-pub cut : (tokens : List Token) (count : ℕ) (d : Token) → count ≡ position_or_len is_mark tokens → count < length tokens → IsCut tokens count d
-cut tokens count d is below =
-    elim (mark_cases tokens) [
-      | inl f ↦
-          let place : length f.head ≡ count = sym (is ∙ f.place) in
-          let mark : get_or tokens count d ≡ f.mark = ap (λ ts. get_or ts count d) f.spelled ∙ get_or_at f.head f.mark f.rest d count place in
-          let long : length (f.head ++ f.mark ∷ []) ≡ count + 1 = length-append f.head (f.mark ∷ []) ∙ omega (arith, place) in
-          record {
-            head = f.head;
-            rest = f.rest;
-            spelled = f.spelled ∙ ap (λ t. f.head ++ t ∷ f.rest) (sym mark);
-            are_head = f.are_head;
-            count_is = sym place;
-            behind = ap (drop (count + 1)) (f.spelled ∙ sym (append_assoc f.head (f.mark ∷ []) f.rest)) ∙ drop_at (f.head ++ f.mark ∷ []) f.rest (count + 1) long;
-          }
-      | inr all ↦ absurd (omega (arith, is, all, below))
-    ]
+use Rattle.stil_tree.proofs.Cuts.{cut}
+use Rattle.stil_tree.proofs.SlowlyBack.{after_semicolon, block_behind}
 
 -- a statement that `;` ends, or one that is skipped
 pub plain-first : (depth at count : ℕ) (tokens : List Token) (d : Token) (stmt : Option Stmt) → count ≡ position_or_len is_mark tokens → count < length tokens
@@ -97,6 +31,7 @@ plain-first depth at count tokens d stmt is below ends front =
           rw (front more) (subst (λ (ts : List Token). ParsesAt depth at (plain_before at count more) ts) (sym c.spelled)
           (by_count depth at count more c.head (get_or tokens count d) c.rest c.are_head c.count_is ends
           (subst (λ (ts : List Token). ParsesAt depth (at + (count + 1)) more ts) c.behind p)));
+      goes = λ found p. after_semicolon depth at count found tokens d p is below ends;
     }
   where
     by_count : (depth at n : ℕ) (more : Trees) (head : List Token) (stop : Token) (rest : List Token) → AreHead head → n ≡ length head → is_sign semicolon stop ≡ true
@@ -112,9 +47,9 @@ plain-first depth at count tokens d stmt is below ends front =
 -- a statement with a block
 pub block-first : (depth at count len : ℕ) (tokens : List Token) (d e : Token) (stmt : Stmt) (l : StmtList) → count ≡ position_or_len is_mark tokens → count < length tokens
     → is_sign open_brace (get_or tokens count d) ≡ true → depth < most_levels → len < length (drop (count + 1) tokens) → is_sign close_brace (get_or (drop (count + 1) tokens) len e) ≡ true
-    → ParsesAt (depth + 1) (at + count + 1) (trees l) (take len (drop (count + 1) tokens)) → stmt ≡ roll-Stmt (record { first = at; count = count; body = Some l })
+    → len ≡ block_end 0 (drop (count + 1) tokens) → ParsesAt (depth + 1) (at + count + 1) (trees l) (take len (drop (count + 1) tokens)) → stmt ≡ roll-Stmt (record { first = at; count = count; body = Some l })
     → IsFirst depth at (Some stmt) (count + 1 + len + 1) tokens
-block-first depth at count len tokens d e stmt l is below opens few short closes body made =
+block-first depth at count len tokens d e stmt l is below opens few short closes ends body made =
     let c = cut tokens count d is below in
     let rest = drop (count + 1) tokens in
     let close = get_or rest len e in
@@ -135,16 +70,20 @@ block-first depth at count len tokens d e stmt l is below opens few short closes
           let nest = nested depth at (trees l) more c.head (get_or tokens count d) inner close after few c.are_head opens inside closes behind in
           rw seen (subst (λ (ts : List Token). ParsesAt depth at (block at count (trees l) more) ts) (sym spelled)
           (subst (λ (n : ℕ). ParsesAt depth at (block at n (trees l) more) (c.head ++ get_or tokens count d ∷ (inner ++ close ∷ after))) (sym c.count_is) nest));
+      goes = λ found p.
+          let b = (block_behind depth at count found tokens d p is below (is_kind-other open_brace semicolon (get_or tokens count d).kind opens refl)).1 in
+          rw ends (b.more, b.behind);
     }
 
 -- what is read of the tokens of a level: whatever completes the rest completes the whole
 pub record IsRead (depth at read : ℕ) (done : Trees) (tokens : List Token) : Type 0 where
   pub within : read ≤ length tokens
   pub completes : (more : Trees) → ParsesAt depth (at + read) more (drop read tokens) → ParsesAt depth at (join done more) tokens
+  pub goes : (found : Trees) → ParsesAt depth at found tokens → (more : Trees) × ParsesAt depth (at + read) more (drop read tokens)
 
 -- at the start
 pub starts : (depth at : ℕ) (tokens : List Token) → IsRead depth at 0 end tokens
-starts depth at tokens = record { within = omega arith; completes = λ more p. ParsesAt-at at (omega arith) p }
+starts depth at tokens = record { within = omega arith; completes = λ more p. ParsesAt-at at (omega arith) p; goes = λ found p. (found, ParsesAt-at (at + 0) (omega arith) p) }
 
 -- one statement more
 pub goes_on : (depth at read len : ℕ) (done next : Trees) (stmt : Option Stmt) (tokens : List Token) → IsRead depth at read done tokens → IsFirst depth (at + read) stmt len (drop read tokens)
@@ -154,6 +93,10 @@ goes_on depth at read len done next stmt tokens r f joined = record {
   completes = λ more p.
       rw (joined more) (r.completes (before stmt more) (f.completes more
       (ParsesAt-at (at + read + len) (omega arith) (subst (λ (ts : List Token). ParsesAt depth (at + (read + len)) more ts) (sym (drop-drop len read tokens)) p))));
+  goes = λ found p.
+      let here = r.goes found p in
+      let next = f.goes here.0 here.1 in
+      (next.0, ParsesAt-at (at + (read + len)) (omega arith) (subst (λ (ts : List Token). ParsesAt depth (at + read + len) next.0 ts) (drop-drop len read tokens) next.1));
 }
 
 -- at the end

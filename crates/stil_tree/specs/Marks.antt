@@ -4,9 +4,11 @@ use Rattle.stil_lex.specs.declared.token.Token.{Token}
 use Rattle.stil_lex.specs.declared.token.TokenKind.{TokenKind}
 use Rattle.stil_lex.specs.declared.token.TokenKind.TheVariants.{Word, Name, Text, Sign}
 
+-- what ends a statement without a block
 abbrev pub semicolon : ℕ
 semicolon = 59
 
+-- what opens a block, and what closes one
 abbrev pub open_brace : ℕ
 open_brace = 123
 

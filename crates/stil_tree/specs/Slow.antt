@@ -1,8 +1,10 @@
 -- What the plain slow reader says of one statement at the front of tokens. No public clause cites this file.
-use Rattle.std.specs.Prelude.{ℕ, zero, suc, ◌+◌, ◌≤◌, ◌<◌, List, length, drop, Option, Some, None}
+use Rattle.std.specs.Prelude.{ℕ, zero, suc, ◌+◌, ◌-◌, ◌==◌, ◌≤◌, ◌<◌, if◌then◌else◌, Bool, false, ◌&&◌, ◌||◌, List, [], ◌∷◌, length, take, drop, slice_get, Option, Some, None}
 use Rattle.stil_lex.specs.declared.token.Token.{Token}
 use Rattle.stil_tree.specs.declared.stmt.Stmt.{Stmt}
 use Rattle.stil_tree.specs.Trees.{Trees, plain, in_front, entry_of}
+use Rattle.stil_tree.specs.Marks.{semicolon, open_brace, close_brace, is_sign}
+use Rattle.stil_tree.specs.Blocks.{open_braces}
 use Rattle.stil_tree.specs.Grammar.{ParsesAt}
 
 -- an entry in front of others, where there is one
@@ -15,8 +17,27 @@ pub record IsFirst (depth at : ℕ) (stmt : Option Stmt) (len : ℕ) (tokens : L
   pub some : 0 < len
   pub within : len ≤ length tokens
   pub completes : (more : Trees) → ParsesAt depth (at + len) more (drop len tokens) → ParsesAt depth at (before stmt more) tokens
+  -- where the tokens are statements, so is the rest
+  pub goes : (found : Trees) → ParsesAt depth at found tokens → (more : Trees) × ParsesAt depth (at + len) more (drop len tokens)
 
 -- a statement that `;` ends, in front of others; without head tokens it is skipped
 abbrev pub plain_before : ℕ → ℕ → Trees → Trees
 plain_before first zero more = more
 plain_before first (suc n) more = plain first (suc n) more
+
+-- how many tokens stand before the `}` that closes a block, of which these are the rest and in which so many blocks are open; all,
+-- where there is none
+abbrev pub block_end : ℕ → List Token → ℕ
+block_end n [] = 0
+block_end n (t ∷ ts) =
+    if is_sign open_brace t then 1 + block_end (n + 1) ts
+    else (if is_sign close_brace t then (if n == 0 then 0 else 1 + block_end (n - 1) ts) else 1 + block_end n ts)
+
+-- whether a token ends a statement outside all braces, where so many braces are open before it
+abbrev pub ends_if : ℕ → Option Token → Bool
+ends_if braces None = false
+ends_if braces (Some t) = (is_sign semicolon t && braces == 0) || (is_sign close_brace t && braces == 1)
+
+-- whether the token at the index does
+abbrev pub ends_at : List Token → ℕ → Bool
+ends_at tokens index = ends_if (open_braces (take index tokens)) (slice_get tokens index)

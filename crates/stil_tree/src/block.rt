@@ -64,7 +64,8 @@ fn may_name(kind: TokenKind) -> bool
     matches!(kind, TokenKind::Word | TokenKind::Name)
 }
 
-fn keyword_at(tokens: &[Token], index: usize) -> Option<usize>
+/// The index, where a token stands there.
+pub(crate) fn keyword_at(tokens: &[Token], index: usize) -> Option<usize>
     ensures { result ≡ keyword_at tokens.now index }
 {
     if index < tokens.len() {
@@ -74,7 +75,8 @@ fn keyword_at(tokens: &[Token], index: usize) -> Option<usize>
     }
 }
 
-fn name_at(tokens: &[Token], index: usize) -> Option<usize>
+/// The index, where a token stands there that may be a name.
+pub(crate) fn name_at(tokens: &[Token], index: usize) -> Option<usize>
     ensures { result ≡ name_if (slice_get tokens.now index) index }
 {
     if index < tokens.len() && may_name(tokens[index].kind) {

@@ -1,14 +1,18 @@
-//! A plain slow reader of statements, whose contract is the grammar: it looks for the end of each block, and then reads the block.
+//! Plain slow readers, whose contracts are the definitions. The reader of statements looks for the end of each block, and then
+//! reads the block; it gives the statements, and none exactly where the tokens are none. The reader of the open block looks at each
+//! token anew.
 
-ghost use Rattle.std.specs.Prelude.{◌≡◌, ◌+◌, ◌≤◌, length, IfOk, IfSome, OnOk};
+ghost use Rattle.std.specs.Prelude.{◌≡◌, ◌+◌, ◌≤◌, ◌<◌, length, take, IfOk, IfSome, IfNone, OnOk};
 ghost use Rattle.std.specs.List.{position_or_len};
 ghost use Rattle.stil_tree.specs.Marks.{is_mark, is_sign};
 ghost use Rattle.stil_tree.specs.Trees.{Trees, trees};
+ghost use Rattle.stil_tree.specs.Blocks.{open_braces, BeginsAt, IsBlock};
 ghost use Rattle.stil_tree.specs.Step.{join};
 ghost use Rattle.stil_tree.specs.Memory.{trees_of};
 ghost use Rattle.stil_tree.specs.Grammar.{ParsesAt, Parses};
-ghost use Rattle.stil_tree.specs.Slow.{IsFirst, before, plain_before};
+ghost use Rattle.stil_tree.specs.Slow.{IsFirst, before, plain_before, block_end, ends_at};
 
+use crate::block::{keyword_at, name_at};
 use crate::builder::is_sign;
 use crate::stmt::{Stmt, StmtList};
 use std::alloc::{AllocError, Global};
@@ -30,12 +34,14 @@ fn head_len(tokens: &[Token]) -> usize
 
 /// Where the block ends of which these tokens are the rest, or the tokens' end.
 fn block_len(tokens: &[Token]) -> usize
+    requires { length tokens.now ≤ 16777216 }
+    ensures end { result ≡ block_end 0 tokens.now }
     ensures within { result ≤ length tokens.now }
 {
-    let mut open = 0u32;
+    let mut open = 0usize;
     for (at, token) in tokens.iter().enumerate() {
         if is_sign(token, b'{') {
-            open = open.saturating_add(1);
+            open += 1;
         } else if is_sign(token, b'}') {
             if open == 0 {
                 return at;
@@ -76,7 +82,7 @@ fn add(stmts: &mut Vec<Stmt>, stmt: Option<Stmt>) -> Result<(), AllocError>
     Ok(())
 }
 
-/// The statement at the front of tokens whose first has the index `at`, or none.
+/// The statement at the front of tokens whose first has the index `at`, or none where the tokens are no statements.
 #[cycle(slow)]
 fn statement(
     alloc: Global,
@@ -86,7 +92,9 @@ fn statement(
 ) -> Result<Option<First>, AllocError>
     requires small { at + length tokens.now ≤ 16777216 }
     requires levels { depth ≤ 16 }
-    ensures { IfOk result (λ found. IfSome found (λ f. IsFirst depth at f.stmt f.len tokens.now)) }
+    requires some { 0 < length tokens.now }
+    ensures some { IfOk result (λ found. IfSome found (λ f. IsFirst depth at f.stmt f.len tokens.now)) }
+    ensures none { IfOk result (λ found. IfNone found ((t : Trees) → ParsesAt depth at t tokens.now → ⊥)) }
 {
     let count = head_len(tokens);
     if count == tokens.len() {
@@ -99,12 +107,18 @@ fn statement(
             len: count + 1,
         }));
     }
-    if !is_sign(mark, b'{') || depth == 16 {
+    if !is_sign(mark, b'{') {
+        return Ok(None);
+    }
+    if depth == 16 {
         return Ok(None);
     }
     let rest = &tokens[count + 1..];
     let len = block_len(rest);
-    if len == rest.len() || !is_sign(&rest[len], b'}') {
+    if len == rest.len() {
+        return Ok(None);
+    }
+    if !is_sign(&rest[len], b'}') {
         return Ok(None);
     }
     let Some(body) = level(alloc, &rest[..len], at + count + 1, depth + 1)? else {
@@ -130,7 +144,8 @@ fn level(
 ) -> Result<Option<StmtList>, AllocError>
     requires small { at + length tokens.now ≤ 16777216 }
     requires levels { depth ≤ 16 }
-    ensures { IfOk result (λ found. IfSome found (λ list. ParsesAt depth at (trees list) tokens.now)) }
+    ensures some { IfOk result (λ found. IfSome found (λ list. ParsesAt depth at (trees list) tokens.now)) }
+    ensures none { IfOk result (λ found. IfNone found ((t : Trees) → ParsesAt depth at t tokens.now → ⊥)) }
 {
     let mut stmts = Vec::new(alloc);
     let mut read = 0usize;
@@ -144,10 +159,63 @@ fn level(
     Ok(Some(StmtList::from_vec(stmts)))
 }
 
-/// The statements of the tokens, or none.
+/// The statements of the tokens, or none where they are no statements.
 pub(crate) fn slow_forest(alloc: Global, tokens: &[Token]) -> Result<Option<StmtList>, AllocError>
     requires { length tokens.now ≤ 16777216 }
-    ensures { IfOk result (λ found. IfSome found (λ list. Parses tokens.now (trees list))) }
+    ensures some { IfOk result (λ found. IfSome found (λ list. Parses tokens.now (trees list))) }
+    ensures none { IfOk result (λ found. IfNone found ((t : Trees) → Parses tokens.now t → ⊥)) }
 {
     level(alloc, tokens, 0, 0)
+}
+
+/// How many braces are open behind the tokens.
+fn open_braces(tokens: &[Token]) -> usize
+    requires { length tokens.now ≤ 16777216 }
+    ensures { result ≡ open_braces tokens.now }
+{
+    let mut open = 0usize;
+    for token in tokens {
+        if is_sign(token, b'{') {
+            open += 1;
+        } else if is_sign(token, b'}') {
+            open = open.saturating_sub(1);
+        }
+    }
+    open
+}
+
+/// Whether the token at the index ends a statement outside all braces.
+fn ends_at(tokens: &[Token], index: usize) -> bool
+    requires small { length tokens.now ≤ 16777216 }
+    requires within { index < length tokens.now }
+    ensures { result ≡ ends_at tokens.now index }
+{
+    let open = open_braces(&tokens[..index]);
+    let token = &tokens[index];
+    (is_sign(token, b';') && open == 0) || (is_sign(token, b'}') && open == 1)
+}
+
+/// Where the statement outside all braces that is open behind the tokens begins.
+fn block_start(tokens: &[Token]) -> usize
+    requires { length tokens.now ≤ 16777216 }
+    ensures { BeginsAt tokens.now result }
+{
+    let mut start = 0;
+    for index in 0..tokens.len() {
+        if ends_at(tokens, index) {
+            start = index + 1;
+        }
+    }
+    start
+}
+
+/// The tokens of the keyword and of the name of the block that is open behind the first `upto` tokens.
+pub(crate) fn slow_enclosing(tokens: &[Token], upto: usize) -> (Option<usize>, Option<usize>)
+    requires small { length tokens.now ≤ 16777216 }
+    requires within { upto ≤ length tokens.now }
+    ensures { IsBlock (take upto tokens.now) result }
+{
+    let read = &tokens[..upto];
+    let start = block_start(read);
+    (keyword_at(read, start), name_at(read, start + 1))
 }

@@ -1,5 +1,5 @@
 use super::*;
-use crate::slow::slow_forest;
+use crate::slow::{slow_enclosing, slow_forest};
 use std::test::Fail;
 use stil_lex::{Token, lex};
 
@@ -47,6 +47,7 @@ fn good_texts_have_no_fault(rt: HostRuntime) {
 
 #[test]
 fn the_first_refusal_has_its_token(rt: HostRuntime) {
+    assert_eq!(rt; fault_of(&rt, b"STIL"), Some(TreeFault::OpenStatement(0)));
     assert_eq!(rt; fault_of(&rt, b"a; b"), Some(TreeFault::OpenStatement(2)));
     assert_eq!(rt; fault_of(&rt, b"a; }"), Some(TreeFault::StrayClose(2)));
     assert_eq!(rt; fault_of(&rt, b"a }"), Some(TreeFault::StrayClose(1)));
@@ -78,7 +79,7 @@ fn a_place_has_its_block(rt: HostRuntime) -> Result<(), Fail> {
     Ok(())
 }
 
-/// Whether both readers give the same statements, or none.
+/// Whether the readers and the slow ones give the same statements, or none, and the same open block.
 fn agree(rt: &HostRuntime, tokens: &[Token]) -> Result<bool, Fail> {
     if tokens.len() > 1000 {
         return Ok(false);
@@ -87,10 +88,11 @@ fn agree(rt: &HostRuntime, tokens: &[Token]) -> Result<bool, Fail> {
     let slow = slow_forest(rt.alloc(), tokens)?;
     let fast = format!(in rt.alloc(); "{fast:?}")?;
     let slow = format!(in rt.alloc(); "{slow:?}")?;
-    Ok(fast.as_str() == slow.as_str())
+    let same_block = enclosing(tokens, tokens.len()) == slow_enclosing(tokens, tokens.len());
+    Ok(same_block && fast.as_str() == slow.as_str())
 }
 
-/// Whether both readers agree on a text's tokens, and on each of their prefixes.
+/// Whether they agree on a text's tokens, and on each of their prefixes.
 fn agree_on_prefixes(rt: &HostRuntime, text: &[u8]) -> Result<bool, Fail> {
     if text.len() > 1000 {
         return Ok(false);
@@ -106,7 +108,7 @@ fn agree_on_prefixes(rt: &HostRuntime, text: &[u8]) -> Result<bool, Fail> {
 }
 
 #[test]
-fn the_slow_reader_agrees_on_every_prefix(rt: HostRuntime) -> Result<(), Fail> {
+fn the_slow_readers_agree_on_every_prefix(rt: HostRuntime) -> Result<(), Fail> {
     let text = b"STIL 1.0;; Timing \"t\" { W { Period '1us'; } } { a; { } } } Z";
     assert!(rt; agree_on_prefixes(&rt, text)?);
     assert!(rt;
