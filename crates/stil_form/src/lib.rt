@@ -3,12 +3,14 @@
 #![tactic(auto)]
 
 mod fault;
+mod front;
 mod laws;
 mod part;
 mod reader;
 mod word;
 
 pub use fault::{FormFault, FormKind};
+pub use front::{Reference, Span, index_front, reference_front};
 pub use laws::first_refused;
 pub use part::{Mark, Part, body, head, parts};
 pub use reader::{Form, is_skipped, read_each, read_unskipped};
