@@ -65,7 +65,8 @@ common-is a b x y g fa fb hx hy hg =
     cc
 
 -- the quotient that the code finds
-pub quotient-is : (a q : ℤ) (g k : ℕ) → FitsSigned w128 a → FitsSigned w128 q → q ≡ int_div (to_z w128 (of_z w128 a)) (pos g) →
+pub quotient-is : (a q : ℤ) (g k : ℕ) → FitsSigned w128 a → FitsSigned w128 q
+    → q ≡ int_div (to_z w128 (of_z w128 a)) (pos g) →
     g ≡ k → to_z w128 (of_z w128 q) ≡ int_div a (pos k)
 quotient-is a q g k fa fq hq hg =
     let ea = to_z-of_z w128 a fa in
@@ -78,8 +79,10 @@ unfolding lowest_signed
 signed-by a b t e = ap (λ (x : Bool). cond x (lowest (neg_ℤ a) (neg_ℤ b)) (lowest a b)) e
 
 -- a negative divisor
-pub signed-negative : (a b x y : ℤ) (r : Ratio) → FitsSigned w128 a → FitsSigned w128 b → FitsSigned w128 x → FitsSigned w128 y →
-    int_lt (to_z w128 (of_z w128 b)) (pos 0) ≡ true → x ≡ neg_ℤ (to_z w128 (of_z w128 a)) → y ≡ neg_ℤ (to_z w128 (of_z w128 b)) →
+pub signed-negative : (a b x y : ℤ) (r : Ratio) → FitsSigned w128 a → FitsSigned w128 b → FitsSigned w128 x
+    → FitsSigned w128 y →
+    int_lt (to_z w128 (of_z w128 b)) (pos 0) ≡ true → x ≡ neg_ℤ (to_z w128 (of_z w128 a))
+    → y ≡ neg_ℤ (to_z w128 (of_z w128 b)) →
     r ≡ lowest (to_z w128 (of_z w128 x)) (to_z w128 (of_z w128 y)) → r ≡ lowest_signed a b
 signed-negative a b x y r fa fb fx fy t hx hy hr =
     let ea = to_z-of_z w128 a fa in
@@ -92,7 +95,8 @@ signed-negative a b x y r fa fb fx fy t hx hy hr =
     same ∙ sym is
 
 -- a divisor that isn't negative
-pub signed-positive : (a b : ℤ) (r : Ratio) → FitsSigned w128 a → FitsSigned w128 b → int_lt (to_z w128 (of_z w128 b)) (pos 0) ≡ false →
+pub signed-positive : (a b : ℤ) (r : Ratio) → FitsSigned w128 a → FitsSigned w128 b
+    → int_lt (to_z w128 (of_z w128 b)) (pos 0) ≡ false →
     r ≡ lowest (to_z w128 (of_z w128 a)) (to_z w128 (of_z w128 b)) → r ≡ lowest_signed a b
 signed-positive a b r fa fb t hr =
     let ea = to_z-of_z w128 a fa in
@@ -114,15 +118,18 @@ mul-positive (pos a) (negsuc b) h k = absurd (omega (arith, ints))
 -- a positive number stays positive where it is in range
 within-positive : (z : ℤ) → pos 0 <ℤ z → IfOk (within z) (λ x. pos 0 <ℤ x)
 within-positive z h =
-    elim (nat_lt (unsigned_abs z) (2 ^ 127)) as (λ t. IfOk {E = ExprFault} (cond t (Ok z) (Err OutOfRange)) (λ x. pos 0 <ℤ x)) [ true ↦ h | false ↦ tt ]
+    elim (nat_lt (unsigned_abs z) (2 ^ 127)) as
+    (λ t. IfOk {E = ExprFault} (cond t (Ok z) (Err OutOfRange)) (λ x. pos 0 <ℤ x)) [ true ↦ h | false ↦ tt ]
 
 -- the product of two denominators is positive where it is in range
-pub denominator-positive : (a b : ℤ) (r : Result ℤ ExprFault) → pos 0 <ℤ a → pos 0 <ℤ b → unsigned_abs a < 2 ^ 127 → unsigned_abs b < 2 ^ 127 →
+pub denominator-positive : (a b : ℤ) (r : Result ℤ ExprFault) → pos 0 <ℤ a → pos 0 <ℤ b → unsigned_abs a < 2 ^ 127
+    → unsigned_abs b < 2 ^ 127 →
     r ≡ within (to_z w128 (of_z w128 a) *ℤ to_z w128 (of_z w128 b)) → IfOk r (λ x. pos 0 <ℤ x)
 denominator-positive a b r ha hb fa fb e =
     let ea = to_z-of_z w128 a (fits_signed_from_abs w128 a fa) in
     let eb = to_z-of_z w128 b (fits_signed_from_abs w128 b fb) in
-    let is : r ≡ within (a *ℤ b) = e ∙ ap (λ (z : ℤ). within (z *ℤ to_z w128 (of_z w128 b))) ea ∙ ap (λ (z : ℤ). within (a *ℤ z)) eb in
+    let is : r ≡ within (a *ℤ b) =
+    e ∙ ap (λ (z : ℤ). within (z *ℤ to_z w128 (of_z w128 b))) ea ∙ ap (λ (z : ℤ). within (a *ℤ z)) eb in
     let P : Result ℤ ExprFault → Type 0 = λ x. IfOk x (λ n. pos 0 <ℤ n) in
     subst P (sym is) (within-positive (a *ℤ b) (mul-positive a b ha hb))
 
@@ -133,7 +140,7 @@ abs-nonzero (pos (suc n)) h = omega arith
 abs-nonzero (negsuc n) h = omega arith
 
 -- the product of a positive number and one that isn't 0 isn't 0
-mul-nonzero : (a b : ℤ) → pos 0 <ℤ a → b ≢ pos 0 → a *ℤ b ≢ pos 0
+pub mul-nonzero : (a b : ℤ) → pos 0 <ℤ a → b ≢ pos 0 → a *ℤ b ≢ pos 0
 mul-nonzero a b h k e =
     let none : unsigned_abs a * unsigned_abs b ≡ 0 = sym (unsigned_abs-mul a b) ∙ ap unsigned_abs e in
     let some = mul-le 1 1 (unsigned_abs a) (unsigned_abs b) (abs-positive a h) (abs-nonzero b k) in
@@ -142,15 +149,18 @@ mul-nonzero a b h k e =
 -- a number that isn't 0 stays so where it is in range
 within-nonzero : (z : ℤ) → z ≢ pos 0 → IfOk (within z) (λ x. x ≢ pos 0)
 within-nonzero z h =
-    elim (nat_lt (unsigned_abs z) (2 ^ 127)) as (λ t. IfOk {E = ExprFault} (cond t (Ok z) (Err OutOfRange)) (λ x. x ≢ pos 0)) [ true ↦ h | false ↦ tt ]
+    elim (nat_lt (unsigned_abs z) (2 ^ 127)) as
+    (λ t. IfOk {E = ExprFault} (cond t (Ok z) (Err OutOfRange)) (λ x. x ≢ pos 0)) [ true ↦ h | false ↦ tt ]
 
 -- the product of a denominator and a numerator that isn't 0 isn't 0 where it is in range
-pub divisor-nonzero : (a b : ℤ) (r : Result ℤ ExprFault) → pos 0 <ℤ a → b ≢ pos 0 → unsigned_abs a < 2 ^ 127 → unsigned_abs b < 2 ^ 127 →
+pub divisor-nonzero : (a b : ℤ) (r : Result ℤ ExprFault) → pos 0 <ℤ a → b ≢ pos 0 → unsigned_abs a < 2 ^ 127
+    → unsigned_abs b < 2 ^ 127 →
     r ≡ within (to_z w128 (of_z w128 a) *ℤ to_z w128 (of_z w128 b)) → IfOk r (λ x. x ≢ pos 0)
 divisor-nonzero a b r ha hb fa fb e =
     let ea = to_z-of_z w128 a (fits_signed_from_abs w128 a fa) in
     let eb = to_z-of_z w128 b (fits_signed_from_abs w128 b fb) in
-    let is : r ≡ within (a *ℤ b) = e ∙ ap (λ (z : ℤ). within (z *ℤ to_z w128 (of_z w128 b))) ea ∙ ap (λ (z : ℤ). within (a *ℤ z)) eb in
+    let is : r ≡ within (a *ℤ b) =
+    e ∙ ap (λ (z : ℤ). within (z *ℤ to_z w128 (of_z w128 b))) ea ∙ ap (λ (z : ℤ). within (a *ℤ z)) eb in
     let P : Result ℤ ExprFault → Type 0 = λ x. IfOk x (λ n. n ≢ pos 0) in
     subst P (sym is) (within-nonzero (a *ℤ b) (mul-nonzero a b ha hb))
 

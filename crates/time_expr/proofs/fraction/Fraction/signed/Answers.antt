@@ -3,7 +3,8 @@ use Rattle.time_expr.proofs.fraction.Fraction.signed.Goals as goal
 
 pub returns-then-below-lt0 : goal.returns-then-below-lt0
 returns-then-below-lt0 c =
-    signed-negative _ _ c.negated.result c.negated-then-below-lt0.result _ c.ranges.above c.ranges.below (record { sfits = c.negated.type_inv }) (record { sfits = c.negated-then-below-lt0.type_inv })
+    signed-negative _ _ c.negated.result c.negated-then-below-lt0.result _ c.ranges.above c.ranges.below
+    (record { sfits = c.negated.type_inv }) (record { sfits = c.negated-then-below-lt0.type_inv })
     c.if-below-lt0.true c.negated.ensures c.negated-then-below-lt0.ensures c.new.ensures
 
 pub returns-else-below-lt0 : goal.returns-else-below-lt0
