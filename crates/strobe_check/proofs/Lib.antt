@@ -8,3 +8,4 @@ pub mod CycleLemmas
 pub mod SensedLemmas
 pub mod HistoryLemmas
 pub mod UnderwayLemmas
+pub mod AgreeLemmas

@@ -5,4 +5,5 @@ pub mod Fails
 pub mod Sensed
 pub mod Count
 pub mod History
+pub mod Agree
 pub mod Step

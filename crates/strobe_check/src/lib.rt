@@ -6,10 +6,12 @@
 
 mod checker;
 mod judge;
+mod laws;
 mod look;
 mod tally;
 
 pub use checker::Checker;
+pub use laws::sensed_levels_decide;
 
 #[cfg(test)]
 mod tests;
