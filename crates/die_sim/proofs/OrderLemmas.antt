@@ -1,7 +1,8 @@
 -- A gate that reads a gate stands behind it in the order.
 use Rattle.std.proofs.Common.{◌≡◌, ℕ, zero, suc, ◌+◌, ◌<◌, ◌≤◌, Bool, true, false, not, ◌||◌, cond, List, [], ◌∷◌, length, get_or, take, drop, refl, sym, ap, ◌∙◌, subst, arith, inl, inr, eqb}
 use Rattle.std.specs.Prelude.{count_by, All}
-use Rattle.std.specs.List.{list_any}
+use Rattle.std.specs.List.{list_any, IsDistinct, AllByRecursion}
+use Rattle.std.proofs.lemmas.Map.Steps.{length-le_from_distinct_below}
 use Rattle.std.proofs.lemmas.List.{get_or-take, length-take-le, get_or_past}
 use Rattle.std.proofs.lemmas.List.Elements.{All-get_or, All-from_get_or}
 use Rattle.std.proofs.lemmas.List.Sums.{sum_by-cons, get_or-le-sum_by, sum_by-take-drop}
@@ -11,6 +12,7 @@ use Rattle.bench_net.specs.declared.gate.Driver.TheVariants.{Input, Dff, Gate}
 use Rattle.bench_net.specs.Wiring.{driver_at, is_gate, pins_of, gate_at, pins_at, is_settled, IsOrder}
 use Rattle.bench_net.specs.Circuit.{Circuit, IsWhole}
 use Rattle.die_sim.specs.Spread.{Reads}
+use Rattle.die_sim.specs.Walk.{StandsAt}
 
 -- how often a number stands in a list
 abbrev pub times : ℕ → List ℕ → ℕ
@@ -25,12 +27,7 @@ times-there xs k l =
     let one : cond {A = ℕ} (eqb (get_or xs k 0) (get_or xs k 0)) 1 0 ≡ 1 = ap (λ b. cond {A = ℕ} b 1 0) (eq-eqb (get_or xs k 0) (get_or xs k 0) refl) in
     omega (arith, at, one)
 
--- where a number stands that is there
-pub record StandsAt (n : ℕ) (xs : List ℕ) : Type 0 where
-  pub place : ℕ
-  pub within : place < length xs
-  pub is : get_or xs place 0 ≡ n
-
+-- where a number stands that is in a list
 pub times-StandsAt : (n : ℕ) (xs : List ℕ) → 0 < times n xs → StandsAt n xs
 times-StandsAt n [] l = absurd (omega (arith, l))
 times-StandsAt n (x ∷ xs) l =
@@ -125,6 +122,13 @@ at_most_one : (b : Bool) (n : ℕ) → n ≡ cond {A = ℕ} b 1 0 → n ≤ 1
 at_most_one true n e = omega (arith, e)
 at_most_one false n e = omega (arith, e)
 
+-- no gate stands at two places
+pub order_apart : (drivers : List Driver) (order : List ℕ) → IsOrder drivers order → (j k : ℕ) → j < k → k < length order → get_or order j 0 ≡ get_or order k 0 → ⊥
+order_apart drivers order o j k jk kl e =
+    let two : 1 < times (get_or order k 0) order = twice order j k (get_or order k 0) jk kl e refl in
+    let one : times (get_or order k 0) order ≤ 1 = at_most_one (gate_at drivers (get_or order k 0)) (times (get_or order k 0) order) (o.gates (get_or order k 0)) in
+    omega (arith, two, one)
+
 -- a gate that reads the gate at a place stands behind that place
 pub later : (drivers : List Driver) (order : List ℕ) → IsOrder drivers order → (j k : ℕ) → j < length order → k < length order → Reads drivers (get_or order j 0) (get_or order k 0) → k < j
 later drivers order o j k jl kl reads =
@@ -137,9 +141,7 @@ later drivers order o j k jl kl reads =
           let s = any-StandsAt (get_or order k 0) (take j order) any in
           let within : s.place < j = let w = s.within in omega (arith, w, length-take-le j order (omega arith)) in
           let is : get_or order s.place 0 ≡ get_or order k 0 = sym (get_or-take j order s.place 0 within) ∙ s.is in
-          let two : 1 < times (get_or order k 0) order = twice order s.place k (get_or order k 0) (omega (arith, within, l)) kl is refl in
-          let one : times (get_or order k 0) order ≤ 1 = at_most_one (gate_at drivers (get_or order k 0)) (times (get_or order k 0) order) (o.gates (get_or order k 0)) in
-          absurd (omega (arith, two, one))
+          absurd (order_apart drivers order o s.place k (omega (arith, within, l)) kl is)
     ]
 
 -- no gate reads itself
@@ -155,3 +157,28 @@ readers_within c w n l = All-times (λ r. r < length c.net.names) (get_or c.read
     let r : Reads c.net.drivers g n = omega (arith, m, reads_is_times c w n g l) in
     let b = gate_within c.net.drivers g (reader_is_gate c.net.drivers g n r) in
     omega (arith, b, w.drivers))
+
+apart_from : (x : ℕ) (xs : List ℕ) → ((k : ℕ) → k < length xs → x ≡ get_or xs k 0 → ⊥) → AllByRecursion (λ y. eqb x y ≡ false) xs
+apart_from x [] h = tt
+apart_from x (y ∷ xs) h = (ne_eqb x y (h 0 (omega arith)), apart_from x xs (λ k l. h (suc k) (omega arith)))
+
+distinct_from : (xs : List ℕ) → ((j k : ℕ) → j < k → k < length xs → get_or xs j 0 ≡ get_or xs k 0 → ⊥) → IsDistinct eqb xs
+unfolding IsDistinct
+distinct_from [] h = tt
+distinct_from (x ∷ xs) h = (apart_from x xs (λ k l. h 0 (suc k) (omega arith) (omega arith)), distinct_from xs (λ j k a b. h (suc j) (suc k) (omega arith) (omega arith)))
+
+stands_from_any : (n : ℕ) (xs : List ℕ) → list_any (eqb n) xs ≡ true → StandsAt n xs
+stands_from_any n [] e = cc
+stands_from_any n (x ∷ xs) e =
+    elim (or_cases (eqb n x) (list_any (eqb n) xs) e) [
+      | inl a ↦ record { place = 0; within = omega arith; is = sym (eqb-true n x a) }
+      | inr b ↦
+          let r = stands_from_any n xs b in
+          record { place = suc r.place; within = let w = r.within in omega arith; is = r.is }
+    ]
+
+-- the order has no more entries than there are nets
+pub length-order-le : (drivers : List Driver) (order : List ℕ) → IsOrder drivers order → length order ≤ length drivers
+length-order-le drivers order o = length-le_from_distinct_below order (length drivers) (distinct_from order (λ j k a b e. order_apart drivers order o j k a b e)) (λ q any.
+    let s = stands_from_any q order any in
+    gate_within drivers q (subst (λ (n : ℕ). gate_at drivers n ≡ true) s.is (gate_in_order drivers order o s.place s.within)))

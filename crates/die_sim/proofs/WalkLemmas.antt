@@ -1,8 +1,8 @@
 -- The event-driven walk: a write keeps each net that doesn't read the written one, and marks those that do.
 use Rattle.std.proofs.Common.{◌≡◌, ◌≢◌, ℕ, ◌+◌, ◌<◌, ◌≤◌, ◌⊎◌, Bool, true, false, cond, List, [], length, get_or, take, set, refl, sym, ap, ◌∙◌, subst, arith, inl, inr, eqb, Option, None, length-set}
 use Rattle.std.specs.Prelude.{count_by, All, slice_index_or, unwrap_or}
-use Rattle.std.proofs.lemmas.List.{get_or-set_same, get_or-set_other}
-use Rattle.std.proofs.lemmas.List.Sums.{sum_by_more}
+use Rattle.std.proofs.lemmas.List.{get_or-set_same, get_or-set_other, take-take, get_or-take, length-take-le, get_or_default}
+use Rattle.std.proofs.lemmas.List.Sums.{sum_by_more, sum_by-take-drop}
 use Rattle.std.proofs.lemmas.Bool.{cases_Bool, cases_lt, cases_eq, eq-eqb, ne_eqb, both_ways}
 use Rattle.tester_types.specs.declared.level.Level.{Level}
 use Rattle.tester_types.specs.declared.level.Level.TheVariants.{Zero, One, X, Z}
@@ -11,9 +11,13 @@ use Rattle.bench_net.specs.declared.gate.Driver.TheVariants.{Input, Dff, Gate}
 use Rattle.bench_net.specs.Wiring.{driver_at, is_gate, gate_at, pins_at, IsWired, IsOrder}
 use Rattle.bench_net.specs.Circuit.{Circuit, IsWhole}
 use Rattle.die_sim.specs.Gates.{level_at}
-use Rattle.die_sim.specs.Die.{driven, wanted, Settled}
+use Rattle.tester_types.specs.declared.level.Drive.{Drive}
+use Rattle.die_sim.specs.declared.image.Bind.{Bind}
+use Rattle.die_sim.specs.declared.image.Bind.TheVariants as bind
+use Rattle.die_sim.specs.Die.{driven, wanted, Settled, bind_at}
 use Rattle.die_sim.specs.Spread.{Reads}
-use Rattle.die_sim.specs.Walk.{same_level, mark_at, MarksEach, MarksReaders, Puts, Waits, source_level, HasCause, before, by, RefreshedBelow, Carries, Visits, Turn, skips, visits, WalkedTo}
+use Rattle.die_sim.specs.Marks.{MarkState, mark_at, MarksReaders}
+use Rattle.die_sim.specs.Walk.{same_level, Puts, Waits, own_level, HasCause, before, by, Refreshes, HaveLevels, HasLevel, HaveDriven, Carries, Visits, WalkedTo}
 use Rattle.die_sim.proofs.GateLemmas.{wanted-same}
 use Rattle.die_sim.proofs.OrderLemmas.{times, All-times, reader_is_gate, pins-none, gate_within, place_of, gate_in_order, later, not_itself, reads_is_times}
 
@@ -45,74 +49,23 @@ same_level-self Z = refl
 pub same_level-from : (a b : Level) → a ≡ b → same_level a b ≡ true
 same_level-from a b e = subst (λ (c : Level). same_level a c ≡ true) e (same_level-self a)
 
--- marking one more net
-pub MarksEach-none : (nets : List ℕ) (marks : List Bool) → nets ≡ [] → MarksEach nets marks marks
-MarksEach-none nets marks e = record {
-  count = refl;
-  marked = λ g l. absurd (let z : times g nets ≡ 0 = ap (times g) e in omega (arith, l, z));
-  others = λ g z. refl;
-}
-
-pub MarksEach-more : (nets : List ℕ) (old mid : List Bool) (i : ℕ) → i < length nets → get_or nets i 0 < length mid → MarksEach (take i nets) old mid → MarksEach (take (i + 1) nets) old (set mid (get_or nets i 0) true)
-MarksEach-more nets old mid i l in' h = record {
-  count = length-set mid (get_or nets i 0) true ∙ h.count;
-  marked = λ g m. marked g m;
-  others = λ g z. others g z;
-}
-  where
-    r : ℕ
-    r = get_or nets i 0
-
-    more : (g : ℕ) → times g (take (i + 1) nets) ≡ times g (take i nets) + cond {A = ℕ} (eqb (get_or nets i 0) g) 1 0
-    more g = sum_by_more (λ x. cond {A = ℕ} (eqb x g) 1 0) nets i 0 l
-
-    marked : (g : ℕ) → 0 < times g (take (i + 1) nets) → mark_at (set mid (get_or nets i 0) true) g ≡ true
-    marked g m = elim (cases_eq (get_or nets i 0) g) [
-      | inl e ↦ subst (λ (n : ℕ). mark_at (set mid (get_or nets i 0) true) n ≡ true) e (get_or-set_same mid (get_or nets i 0) true false in')
-      | inr ne ↦
-          let z : cond {A = ℕ} (eqb (get_or nets i 0) g) 1 0 ≡ 0 = ap (λ b. cond {A = ℕ} b 1 0) (ne_eqb (get_or nets i 0) g ne) in
-          let other : g ≢ get_or nets i 0 = λ q. ne (sym q) in
-          get_or-set_other mid (get_or nets i 0) g true false other ∙ h.marked g (omega (arith, m, more g, z))
-    ]
-
-    others : (g : ℕ) → times g (take (i + 1) nets) ≡ 0 → mark_at (set mid (get_or nets i 0) true) g ≡ mark_at old g
-    others g z = elim (cases_eq (get_or nets i 0) g) [
-      | inl e ↦ absurd (let one : cond {A = ℕ} (eqb (get_or nets i 0) g) 1 0 ≡ 1 = ap (λ b. cond {A = ℕ} b 1 0) (eq-eqb (get_or nets i 0) g e) in omega (arith, z, more g, one))
-      | inr ne ↦
-          let other : g ≢ get_or nets i 0 = λ q. ne (sym q) in
-          get_or-set_other mid (get_or nets i 0) g true false other ∙ h.others g (omega (arith, z, more g))
-    ]
-
--- the readers of a net are marked
-pub MarksReaders-each : (c : Circuit) (n : ℕ) (old new : List Bool) → IsWhole c → n < length c.net.names → MarksEach (get_or c.readers n []) old new → MarksReaders c.net.drivers n old new
-MarksReaders-each c n old new w l h = record {
-  count = h.count;
-  marked = λ g m. h.marked g (omega (arith, m, reads_is_times c w n g l));
-  others = λ g not. h.others g (elim (cases_lt 0 (times n (pins_at c.net.drivers g))) [
-    | inl m ↦ absurd (not m)
-    | inr m ↦ omega (arith, m, reads_is_times c w n g l)
-  ]);
-}
-
 -- a level that was there already
-pub Puts-same : (drivers : List Driver) (n : ℕ) (x : Level) (levels : List Level) (marks : List Bool) → same_level (level_at levels n) x ≡ true → Puts drivers n x levels levels marks marks
+pub Puts-same : (drivers : List Driver) (n : ℕ) (x : Level) (levels : List Level) (marks : MarkState) → same_level (level_at levels n) x ≡ true → Puts drivers n x levels levels marks marks
 Puts-same drivers n x levels marks e = record {
   count = refl;
   here = same_level-true (level_at levels n) x e;
   others = λ m ne. refl;
-  marks_count = refl;
   keeps = λ g m. m;
   read = λ f. absurd (both_ways (same_level (level_at levels n) x) f e);
   only = λ g a b. absurd (both_ways (mark_at marks g) b a);
 }
 
 -- another level than before
-pub Puts-other : (drivers : List Driver) (n : ℕ) (x : Level) (levels : List Level) (marks marks' : List Bool) → n < length levels → same_level (level_at levels n) x ≡ false → MarksReaders drivers n marks marks' → Puts drivers n x levels (set levels n x) marks marks'
+pub Puts-other : (drivers : List Driver) (n : ℕ) (x : Level) (levels : List Level) (marks marks' : MarkState) → n < length levels → same_level (level_at levels n) x ≡ false → MarksReaders drivers n marks marks' → Puts drivers n x levels (set levels n x) marks marks'
 Puts-other drivers n x levels marks marks' l e h = record {
   count = length-set levels n x;
   here = get_or-set_same levels n x Zero l;
   others = λ m ne. get_or-set_other levels n m x Zero ne;
-  marks_count = h.count;
   keeps = λ g m. elim (cases_lt 0 (times n (pins_at drivers g))) [
     | inl r ↦ h.marked g r
     | inr r ↦ h.others g (λ q. omega (arith, q, r)) ∙ m
@@ -127,7 +80,7 @@ Puts-other drivers n x levels marks marks' l e h = record {
   );
 }
 
-module _ (drivers : List Driver) (n : ℕ) (x : Level) (old new : List Level) (marks marks' : List Bool) (p : Puts drivers n x old new marks marks') where
+module _ (drivers : List Driver) (n : ℕ) (x : Level) (old new : List Level) (marks marks' : MarkState) (p : Puts drivers n x old new marks marks') where
   -- a mark that isn't there now wasn't there before
   unmarked : (g : ℕ) → mark_at marks' g ≡ false → mark_at marks g ≡ false
   unmarked g f = elim (cases_Bool (mark_at marks g)) [
@@ -155,83 +108,94 @@ driven_source (Dff p) own v e = refl
 driven_source (Gate kind pins) own v e = cc
 
 -- what an input or a flip-flop must have
-pub wanted_source : (drivers : List Driver) (fixed : List (Option Level)) (held v : List Level) (n : ℕ) → gate_at drivers n ≡ false → wanted drivers fixed held v n ≡ unwrap_or (slice_index_or fixed n None) (level_at held n)
+pub wanted_source : (drivers : List Driver) (fixed : List (Option Level)) (held v : List Level) (n : ℕ) → gate_at drivers n ≡ false → wanted drivers fixed held v n ≡ own_level fixed held n
 wanted_source drivers fixed held v n e = ap (unwrap_or (slice_index_or fixed n None)) (driven_source (driver_at drivers n) (level_at held n) v e)
 
--- nothing is refreshed yet
-pub RefreshedBelow-none : (drivers : List Driver) (fixed : List (Option Level)) (held levels : List Level) (marks : List Bool) → Waits drivers fixed held levels marks → RefreshedBelow drivers fixed held levels levels marks marks 0
-RefreshedBelow-none drivers fixed held levels marks h = record {
-  waits = h;
-  below = λ n l. absurd (omega arith);
-  above = λ n l. refl;
-  cause = λ g m. before m;
-}
-
--- one more net is refreshed
-module _ (drivers : List Driver) (wired : (n : ℕ) → n < length drivers → IsWired (length drivers) (driver_at drivers n)) (fixed : List (Option Level)) (held start old new : List Level) (marks mid marks' : List Bool) (i : ℕ) (x : Level)
-    (x_is : x ≡ source_level drivers fixed held old i) (h : RefreshedBelow drivers fixed held start old marks mid i) (p : Puts drivers i x old new mid marks') where
-  -- a gate is written as it is
-  gate_stays : gate_at drivers i ≡ true → x ≡ level_at old i
-  gate_stays e = x_is ∙ ap (λ b. cond b (level_at old i) (unwrap_or (slice_index_or fixed i None) (level_at held i))) e
-
-  source_gets : gate_at drivers i ≡ false → x ≡ unwrap_or (slice_index_or fixed i None) (level_at held i)
-  source_gets e = x_is ∙ ap (λ b. cond b (level_at old i) (unwrap_or (slice_index_or fixed i None) (level_at held i))) e
-
-  changed_is_source : same_level (level_at old i) x ≡ false → gate_at drivers i ≡ false
-  changed_is_source d = elim (cases_Bool (gate_at drivers i)) [
-    | inl e ↦ absurd (both_ways (same_level (level_at old i) x) d (same_level-from (level_at old i) x (sym (gate_stays e))))
-    | inr e ↦ e
-  ]
-
-  gate_kept : (g : ℕ) → gate_at drivers g ≡ true → level_at new g ≡ level_at old g
-  gate_kept g e = elim (cases_eq g i) [
-    | inl q ↦ ap (level_at new) q ∙ p.here ∙ gate_stays (subst (λ (m : ℕ). gate_at drivers m ≡ true) q e) ∙ ap (level_at old) (sym q)
-    | inr ne ↦ p.others g ne
-  ]
-
+-- the gates that aren't marked still fit where one input or flip-flop got another level
+module _ (drivers : List Driver) (wired : (n : ℕ) → n < length drivers → IsWired (length drivers) (driver_at drivers n)) (fixed : List (Option Level)) (held old new : List Level) (marks marks' : MarkState) (i : ℕ) (x : Level)
+    (source : gate_at drivers i ≡ false) (h : Waits drivers fixed held old marks) (p : Puts drivers i x old new marks marks') where
   waits_after : Waits drivers fixed held new marks'
   waits_after = record {
-    levels_count = p.count ∙ h.waits.levels_count;
-    marks_count = p.marks_count ∙ h.waits.marks_count;
-    gates_only = λ g m. elim (cases_Bool (mark_at mid g)) [
-      | inl t ↦ h.waits.gates_only g t
+    levels_count = p.count ∙ h.levels_count;
+    gates_only = λ g m. elim (cases_Bool (mark_at marks g)) [
+      | inl t ↦ h.gates_only g t
       | inr f ↦ reader_is_gate drivers g i (p.only g m f).1
     ];
     fits = λ g l e f.
-        gate_kept g e ∙ h.waits.fits g l e (unmarked drivers i x old new mid marks' p g f)
-        ∙ sym (wanted-same drivers fixed held new old g (wired g l) (pins_kept drivers i x old new mid marks' p g f));
+        p.others g (λ q. both_ways (gate_at drivers i) source (subst (λ (m : ℕ). gate_at drivers m ≡ true) q e))
+        ∙ h.fits g l e (unmarked drivers i x old new marks marks' p g f)
+        ∙ sym (wanted-same drivers fixed held new old g (wired g l) (pins_kept drivers i x old new marks marks' p g f));
   }
 
-  cause_after : (g : ℕ) → mark_at marks' g ≡ true → HasCause drivers start new marks g
-  cause_after g m = elim (cases_Bool (mark_at mid g)) [
-    | inl t ↦ still (h.cause g t)
-    | inr f ↦
-        let o = p.only g m f in
-        by i o.1 (changed_is_source o.0) (λ q. both_ways (same_level (level_at old i) x) o.0 (same_level-from (level_at old i) x (h.above i (omega arith) ∙ q ∙ p.here)))
-  ]
-    where
-      still : HasCause drivers start old marks g → HasCause drivers start new marks g
-      still (before b) = before b
-      still (by n r e ne) = elim (cases_eq n i) [
-        | inl q ↦ absurd (ne (sym (h.above n (omega (arith, q)))))
-        | inr other ↦ by n r e (λ q. ne (q ∙ p.others n other))
-      ]
-
-  pub RefreshedBelow-more : RefreshedBelow drivers fixed held start new marks marks' (i + 1)
-  RefreshedBelow-more = record {
+  -- an input or a flip-flop got its level
+  pub Refreshes-one : x ≡ own_level fixed held i → Refreshes drivers fixed held old new marks marks'
+  Refreshes-one is = record {
     waits = waits_after;
-    below = λ n l e. elim (cases_eq n i) [
-      | inl q ↦
-          ap (level_at new) q ∙ p.here ∙ source_gets (subst (λ (m : ℕ). gate_at drivers m ≡ false) q e)
-          ∙ ap (λ (m : ℕ). unwrap_or (slice_index_or fixed m None) (level_at held m)) (sym q)
-      | inr ne ↦ p.others n ne ∙ h.below n (omega (arith, l, ne)) e
+    sources = λ n. elim (cases_eq n i) [
+      | inl q ↦ inr (ap (level_at new) q ∙ p.here ∙ is ∙ ap (own_level fixed held) (sym q))
+      | inr ne ↦ inl (p.others n ne)
     ];
-    above = λ n l. let ne : n ≢ i = omega arith in p.others n ne ∙ h.above n (omega arith);
-    cause = cause_after;
+    cause = λ g m. elim (cases_Bool (mark_at marks g)) [
+      | inl t ↦ before t
+      | inr f ↦
+          let o = p.only g m f in
+          by i o.1 source (λ q. both_ways (same_level (level_at old i) x) o.0 (same_level-from (level_at old i) x (q ∙ p.here)))
+    ];
+  }
+
+-- no input and no flip-flop got another level
+pub Refreshes-none : (drivers : List Driver) (fixed : List (Option Level)) (held levels : List Level) (marks : MarkState) → Waits drivers fixed held levels marks → Refreshes drivers fixed held levels levels marks marks
+Refreshes-none drivers fixed held levels marks h = record {
+  waits = h;
+  sources = λ n. inl refl;
+  cause = λ g m. before m;
+}
+
+-- what has its level keeps it
+pub Refreshes-keeps : (drivers : List Driver) (fixed : List (Option Level)) (held old new : List Level) (marks marks' : MarkState) → Refreshes drivers fixed held old new marks marks' → (n : ℕ) → level_at old n ≡ own_level fixed held n → level_at new n ≡ own_level fixed held n
+Refreshes-keeps drivers fixed held old new marks marks' h n e = elim (h.sources n) [
+  | inl same ↦ same ∙ e
+  | inr own ↦ own
+]
+
+-- one refresh after another
+module _ (drivers : List Driver) (fixed : List (Option Level)) (held start old new : List Level) (marks mid marks' : MarkState) (a : Refreshes drivers fixed held start old marks mid) (b : Refreshes drivers fixed held old new mid marks') where
+  -- a level that differed from the first still does
+  still : (n : ℕ) → level_at start n ≢ level_at old n → level_at start n ≢ level_at new n
+  still n ne e = elim (a.sources n) [
+    | inl same ↦ ne (sym same)
+    | inr own ↦ ne (e ∙ Refreshes-keeps drivers fixed held old new mid marks' b n own ∙ sym own)
+  ]
+
+  later_change : (n : ℕ) → level_at old n ≢ level_at new n → level_at start n ≢ level_at new n
+  later_change n ne e = elim (a.sources n) [
+    | inl same ↦ ne (same ∙ e)
+    | inr own ↦ ne (own ∙ sym (Refreshes-keeps drivers fixed held old new mid marks' b n own))
+  ]
+
+  first_cause : (g : ℕ) → HasCause drivers start old marks g → HasCause drivers start new marks g
+  first_cause g (before m) = before m
+  first_cause g (by n r e ne) = by n r e (still n ne)
+
+  any_cause : (g : ℕ) → HasCause drivers old new mid g → HasCause drivers start new marks g
+  any_cause g (before m) = first_cause g (a.cause g m)
+  any_cause g (by n r e ne) = by n r e (later_change n ne)
+
+  pub Refreshes-then : Refreshes drivers fixed held start new marks marks'
+  Refreshes-then = record {
+    waits = b.waits;
+    sources = λ n. elim (b.sources n) [
+      | inl same ↦ elim (a.sources n) [
+        | inl was ↦ inl (same ∙ was)
+        | inr own ↦ inr (same ∙ own)
+      ]
+      | inr own ↦ inr own
+    ];
+    cause = λ g m. any_cause g (b.cause g m);
   }
 
 -- nothing is walked yet
-pub WalkedTo-none : (drivers : List Driver) (fixed : List (Option Level)) (held : List Level) (order : List ℕ) (levels : List Level) (marks : List Bool) → Waits drivers fixed held levels marks → WalkedTo drivers fixed held order levels levels marks marks 0 0
+pub WalkedTo-none : (drivers : List Driver) (fixed : List (Option Level)) (held : List Level) (order : List ℕ) (levels : List Level) (marks : MarkState) → Waits drivers fixed held levels marks → WalkedTo drivers fixed held order levels levels marks marks 0 0
 WalkedTo-none drivers fixed held order levels marks h = record {
   waits = h;
   kept = λ n e. refl;
@@ -242,22 +206,8 @@ WalkedTo-none drivers fixed held order levels marks h = record {
 }
 
 module _ (drivers : List Driver) (wired : (n : ℕ) → n < length drivers → IsWired (length drivers) (driver_at drivers n)) (order : List ℕ) (o : IsOrder drivers order)
-    (fixed : List (Option Level)) (held start old new : List Level) (marks mid marks' : List Bool) (k count : ℕ) (within : k < length order)
+    (fixed : List (Option Level)) (held start old new : List Level) (marks mid marks' : MarkState) (k count : ℕ) (within : k < length order)
     (h : WalkedTo drivers fixed held order start old marks mid k count) where
-  -- the gate isn't marked
-  skipped : mark_at mid (get_or order k 0) ≡ false → WalkedTo drivers fixed held order start old marks mid (k + 1) count
-  skipped f = record {
-    waits = h.waits;
-    kept = h.kept;
-    done = λ j l. elim (cases_eq j k) [
-      | inl q ↦ subst (λ (i : ℕ). mark_at mid (get_or order i 0) ≡ false) (sym q) f
-      | inr ne ↦ h.done j (omega (arith, l, ne))
-    ];
-    counted = omega (arith, h.counted);
-    bound = λ set c. let b = h.bound set c in let m = sum_by_more (λ x. cond {A = ℕ} (set x) 1 0) order k 0 within in omega (arith, b, m);
-    carried = h.carried;
-  }
-
   module _ (v : Visits drivers fixed held (get_or order k 0) old new mid marks') where
     gate_here : gate_at drivers (get_or order k 0) ≡ true
     gate_here = gate_in_order drivers order o k within
@@ -298,15 +248,15 @@ module _ (drivers : List Driver) (wired : (n : ℕ) → n < length drivers → I
       | inr r ↦ reader_is_gate drivers g (get_or order k 0) r
     ]
 
-    done_after : (j : ℕ) → j < k + 1 → mark_at marks' (get_or order j 0) ≡ false
-    done_after j l = elim (cases_Bool (mark_at marks' (get_or order j 0))) [
+    done_after : (j : ℕ) → j < k + 1 → j < length order → mark_at marks' (get_or order j 0) ≡ false
+    done_after j l jl = elim (cases_Bool (mark_at marks' (get_or order j 0))) [
       | inr f ↦ f
       | inl t ↦ absurd (elim (other_mark (get_or order j 0) t) [
         | inl a ↦ elim (cases_eq j k) [
           | inl q ↦ a.1 (ap (λ i. get_or order i 0) q)
-          | inr ne ↦ both_ways (mark_at mid (get_or order j 0)) (h.done j (omega (arith, l, ne))) a.0
+          | inr ne ↦ both_ways (mark_at mid (get_or order j 0)) (h.done j (omega (arith, l, ne)) jl) a.0
         ]
-        | inr r ↦ let b = later drivers order o j k (omega arith) within r in omega (arith, b, l)
+        | inr r ↦ let b = later drivers order o j k jl within r in omega (arith, b, l)
       ])
     ]
 
@@ -323,11 +273,11 @@ module _ (drivers : List Driver) (wired : (n : ℕ) → n < length drivers → I
         let one : cond {A = ℕ} (set (get_or order k 0)) 1 0 ≡ 1 = ap (λ t. cond {A = ℕ} t 1 0) (h.carried set c (get_or order k 0) v.was) in
         omega (arith, b, m, one)
 
-    visited : WalkedTo drivers fixed held order start new marks marks' (k + 1) (count + 1)
+    -- a marked gate had its turn
+    pub visited : WalkedTo drivers fixed held order start new marks marks' (k + 1) (count + 1)
     visited = record {
       waits = record {
         levels_count = v.puts.count ∙ h.waits.levels_count;
-        marks_count = v.puts.marks_count ∙ v.count ∙ h.waits.marks_count;
         gates_only = gates_after;
         fits = fits_after;
       };
@@ -338,31 +288,76 @@ module _ (drivers : List Driver) (wired : (n : ℕ) → n < length drivers → I
       carried = carried_after;
     }
 
--- one more gate had its turn
-pub WalkedTo-more : (drivers : List Driver) → ((n : ℕ) → n < length drivers → IsWired (length drivers) (driver_at drivers n)) → (order : List ℕ) → IsOrder drivers order → (fixed : List (Option Level)) (held start old new : List Level) (marks mid marks' : List Bool) (k count one : ℕ) → k < length order → WalkedTo drivers fixed held order start old marks mid k count → Turn drivers fixed held (get_or order k 0) old new mid marks' one → WalkedTo drivers fixed held order start new marks marks' (k + 1) (count + one)
-WalkedTo-more drivers wired order o fixed held start old new marks mid marks' k count one within h (skips f l m z) =
-    let s = skipped drivers wired order o fixed held start old new marks mid marks' k count within h f in
-    let e : count ≡ count + one = omega (arith, z) in
-    let a : WalkedTo drivers fixed held order start old marks mid (k + 1) (count + one) = subst (λ (n : ℕ). WalkedTo drivers fixed held order start old marks mid (k + 1) n) e s in
-    let b : WalkedTo drivers fixed held order start new marks mid (k + 1) (count + one) = subst (λ (x : List Level). WalkedTo drivers fixed held order start x marks mid (k + 1) (count + one)) (sym l) a in
-    subst (λ (x : List Bool). WalkedTo drivers fixed held order start new marks x (k + 1) (count + one)) (sym m) b
-WalkedTo-more drivers wired order o fixed held start old new marks mid marks' k count one within h (visits v z) =
-    subst (λ (n : ℕ). WalkedTo drivers fixed held order start new marks marks' (k + 1) (count + n)) (sym z) (visited drivers wired order o fixed held start old new marks mid marks' k count within h v)
+-- more gates in front count no less
+count-take-le : (set : ℕ → Bool) (order : List ℕ) (j k : ℕ) → j ≤ k → count_by set (take j order) ≤ count_by set (take k order)
+count-take-le set order j k l =
+    let split = sum_by-take-drop (λ x. cond {A = ℕ} (set x) 1 0) (take k order) j in
+    let front : count_by set (take j (take k order)) ≡ count_by set (take j order) = ap (count_by set) (take-take j k order l) in
+    omega (arith, split, front)
+
+-- the gates up to the next marked one had their turn
+pub WalkedTo-on : (drivers : List Driver) (fixed : List (Option Level)) (held : List Level) (order : List ℕ) (start levels : List Level) (marks marks' : MarkState) (j k count : ℕ) → j ≤ k → ((i : ℕ) → j ≤ i → i < k → i < length order → mark_at marks' (get_or order i 0) ≡ false) → WalkedTo drivers fixed held order start levels marks marks' j count → WalkedTo drivers fixed held order start levels marks marks' k count
+WalkedTo-on drivers fixed held order start levels marks marks' j k count l clear h = record {
+  waits = h.waits;
+  kept = h.kept;
+  done = λ i il within. elim (cases_lt i j) [
+    | inl b ↦ h.done i b within
+    | inr b ↦ clear i b il within
+  ];
+  counted = omega (arith, h.counted, l);
+  bound = λ set c. let b = h.bound set c in omega (arith, b, count-take-le set order j k l);
+  carried = h.carried;
+}
 
 -- after the last gate no mark is left, and all nets fit
-pub WalkedTo-clear : (drivers : List Driver) (order : List ℕ) → IsOrder drivers order → (fixed : List (Option Level)) (held start levels : List Level) (marks marks' : List Bool) (k count : ℕ) → length order ≤ k → WalkedTo drivers fixed held order start levels marks marks' k count → (n : ℕ) → mark_at marks' n ≡ false
+pub WalkedTo-clear : (drivers : List Driver) (order : List ℕ) → IsOrder drivers order → (fixed : List (Option Level)) (held start levels : List Level) (marks marks' : MarkState) (k count : ℕ) → length order ≤ k → WalkedTo drivers fixed held order start levels marks marks' k count → (n : ℕ) → mark_at marks' n ≡ false
 WalkedTo-clear drivers order o fixed held start levels marks marks' k count l h n = elim (cases_Bool (mark_at marks' n)) [
   | inr f ↦ f
   | inl t ↦
       let s = place_of drivers order o n (h.waits.gates_only n t) in
-      subst (λ (m : ℕ). mark_at marks' m ≡ false) s.is (h.done s.place (let w = s.within in omega (arith, w, l)))
+      subst (λ (m : ℕ). mark_at marks' m ≡ false) s.is (h.done s.place (let w = s.within in omega (arith, w, l)) s.within)
 ]
 
-pub WalkedTo-settled : (drivers : List Driver) → ((n : ℕ) → n < length drivers → IsWired (length drivers) (driver_at drivers n)) → (order : List ℕ) → IsOrder drivers order → (fixed : List (Option Level)) (held start levels : List Level) (marks marks' : List Bool) (k count : ℕ) → length order ≤ k → WalkedTo drivers fixed held order start levels marks marks' k count → ((n : ℕ) → n < length drivers → gate_at drivers n ≡ false → level_at start n ≡ unwrap_or (slice_index_or fixed n None) (level_at held n)) → Settled drivers fixed held levels
+pub WalkedTo-settled : (drivers : List Driver) → ((n : ℕ) → n < length drivers → IsWired (length drivers) (driver_at drivers n)) → (order : List ℕ) → IsOrder drivers order → (fixed : List (Option Level)) (held start levels : List Level) (marks marks' : MarkState) (k count : ℕ) → length order ≤ k → WalkedTo drivers fixed held order start levels marks marks' k count → ((n : ℕ) → n < length drivers → gate_at drivers n ≡ false → level_at start n ≡ own_level fixed held n) → Settled drivers fixed held levels
 WalkedTo-settled drivers wired order o fixed held start levels marks marks' k count l h sources = record {
   one_each = h.waits.levels_count;
   fits = λ n in'. elim (cases_Bool (gate_at drivers n)) [
     | inl e ↦ h.waits.fits n in' e (WalkedTo-clear drivers order o fixed held start levels marks marks' k count l h n)
     | inr e ↦ h.kept n e ∙ sources n in' e ∙ sym (wanted_source drivers fixed held levels n e)
   ];
+}
+
+-- one more of these nets has its level
+pub HaveLevels-more : (drivers : List Driver) (fixed : List (Option Level)) (held old new : List Level) (marks marks' : MarkState) (nets : List ℕ) (i : ℕ) → i < length nets → Refreshes drivers fixed held old new marks marks' → level_at new (get_or nets i 0) ≡ own_level fixed held (get_or nets i 0) → HaveLevels fixed held old (take i nets) → HaveLevels fixed held new (take (i + 1) nets)
+HaveLevels-more drivers fixed held old new marks marks' nets i l r here h = record {
+  each = λ k kl.
+      let below : k < i + 1 = omega (arith, kl, length-take-le (i + 1) nets (omega arith)) in
+      subst (λ (n : ℕ). level_at new n ≡ own_level fixed held n) (sym (get_or-take (i + 1) nets k 0 below)) (elim (cases_eq k i) [
+        | inl q ↦ subst (λ (a : ℕ). level_at new (get_or nets a 0) ≡ own_level fixed held (get_or nets a 0)) (sym q) here
+        | inr ne ↦
+            let front : k < i = omega (arith, below, ne) in
+            let was = h.each k (omega (arith, front, length-take-le i nets (omega arith))) in
+            Refreshes-keeps drivers fixed held old new marks marks' r (get_or nets k 0) (subst (λ (n : ℕ). level_at old n ≡ own_level fixed held n) (get_or-take i nets k 0 front) was)
+      ]);
+}
+
+-- an input that has its level keeps it
+HasLevel-keeps : (drivers : List Driver) (fixed : List (Option Level)) (held old new : List Level) (marks marks' : MarkState) → Refreshes drivers fixed held old new marks marks' → (b : Bind) → HasLevel fixed held old b → HasLevel fixed held new b
+HasLevel-keeps drivers fixed held old new marks marks' r bind.Free h = tt
+HasLevel-keeps drivers fixed held old new marks marks' r (bind.Input n) h = Refreshes-keeps drivers fixed held old new marks marks' r n h
+HasLevel-keeps drivers fixed held old new marks marks' r (bind.Output n) h = tt
+
+-- one more of the driven inputs has its level
+pub HaveDriven-more : (drivers : List Driver) (fixed : List (Option Level)) (held old new : List Level) (marks marks' : MarkState) (binds : List Bind) (drives : List (ℕ × Drive)) (d : ℕ × Drive) (i : ℕ) → i < length drives → Refreshes drivers fixed held old new marks marks' → HasLevel fixed held new (bind_at binds (get_or drives i d).0) → HaveDriven fixed held old binds (take i drives) → HaveDriven fixed held new binds (take (i + 1) drives)
+HaveDriven-more drivers fixed held old new marks marks' binds drives d i l r here h = record {
+  each = λ k e kl.
+      let below : k < i + 1 = omega (arith, kl, length-take-le (i + 1) drives (omega arith)) in
+      subst (λ (a : ℕ × Drive). HasLevel fixed held new (bind_at binds a.0)) (sym (get_or-take (i + 1) drives k e below)) (elim (cases_eq k i) [
+        | inl q ↦
+            subst (λ (a : ℕ × Drive). HasLevel fixed held new (bind_at binds a.0)) (get_or_default drives i d e l ∙ ap (λ (j : ℕ). get_or drives j e) (sym q)) here
+        | inr ne ↦
+            let front : k < i = omega (arith, below, ne) in
+            let was = h.each k e (omega (arith, front, length-take-le i drives (omega arith))) in
+            HasLevel-keeps drivers fixed held old new marks marks' r (bind_at binds (get_or drives k e).0) (subst (λ (a : ℕ × Drive). HasLevel fixed held old (bind_at binds a.0)) (get_or-take i drives k e front) was)
+      ]);
 }

@@ -2,7 +2,9 @@ pub mod Gates
 pub mod Die
 pub mod Moment
 pub mod Spread
+pub mod Marks
 pub mod Walk
 pub mod Socket
 pub mod Tape
 pub mod Taping
+pub mod Own

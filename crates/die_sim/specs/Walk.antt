@@ -1,13 +1,20 @@
 -- What the event-driven walk keeps while it goes through the gates; no public clause cites it.
-use Rattle.std.specs.Prelude.{◌≡◌, ◌≢◌, ◌==◌, ℕ, ◌<◌, ◌≤◌, Bool, true, false, if◌then◌else◌, Option, None, List, length, take, count_by, slice_index, slice_index_or, unwrap_or}
+use Rattle.std.specs.Prelude.{◌≡◌, ◌≢◌, ℕ, ◌<◌, ◌≤◌, ◌⊎◌, Bool, true, false, Option, None, List, length, take, count_by, slice_index, slice_index_or, unwrap_or}
 use Rattle.tester_types.specs.declared.level.Level.{Level}
 use Rattle.tester_types.specs.declared.level.Level.TheVariants.{Zero, One, X, Z}
 use Rattle.bench_net.specs.declared.gate.Driver.{Driver}
-use Rattle.bench_net.specs.Wiring.{gate_at}
+use Rattle.bench_net.specs.declared.gate.Driver.TheVariants.{Input, Dff, Gate}
+use Rattle.bench_net.specs.Wiring.{driver_at, gate_at}
 use Rattle.bench_net.specs.Circuit.{Circuit, IsWhole}
 use Rattle.die_sim.specs.declared.image.StuckAt.{StuckAt}
+use Rattle.die_sim.specs.declared.image.Bind.{Bind}
+use Rattle.die_sim.specs.declared.image.Bind.TheVariants as bind
+use Rattle.die_sim.specs.declared.moment.Edge.{Edge}
+use Rattle.die_sim.specs.declared.moment.Edge.TheVariants.{Keeps}
+use Rattle.tester_types.specs.declared.level.Drive.{Drive}
 use Rattle.die_sim.specs.Gates.{level_at, is_zero, is_one}
-use Rattle.die_sim.specs.Die.{Device, State, wanted, Settled, IsDevice}
+use Rattle.die_sim.specs.Die.{Device, State, wanted, Settled, IsDevice, bind_at}
+use Rattle.die_sim.specs.Marks.{MarkState, mark_at, AreSeats}
 use Rattle.die_sim.specs.Spread.{Reads}
 
 -- whether the level is unknown
@@ -31,10 +38,6 @@ same_level One b = is_one b
 same_level X b = is_unknown b
 same_level Z b = is_off b
 
--- whether a net is marked
-abbrev pub mark_at : List Bool → ℕ → Bool
-mark_at marks n = slice_index_or marks n false
-
 -- the tables have an entry for each net
 pub record AreTables (c : Circuit) (fixed : List (Option Level)) (held levels : List Level) : Type 0 where
   pub whole : IsWhole c
@@ -42,81 +45,90 @@ pub record AreTables (c : Circuit) (fixed : List (Option Level)) (held levels : 
   pub held_count : length held ≡ length c.net.names
   pub levels_count : length levels ≡ length c.net.names
 
--- each of these nets is marked, and no other mark changed
-pub record MarksEach (nets : List ℕ) (old new : List Bool) : Type 0 where
-  pub count : length new ≡ length old
-  pub marked : (g : ℕ) → 0 < count_by (λ r. r == g) nets → mark_at new g ≡ true
-  pub others : (g : ℕ) → count_by (λ r. r == g) nets ≡ 0 → mark_at new g ≡ mark_at old g
-
--- each gate that reads the net is marked, and no other mark changed
-pub record MarksReaders (drivers : List Driver) (n : ℕ) (old new : List Bool) : Type 0 where
-  pub count : length new ≡ length old
-  pub marked : (g : ℕ) → Reads drivers g n → mark_at new g ≡ true
-  pub others : (g : ℕ) → (Reads drivers g n → ⊥) → mark_at new g ≡ mark_at old g
-
 -- a net has got a level; where it is another than before, the gates that read it are marked
-pub record Puts (drivers : List Driver) (n : ℕ) (x : Level) (old new : List Level) (marks marks' : List Bool) : Type 0 where
+pub record Puts (drivers : List Driver) (n : ℕ) (x : Level) (old new : List Level) (marks marks' : MarkState) : Type 0 where
   pub count : length new ≡ length old
   pub here : level_at new n ≡ x
   pub others : (m : ℕ) → m ≢ n → level_at new m ≡ level_at old m
-  pub marks_count : length marks' ≡ length marks
   pub keeps : (g : ℕ) → mark_at marks g ≡ true → mark_at marks' g ≡ true
   pub read : same_level (level_at old n) x ≡ false → (g : ℕ) → Reads drivers g n → mark_at marks' g ≡ true
   pub only : (g : ℕ) → mark_at marks' g ≡ true → mark_at marks g ≡ false → (same_level (level_at old n) x ≡ false) × Reads drivers g n
 
 -- only gates are marked, and each gate that isn't fits
-pub record Waits (drivers : List Driver) (fixed : List (Option Level)) (held levels : List Level) (marks : List Bool) : Type 0 where
+pub record Waits (drivers : List Driver) (fixed : List (Option Level)) (held levels : List Level) (marks : MarkState) : Type 0 where
   pub levels_count : length levels ≡ length drivers
-  pub marks_count : length marks ≡ length drivers
   pub gates_only : (g : ℕ) → mark_at marks g ≡ true → gate_at drivers g ≡ true
   pub fits : (g : ℕ) → g < length drivers → gate_at drivers g ≡ true → mark_at marks g ≡ false → level_at levels g ≡ wanted drivers fixed held levels g
 
--- the level that an input or a flip-flop must have; a gate stays as it is
-abbrev pub source_level : List Driver → List (Option Level) → List Level → List Level → ℕ → Level
-source_level drivers fixed held levels n = if gate_at drivers n then level_at levels n else unwrap_or (slice_index_or fixed n None) (level_at held n)
+-- the level that an input or a flip-flop must have
+abbrev pub own_level : List (Option Level) → List Level → ℕ → Level
+own_level fixed held n = unwrap_or (slice_index_or fixed n None) (level_at held n)
 
 -- a gate is marked since before, or since it reads an input or a flip-flop whose level changed
-pub data HasCause (drivers : List Driver) (start levels : List Level) (marks : List Bool) (g : ℕ) : Type 0 where
+pub data HasCause (drivers : List Driver) (start levels : List Level) (marks : MarkState) (g : ℕ) : Type 0 where
   before : mark_at marks g ≡ true → HasCause drivers start levels marks g
   by : (n : ℕ) → Reads drivers g n → gate_at drivers n ≡ false → level_at start n ≢ level_at levels n → HasCause drivers start levels marks g
 
--- the inputs and flip-flops below a number have their levels
-pub record RefreshedBelow (drivers : List Driver) (fixed : List (Option Level)) (held start levels : List Level) (marks marks' : List Bool) (i : ℕ) : Type 0 where
+-- inputs and flip-flops have got their levels, some of them; the gates that read one whose level changed are marked
+pub record Refreshes (drivers : List Driver) (fixed : List (Option Level)) (held start levels : List Level) (marks marks' : MarkState) : Type 0 where
   pub waits : Waits drivers fixed held levels marks'
-  pub below : (n : ℕ) → n < i → gate_at drivers n ≡ false → level_at levels n ≡ unwrap_or (slice_index_or fixed n None) (level_at held n)
-  pub above : (n : ℕ) → i ≤ n → level_at levels n ≡ level_at start n
+  pub sources : (n : ℕ) → (level_at levels n ≡ level_at start n) ⊎ (level_at levels n ≡ own_level fixed held n)
   pub cause : (g : ℕ) → mark_at marks' g ≡ true → HasCause drivers start levels marks g
 
--- all of them have
-pub record Refreshed (drivers : List Driver) (fixed : List (Option Level)) (held start levels : List Level) (marks marks' : List Bool) : Type 0 where
-  pub waits : Waits drivers fixed held levels marks'
-  pub sources : (n : ℕ) → n < length drivers → gate_at drivers n ≡ false → level_at levels n ≡ unwrap_or (slice_index_or fixed n None) (level_at held n)
-  pub cause : (g : ℕ) → mark_at marks' g ≡ true → HasCause drivers start levels marks g
+-- these inputs and flip-flops have their levels
+pub record HaveLevels (fixed : List (Option Level)) (held levels : List Level) (nets : List ℕ) : Type 0 where
+  pub each : (k : ℕ) → k < length nets → level_at levels (slice_index nets k) ≡ own_level fixed held (slice_index nets k)
+
+-- the bound input has its level
+abbrev pub HasLevel : List (Option Level) → List Level → List Level → Bind → Type 0
+HasLevel fixed held levels bind.Free = Unit {0}
+HasLevel fixed held levels (bind.Input n) = level_at levels n ≡ own_level fixed held n
+HasLevel fixed held levels (bind.Output n) = Unit {0}
+
+-- the inputs that these drives are of have their levels
+pub record HaveDriven (fixed : List (Option Level)) (held levels : List Level) (binds : List Bind) (drives : List (ℕ × Drive)) : Type 0 where
+  pub each : (k : ℕ) (d : ℕ × Drive) → k < length drives → HasLevel fixed held levels (bind_at binds (slice_index_or drives k d).0)
+
+-- whether a flip-flop drives
+abbrev pub is_flip_flop : Driver → Bool
+is_flip_flop Input = false
+is_flip_flop (Dff d) = true
+is_flip_flop (Gate kind pins) = false
+
+-- where a number stands that is in a list
+pub record StandsAt (n : ℕ) (xs : List ℕ) : Type 0 where
+  pub place : ℕ
+  pub within : place < length xs
+  pub is : slice_index xs place ≡ n
+
+-- these nets are flip-flops, and each flip-flop below a number is among them
+pub record AreFlipFlops (drivers : List Driver) (nets : List ℕ) (below : ℕ) : Type 0 where
+  pub each : (k : ℕ) → k < length nets → is_flip_flop (driver_at drivers (slice_index nets k)) ≡ true
+  pub all : (n : ℕ) → n < below → is_flip_flop (driver_at drivers n) ≡ true → StandsAt n nets
+
+-- these nets are flip-flops, and where the clock's change may be an edge all of them
+pub record MayCapture (drivers : List Driver) (e : Edge) (nets : List ℕ) : Type 0 where
+  pub each : (k : ℕ) → k < length nets → is_flip_flop (driver_at drivers (slice_index nets k)) ≡ true
+  pub all : (n : ℕ) → n < length drivers → is_flip_flop (driver_at drivers n) ≡ true → e ≢ Keeps → StandsAt n nets
 
 -- a set of nets holds the marked gates, and with a gate each gate that reads it
-pub record Carries (drivers : List Driver) (marks : List Bool) (set : ℕ → Bool) : Type 0 where
+pub record Carries (drivers : List Driver) (marks : MarkState) (set : ℕ → Bool) : Type 0 where
   pub start : (g : ℕ) → mark_at marks g ≡ true → set g ≡ true
   pub onward : (g n : ℕ) → Reads drivers g n → gate_at drivers n ≡ true → set n ≡ true → set g ≡ true
 
 -- a marked gate was evaluated
-pub record Visits (drivers : List Driver) (fixed : List (Option Level)) (held : List Level) (g : ℕ) (levels levels' : List Level) (marks marks' : List Bool) : Type 0 where
+pub record Visits (drivers : List Driver) (fixed : List (Option Level)) (held : List Level) (g : ℕ) (levels levels' : List Level) (marks marks' : MarkState) : Type 0 where
   pub was : mark_at marks g ≡ true
-  pub cleared : List Bool
+  pub cleared : MarkState
   pub clear : mark_at cleared g ≡ false
   pub rest : (m : ℕ) → m ≢ g → mark_at cleared m ≡ mark_at marks m
-  pub count : length cleared ≡ length marks
   pub puts : Puts drivers g (wanted drivers fixed held levels g) levels levels' cleared marks'
 
--- a gate's turn: it was evaluated where it was marked, else all stays
-pub data Turn (drivers : List Driver) (fixed : List (Option Level)) (held : List Level) (g : ℕ) (levels levels' : List Level) (marks marks' : List Bool) (count : ℕ) : Type 0 where
-  skips : mark_at marks g ≡ false → levels' ≡ levels → marks' ≡ marks → count ≡ 0 → Turn drivers fixed held g levels levels' marks marks' count
-  visits : Visits drivers fixed held g levels levels' marks marks' → count ≡ 1 → Turn drivers fixed held g levels levels' marks marks' count
-
 -- the gates in front of a place of the order have had their turn
-pub record WalkedTo (drivers : List Driver) (fixed : List (Option Level)) (held : List Level) (order : List ℕ) (start levels : List Level) (marks marks' : List Bool) (k count : ℕ) : Type 0 where
+pub record WalkedTo (drivers : List Driver) (fixed : List (Option Level)) (held : List Level) (order : List ℕ) (start levels : List Level) (marks marks' : MarkState) (k count : ℕ) : Type 0 where
   pub waits : Waits drivers fixed held levels marks'
   pub kept : (n : ℕ) → gate_at drivers n ≡ false → level_at levels n ≡ level_at start n
-  pub done : (j : ℕ) → j < k → mark_at marks' (slice_index order j) ≡ false
+  pub done : (j : ℕ) → j < k → j < length order → mark_at marks' (slice_index order j) ≡ false
   pub counted : count ≤ k
   pub bound : (set : ℕ → Bool) → Carries drivers marks set → count ≤ count_by set (take k order)
   pub carried : (set : ℕ → Bool) → Carries drivers marks set → (g : ℕ) → mark_at marks' g ≡ true → set g ≡ true
@@ -126,10 +138,11 @@ pub record AreFaultsWithin (nets : ℕ) (faults : List StuckAt) : Type 0 where
   pub each : (k : ℕ) (d : StuckAt) → k < length faults → (slice_index_or faults k d).net < nets
 
 -- what a die keeps inside
-pub record IsKept (d : Device) (s : State) (marks : List Bool) : Type 0 where
+pub record IsKept (d : Device) (s : State) (marks : MarkState) (flip_flops : List ℕ) : Type 0 where
   pub whole : IsWhole d.circuit
   pub device : IsDevice d
   pub held_count : length s.held ≡ length d.circuit.net.drivers
   pub settled : Settled d.circuit.net.drivers d.fixed s.held s.levels
-  pub count : length marks ≡ length d.circuit.net.drivers
+  pub seats : AreSeats d.circuit.order marks
   pub clear : (n : ℕ) → mark_at marks n ≡ false
+  pub all_flip_flops : AreFlipFlops d.circuit.net.drivers flip_flops (length d.circuit.net.drivers)

@@ -1,16 +1,18 @@
 //! A die as it is: what its inputs and flip-flops keep, and the levels of all nets.
-ghost use Rattle.std.specs.Prelude.{◌≡◌, ℕ, ◌<◌, ◌≤◌, ◌+◌, ◌⊎◌, Bool, true, length, IfOk, Option, None, fold, replicate, count_by, slice_index_or, take};
+ghost use Rattle.std.specs.Prelude.{◌≡◌, ℕ, ◌<◌, ◌≤◌, ◌+◌, ◌⊎◌, Bool, true, length, IfOk, Option, None, fold, replicate, count_by, map, unwrap_or, slice_index_or, take};
 ghost use Rattle.tester_types.specs.declared.level.Level.TheVariants.{X};
-ghost use Rattle.bench_net.specs.Wiring.{gate_at};
 ghost use Rattle.bench_net.specs.Circuit.{IsWhole};
 ghost use Rattle.die_sim.specs.Die.{device_of, stuck, with_fault, fixed_of, is_clock, bind_at, IsBoundTo, IsFresh, level_of};
 ghost use Rattle.die_sim.specs.Moment.{AreDrives, IsStep};
 ghost use Rattle.die_sim.specs.Spread.{IsSpread};
-ghost use Rattle.die_sim.specs.Walk.{mark_at, AreFaultsWithin};
+ghost use Rattle.die_sim.specs.Walk.{AreFaultsWithin};
 
 use crate::image::{Bind, Binding, DieImage, StuckAt};
-use crate::moment::{bind_at, capture_all, clock_after, clock_edge, put_all};
-use crate::settle::{is_gate, refresh, walk};
+use crate::marks::Marks;
+use crate::moment::{
+    bind_at, capture_each, capturing, clock_after, clock_edge, flip_flops, put_all,
+};
+use crate::settle::{refresh_driven, refresh_each, walk};
 use crate::steps::Steps;
 use bench_net::Netlist;
 use std::alloc::{AllocError, Global};
@@ -27,7 +29,8 @@ pub struct DieState {
     clock: Level,
     held: Vec<Level>,
     levels: Vec<Level>,
-    marks: Vec<bool>,
+    marks: Marks,
+    flip_flops: Vec<u32>,
 }
 
 impl Model for DieState {
@@ -39,7 +42,7 @@ impl Model for DieState {
 
     ghost view = { λ d. record { device = record { circuit = arc_value d.net; clock = (arc_value d.bind).clock; binds = (arc_value d.bind).nets; fixed = d.fixed.items }; state = record { clock = d.clock; held = d.held.items; levels = d.levels.items } } };
 
-    ghost invariant = { λ d. IsKept (record { circuit = arc_value d.net; clock = (arc_value d.bind).clock; binds = (arc_value d.bind).nets; fixed = d.fixed.items }) (record { clock = d.clock; held = d.held.items; levels = d.levels.items }) d.marks.items };
+    ghost invariant = { λ d. IsKept (record { circuit = arc_value d.net; clock = (arc_value d.bind).clock; binds = (arc_value d.bind).nets; fixed = d.fixed.items }) (record { clock = d.clock; held = d.held.items; levels = d.levels.items }) d.marks d.flip_flops.items };
 }
 
 impl DieState {
@@ -52,15 +55,9 @@ impl DieState {
         let nets = net.nets();
         let fixed = fixed_levels(alloc, nets, die.faults.as_slice())?;
         let held = unknown_levels(alloc, nets)?;
-        let mut levels = unknown_levels(alloc, nets)?;
-        let mut marks = gate_marks(alloc, &net)?;
-        refresh(
-            &net,
-            fixed.as_slice(),
-            held.as_slice(),
-            &mut levels,
-            &mut marks,
-        );
+        let mut levels = first_levels(alloc, fixed.as_slice())?;
+        let mut marks = Marks::all(alloc, &net)?;
+        let flip_flops = flip_flops(alloc, &net)?;
         walk(
             &net,
             fixed.as_slice(),
@@ -76,6 +73,7 @@ impl DieState {
             held,
             levels,
             marks,
+            flip_flops,
         })
     }
 
@@ -98,25 +96,27 @@ impl DieState {
         ensures step { IsStep self.old.device self.old.state self.new.state drives.now }
         ensures bound { (set : ℕ → Bool) → IsSpread self.old.device.circuit.net.drivers self.old.state.levels self.new.state.levels set → result ≤ count_by set self.old.device.circuit.order }
     {
+        let net: &Netlist = &self.net;
+        let fixed = self.fixed.as_slice();
+        let binds = self.bind.nets.as_slice();
         let clock = clock_after(self.bind.clock, self.clock, drives);
         let edge = clock_edge(self.clock, clock);
-        capture_all(&self.net, edge, self.levels.as_slice(), &mut self.held);
-        put_all(&mut self.held, self.bind.nets.as_slice(), drives);
+        let nets = capturing(self.flip_flops.as_slice(), edge);
+        capture_each(net, edge, nets, self.levels.as_slice(), &mut self.held);
+        put_all(&mut self.held, binds, drives);
         self.clock = clock;
-        refresh(
-            &self.net,
-            self.fixed.as_slice(),
-            self.held.as_slice(),
+        let held = self.held.as_slice();
+        refresh_each(net, fixed, held, &mut self.levels, &mut self.marks, nets);
+        refresh_driven(
+            net,
+            fixed,
+            held,
             &mut self.levels,
             &mut self.marks,
+            binds,
+            drives,
         );
-        walk(
-            &self.net,
-            self.fixed.as_slice(),
-            self.held.as_slice(),
-            &mut self.levels,
-            &mut self.marks,
-        )
+        walk(net, fixed, held, &mut self.levels, &mut self.marks)
     }
 
     /// The level of a signal that is bound to a net, or is the clock.
@@ -178,14 +178,13 @@ fn unknown_levels(alloc: Global, nets: u32) -> Result<Vec<Level>, AllocError>
     Ok(levels)
 }
 
-/// A mark for each gate.
-fn gate_marks(alloc: Global, net: &Netlist) -> Result<Vec<bool>, AllocError>
-    ensures count { IfOk result (λ marks. length marks.items ≡ length net.now.net.names) }
-    ensures marks { IfOk result (λ marks. (n : ℕ) → n < length net.now.net.names → mark_at marks.items n ≡ gate_at net.now.net.drivers n) }
+/// For each net the level at which it is stuck, else X.
+fn first_levels(alloc: Global, fixed: &[Option<Level>]) -> Result<Vec<Level>, AllocError>
+    ensures { IfOk result (λ levels. levels.items ≡ map (λ f. unwrap_or f X) fixed.now) }
 {
-    let mut marks = Vec::new(alloc);
-    for n in 0..net.nets() {
-        marks.push(is_gate(net, n))?;
+    let mut levels = Vec::new(alloc);
+    for level in fixed {
+        levels.push(level.unwrap_or(Level::X))?;
     }
-    Ok(marks)
+    Ok(levels)
 }

@@ -46,6 +46,23 @@ impl FailingSocket {
     }
 }
 
+impl FailingSocket {
+    /// Counts a call, and loses contact where it is the one that fails.
+    fn begin(&mut self) -> Result<(), Contact>
+        ensures die { self.new.die ≡ self.old.die }
+        ensures count { self.old.count ≤ self.new.count }
+        ensures passes { OnOk result (Passes self.old self.new) }
+        ensures fails { OnErr result (Fails self.old self.new) }
+    {
+        self.calls = self.calls.saturating_add(1);
+        if self.calls == self.fails {
+            self.count = self.count.saturating_add(1);
+            return Err(Contact);
+        }
+        Ok(())
+    }
+}
+
 impl Socket for FailingSocket {
     ghost told = { failing_told };
 
@@ -59,10 +76,8 @@ impl Socket for FailingSocket {
         ensures fails { result ≡ Err SocketFault.Contact → Fails self.old self.new }
         ensures else_passes { result ≡ Err SocketFault.NoMemory → Passes self.old self.new }
     {
-        self.calls = self.calls.saturating_add(1);
         self.die = None;
-        if self.calls == self.fails {
-            self.count = self.count.saturating_add(1);
+        if self.begin().is_err() {
             return Err(SocketFault::Contact);
         }
         let made = DieState::make(self.alloc, die)?;
@@ -81,11 +96,7 @@ impl Socket for FailingSocket {
         ensures passes { OnOk result (Passes self.old self.new) }
         ensures fails { OnErr result (Fails self.old self.new) }
     {
-        self.calls = self.calls.saturating_add(1);
-        if self.calls == self.fails {
-            self.count = self.count.saturating_add(1);
-            return Err(Contact);
-        }
+        self.begin()?;
         drive_die(&mut self.die, drives);
         Ok(())
     }
@@ -101,11 +112,7 @@ impl Socket for FailingSocket {
         ensures passes { OnOk result (Passes self.old self.new) }
         ensures fails { OnErr result (Fails self.old self.new) }
     {
-        self.calls = self.calls.saturating_add(1);
-        if self.calls == self.fails {
-            self.count = self.count.saturating_add(1);
-            return Err(Contact);
-        }
+        self.begin()?;
         Ok(sense_die(&self.die, signal))
     }
 

@@ -1,10 +1,12 @@
 //! Dies: what a die is after each moment, exactly, and the socket through which a tester meets a die.
 #![tactic(auto)]
 
+mod bits;
 mod die;
 mod failing_socket;
 mod gate;
 mod image;
+mod marks;
 mod moment;
 mod settle;
 mod sim;
@@ -21,3 +23,10 @@ pub use socket::{Contact, Socket, SocketBox, SocketFault};
 pub use steps::Steps;
 pub use tape::Tape;
 pub use tape_socket::TapeSocket;
+
+#[cfg(test)]
+mod fixture;
+#[cfg(test)]
+mod socket_tests;
+#[cfg(test)]
+mod tests;

@@ -1,14 +1,18 @@
 //! Settling: each net gets the level that it must have, and of the gates those are evaluated that a change reaches.
-ghost use Rattle.std.specs.Prelude.{◌≡◌, ℕ, ◌<◌, ◌≤◌, Bool, true, false, None, length, All, count_by, unwrap_or, slice_index_or};
-ghost use Rattle.bench_net.specs.Wiring.{IsWired, gate_at};
+ghost use Rattle.std.specs.Prelude.{◌≡◌, ℕ, ◌<◌, ◌≤◌, Bool, true, false, length, All, count_by, slice_index};
+ghost use Rattle.bench_net.specs.Wiring.{IsWired, driver_at, gate_at};
 ghost use Rattle.bench_net.specs.Circuit.{IsWhole};
 ghost use Rattle.die_sim.specs.Gates.{level_at};
-ghost use Rattle.die_sim.specs.Die.{driven, wanted, Settled};
-ghost use Rattle.die_sim.specs.Walk.{same_level, is_unknown, is_off, mark_at, AreTables, MarksEach, MarksReaders, Puts, Waits, source_level, Refreshed, Carries, Visits, Turn};
+ghost use Rattle.die_sim.specs.Die.{driven, wanted, Settled, IsNetBind, bind_at};
+ghost use Rattle.die_sim.specs.Marks.{mark_at, HasPlace, AreSeats, MarksEach, MarksReaders};
+ghost use Rattle.die_sim.specs.Walk.{same_level, is_unknown, is_off, is_flip_flop, AreTables, Puts, Waits, own_level, Refreshes, HaveLevels, HasLevel, HaveDriven, Carries, Visits};
 
 use crate::gate::{gate_level, is_one, is_zero};
+use crate::image::Bind;
+use crate::marks::Marks;
+use crate::moment::bind_at;
 use bench_net::{Driver, Netlist};
-use tester_types::Level;
+use tester_types::{Drive, Level};
 
 /// Whether the level is unknown.
 fn is_unknown(level: Level) -> bool
@@ -65,32 +69,34 @@ fn wanted_level(
 }
 
 /// Marks each of these nets.
-fn mark_each(marks: &mut Vec<bool>, nets: &[u32])
-    requires { All (λ r. r < length marks.old.items) nets.now }
-    ensures { MarksEach nets.now marks.old.items marks.new.items }
+fn mark_each(marks: &mut Marks, nets: &[u32])
+    requires { All (λ r. HasPlace marks.old r) nets.now }
+    ensures { MarksEach nets.now marks.old marks.new }
 {
     for net in nets {
-        marks[*net as usize] = true;
+        marks.set(*net);
     }
 }
 
 /// Marks the gates that read a net.
-fn mark_readers(net: &Netlist, marks: &mut Vec<bool>, n: u32)
+fn mark_readers(net: &Netlist, marks: &mut Marks, n: u32)
     requires whole { IsWhole net.now }
-    requires marks { length marks.old.items ≡ length net.now.net.names }
+    requires seats { AreSeats net.now.order marks.old }
     requires within { n < length net.now.net.names }
-    ensures { MarksReaders net.now.net.drivers n marks.old.items marks.new.items }
+    ensures marks { MarksReaders net.now.net.drivers n marks.old marks.new }
+    ensures seats { AreSeats net.now.order marks.new }
 {
     mark_each(marks, net.readers(n))
 }
 
 /// Gives a net a level, and marks the gates that read it where that is another than before.
-fn put_level(net: &Netlist, levels: &mut Vec<Level>, marks: &mut Vec<bool>, n: u32, level: Level)
+fn put_level(net: &Netlist, levels: &mut Vec<Level>, marks: &mut Marks, n: u32, level: Level)
     requires whole { IsWhole net.now }
     requires levels { length levels.old.items ≡ length net.now.net.names }
-    requires marks { length marks.old.items ≡ length net.now.net.names }
+    requires seats { AreSeats net.now.order marks.old }
     requires within { n < length net.now.net.names }
-    ensures { Puts net.now.net.drivers n level levels.old.items levels.new.items marks.old.items marks.new.items }
+    ensures puts { Puts net.now.net.drivers n level levels.old.items levels.new.items marks.old marks.new }
+    ensures seats { AreSeats net.now.order marks.new }
 {
     if same_level(levels[n as usize], level) {
         return;
@@ -99,48 +105,103 @@ fn put_level(net: &Netlist, levels: &mut Vec<Level>, marks: &mut Vec<bool>, n: u
     mark_readers(net, marks, n);
 }
 
-/// Whether a gate drives the net.
-pub(crate) fn is_gate(net: &Netlist, n: u32) -> bool
-    requires { n < length net.now.net.names }
-    ensures { result ≡ gate_at net.now.net.drivers n }
+/// The level that an input or a flip-flop must have.
+fn own_level(fixed: &[Option<Level>], held: &[Level], n: u32) -> Level
+    requires fixed { n < length fixed.now }
+    requires held { n < length held.now }
+    ensures { result ≡ own_level fixed.now held.now n }
 {
-    matches!(net.driver(n), Driver::Gate(_, _))
+    fixed[n as usize].unwrap_or(held[n as usize])
 }
 
-/// The level that an input or a flip-flop must have; a gate stays as it is.
-fn source_level(
-    net: &Netlist,
-    fixed: &[Option<Level>],
-    held: &[Level],
-    levels: &[Level],
-    n: u32,
-) -> Level
-    requires tables { AreTables net.now fixed.now held.now levels.now }
-    requires within { n < length net.now.net.names }
-    ensures { result ≡ source_level net.now.net.drivers fixed.now held.now levels.now n }
-{
-    if is_gate(net, n) {
-        levels[n as usize]
-    } else {
-        fixed[n as usize].unwrap_or(held[n as usize])
-    }
-}
-
-/// Gives all inputs and flip-flops their levels, and marks the gates that read one whose level changed.
-pub(crate) fn refresh(
+/// Gives an input or a flip-flop its level.
+fn refresh_net(
     net: &Netlist,
     fixed: &[Option<Level>],
     held: &[Level],
     levels: &mut Vec<Level>,
-    marks: &mut Vec<bool>,
+    marks: &mut Marks,
+    n: u32,
 )
     requires tables { AreTables net.now fixed.now held.now levels.old.items }
-    requires waits { Waits net.now.net.drivers fixed.now held.now levels.old.items marks.old.items }
-    ensures { Refreshed net.now.net.drivers fixed.now held.now levels.old.items levels.new.items marks.old.items marks.new.items }
+    requires waits { Waits net.now.net.drivers fixed.now held.now levels.old.items marks.old }
+    requires seats { AreSeats net.now.order marks.old }
+    requires within { n < length net.now.net.names }
+    requires source { gate_at net.now.net.drivers n ≡ false }
+    ensures refreshes { Refreshes net.now.net.drivers fixed.now held.now levels.old.items levels.new.items marks.old marks.new }
+    ensures here { level_at levels.new.items n ≡ own_level fixed.now held.now n }
+    ensures seats { AreSeats net.now.order marks.new }
 {
-    for n in 0..net.nets() {
-        let level = source_level(net, fixed, held, levels.as_slice(), n);
-        put_level(net, levels, marks, n, level);
+    let level = own_level(fixed, held, n);
+    put_level(net, levels, marks, n, level);
+}
+
+/// Gives these flip-flops their levels, and marks the gates that read one whose level changed.
+pub(crate) fn refresh_each(
+    net: &Netlist,
+    fixed: &[Option<Level>],
+    held: &[Level],
+    levels: &mut Vec<Level>,
+    marks: &mut Marks,
+    nets: &[u32],
+)
+    requires tables { AreTables net.now fixed.now held.now levels.old.items }
+    requires waits { Waits net.now.net.drivers fixed.now held.now levels.old.items marks.old }
+    requires seats { AreSeats net.now.order marks.old }
+    requires nets { (k : ℕ) → k < length nets.now → is_flip_flop (driver_at net.now.net.drivers (slice_index nets.now k)) ≡ true }
+    ensures refreshes { Refreshes net.now.net.drivers fixed.now held.now levels.old.items levels.new.items marks.old marks.new }
+    ensures each { HaveLevels fixed.now held.now levels.new.items nets.now }
+    ensures seats { AreSeats net.now.order marks.new }
+{
+    for n in nets {
+        refresh_net(net, fixed, held, levels, marks, *n);
+    }
+}
+
+/// Gives the input its level that a signal is bound to.
+fn refresh_bound(
+    net: &Netlist,
+    fixed: &[Option<Level>],
+    held: &[Level],
+    levels: &mut Vec<Level>,
+    marks: &mut Marks,
+    bind: Bind,
+)
+    requires tables { AreTables net.now fixed.now held.now levels.old.items }
+    requires waits { Waits net.now.net.drivers fixed.now held.now levels.old.items marks.old }
+    requires seats { AreSeats net.now.order marks.old }
+    requires bind { IsNetBind net.now.net.drivers bind }
+    ensures refreshes { Refreshes net.now.net.drivers fixed.now held.now levels.old.items levels.new.items marks.old marks.new }
+    ensures here { HasLevel fixed.now held.now levels.new.items bind }
+    ensures seats { AreSeats net.now.order marks.new }
+{
+    match bind {
+        Bind::Free => {}
+        Bind::Input(n) => refresh_net(net, fixed, held, levels, marks, n),
+        Bind::Output(_) => {}
+    }
+}
+
+/// Gives the inputs that are driven their levels, and marks the gates that read one whose level changed.
+pub(crate) fn refresh_driven(
+    net: &Netlist,
+    fixed: &[Option<Level>],
+    held: &[Level],
+    levels: &mut Vec<Level>,
+    marks: &mut Marks,
+    binds: &[Bind],
+    drives: &[(u16, Drive)],
+)
+    requires tables { AreTables net.now fixed.now held.now levels.old.items }
+    requires waits { Waits net.now.net.drivers fixed.now held.now levels.old.items marks.old }
+    requires seats { AreSeats net.now.order marks.old }
+    requires binds { (s : ℕ) → IsNetBind net.now.net.drivers (bind_at binds.now s) }
+    ensures refreshes { Refreshes net.now.net.drivers fixed.now held.now levels.old.items levels.new.items marks.old marks.new }
+    ensures driven { HaveDriven fixed.now held.now levels.new.items binds.now drives.now }
+    ensures seats { AreSeats net.now.order marks.new }
+{
+    for (signal, _) in drives {
+        refresh_bound(net, fixed, held, levels, marks, bind_at(binds, *signal));
     }
 }
 
@@ -150,40 +211,20 @@ fn visit(
     fixed: &[Option<Level>],
     held: &[Level],
     levels: &mut Vec<Level>,
-    marks: &mut Vec<bool>,
+    marks: &mut Marks,
     g: u32,
 )
     requires tables { AreTables net.now fixed.now held.now levels.old.items }
-    requires marks { length marks.old.items ≡ length net.now.net.names }
+    requires seats { AreSeats net.now.order marks.old }
     requires within { g < length net.now.net.names }
-    requires marked { mark_at marks.old.items g ≡ true }
-    ensures { Visits net.now.net.drivers fixed.now held.now g levels.old.items levels.new.items marks.old.items marks.new.items }
+    requires gate { gate_at net.now.net.drivers g ≡ true }
+    requires marked { mark_at marks.old g ≡ true }
+    ensures visits { Visits net.now.net.drivers fixed.now held.now g levels.old.items levels.new.items marks.old marks.new }
+    ensures seats { AreSeats net.now.order marks.new }
 {
     let level = wanted_level(net, fixed, held, levels.as_slice(), g);
-    marks[g as usize] = false;
+    marks.clear(g);
     put_level(net, levels, marks, g, level);
-}
-
-/// Evaluates a gate where it is marked, and answers how many evaluations that took.
-fn turn(
-    net: &Netlist,
-    fixed: &[Option<Level>],
-    held: &[Level],
-    levels: &mut Vec<Level>,
-    marks: &mut Vec<bool>,
-    g: u32,
-) -> usize
-    requires tables { AreTables net.now fixed.now held.now levels.old.items }
-    requires marks { length marks.old.items ≡ length net.now.net.names }
-    requires within { g < length net.now.net.names }
-    ensures turn { Turn net.now.net.drivers fixed.now held.now g levels.old.items levels.new.items marks.old.items marks.new.items result }
-    ensures few { result ≤ 1 }
-{
-    if marks[g as usize] {
-        visit(net, fixed, held, levels, marks, g);
-        return 1;
-    }
-    0
 }
 
 /// Evaluates the gates that are marked, and those that change on the way, each once, in the netlist's order. Answers how
@@ -193,20 +234,25 @@ pub(crate) fn walk(
     fixed: &[Option<Level>],
     held: &[Level],
     levels: &mut Vec<Level>,
-    marks: &mut Vec<bool>,
+    marks: &mut Marks,
 ) -> usize
     requires tables { AreTables net.now fixed.now held.now levels.old.items }
-    requires waits { Waits net.now.net.drivers fixed.now held.now levels.old.items marks.old.items }
-    requires sources { (n : ℕ) → n < length net.now.net.drivers → gate_at net.now.net.drivers n ≡ false → level_at levels.old.items n ≡ unwrap_or (slice_index_or fixed.now n None) (level_at held.now n) }
+    requires waits { Waits net.now.net.drivers fixed.now held.now levels.old.items marks.old }
+    requires seats { AreSeats net.now.order marks.old }
+    requires sources { (n : ℕ) → n < length net.now.net.drivers → gate_at net.now.net.drivers n ≡ false → level_at levels.old.items n ≡ own_level fixed.now held.now n }
     ensures settled { Settled net.now.net.drivers fixed.now held.now levels.new.items }
     ensures kept { (n : ℕ) → gate_at net.now.net.drivers n ≡ false → level_at levels.new.items n ≡ level_at levels.old.items n }
-    ensures count { length marks.new.items ≡ length net.now.net.drivers }
-    ensures clear { (n : ℕ) → mark_at marks.new.items n ≡ false }
-    ensures bound { (set : ℕ → Bool) → Carries net.now.net.drivers marks.old.items set → result ≤ count_by set net.now.order }
+    ensures seats { AreSeats net.now.order marks.new }
+    ensures clear { (n : ℕ) → mark_at marks.new n ≡ false }
+    ensures bound { (set : ℕ → Bool) → Carries net.now.net.drivers marks.old set → result ≤ count_by set net.now.order }
 {
+    let order = net.order();
     let mut count = 0;
-    for g in net.order() {
-        count += turn(net, fixed, held, levels, marks, *g);
+    let mut place = marks.next(0);
+    while place < order.len() {
+        visit(net, fixed, held, levels, marks, order[place]);
+        count += 1;
+        place = marks.next(place + 1);
     }
     count
 }

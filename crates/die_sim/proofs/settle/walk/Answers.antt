@@ -1,32 +1,32 @@
-use Rattle.std.proofs.Common.{ℕ, ◌<◌, ◌≤◌, List, length, get_or, sym, subst, arith}
-use Rattle.die_sim.specs.Walk.{Turn}
-use Rattle.die_sim.proofs.OrderLemmas.{gate_within, gate_in_order}
-use Rattle.die_sim.proofs.WalkLemmas.{WalkedTo-more, WalkedTo-settled, WalkedTo-clear}
+use Rattle.std.proofs.Common.{◌≡◌, ◌<◌, ◌≤◌, ℕ, ◌+◌, List, true, false, length, get_or, sym, subst, ap, arith}
+use Rattle.die_sim.specs.Marks.{mark_at}
+use Rattle.die_sim.specs.Walk.{Visits, WalkedTo}
+use Rattle.die_sim.proofs.WalkLemmas.{visited, WalkedTo-on, WalkedTo-settled, WalkedTo-clear}
 use Rattle.die_sim.proofs.settle.walk.Goals as goal
 
-pub turn-count-requires-clause-within : goal.turn-count-requires-clause-within
-turn-count-requires-clause-within c =
-    let P : List ℕ → Type 0 = λ xs. c.loop-g.g-index < length xs → get_or xs c.loop-g.g-index 0 < length c.args.net.now.net.names in
-    subst P (sym c.order-g-items.ensures.order)
-    (λ l. let w = gate_within c.args.net.now.net.drivers (get_or c.args.net.now.order c.loop-g.g-index 0) (gate_in_order c.args.net.now.net.drivers c.args.net.now.order c.requires.tables.whole.order c.loop-g.g-index l) in
-    omega (arith, w, c.requires.tables.whole.drivers))
-    c.loop-g-test.true
-
-pub loop-g-preserved : goal.loop-g-preserved
-loop-g-preserved c =
-    WalkedTo-more c.args.net.now.net.drivers c.requires.tables.whole.wired c.args.net.now.order c.requires.tables.whole.order c.args.fixed.now c.args.held.now c.args.levels.now.items c.loop-g.levels.items c.turn-count.new.levels.items c.args.marks.now.items c.loop-g.marks.items c.turn-count.new.marks.items c.loop-g.g-index c.loop-g.count c.turn-count.result
-    (subst (λ (xs : List ℕ). c.loop-g.g-index < length xs) c.order-g-items.ensures.order c.loop-g-test.true)
-    c.loop-g.invariant
-    (subst (λ (xs : List ℕ). Turn c.args.net.now.net.drivers c.args.fixed.now c.args.held.now (get_or xs c.loop-g.g-index 0) c.loop-g.levels.items c.turn-count.new.levels.items c.loop-g.marks.items c.turn-count.new.marks.items c.turn-count.result) c.order-g-items.ensures.order c.turn-count.ensures.turn)
+pub loop-place-preserved : goal.loop-place-preserved
+loop-place-preserved c =
+    let order = c.args.net.now.order in
+    let within : c.loop-place.place < length order = subst (λ (l : List ℕ). c.loop-place.place < length l) c.order-order.ensures.order c.loop-place-test.true in
+    let v = subst (λ (l : List ℕ). Visits c.args.net.now.net.drivers c.args.fixed.now c.args.held.now (get_or l c.loop-place.place 0) c.loop-place.levels.items c.visit.new.levels.items c.loop-place.marks c.visit.new.marks) c.order-order.ensures.order c.visit.ensures.visits in
+    let done = visited c.args.net.now.net.drivers c.requires.tables.whole.wired order c.requires.tables.whole.order c.args.fixed.now c.args.held.now c.args.levels.now.items c.loop-place.levels.items c.visit.new.levels.items c.args.marks.now c.loop-place.marks c.visit.new.marks c.loop-place.place c.loop-place.count within c.loop-place.invariant.walked v in
+    let seats = c.visit.ensures.seats in
+    let next = c.next-place-in-loop-place in
+    record {
+      walked = WalkedTo-on c.args.net.now.net.drivers c.args.fixed.now c.args.held.now order c.args.levels.now.items c.visit.new.levels.items c.args.marks.now c.visit.new.marks (c.loop-place.place + 1) next.result (c.loop-place.count + 1) next.ensures.onward
+          (λ i a b l. next.ensures.skipped (get_or order i 0) (omega (arith, seats.here i l, a)) (omega (arith, seats.here i l, b))) done;
+      marked = λ l. next.ensures.found (get_or order next.result 0) (seats.here next.result l) (omega (arith, l, seats.room));
+      seats = seats;
+    }
 
 pub returns-clause-settled : goal.returns-clause-settled
 returns-clause-settled c =
-    WalkedTo-settled c.args.net.now.net.drivers c.requires.tables.whole.wired c.args.net.now.order c.requires.tables.whole.order c.args.fixed.now c.args.held.now c.args.levels.now.items c.loop-g.levels.items c.args.marks.now.items c.loop-g.marks.items c.loop-g.g-index c.loop-g.count
-    (subst (λ (xs : List ℕ). length xs ≤ c.loop-g.g-index) c.order-g-items.ensures.order c.loop-g-test.false)
-    c.loop-g.invariant c.requires.sources
+    WalkedTo-settled c.args.net.now.net.drivers c.requires.tables.whole.wired c.args.net.now.order c.requires.tables.whole.order c.args.fixed.now c.args.held.now c.args.levels.now.items c.loop-place.levels.items c.args.marks.now c.loop-place.marks c.loop-place.place c.loop-place.count
+    (subst (λ (xs : List ℕ). length xs ≤ c.loop-place.place) c.order-order.ensures.order c.loop-place-test.false)
+    c.loop-place.invariant.walked c.requires.sources
 
 pub returns-clause-clear : goal.returns-clause-clear
 returns-clause-clear c =
-    WalkedTo-clear c.args.net.now.net.drivers c.args.net.now.order c.requires.tables.whole.order c.args.fixed.now c.args.held.now c.args.levels.now.items c.loop-g.levels.items c.args.marks.now.items c.loop-g.marks.items c.loop-g.g-index c.loop-g.count
-    (subst (λ (xs : List ℕ). length xs ≤ c.loop-g.g-index) c.order-g-items.ensures.order c.loop-g-test.false)
-    c.loop-g.invariant
+    WalkedTo-clear c.args.net.now.net.drivers c.args.net.now.order c.requires.tables.whole.order c.args.fixed.now c.args.held.now c.args.levels.now.items c.loop-place.levels.items c.args.marks.now c.loop-place.marks c.loop-place.place c.loop-place.count
+    (subst (λ (xs : List ℕ). length xs ≤ c.loop-place.place) c.order-order.ensures.order c.loop-place-test.false)
+    c.loop-place.invariant.walked

@@ -1,5 +1,14 @@
+use Rattle.std.proofs.Common.{◌≡◌, ◌<◌, ◌≤◌, ◌-◌, true, length, get_or}
+use Rattle.die_sim.specs.Marks.{mark_at, AreSeats}
 use Rattle.die_sim.specs.Walk.{WalkedTo}
 use Rattle.die_sim.proofs.settle.walk.Given as goal
 
-abbrev pub invariant-loop-g : goal.invariant-loop-g
-invariant-loop-g l = WalkedTo l.net.net.drivers l.fixed l.held l.net.order l.fn.levels.items l.levels.items l.fn.marks.items l.marks.items l.g-index l.count
+abbrev pub invariant-loop-place : goal.invariant-loop-place
+invariant-loop-place l = record {
+  walked : WalkedTo l.net.net.drivers l.fixed l.held l.net.order l.fn.levels.items l.levels.items l.fn.marks l.marks l.place l.count;
+  marked : l.place < length l.net.order → mark_at l.marks (get_or l.net.order l.place 0) ≡ true;
+  seats : AreSeats l.net.order l.marks;
+}
+
+abbrev pub decreases-loop-place : goal.decreases-loop-place
+decreases-loop-place l = length l.net.order - l.place

@@ -1,0 +1,94 @@
+//! Drives a chain of gates through a number of moments and prints how many gates were evaluated, so that it can be timed.
+//! The words are the number of gates, the number of moments, and any third word for moments that change nothing.
+#![tactic(auto)]
+
+ghost use Rattle.std.specs.Prelude.{◌≡◌, [], ◌∷◌, IfOk};
+ghost use Rattle.die_sim.specs.Die.{bind_at};
+ghost use Rattle.die_sim.specs.declared.image.Bind.TheVariants as bind;
+
+use bench_net::{NetFault, Netlist, read};
+use die_sim::{Bind, BindList, Binding, DieImage, DieState, FaultList, Steps};
+use std::alloc::{AllocError, Global};
+use std::rt::Env;
+use std::sync::Arc;
+use std::{env, io};
+use tester_types::Drive;
+
+/// The most bytes of a netlist.
+const LIMIT: usize = 16_777_216;
+
+/// So many gates, of which each reads the one before: a change of the input reaches them all.
+fn chain(alloc: Global, gates: u32) -> Result<Vec<u8>, AllocError> {
+    let mut text = Vec::from_slice(alloc, b"INPUT(g0)\n")?;
+    for gate in 0..gates {
+        let next = u64::from(gate) + 1;
+        let line = format!(in alloc; "g{next} = NAND(g{gate}, g{gate})\n")?;
+        text.extend_from_slice(line.as_bytes())?;
+    }
+    Ok(text)
+}
+
+/// An image whose one signal drives the first net, without a clock.
+fn image(alloc: Global, net: Netlist) -> Result<DieImage, NetFault>
+    ensures { IfOk result (λ i. i.binds ≡ bind.Input 0 ∷ []) }
+{
+    if net.nets() == 0 || !net.is_input(0) {
+        return Err(NetFault::OutOfRange);
+    }
+    let nets = BindList::from_vec(vec![in alloc; Bind::Input(0)]?);
+    Ok(DieImage {
+        net: Arc::new(alloc, net)?,
+        bind: Arc::new(alloc, Binding { clock: None, nets })?,
+        faults: FaultList::from_vec(Vec::new(alloc)),
+    })
+}
+
+/// Drives the signal in each of so many moments, to the same level where `still`, else up and down in turn. Answers how
+/// many gates were evaluated.
+fn drive(die: &mut DieState, moments: u32, still: bool) -> u64
+    requires { bind_at die.old.device.binds 0 ≡ bind.Input 0 }
+{
+    let mut steps: Steps<()> = Steps::new();
+    for moment in 0..moments {
+        let level = if still || moment % 2 == 0 {
+            Drive::Up
+        } else {
+            Drive::Down
+        };
+        die.apply(&[(0, level)], &mut steps);
+    }
+    steps.count()
+}
+
+/// How many gates are evaluated.
+fn evaluations(alloc: Global, gates: u32, moments: u32, still: bool) -> Result<u64, NetFault> {
+    let text = chain(alloc, gates)?;
+    if text.len() > LIMIT {
+        return Err(NetFault::OutOfRange);
+    }
+    let net = read(alloc, text.as_slice())?;
+    let image = image(alloc, net)?;
+    match DieState::make(alloc, &image) {
+        Ok(mut die) => Ok(drive(&mut die, moments, still)),
+        Err(_) => Err(NetFault::NoMemory),
+    }
+}
+
+/// The number that the word at a place is, or this one.
+fn number<R: Env + AllocGlobal>(rt: &R, place: usize, other: u32) -> io::Result<u32> {
+    let word = env::args(rt)?.nth(place);
+    Ok(
+        word.and_then(|word| word.as_str().parse().ok())
+            .unwrap_or(other),
+    )
+}
+
+fn main(rt: HostRuntime) -> io::Result<()> {
+    let gates = number(&rt, 1, 1)?;
+    let moments = number(&rt, 2, 1)?;
+    let still = env::args(&rt)?.nth(3).is_some();
+    match evaluations(rt.alloc(), gates, moments, still) {
+        Ok(count) => println!(rt; "{count} evaluations"),
+        Err(fault) => println!(rt; "refused: {fault}"),
+    }
+}
