@@ -1,0 +1,12 @@
+pub mod FormLemmas
+pub mod TallyLemmas
+pub mod RowLemmas
+pub mod JudgeLemmas
+pub mod SaidLemmas
+pub mod NextLemmas
+pub mod RecordLemmas
+pub mod PlanLemmas
+pub mod FirstLemmas
+pub mod GoingLemmas
+pub mod KeptLemmas
+pub mod StandardFacts

@@ -1,0 +1,122 @@
+-- Known fields, records and plans, as the definitions must read them.
+use Rattle.std.proofs.Common.{◌≡◌, ℕ, ◌-◌, ◌^◌, List, [], ◌∷◌, Some, None, Ok, Err, true, codes, refl}
+use Rattle.csv.specs.Machine.{next_record}
+use Rattle.csv.specs.Reading.{default_config, records, records_from, strip_bom}
+use Rattle.plan_rows.specs.Words.{number_of, name_of, net_of}
+use Rattle.plan_rows.specs.Forms.{a_lot, a_clock, a_bind, a_die, a_fault, a_stop, a_bin, written_of}
+use Rattle.plan_rows.specs.Judging.{plan_of}
+use Rattle.plan_rows.specs.declared.row.Row.TheVariants as row
+use Rattle.plan_rows.specs.declared.row.Ending.TheVariants.{Pass, Fail}
+use Rattle.plan_rows.specs.declared.fault.PlanFault.TheVariants.{Shape, UnknownName, Twice, OutOfRange}
+
+-- numbers: leading zeros, 20 digits, 21 digits, a sign, none
+pub seven : number_of (codes "007") ≡ Some 7
+seven = refl
+
+pub twenty_digits : number_of (codes "00000000000000000007") ≡ Some 7
+twenty_digits = refl
+
+pub more_digits : number_of (codes "000000000000000000007") ≡ Some (2 ^ 64 - 1)
+more_digits = refl
+
+pub too_great : number_of (codes "99999999999999999999") ≡ Some (2 ^ 64 - 1)
+too_great = refl
+
+pub no_sign : number_of (codes "-1") ≡ None
+no_sign = refl
+
+pub no_digit : number_of [] ≡ None
+no_digit = refl
+
+-- names: a net may hold a space, a die's name not
+pub net_with_space : net_of (codes "a b") ≡ Some (codes "a b")
+net_with_space = refl
+
+pub name_with_space : name_of (codes "a b") ≡ None
+name_with_space = refl
+
+-- a record of each kind
+pub lot_record : written_of (codes "lot" ∷ codes "4" ∷ codes "2" ∷ codes "3" ∷ [] ∷ [] ∷ []) ≡ Some (a_lot 4 2 3)
+lot_record = refl
+
+pub clock_record : written_of (codes "clock" ∷ codes "c" ∷ [] ∷ [] ∷ [] ∷ [] ∷ []) ≡ Some (a_clock (codes "c"))
+clock_record = refl
+
+pub free_record : written_of (codes "bind" ∷ codes "s" ∷ codes "-" ∷ [] ∷ [] ∷ [] ∷ []) ≡ Some (a_bind (codes "s") None)
+free_record = refl
+
+pub bind_record : written_of (codes "bind" ∷ codes "s" ∷ codes "n" ∷ [] ∷ [] ∷ [] ∷ []) ≡ Some (a_bind (codes "s") (Some (codes "n")))
+bind_record = refl
+
+pub die_record : written_of (codes "die" ∷ codes "3" ∷ codes "a" ∷ codes "f" ∷ [] ∷ [] ∷ []) ≡ Some (a_die 3 (codes "a") (codes "f"))
+die_record = refl
+
+pub fault_record : written_of (codes "fault" ∷ codes "3" ∷ codes "a" ∷ codes "n" ∷ codes "1" ∷ [] ∷ []) ≡ Some (a_fault 3 (codes "a") (codes "n") 1 None)
+fault_record = refl
+
+pub stop_record : written_of (codes "stop" ∷ codes "3" ∷ codes "a" ∷ codes "2" ∷ codes "7" ∷ [] ∷ []) ≡ Some (a_stop 3 (codes "a") 2 7)
+stop_record = refl
+
+pub fail_record : written_of (codes "bin" ∷ codes "fail" ∷ codes "5" ∷ codes "9" ∷ [] ∷ [] ∷ []) ≡ Some (a_bin (Fail 5) 9)
+fail_record = refl
+
+pub pass_record : written_of (codes "bin" ∷ codes "pass" ∷ [] ∷ codes "9" ∷ [] ∷ [] ∷ []) ≡ Some (a_bin Pass 9)
+pass_record = refl
+
+-- a field that is not used, a kind that is none, five fields
+pub used_record : written_of (codes "clock" ∷ codes "c" ∷ codes "d" ∷ [] ∷ [] ∷ [] ∷ []) ≡ None
+used_record = refl
+
+pub no_kind : written_of (codes "dice" ∷ codes "3" ∷ codes "a" ∷ codes "f" ∷ [] ∷ [] ∷ []) ≡ None
+no_kind = refl
+
+pub five_fields : written_of (codes "clock" ∷ codes "c" ∷ [] ∷ [] ∷ [] ∷ []) ≡ None
+five_fields = refl
+
+-- the records of plans that follow
+abbrev lot_fields : List (List ℕ)
+lot_fields = codes "lot" ∷ codes "4" ∷ codes "2" ∷ codes "3" ∷ [] ∷ [] ∷ []
+
+abbrev die_fields : List (List ℕ)
+die_fields = codes "die" ∷ codes "3" ∷ codes "a" ∷ codes "f" ∷ [] ∷ [] ∷ []
+
+abbrev other_die_fields : List (List ℕ)
+other_die_fields = codes "die" ∷ codes "3" ∷ codes "b" ∷ codes "f" ∷ [] ∷ [] ∷ []
+
+abbrev fault_fields : List (List ℕ)
+fault_fields = codes "fault" ∷ codes "3" ∷ codes "b" ∷ codes "n" ∷ codes "1" ∷ [] ∷ []
+
+-- the second die of its site has the number 1
+pub small_plan : plan_of (lot_fields ∷ die_fields ∷ other_die_fields ∷ fault_fields ∷ [])
+    ≡ Ok (row.Lot (record { batch = 4; tries = 2; keep = 3 })
+    ∷ row.Die (record { site = 3; name = codes "a"; file = codes "f" })
+    ∷ row.Die (record { site = 3; name = codes "b"; file = codes "f" })
+    ∷ row.Fault (record { site = 3; die = 1; net = codes "n"; value = true; tries = None }) ∷ [])
+small_plan = refl
+
+pub no_record : plan_of [] ≡ Err (Shape 1)
+no_record = refl
+
+pub lot_missing : plan_of (die_fields ∷ []) ≡ Err (Shape 1)
+lot_missing = refl
+
+pub second_lot : plan_of (lot_fields ∷ die_fields ∷ lot_fields ∷ []) ≡ Err (Shape 3)
+second_lot = refl
+
+pub die_later : plan_of (lot_fields ∷ fault_fields ∷ other_die_fields ∷ []) ≡ Err (UnknownName 2)
+die_later = refl
+
+pub die_again : plan_of (lot_fields ∷ die_fields ∷ die_fields ∷ []) ≡ Err (Twice 3)
+die_again = refl
+
+pub fault_again : plan_of (lot_fields ∷ other_die_fields ∷ fault_fields ∷ fault_fields ∷ []) ≡ Err (Twice 4)
+fault_again = refl
+
+pub bin_zero : plan_of (lot_fields ∷ (codes "bin" ∷ codes "pass" ∷ [] ∷ codes "0" ∷ [] ∷ [] ∷ []) ∷ []) ≡ Err (OutOfRange 2)
+bin_zero = refl
+
+-- the records of a text: a byte order mark and an empty line are none, an open quote ends with the text
+pub text_records : records default_config (strip_bom (0xEF ∷ 0xBB ∷ 0xBF ∷ codes "a,b\r\n\r\n\"c,"))
+    ≡ (codes "a" ∷ codes "b" ∷ []) ∷ (codes "c," ∷ []) ∷ []
+unfolding next_record records_from strip_bom
+text_records = refl

@@ -1,0 +1,94 @@
+-- What the code keeps beside the rows so far; no public clause cites it.
+use Rattle.std.specs.Prelude.{◌≡◌, ℕ, ◌+◌, ◌*◌, false, ◌<◌, ◌≤◌, ◌⊎◌, List, [], ◌∷◌, ◌++◌, length, map, slice_index_or, slice_set, Result, Ok, Err, Vec, if◌then◌else◌}
+use Rattle.std.specs.List.{list_any}
+use Rattle.std.specs.Str.{bytes_eq}
+use Rattle.std.specs.declared.alloc.Global.{Global}
+use Rattle.plan_rows.specs.Rows.{dies_of, dies_at, lot_of, IsLot}
+use Rattle.plan_rows.specs.Judging.{names_at, subject_of, says_again, judge, reading}
+use Rattle.plan_rows.specs.Plan.{HasRecords}
+use Rattle.plan_rows.specs.declared.tally.Tally.{Tally}
+use Rattle.plan_rows.specs.declared.book.Book.{Book}
+use Rattle.plan_rows.specs.declared.row.Row.{Row}
+use Rattle.plan_rows.specs.declared.row.Row.TheVariants as row
+use Rattle.plan_rows.specs.declared.fault.PlanFault.{PlanFault}
+use Rattle.plan_rows.specs.declared.fault.PlanFault.TheVariants.{NoMemory}
+
+-- what a step answers, where it is to answer this: the same, or want of memory
+abbrev pub IsAnswer : {A : Type 0} → Result A PlanFault → Result A PlanFault → Type 0
+IsAnswer (Ok x) wanted = wanted ≡ Ok x
+IsAnswer (Err e) wanted = (e ≡ NoMemory) ⊎ (wanted ≡ Err e)
+
+-- the texts that own their numbers
+abbrev pub key_texts : List (Vec ℕ Global) → List (List ℕ)
+key_texts keys = map (λ k. k.items) keys
+
+-- a name behind those that were there, once
+abbrev pub with_name : List (List ℕ) → List ℕ → List (List ℕ)
+with_name names name = if list_any (bytes_eq name) names then names else names ++ name ∷ []
+
+-- the names that are kept, site by site
+abbrev pub kept_names : Tally → List (List (List ℕ))
+kept_names t = map (λ s. key_texts s.keys) t.names.items
+
+-- the lot, the dies and their names are those of these rows
+pub record IsTally (t : Tally) (rows : List Row) : Type 0 where
+  pub lot : t.lot ≡ lot_of rows
+  pub dies : t.dies ≡ length (dies_of rows)
+  pub few : t.dies ≤ 4096
+  pub sites : length t.names.items ≡ 64
+  pub names : (site : ℕ) → site < 64 → slice_index_or (kept_names t) site [] ≡ names_at site rows
+
+-- what is kept is that of the rows so far
+pub record IsBook (b : Book) : Type 0 where
+  pub tally : IsTally b.tally b.rows.items
+  pub subjects : key_texts b.subjects.keys ≡ map subject_of b.rows.items
+
+-- what a row that is no lot's own finds before it, and what its numbers keep
+abbrev pub Suits : List Row → Row → Type 0
+Suits before (row.Lot l) = (length before ≡ 0) × IsLot l
+Suits before (row.Clock s) = 0 < length before
+Suits before (row.Bind b) = 0 < length before
+Suits before (row.Die d) = (0 < length before) × (d.site ≤ 63) × (length (dies_of before) + 1 ≤ 4096)
+    × ((length (dies_of before) + 1) * ((lot_of before).tries * (lot_of before).keep) ≤ 1048576)
+Suits before (row.Fault f) = (0 < length before) × (f.die < length (dies_at f.site before))
+Suits before (row.Stop s) = (0 < length before) × (s.die < length (dies_at s.site before))
+Suits before (row.Bin b) = 0 < length before
+
+-- a row that may follow these
+pub record IsNext (before : List Row) (x : Row) : Type 0 where
+  pub suits : Suits before x
+  pub fresh : says_again before x ≡ false
+
+-- a record was read: it is one more row
+pub record Reads (old new : Book) (fields : List (List ℕ)) : Type 0 where
+  pub book : IsBook new
+  pub row : Row
+  pub judged : judge old.rows.items fields ≡ Ok row
+  pub more : new.rows.items ≡ old.rows.items ++ row ∷ []
+
+-- all records of a text are these rows
+pub record IsWhole (bytes : List ℕ) (rows : List Row) : Type 0 where
+  pub records : List (List (List ℕ))
+  pub are : HasRecords bytes records
+  pub read : reading [] records ≡ Ok rows
+
+-- a die has a site, and one more die is one of few
+abbrev pub HasPlace : Tally → Row → Type 0
+HasPlace t (row.Lot l) = Unit {0}
+HasPlace t (row.Clock s) = Unit {0}
+HasPlace t (row.Bind b) = Unit {0}
+HasPlace t (row.Die d) = (d.site < length t.names.items) × (t.dies < 4096)
+HasPlace t (row.Fault f) = Unit {0}
+HasPlace t (row.Stop s) = Unit {0}
+HasPlace t (row.Bin b) = Unit {0}
+
+-- what a row changes of what is kept
+abbrev pub Notes : Tally → Tally → Row → Type 0
+Notes old new (row.Lot l) = (new.lot ≡ l) × (new.dies ≡ old.dies) × (kept_names new ≡ kept_names old)
+Notes old new (row.Die d) = (new.lot ≡ old.lot) × (new.dies ≡ old.dies + 1)
+    × (kept_names new ≡ slice_set (kept_names old) d.site (with_name (slice_index_or (kept_names old) d.site []) d.name))
+Notes old new (row.Clock s) = new ≡ old
+Notes old new (row.Bind b) = new ≡ old
+Notes old new (row.Fault f) = new ≡ old
+Notes old new (row.Stop s) = new ≡ old
+Notes old new (row.Bin b) = new ≡ old

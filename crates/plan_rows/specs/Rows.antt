@@ -1,0 +1,137 @@
+-- The rows of a plan as plain data: the lists that they make, and what accepted rows keep.
+use Rattle.std.specs.Prelude.{◌≡◌, ◌==◌, ◌+◌, ◌*◌, ◌&&◌, max, ℕ, ◌<◌, ◌≤◌, if◌then◌else◌, Option, Some, None, List, [], ◌∷◌, ◌++◌, length, filter, fold, slice_index_or}
+use Rattle.std.specs.List.{list_any}
+use Rattle.std.specs.Str.{bytes_eq}
+use Rattle.plan_rows.specs.declared.row.Row.{Row}
+use Rattle.plan_rows.specs.declared.row.Row.TheVariants as row
+use Rattle.plan_rows.specs.declared.row.LotRow.{LotRow}
+use Rattle.plan_rows.specs.declared.row.BindRow.{BindRow}
+use Rattle.plan_rows.specs.declared.row.DieRow.{DieRow}
+use Rattle.plan_rows.specs.declared.row.FaultRow.{FaultRow}
+use Rattle.plan_rows.specs.declared.row.StopRow.{StopRow}
+use Rattle.plan_rows.specs.declared.row.BinRow.{BinRow}
+
+-- one item, where there is one
+abbrev pub one : {A : Type 0} → Option A → List A
+one None = []
+one (Some x) = x ∷ []
+
+-- the items that rows give, in order
+abbrev pub each_of : {A : Type 0} → (Row → Option A) → List Row → List A
+each_of f [] = []
+each_of f (r ∷ rows) = one (f r) ++ each_of f rows
+
+-- what a row says of a kind, if it is of this kind
+abbrev pub as_lot : Row → Option LotRow
+as_lot (row.Lot l) = Some l
+as_lot (row.Clock s) = None
+as_lot (row.Bind b) = None
+as_lot (row.Die d) = None
+as_lot (row.Fault f) = None
+as_lot (row.Stop s) = None
+as_lot (row.Bin b) = None
+
+abbrev pub as_clock : Row → Option (List ℕ)
+as_clock (row.Lot l) = None
+as_clock (row.Clock s) = Some s
+as_clock (row.Bind b) = None
+as_clock (row.Die d) = None
+as_clock (row.Fault f) = None
+as_clock (row.Stop s) = None
+as_clock (row.Bin b) = None
+
+abbrev pub as_bind : Row → Option BindRow
+as_bind (row.Lot l) = None
+as_bind (row.Clock s) = None
+as_bind (row.Bind b) = Some b
+as_bind (row.Die d) = None
+as_bind (row.Fault f) = None
+as_bind (row.Stop s) = None
+as_bind (row.Bin b) = None
+
+abbrev pub as_die : Row → Option DieRow
+as_die (row.Lot l) = None
+as_die (row.Clock s) = None
+as_die (row.Bind b) = None
+as_die (row.Die d) = Some d
+as_die (row.Fault f) = None
+as_die (row.Stop s) = None
+as_die (row.Bin b) = None
+
+abbrev pub as_fault : Row → Option FaultRow
+as_fault (row.Lot l) = None
+as_fault (row.Clock s) = None
+as_fault (row.Bind b) = None
+as_fault (row.Die d) = None
+as_fault (row.Fault f) = Some f
+as_fault (row.Stop s) = None
+as_fault (row.Bin b) = None
+
+abbrev pub as_stop : Row → Option StopRow
+as_stop (row.Lot l) = None
+as_stop (row.Clock s) = None
+as_stop (row.Bind b) = None
+as_stop (row.Die d) = None
+as_stop (row.Fault f) = None
+as_stop (row.Stop s) = Some s
+as_stop (row.Bin b) = None
+
+abbrev pub as_bin : Row → Option BinRow
+as_bin (row.Lot l) = None
+as_bin (row.Clock s) = None
+as_bin (row.Bind b) = None
+as_bin (row.Die d) = None
+as_bin (row.Fault f) = None
+as_bin (row.Stop s) = None
+as_bin (row.Bin b) = Some b
+
+-- the dies of a plan, in order; of a site; the faults of a die; the stops of a die
+abbrev pub dies_of : List Row → List DieRow
+dies_of rows = each_of as_die rows
+
+abbrev pub dies_at : ℕ → List Row → List DieRow
+dies_at site rows = filter (λ d. d.site == site) (dies_of rows)
+
+abbrev pub faults_at : ℕ → ℕ → List Row → List FaultRow
+faults_at site die rows = filter (λ f. (f.site == site) && (f.die == die)) (each_of as_fault rows)
+
+abbrev pub stops_at : ℕ → ℕ → List Row → List StopRow
+stops_at site die rows = filter (λ s. (s.site == site) && (s.die == die)) (each_of as_stop rows)
+
+-- how many sites there are: the greatest site plus 1, and none without a die
+abbrev pub sites_of : List Row → ℕ
+sites_of rows = fold (λ most d. max most (d.site + 1)) 0 (dies_of rows)
+
+-- a file behind those that were named, once
+abbrev pub with_file : List (List ℕ) → List ℕ → List (List ℕ)
+with_file files file = if list_any (bytes_eq file) files then files else files ++ file ∷ []
+
+-- the files of the dies in the order in which they are first named, each once
+abbrev pub files_of : List Row → List (List ℕ)
+files_of rows = fold (λ files d. with_file files d.file) [] (dies_of rows)
+
+-- the lot's own row: the first; zeros where there is none
+abbrev pub lot_of : List Row → LotRow
+lot_of rows = slice_index_or (each_of as_lot rows) 0 (record { batch = 0; tries = 0; keep = 0 })
+
+-- a lot's numbers are in their ranges
+pub record IsLot (l : LotRow) : Type 0 where
+  pub batch_some : 1 ≤ l.batch
+  pub batch : l.batch ≤ 1048576
+  pub tries_some : 1 ≤ l.tries
+  pub tries : l.tries ≤ 8
+  pub keep : l.keep ≤ 1024
+
+-- what accepted rows keep: the lot's row is there once, sites and dies are few, a fault and a stop are of a die that an
+-- earlier row gave, and no two faults of one die have one net
+pub record AreKept (rows : List Row) : Type 0 where
+  pub lots : length (each_of as_lot rows) ≡ 1
+  pub lot : IsLot (lot_of rows)
+  pub clocks : length (each_of as_clock rows) ≤ 1
+  pub sites : (k : ℕ) (d : DieRow) → k < length (dies_of rows) → (slice_index_or (dies_of rows) k d).site ≤ 63
+  pub dies : length (dies_of rows) ≤ 4096
+  pub few_kept : length (dies_of rows) * ((lot_of rows).tries * (lot_of rows).keep) ≤ 1048576
+  pub faults : (k : ℕ) (f : FaultRow) → k < length (each_of as_fault rows) → (slice_index_or (each_of as_fault rows) k f).die < length (dies_at (slice_index_or (each_of as_fault rows) k f).site rows)
+  pub stops : (k : ℕ) (s : StopRow) → k < length (each_of as_stop rows) → (slice_index_or (each_of as_stop rows) k s).die < length (dies_at (slice_index_or (each_of as_stop rows) k s).site rows)
+  pub one_fault : (site die k l : ℕ) (f g : FaultRow) → k < length (faults_at site die rows) → l < length (faults_at site die rows)
+      → (slice_index_or (faults_at site die rows) k f).net ≡ (slice_index_or (faults_at site die rows) l g).net → k ≡ l

@@ -1,0 +1,44 @@
+-- The code's values without where they lie in memory; no public clause cites them.
+use Rattle.std.specs.Prelude.{List, ℕ, Option, option_map, Result, Ok, Err}
+use Rattle.std.specs.Borrow.{Bor}
+use Rattle.plan_rows.specs.Forms.{Six, Written, a_lot, a_clock, a_bind, a_die, a_fault, a_stop, a_bin}
+use Rattle.plan_rows.specs.declared.row.Ending.{Ending}
+use Rattle.plan_rows.specs.declared.row.Ending.TheVariants.{Pass, Fail, Stopped, Contact}
+use Rattle.plan_rows.specs.declared.fault.PlanFault.{PlanFault}
+use Rattle.plan_rows.specs.declared.written as written
+use Rattle.plan_rows.specs.declared.written.Ended.TheVariants as ended
+use Rattle.plan_rows.specs.declared.written.Written.TheVariants as says
+
+-- six fields
+abbrev pub six_seen : written.Six.Six → Six
+six_seen r = record { kind = r.kind.now; one = r.one.now; two = r.two.now; three = r.three.now; four = r.four.now; five = r.five.now }
+
+-- an ending
+abbrev pub ending_seen : written.Ended.Ended → Ending
+ending_seen ended.Pass = Pass
+ending_seen (ended.Fail executive) = Fail executive
+ending_seen ended.Stopped = Stopped
+ending_seen ended.Contact = Contact
+
+-- a net that may be none
+abbrev pub net_seen : Option (Bor (List ℕ)) → Option (List ℕ)
+net_seen net = option_map (λ n. n.now) net
+
+-- a stuck net
+abbrev pub fault_seen : written.WrittenFault.WrittenFault → Written
+fault_seen f = a_fault f.site f.name.now f.net.now f.value f.tries
+
+-- what a record says
+abbrev pub written_seen : written.Written.Written → Written
+written_seen (says.Lot batch tries keep) = a_lot batch tries keep
+written_seen (says.Clock signal) = a_clock signal.now
+written_seen (says.Bind signal net) = a_bind signal.now (net_seen net)
+written_seen (says.Die site name file) = a_die site name.now file.now
+written_seen (says.Fault fault) = fault_seen fault
+written_seen (says.Stop site name number batch) = a_stop site name.now number batch
+written_seen (says.Bin ending number) = a_bin (ending_seen ending) number
+
+-- what a record says, or its fault
+abbrev pub placed_seen : Result written.Written.Written PlanFault → Result Written PlanFault
+placed_seen (Ok w) = Ok (written_seen w)
+placed_seen (Err e) = Err e
