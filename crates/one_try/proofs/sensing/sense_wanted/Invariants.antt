@@ -1,0 +1,12 @@
+use Rattle.std.proofs.Common.{◌≡◌, ◌≤◌, length}
+use Rattle.one_try.specs.Step.{AreLevels}
+use Rattle.one_try.proofs.sensing.sense_wanted.Given as goal
+
+abbrev pub invariant-loop-signal : goal.invariant-loop-signal
+invariant-loop-signal g l = record {
+  levels : AreLevels (g.K.Socket.told l.fn.socket) l.checker l.moment l.signal l.levels.items;
+  state : (g.K.Socket.told l.socket).state ≡ (g.K.Socket.told l.fn.socket).state;
+  loaded : (g.K.Socket.told l.socket).loaded ≡ (g.K.Socket.told l.fn.socket).loaded;
+  count : (g.K.Socket.told l.fn.socket).count ≤ (g.K.Socket.told l.socket).count;
+  room : length l.levels.items ≡ length l.fn.levels.items;
+}

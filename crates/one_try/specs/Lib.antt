@@ -1,0 +1,5 @@
+pub mod Places
+pub mod Drives
+pub mod Run
+pub mod Trials
+pub mod Step
