@@ -1,0 +1,14 @@
+pub mod PlanLemmas
+pub mod StoreLemmas
+pub mod NameLemmas
+pub mod GroupLemmas
+pub mod NetLemmas
+pub mod BindLemmas
+pub mod PinLemmas
+pub mod BuildLemmas
+pub mod WiredLemmas
+pub mod ApartLemmas
+pub mod RefusalLemmas
+pub mod ReadyLemmas
+pub mod SampleLemmas
+pub mod StandardFacts

@@ -1,0 +1,86 @@
+-- Names in sets, and rows by their kinds.
+use Rattle.std.proofs.Common.{◌≡◌, ℕ, suc, ◌+◌, ◌<◌, ◌≤◌, Bool, true, false, ◌||◌, cond, List, [], ◌∷◌, ◌++◌, length, drop, get_or, refl, sym, ap, ◌∙◌, subst, arith, inl, inr}
+use Rattle.std.specs.Prelude.{All}
+use Rattle.std.specs.Borrow.{Bor}
+use Rattle.std.specs.List.{list_any}
+use Rattle.std.specs.Str.{bytes_eq}
+use Rattle.std.specs.Cmp.Lexicographic.{bytes_decides}
+use Rattle.std.proofs.Math.Seq.{drop-cons}
+use Rattle.std.proofs.lemmas.Bool.{cases_Bool}
+use Rattle.std.proofs.lemmas.List.{get_or-map, length-map}
+use Rattle.std.proofs.lemmas.List.Folds.{list_any-append}
+use Rattle.page_code.specs.declared.parts.CodeSignal.{CodeSignal}
+use Rattle.plan_rows.specs.declared.row.DieRow.{DieRow}
+use Rattle.plan_rows.specs.Rows.{with_file}
+use Rattle.lot_plan.specs.Ask.{has_name}
+use Rattle.lot_plan.specs.Views.{behind}
+
+-- a name that isn't there goes behind the others
+pub with_file-new : (files made : List (List ℕ)) (name : List ℕ) → false ≡ list_any (bytes_eq name) files →
+    made ≡ files ++ name ∷ [] →
+    made ≡ with_file files name
+with_file-new files made name fresh is = is ∙ ap (λ b. cond b files (files ++ name ∷ [])) fresh
+
+or_false : (b : Bool) → (b || false) ≡ b
+or_false true = refl
+or_false false = refl
+
+or_same : (a b : Bool) → (b ≡ true → a ≡ true) → a ≡ (a || b)
+or_same true b h = refl
+or_same false true h = h refl
+or_same false false h = refl
+
+-- the names that are there after one more
+pub any-with_file : (files : List (List ℕ)) (file name : List ℕ) →
+    list_any (bytes_eq name) (with_file files file) ≡ (list_any (bytes_eq name) files || bytes_eq name file)
+any-with_file files file name =
+    elim (cases_Bool (list_any (bytes_eq file) files)) [
+      | inl e ↦ ap (λ b. list_any (bytes_eq name) (cond b files (files ++ file ∷ []))) e
+          ∙ or_same (list_any (bytes_eq name) files) (bytes_eq name file)
+          (λ same. ap (λ (n : List ℕ). list_any (bytes_eq n) files) ((bytes_decides name file).0 same) ∙ e)
+      | inr e ↦ ap (λ b. list_any (bytes_eq name) (cond b files (files ++ file ∷ []))) e
+          ∙ list_any-append (bytes_eq name) files (file ∷ [])
+          ∙ ap (λ b. list_any (bytes_eq name) files || b) (or_false (bytes_eq name file))
+    ]
+
+or_assoc : (a b c : Bool) → ((a || b) || c) ≡ (a || (b || c))
+or_assoc true b c = refl
+or_assoc false b c = refl
+
+suc-plus : (i : ℕ) → suc i ≡ i + 1
+suc-plus i = omega arith
+
+-- what is left begins with the item at hand
+pub drop-item : {X : Type 0} (items : List X) (i : ℕ) (item : X) → i < length items → item ≡ get_or items i item →
+    drop i items ≡ item ∷ drop (i + 1) items
+drop-item items i item within is =
+    drop-cons items i item within ∙ ap (λ x. x ∷ drop (suc i) items) (sym is) ∙ ap (λ j. item ∷ drop j items) (suc-plus i)
+
+-- the name of one more signal
+pub any-signal : (files made : List (List ℕ)) (signals : List CodeSignal) (i : ℕ) (signal : CodeSignal) (file name : List ℕ)
+    (all : Bool) →
+    i < length signals → signal ≡ get_or signals i signal → made ≡ with_file files file → file ≡ signal.name →
+    (list_any (bytes_eq name) files || list_any (has_name name) (drop i signals)) ≡ all →
+    (list_any (bytes_eq name) made || list_any (has_name name) (drop (i + 1) signals)) ≡ all
+any-signal files made signals i signal file name all within is put own before =
+    ap (λ m. list_any (bytes_eq name) m || list_any (has_name name) (drop (i + 1) signals)) put
+    ∙ ap (λ b. b || list_any (has_name name) (drop (i + 1) signals)) (any-with_file files file name)
+    ∙ or_assoc (list_any (bytes_eq name) files) (bytes_eq name file) (list_any (has_name name) (drop (i + 1) signals))
+    ∙ ap (λ f. list_any (bytes_eq name) files || (bytes_eq name f || list_any (has_name name) (drop (i + 1) signals))) own
+    ∙ ap (λ rest. list_any (bytes_eq name) files || list_any (has_name name) rest) (sym (drop-item signals i signal within is))
+    ∙ before
+
+-- what holds of each of what references point to holds of the one at hand
+pub each-behind : {X : Type 0} (P : X → Type 0) (items : List (Bor X)) (i : ℕ) (item : Bor X) → All P (behind items) →
+    i < length items →
+    item ≡ get_or items i item → P item.now
+each-behind P items i item all within is =
+    let at : get_or (behind items) i item.now ≡ item.now = get_or-map (λ b. b.now) items i item item.now within
+    ∙ ap (λ b. b.now) (sym is) in
+    subst P at (all i item.now (rw length-map within))
+
+-- the site at hand is small, where all are
+pub site-within : (dies : List (Bor DieRow)) (i : ℕ) (die : Bor DieRow) → All (λ d. d.site ≤ 63) (behind dies) →
+    i < length dies →
+    die ≡ get_or dies i die → die.now.site ≤ 63
+site-within dies i die all within is = each-behind (λ (d : DieRow). d.site ≤ 63) dies i die all within is

@@ -1,0 +1,11 @@
+use Rattle.std.proofs.Common.{◌≡◌, ◌+◌, ◌≤◌, drop, max}
+use Rattle.std.specs.Prelude.{fold}
+use Rattle.lot_plan.specs.Views.{behind}
+use Rattle.lot_plan.proofs.rows.sites_of.Given as goal
+
+abbrev pub invariant-loop-die : goal.invariant-loop-die
+invariant-loop-die l = record {
+  few : l.sites ≤ 64;
+  all : fold (λ most d. max most (d.site + 1)) l.sites (behind (drop l.die-index l.dies)) ≡ fold
+      (λ most d. max most (d.site + 1)) 0 (behind l.dies);
+}

@@ -1,0 +1,10 @@
+pub mod Ask
+pub mod Binds
+pub mod Bound
+pub mod Building
+pub mod Groups
+pub mod Readings
+pub mod Refusal
+pub mod Sample
+pub mod Stored
+pub mod Views

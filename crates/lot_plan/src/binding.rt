@@ -1,0 +1,131 @@
+//! A plan bound to a program and netlists, or the first refusal.
+ghost use Rattle.std.specs.Prelude.{◌≡◌, ◌⊎◌, ◌<◌, ◌≤◌, ◌^◌, ℕ, List, None, Some, map, length, All, IfOk, IfErr, OnOk};
+ghost use Rattle.std.specs.List.{list_any};
+ghost use Rattle.std.specs.Option.{option_map};
+ghost use Rattle.std.specs.Str.{bytes_eq};
+ghost use Rattle.bench_net.specs.Views.{texts};
+ghost use Rattle.std.specs.Arc.{arc_value};
+ghost use Rattle.bench_net.specs.Circuit.{IsWhole};
+ghost use Rattle.plan_rows.specs.declared.fault.PlanFault.TheVariants as refused;
+ghost use Rattle.plan_rows.specs.Rows.{AreKept, sites_of, files_of};
+ghost use Rattle.lot_plan.specs.Ask.{clock_of, wishes_of};
+ghost use Rattle.lot_plan.specs.Bound.{circuit_of};
+ghost use Rattle.lot_plan.specs.Groups.{AreGroups};
+ghost use Rattle.lot_plan.specs.Refusal.{is_signal, rows_refusal, first_unbound, AreBindings, refusal, IsBound};
+ghost use Rattle.lot_plan.specs.Stored.{IsMade};
+
+use crate::bindings::bindings_of;
+use crate::bound_die::BoundDie;
+use crate::groups::{SiteGroup, groups_of};
+use crate::names::{files_of, signal_names};
+use crate::pins::{clock_number, pins_of};
+use crate::rows::{dies_of, lot_of};
+use crate::{building, refusal};
+use bench_net::Netlist;
+use die_sim::Binding;
+use indexmap::IndexSet;
+use page_code::CodeSignal;
+use plan_rows::{PlanFault, Row};
+use std::alloc::Global;
+use std::sync::Arc;
+use tester_types::{Items, NoMemory};
+
+/// The bindings to the netlists, and the dies by sites.
+#[derive(Drop)]
+pub(crate) struct Made {
+    pub(crate) bindings: Items<Arc<Binding>>,
+    pub(crate) dies: Items<Items<BoundDie>>,
+}
+
+/// The rows of all dies, by sites.
+fn groups_by_sites(alloc: Global, rows: &[Row], sites: u8) -> Result<Vec<SiteGroup<'_>>, NoMemory>
+    requires kept { AreKept rows.now }
+    requires sites { sites ≡ sites_of rows.now }
+    ensures { IfOk result (λ groups. AreGroups rows.now groups.items) }
+{
+    let dies = dies_of(alloc, rows)?;
+    let files = files_of(alloc, &dies)?;
+    Ok(groups_of(alloc, rows, &dies, sites, &files)?)
+}
+
+/// Refuses the first row that isn't accepted.
+fn check_rows(
+    alloc: Global,
+    rows: &[Row],
+    signals: &[CodeSignal],
+    execs: u16,
+    groups: &[SiteGroup<'_>],
+    nets: &[Arc<Netlist>],
+) -> Result<(), PlanFault>
+    requires kept { AreKept rows.now }
+    requires few { length rows.now < 2 ^ 32 }
+    requires groups { AreGroups rows.now groups.now }
+    ensures accepted { OnOk result (rows_refusal (is_signal signals.now) execs
+        (circuit_of (record { rows = rows.now; signals = signals.now; execs = execs; circuits = map arc_value nets.now })) 1
+        rows.now ≡ None) }
+    ensures fault { IfErr result (λ e. (e ≡ refused.NoMemory) ⊎ (rows_refusal (is_signal signals.now) execs
+        (circuit_of (record { rows = rows.now; signals = signals.now; execs = execs; circuits = map arc_value nets.now })) 1
+        rows.now ≡ Some e)) }
+{
+    let names = names_of(alloc, signals)?;
+    match refusal::rows_refusal(&names, execs, groups, nets, rows) {
+        Some(fault) => Err(fault),
+        None => Ok(()),
+    }
+}
+
+/// The names of signals.
+fn names_of(alloc: Global, signals: &[CodeSignal]) -> Result<IndexSet<&[u8]>, NoMemory>
+    ensures { IfOk result (λ names. (name : List ℕ) →
+        list_any (bytes_eq name) (texts names.keys) ≡ is_signal signals.now name) }
+{
+    Ok(signal_names(alloc, signals)?)
+}
+
+/// The bindings of the signals to the netlists, or the refusal of the first that has no net.
+fn bind_signals(
+    alloc: Global,
+    rows: &[Row],
+    signals: &[CodeSignal],
+    nets: &[Arc<Netlist>],
+) -> Result<Vec<Arc<Binding>>, PlanFault>
+    requires { length signals.now ≤ 1024 }
+    ensures found { IfOk result (λ bindings. AreBindings (map arc_value nets.now) (wishes_of rows.now signals.now)
+        (clock_of rows.now signals.now) (map arc_value bindings.items)) }
+    ensures fault { IfErr result (λ e. (e ≡ refused.NoMemory)
+        ⊎ (option_map refused.Unbound (first_unbound (wishes_of rows.now signals.now) (map arc_value nets.now)) ≡ Some e)) }
+{
+    let pins = pins_of(alloc, rows, signals)?;
+    bindings_of(alloc, nets, &pins, clock_number(rows, signals))
+}
+
+/// What a bound plan stores beside its rows, or the first refusal.
+pub(crate) fn made_of(
+    alloc: Global,
+    rows: &[Row],
+    sites: u8,
+    signals: &[CodeSignal],
+    execs: u16,
+    nets: &[Arc<Netlist>],
+) -> Result<Made, PlanFault>
+    requires kept { AreKept rows.now }
+    requires few { length rows.now < 2 ^ 32 }
+    requires sites { sites ≡ sites_of rows.now }
+    requires signals { length signals.now ≤ 1024 }
+    requires files { length nets.now ≡ length (files_of rows.now) }
+    ensures found { IfOk result
+        (λ made. IsMade (record { rows = rows.now; signals = signals.now; execs = execs; circuits = map arc_value nets.now })
+        (map arc_value made.bindings) made.dies) }
+    ensures fault { IfErr result (λ e. (e ≡ refused.NoMemory)
+        ⊎ (refusal (record { rows = rows.now; signals = signals.now; execs = execs; circuits = map arc_value nets.now })
+        ≡ Some e)) }
+{
+    let groups = groups_by_sites(alloc, rows, sites)?;
+    check_rows(alloc, rows, signals, execs, &groups, nets)?;
+    let bindings = bind_signals(alloc, rows, signals, nets)?;
+    let dies = building::dies_of(alloc, &groups, nets, &bindings, lot_of(rows).tries)?;
+    Ok(Made {
+        bindings: Items::from_vec(bindings),
+        dies,
+    })
+}
