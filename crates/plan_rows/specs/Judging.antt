@@ -124,9 +124,11 @@ once place before x = if says_again before x then Err (Twice place) else Ok x
 abbrev pub row_at : ℕ → List Row → List (List ℕ) → Result Row PlanFault
 row_at place before fields = and_then (placed place before (written_of fields)) (row_of place before)
 
+-- the row of a record at its place after these rows, or its refusal
 abbrev pub judge_at : ℕ → List Row → List (List ℕ) → Result Row PlanFault
 judge_at place before fields = and_then (row_at place before fields) (once place before)
 
+-- the row of the record behind these rows, or its refusal
 abbrev pub judge : List Row → List (List ℕ) → Result Row PlanFault
 judge before fields = judge_at (length before + 1) before fields
 

@@ -31,6 +31,7 @@ as_lot (row.Fault f) = None
 as_lot (row.Stop s) = None
 as_lot (row.Bin b) = None
 
+-- the signal of a row of the clock
 abbrev pub as_clock : Row → Option (List ℕ)
 as_clock (row.Lot l) = None
 as_clock (row.Clock s) = Some s

@@ -47,11 +47,13 @@ open_in signal extent =
     if is_window extent.look && list_all (meets signal extent.look) extent.inside
     then Some extent.look else None
 
+-- the window that is open at the end of the last of these extents
 abbrev pub last_open : ℕ → List Extent → Option Look
 last_open signal [] = None
 last_open signal (extent ∷ []) = open_in signal extent
 last_open signal (extent ∷ next ∷ later) = last_open signal (next ∷ later)
 
+-- the window of a signal that is open after these entries
 unfoldable pub open_window : ℕ → List Entry → Option Look
 open_window signal entries = last_open signal (extents signal (enumerate_from 0 entries))
 

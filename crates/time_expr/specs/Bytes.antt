@@ -1,12 +1,15 @@
 -- The bytes of an expression by what they may be part of, in ASCII.
 use Rattle.std.specs.Prelude.{ℕ, Bool, false, ◌==◌, nat_le, not, ◌&&◌, ◌||◌, List, [], ◌∷◌}
 
+-- the mark round a name
 abbrev pub double_quote : ℕ
 double_quote = 34
 
+-- the mark before a group of terms
 abbrev pub open_paren : ℕ
 open_paren = 40
 
+-- the mark before the digits of a fraction
 abbrev pub point : ℕ
 point = 46
 
