@@ -11,3 +11,4 @@ pub mod Readings
 pub mod Loop
 pub mod Slowly
 pub mod SlowlyBack
+pub mod SlowFaults

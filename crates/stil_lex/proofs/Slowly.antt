@@ -5,7 +5,7 @@ use Rattle.std.specs.List.{list_all, list_any, position_or_len}
 use Rattle.std.proofs.lemmas.Bool.{and_parts, and_cases, or_cases, or_parts, eqb-true, false≢true, ltb-true, not-true, lt-ltb, and_from}
 use Rattle.std.proofs.lemmas.List.{take_at, drop_at, take-append-drop, nil_from_length, length-take-le}
 use Rattle.stil_lex.specs.Bytes.{line_feed, double_quote, single_quote, slash, star, open_brace, close_brace, is_word, is_printing, may_be_quoted, begins_with, starts_pair}
-use Rattle.stil_lex.specs.Pieces.{ann, IsClosed, IsGap, IsGap.blank, IsGap.line_comment, IsGap.comment, IsGap.annotation, IsWord, IsQuoted, IsSign}
+use Rattle.stil_lex.specs.Pieces.{ann, OpensAnnotation, IsClosed, IsGap, IsGap.blank, IsGap.line_comment, IsGap.comment, IsGap.annotation, IsWord, IsQuoted, IsSign}
 use Rattle.stil_lex.specs.Tokens.{line_behind}
 use Rattle.stil_lex.specs.Step.{pair_place, is_ann, mark_len, kept}
 use Rattle.stil_lex.specs.declared.token.Token.{Token}
@@ -35,6 +35,14 @@ closed_is first second text h =
       | inr n ↦ absurd (omega (arith, width, n.1))
     ]
 
+-- a byte that has no place in a text stands nowhere in it
+pub list_any-no_place : (byte : ℕ) (text : List ℕ) → position_or_len (λ b. b == byte) text ≡ length text → list_any (λ b. b == byte) text ≡ false
+list_any-no_place byte text e =
+    elim (quote_cases byte text) [
+      | inl f ↦ absurd (omega (arith, e, f.place, ap length f.spelled ∙ length-append f.body (byte ∷ f.after)))
+      | inr n ↦ n.0
+    ]
+
 -- a comment up to the line's end
 pub line_is : (text after : List ℕ) → line_test text after ≡ true → IsGap text after
 unfolding line_test
@@ -48,17 +56,10 @@ line_is text after h =
       spelled = found.1;
       one_line =
           (or_parts (slash == line_feed || slash == line_feed) (list_any (λ b. b == line_feed) found.0)
-          (ap (list_any (λ b. b == line_feed)) (sym found.1) ∙ none_before text (eqb-true place (length text) front.1))).1;
+          (ap (list_any (λ b. b == line_feed)) (sym found.1) ∙ list_any-no_place line_feed text (eqb-true place (length text) front.1))).1;
       ends = ends after parts.1;
     }
   where
-    none_before : (xs : List ℕ) → position_or_len (λ b. b == line_feed) xs ≡ length xs → list_any (λ b. b == line_feed) xs ≡ false
-    none_before xs e =
-        elim (quote_cases line_feed xs) [
-          | inl f ↦ absurd (omega (arith, e, f.place, ap length f.spelled ∙ length-append f.body (line_feed ∷ f.after)))
-          | inr n ↦ n.0
-        ]
-
     ends : (ys : List ℕ) → ends_or_begins line_feed ys ≡ true → (ys ≡ []) ⊎ (begins_with (λ b. b == line_feed) ys ≡ true)
     ends [] e = inl refl
     ends (b ∷ ys) e = inr e
@@ -80,6 +81,13 @@ opened_is (x ∷ y ∷ z ∷ behind) h =
     let parts = and_parts (is_ann (x ∷ y ∷ z ∷ [])) (nat_lt 0 (mark_len behind)) h in
     (ap (λ ys. ys ++ behind) (is_ann_is (x ∷ y ∷ z ∷ []) parts.0), ltb-true 0 (mark_len behind) parts.1)
 
+-- what stands behind the opening of an annotation
+pub drop-mark_len : (behind : List ℕ) (o : OpensAnnotation behind) → drop (mark_len behind) behind ≡ o.rest
+drop-mark_len behind o =
+    let mark = o.blanks ++ open_brace ∷ star ∷ [] in
+    let long : length mark ≡ mark_len behind = length-append o.blanks (open_brace ∷ star ∷ []) ∙ sym (mark_len-opens behind o) in
+    ap (drop (mark_len behind)) (o.spelled ∙ sym (append_assoc o.blanks (open_brace ∷ star ∷ []) o.rest)) ∙ drop_at mark o.rest (mark_len behind) long
+
 -- an annotation
 pub annotation_is : (text after : List ℕ) → annotation_test text ≡ true → IsGap text after
 unfolding annotation_test
@@ -88,15 +96,11 @@ annotation_is text after h =
     let parts = and_parts (opened_test text) (closed_test star close_brace (drop (mark_len behind) behind)) h in
     let front = opened_is text parts.0 in
     let o = opened_from_mark behind front.1 in
-    let mark = o.opens.blanks ++ open_brace ∷ star ∷ [] in
-    let long : length mark ≡ mark_len behind = length-append o.opens.blanks (open_brace ∷ star ∷ []) ∙ sym o.len in
-    let rest : drop (mark_len behind) behind ≡ o.opens.rest =
-    ap (drop (mark_len behind)) (o.opens.spelled ∙ sym (append_assoc o.opens.blanks (open_brace ∷ star ∷ []) o.opens.rest)) ∙ drop_at mark o.opens.rest (mark_len behind) long in
     annotation record {
       behind = behind;
       spelled = front.0;
       opens = o.opens;
-      closed = closed_is star close_brace o.opens.rest (ap (closed_test star close_brace) (sym rest) ∙ parts.1);
+      closed = closed_is star close_brace o.opens.rest (ap (closed_test star close_brace) (sym (drop-mark_len behind o.opens)) ∙ parts.1);
     }
 
 -- a gap

@@ -1,10 +1,10 @@
 -- Each piece passes the tests of the plain slow lexer, so that where it finds none there is none.
-use Rattle.std.proofs.Common.{◌≡◌, ℕ, ◌+◌, ◌<◌, true, false, ◌&&◌, ◌||◌, not, Option, Some, None, List, [], ◌∷◌, ◌++◌, length, take, drop, refl, sym, ap, subst, ◌∙◌, inl, inr, ◌⊎◌, arith, append_assoc, eq-eqb, length-append, Result, Ok, Err}
+use Rattle.std.proofs.Common.{◌≡◌, ℕ, ◌+◌, ◌<◌, true, false, ◌&&◌, ◌||◌, not, Option, Some, None, List, [], ◌∷◌, ◌++◌, length, take, drop, refl, sym, ap, subst, ◌∙◌, inl, inr, ◌⊎◌, arith, eq-eqb, length-append, Result, Ok, Err}
 use Rattle.std.specs.Prelude.{◌==◌, nat_lt}
 use Rattle.std.specs.List.{list_all, list_any, position_or_len}
 use Rattle.std.proofs.lemmas.Bool.{and_parts, and_from, or_from, false≢true, eqb-true, or_left, or_right, lt-ltb, ltb-true, cases_Bool, cases_order, not_from_false, and_left, and_right}
 use Rattle.std.proofs.lemmas.List.{take_at, drop_at, take-append-drop, append-nil, length-drop}
-use Rattle.stil_lex.specs.Bytes.{line_feed, double_quote, single_quote, slash, star, open_brace, close_brace, is_word, is_printing, may_be_quoted, begins_with, starts_pair}
+use Rattle.stil_lex.specs.Bytes.{line_feed, double_quote, single_quote, slash, star, close_brace, is_word, is_printing, may_be_quoted, begins_with, starts_pair}
 use Rattle.stil_lex.specs.Pieces.{spelling, IsPiece, IsBlank, IsLineComment, IsComment, IsAnnotation, IsClosed, IsGap, IsGap.blank, IsGap.line_comment, IsGap.comment, IsGap.annotation, IsWord, IsQuoted, IsSign, IsToken}
 use Rattle.stil_lex.specs.Tokens.{spelled, Reads}
 use Rattle.stil_lex.specs.Step.{pair_place, is_ann, mark_len, front_of}
@@ -17,6 +17,7 @@ use Rattle.stil_lex.specs.Slow.{blank_test, closed_test, ends_or_begins, line_te
 use Rattle.stil_lex.proofs.Pairs.{pair_place-closed}
 use Rattle.stil_lex.proofs.Words.{is_ann_is, opened_from_mark, mark_len-opens}
 use Rattle.stil_lex.proofs.Pieces.{position-quote, position-none}
+use Rattle.stil_lex.proofs.Slowly.{drop-mark_len}
 use Rattle.stil_lex.proofs.Found.{IsFront, IsSo, piece_of}
 use Rattle.stil_lex.proofs.Fronts.{front_is_so}
 use Rattle.stil_lex.proofs.Readings.{Stops, one_reading, piece_not_empty}
@@ -62,15 +63,11 @@ pub annotation_test-is : (text : List ℕ) → IsAnnotation text → annotation_
 unfolding annotation_test
 annotation_test-is text a =
     let o = a.opens in
-    let mark = o.blanks ++ open_brace ∷ star ∷ [] in
     let len = mark_len-opens a.behind o in
-    let long : length mark ≡ mark_len a.behind = length-append o.blanks (open_brace ∷ star ∷ []) ∙ sym len in
-    let rest : drop (mark_len a.behind) a.behind ≡ o.rest =
-    ap (drop (mark_len a.behind)) (o.spelled ∙ sym (append_assoc o.blanks (open_brace ∷ star ∷ []) o.rest)) ∙ drop_at mark o.rest (mark_len a.behind) long in
     let opened : opened_test text ≡ true = ap opened_test a.spelled ∙ lt-ltb 0 (mark_len a.behind) (omega (arith, len)) in
     let behind : drop 3 text ≡ a.behind = ap (drop 3) a.spelled in
     and_from (opened_test text) (closed_test star close_brace (drop (mark_len (drop 3 text)) (drop 3 text))) opened
-    (ap (λ ys. closed_test star close_brace (drop (mark_len ys) ys)) behind ∙ (ap (closed_test star close_brace) rest ∙ closed_test-is star close_brace o.rest a.closed))
+    (ap (λ ys. closed_test star close_brace (drop (mark_len ys) ys)) behind ∙ (ap (closed_test star close_brace) (drop-mark_len a.behind o) ∙ closed_test-is star close_brace o.rest a.closed))
 
 -- a gap passes
 pub gap_test-is : (text after : List ℕ) → IsGap text after → gap_test text after ≡ true

@@ -13,16 +13,19 @@ double_quote = 34
 abbrev pub single_quote : ℕ
 single_quote = 39
 
--- the bytes of which the marks of comments and annotations are made
+-- what stands in `//`, `/*` and `*/`, the marks of comments
 abbrev pub slash : ℕ
 slash = 47
 
+-- what stands in `/*` and `*/`, and in the marks of annotations
 abbrev pub star : ℕ
 star = 42
 
+-- what stands in `{*`, the mark that opens an annotation
 abbrev pub open_brace : ℕ
 open_brace = 123
 
+-- what stands in `*}`, the mark that closes an annotation
 abbrev pub close_brace : ℕ
 close_brace = 125
 

@@ -5,3 +5,4 @@ pub mod Faults
 pub mod Text
 pub mod Step
 pub mod Slow
+pub mod SlowFaults

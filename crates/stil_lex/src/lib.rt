@@ -18,4 +18,6 @@ pub use token::{Token, TokenKind};
 #[cfg(test)]
 mod slow;
 #[cfg(test)]
+mod slow_faults;
+#[cfg(test)]
 mod tests;

@@ -63,7 +63,7 @@ fn is_comment(text: &[u8]) -> bool
     starts_pair(text, b'/', b'*') && is_closed(&text[2..], b'*', b'/')
 }
 
-fn opens_annotation(text: &[u8]) -> bool
+pub(crate) fn opens_annotation(text: &[u8]) -> bool
     requires { length text.now ≤ 16777216 }
     ensures test { result ≡ opened_test text.now }
     ensures long { IsTrue result → 3 ≤ length text.now }
@@ -197,7 +197,7 @@ fn token_kind(text: &[u8], after: &[u8]) -> Option<TokenKind>
 }
 
 /// The first gap or token at the front of a text, or none where no gap and no token stands there.
-fn first(text: &[u8]) -> Option<Front>
+pub(crate) fn first(text: &[u8]) -> Option<Front>
     requires { length text.now ≤ 16777216 }
     ensures some { IfSome result (λ f. Begins f.kind f.len text.now) }
     ensures none { IfNone result ((kind : Option TokenKind) (len : ℕ) → Begins kind len text.now → ⊥) }
