@@ -21,6 +21,7 @@ fn is_stray(text: &[u8]) -> bool
     }
 }
 
+/// Whether the byte is a quote.
 fn is_quote(byte: u8) -> bool
     ensures { result ≡ is_quote byte }
 {

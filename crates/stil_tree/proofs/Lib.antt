@@ -12,3 +12,4 @@ pub mod Cuts
 pub mod SlowlyBack
 pub mod Slowly
 pub mod SlowBlocks
+pub mod SlowFaults

@@ -6,3 +6,4 @@ pub mod Blocks
 pub mod Step
 pub mod Memory
 pub mod Slow
+pub mod SlowFaults

@@ -8,10 +8,11 @@ use Rattle.stil_lex.specs.declared.token.TokenKind.TheVariants.{Word, Name, Text
 abbrev pub semicolon : ℕ
 semicolon = 59
 
--- what opens a block, and what closes one
+-- what opens a block
 abbrev pub open_brace : ℕ
 open_brace = 123
 
+-- what closes a block
 abbrev pub close_brace : ℕ
 close_brace = 125
 

@@ -17,4 +17,6 @@ pub use stmt::{Stmt, StmtList};
 #[cfg(test)]
 mod slow;
 #[cfg(test)]
+mod slow_faults;
+#[cfg(test)]
 mod tests;

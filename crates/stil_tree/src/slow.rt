@@ -18,7 +18,7 @@ use crate::stmt::{Stmt, StmtList};
 use std::alloc::{AllocError, Global};
 use stil_lex::Token;
 
-fn is_mark(token: &Token) -> bool
+pub(crate) fn is_mark(token: &Token) -> bool
     ensures { result ≡ is_mark token.now }
 {
     is_sign(token, b';') || is_sign(token, b'{') || is_sign(token, b'}')
@@ -169,9 +169,10 @@ pub(crate) fn slow_forest(alloc: Global, tokens: &[Token]) -> Result<Option<Stmt
 }
 
 /// How many braces are open behind the tokens.
-fn open_braces(tokens: &[Token]) -> usize
+pub(crate) fn open_braces(tokens: &[Token]) -> usize
     requires { length tokens.now ≤ 16777216 }
-    ensures { result ≡ open_braces tokens.now }
+    ensures count { result ≡ open_braces tokens.now }
+    ensures few { result ≤ length tokens.now }
 {
     let mut open = 0usize;
     for token in tokens {

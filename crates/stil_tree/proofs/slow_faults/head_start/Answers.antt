@@ -1,0 +1,10 @@
+use Rattle.std.proofs.Common.{sym, ◌∙◌, arith}
+use Rattle.std.proofs.lemmas.List.{take_rest}
+use Rattle.stil_tree.proofs.SlowFaults.{head_start-more}
+use Rattle.stil_tree.proofs.slow_faults.head_start.Goals as goal
+
+pub loop-start-preserved : goal.loop-start-preserved
+loop-start-preserved c =
+    let marked = rw take_rest at (sym c.has_mark.ensures ∙ c.if-not-has_mark.false) in
+    let more = head_start-more c.args.tokens.now c.loop-start.start marked in
+    omega (arith, more, c.loop-start.invariant)

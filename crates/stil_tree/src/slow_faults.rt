@@ -1,0 +1,122 @@
+//! The fault of tokens by its definition, plainly and slowly: at each token from the left, and at the end, all that stands
+//! before it is looked at anew.
+
+ghost use Rattle.std.specs.Prelude.{◌≡◌, ◌≤◌, ◌<◌, length, IfSome, IfNone};
+ghost use Rattle.std.specs.List.{list_any};
+ghost use Rattle.stil_tree.specs.Marks.{is_mark};
+ghost use Rattle.stil_tree.specs.Blocks.{open_braces};
+ghost use Rattle.stil_tree.specs.Faults.{IsFault};
+ghost use Rattle.stil_tree.specs.SlowFaults.{head_start, opens_at, last_opening, unfinished, refusal_at_close, refusal_at, refusal_at_end};
+ghost use Rattle.stil_tree.specs.declared.fault.TreeFault.{TreeFault};
+
+use crate::builder::is_sign;
+use crate::fault::TreeFault;
+use crate::slow::{is_mark, open_braces};
+use stil_lex::Token;
+
+/// Whether a mark stands among the tokens.
+fn has_mark(tokens: &[Token]) -> bool
+    ensures { result ≡ list_any is_mark tokens.now }
+{
+    tokens.iter().any(|t| is_mark(t))
+}
+
+/// Where the head begins that is not finished behind the tokens: the first index from which on no mark stands.
+fn head_start(tokens: &[Token]) -> usize
+    ensures { result ≡ head_start tokens.now }
+{
+    for start in 0..tokens.len() {
+        if !has_mark(&tokens[start..]) {
+            return start;
+        }
+    }
+    tokens.len()
+}
+
+/// Whether the token at the index is a `{` with which so many braces are open.
+fn opens_at(tokens: &[Token], index: usize, braces: usize) -> bool
+    requires small { length tokens.now ≤ 16777216 }
+    requires within { index < length tokens.now }
+    ensures { result ≡ opens_at braces tokens.now index }
+{
+    is_sign(&tokens[index], b'{') && open_braces(&tokens[..index]) + 1 == braces
+}
+
+/// The last `{` with which so many braces are open.
+fn last_opening(tokens: &[Token], braces: usize) -> usize
+    requires { length tokens.now ≤ 16777216 }
+    ensures { result ≡ last_opening braces tokens.now (length tokens.now) }
+{
+    let mut place = 0;
+    for index in 0..tokens.len() {
+        if opens_at(tokens, index, braces) {
+            place = index;
+        }
+    }
+    place
+}
+
+/// The refusal of a head that is not finished where it must be.
+fn unfinished(tokens: &[Token]) -> Option<TreeFault>
+    ensures { result ≡ unfinished tokens.now }
+{
+    let start = head_start(tokens);
+    if start < tokens.len() {
+        Some(TreeFault::OpenStatement(start))
+    } else {
+        None
+    }
+}
+
+/// The refusal of a `}` behind the tokens.
+fn refusal_at_close(front: &[Token]) -> Option<TreeFault>
+    requires { length front.now ≤ 16777216 }
+    ensures { result ≡ refusal_at_close front.now }
+{
+    if open_braces(front) == 0 {
+        Some(TreeFault::StrayClose(front.len()))
+    } else {
+        unfinished(front)
+    }
+}
+
+/// The refusal of a token behind others.
+fn refusal_at(front: &[Token], token: &Token) -> Option<TreeFault>
+    requires { length front.now ≤ 16777216 }
+    ensures { result ≡ refusal_at front.now token.now }
+{
+    if is_sign(token, b'{') && open_braces(front) == 16 {
+        Some(TreeFault::TooDeep(front.len()))
+    } else if is_sign(token, b'}') {
+        refusal_at_close(front)
+    } else {
+        None
+    }
+}
+
+/// The refusal of the end of the tokens.
+fn refusal_at_end(tokens: &[Token]) -> Option<TreeFault>
+    requires { length tokens.now ≤ 16777216 }
+    ensures { result ≡ refusal_at_end tokens.now }
+{
+    let open = open_braces(tokens);
+    if 0 < open {
+        Some(TreeFault::OpenBlock(last_opening(tokens, open)))
+    } else {
+        unfinished(tokens)
+    }
+}
+
+/// The fault of the tokens, or none where they have none.
+pub(crate) fn slow_tree_fault(tokens: &[Token]) -> Option<TreeFault>
+    requires { length tokens.now ≤ 16777216 }
+    ensures some { IfSome result (λ fault. IsFault tokens.now fault) }
+    ensures none { IfNone result ((fault : TreeFault) → IsFault tokens.now fault → ⊥) }
+{
+    for at in 0..tokens.len() {
+        if let Some(fault) = refusal_at(&tokens[..at], &tokens[at]) {
+            return Some(fault);
+        }
+    }
+    refusal_at_end(tokens)
+}
