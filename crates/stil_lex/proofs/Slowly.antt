@@ -36,7 +36,8 @@ closed_is first second text h =
     ]
 
 -- a byte that has no place in a text stands nowhere in it
-pub list_any-no_place : (byte : ℕ) (text : List ℕ) → position_or_len (λ b. b == byte) text ≡ length text → list_any (λ b. b == byte) text ≡ false
+pub list_any-no_place : (byte : ℕ) (text : List ℕ) → position_or_len (λ b. b == byte) text ≡ length text
+    → list_any (λ b. b == byte) text ≡ false
 list_any-no_place byte text e =
     elim (quote_cases byte text) [
       | inl f ↦ absurd (omega (arith, e, f.place, ap length f.spelled ∙ length-append f.body (byte ∷ f.after)))

@@ -127,6 +127,23 @@ fn the_slow_programs_agree_on_every_prefix(rt: HostRuntime) -> Result<(), Fail> 
 }
 
 #[test]
+fn the_worked_texts_agree(rt: HostRuntime) -> Result<(), Fail> {
+    let text =
+        b"STIL 1.0;\nSignals { A In; Y Out; }\nTiming { WaveformTable w { Period '100ns'; Waveforms {\nA { 01 { '0ns' D/U; } }\nY { LHX { '40ns' L/H/X; } }\n} } }\nPattern p { W w; V { A=0; Y=H; } V { A=1; Y=L; } }\nPatternBurst b { PatList { p; } }\nPatternExec { PatternBurst b; }\n";
+    let tokens = lex(rt.alloc(), text)?;
+    assert!(rt; agree(&rt, tokens.as_slice())?);
+    assert_eq!(rt;
+        fault_of(&rt, b"STIL 1.0; Signals { a In;"),
+        Some(TreeFault::OpenBlock(6))
+    );
+    assert_eq!(rt;
+        fault_of(&rt, b"STIL 1.0; }"),
+        Some(TreeFault::StrayClose(5))
+    );
+    Ok(())
+}
+
+#[test]
 fn a_fault_is_printed_with_its_token(rt: HostRuntime) -> Result<(), Fail> {
     let line = TreeFault::StrayClose(7).to_string(rt.alloc())?;
     assert_eq!(rt; line.as_str(), "stray closing brace at token 7");
