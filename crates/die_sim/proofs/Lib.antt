@@ -8,4 +8,5 @@ pub mod WalkLemmas
 pub mod StepLemmas
 pub mod OwnLemmas
 pub mod SettledLemmas
+pub mod SettlingLemmas
 pub mod TapeLemmas

@@ -68,6 +68,12 @@ pub record Settled (drivers : List Driver) (fixed : List (Option Level)) (held v
   pub one_each : length v ≡ length drivers
   pub fits : (n : ℕ) → n < length drivers → level_at v n ≡ wanted drivers fixed held v n
 
+-- exactly one list of levels fits all nets at once: there is one, and each that fits is this one
+pub record HasOneSettling (drivers : List Driver) (fixed : List (Option Level)) (held : List Level) : Type 0 where
+  pub levels : List Level
+  pub fits : Settled drivers fixed held levels
+  pub only : (v : List Level) → Settled drivers fixed held v → v ≡ levels
+
 -- how a signal is bound; past the last signal it is free
 abbrev pub bind_at : List Bind → ℕ → Bind
 bind_at binds signal = slice_index_or binds signal bind.Free
