@@ -83,6 +83,18 @@ abbrev pub is_clock : Option ℕ → ℕ → Bool
 is_clock None signal = false
 is_clock (Some c) signal = c == signal
 
+-- whether a signal is bound to an input
+abbrev pub is_input : Bind → Bool
+is_input bind.Free = false
+is_input (bind.Input n) = true
+is_input (bind.Output n) = false
+
+-- whether a signal is bound to a net
+abbrev pub has_net : Bind → Bool
+has_net bind.Free = false
+has_net (bind.Input n) = true
+has_net (bind.Output n) = true
+
 -- the signal is bound so to a net of this circuit: an input where it drives it
 abbrev pub IsNetBind : List Driver → Bind → Type 0
 IsNetBind drivers bind.Free = Unit {0}

@@ -9,9 +9,7 @@ ghost use Rattle.die_sim.specs.Walk.{AreFaultsWithin};
 
 use crate::image::{Bind, Binding, DieImage, StuckAt};
 use crate::marks::Marks;
-use crate::moment::{
-    bind_at, capture_each, capturing, clock_after, clock_edge, flip_flops, put_all,
-};
+use crate::moment::{capture_each, capturing, clock_after, clock_edge, flip_flops, put_all};
 use crate::settle::{refresh_driven, refresh_each, walk};
 use crate::steps::Steps;
 use bench_net::Netlist;
@@ -98,12 +96,12 @@ impl DieState {
     {
         let net: &Netlist = &self.net;
         let fixed = self.fixed.as_slice();
-        let binds = self.bind.nets.as_slice();
-        let clock = clock_after(self.bind.clock, self.clock, drives);
+        let bind: &Binding = &self.bind;
+        let clock = clock_after(bind, self.clock, drives);
         let edge = clock_edge(self.clock, clock);
         let nets = capturing(self.flip_flops.as_slice(), edge);
         capture_each(net, edge, nets, self.levels.as_slice(), &mut self.held);
-        put_all(&mut self.held, binds, drives);
+        put_all(&mut self.held, bind, drives);
         self.clock = clock;
         let held = self.held.as_slice();
         refresh_each(net, fixed, held, &mut self.levels, &mut self.marks, nets);
@@ -113,7 +111,7 @@ impl DieState {
             held,
             &mut self.levels,
             &mut self.marks,
-            binds,
+            bind,
             drives,
         );
         walk(net, fixed, held, &mut self.levels, &mut self.marks)
@@ -124,7 +122,7 @@ impl DieState {
         requires { (is_clock self.now.device.clock signal ≡ true) ⊎ IsBoundTo (bind_at self.now.device.binds signal) }
         ensures { result ≡ level_of self.now.device self.now.state signal }
     {
-        match bind_at(self.bind.nets.as_slice(), signal) {
+        match self.bind.bind_at(signal) {
             Bind::Free => self.clock,
             Bind::Input(n) => self.levels[n as usize],
             Bind::Output(n) => self.levels[n as usize],

@@ -23,6 +23,55 @@ pub struct Binding {
     pub nets: BindList,
 }
 
+impl Binding {
+    ghost use Rattle.std.specs.Prelude.{◌≡◌};
+    ghost use Rattle.die_sim.specs.Die.{bind_at, is_clock, is_input, has_net};
+
+    /// Whether the signal is the clock.
+    pub fn is_clock(&self, signal: u16) -> bool
+        ensures { result ≡ is_clock self.now.clock signal }
+    {
+        match self.clock {
+            None => false,
+            Some(clock) => clock == signal,
+        }
+    }
+
+    /// How the signal is bound; past the last signal it is free.
+    pub fn bind_at(&self, signal: u16) -> Bind
+        ensures { result ≡ bind_at self.now.nets signal }
+    {
+        let binds = self.nets.as_slice();
+        if usize::from(signal) < binds.len() {
+            binds[usize::from(signal)]
+        } else {
+            Bind::Free
+        }
+    }
+
+    /// Whether the signal is bound to an input.
+    pub fn is_input(&self, signal: u16) -> bool
+        ensures { result ≡ is_input (bind_at self.now.nets signal) }
+    {
+        match self.bind_at(signal) {
+            Bind::Free => false,
+            Bind::Input(_) => true,
+            Bind::Output(_) => false,
+        }
+    }
+
+    /// Whether the signal is bound to a net.
+    pub fn has_net(&self, signal: u16) -> bool
+        ensures { result ≡ has_net (bind_at self.now.nets signal) }
+    {
+        match self.bind_at(signal) {
+            Bind::Free => false,
+            Bind::Input(_) => true,
+            Bind::Output(_) => true,
+        }
+    }
+}
+
 /// A net that is stuck: at 1 where `value` is true, else at 0.
 #[derive(Clone, Copy, Debug, PartialEq, Eq)]
 pub struct StuckAt {

@@ -1,7 +1,7 @@
 //! What a moment does to the clock, and to what inputs and flip-flops keep.
 ghost use Rattle.std.specs.Prelude.{◌≡◌, ℕ, ◌<◌, ◌≤◌, List, [], ◌∷◌, ◌++◌, length, cond, IfOk, OnOk};
 ghost use Rattle.die_sim.specs.Gates.{level_at};
-ghost use Rattle.die_sim.specs.Die.{bind_at, is_clock};
+ghost use Rattle.die_sim.specs.Die.{bind_at};
 ghost use Rattle.bench_net.specs.Wiring.{IsWired, driver_at};
 ghost use Rattle.bench_net.specs.Circuit.{IsWhole};
 ghost use Rattle.bench_net.specs.declared.gate.Driver.{Driver};
@@ -9,7 +9,7 @@ ghost use Rattle.die_sim.specs.Walk.{is_flip_flop, AreFlipFlops, MayCapture};
 ghost use Rattle.die_sim.specs.Moment.{drive_level, edge, agreed, capture, captured, clock_put, clock_after, put_at, put_all, IsWithin, Captures};
 
 use crate::gate::read;
-use crate::image::Bind;
+use crate::image::{Bind, Binding};
 use bench_net::{Driver, Netlist};
 use std::alloc::{AllocError, Global};
 use tester_types::{Drive, Level};
@@ -157,21 +157,11 @@ pub(crate) fn capture_each(
     }
 }
 
-/// Whether the signal is the clock.
-fn is_clock(clock: Option<u16>, signal: u16) -> bool
-    ensures { result ≡ is_clock clock signal }
-{
-    match clock {
-        None => false,
-        Some(number) => number == signal,
-    }
-}
-
 /// The clock's level after a drive.
-fn clock_put(clock: Option<u16>, was: Level, signal: u16, drive: Drive) -> Level
-    ensures { result ≡ clock_put clock was (signal, drive) }
+fn clock_put(bind: &Binding, was: Level, signal: u16, drive: Drive) -> Level
+    ensures { result ≡ clock_put bind.now.clock was (signal, drive) }
 {
-    if is_clock(clock, signal) {
+    if bind.is_clock(signal) {
         drive_level(drive)
     } else {
         was
@@ -179,25 +169,14 @@ fn clock_put(clock: Option<u16>, was: Level, signal: u16, drive: Drive) -> Level
 }
 
 /// The clock's level after these drives.
-pub(crate) fn clock_after(clock: Option<u16>, was: Level, drives: &[(u16, Drive)]) -> Level
-    ensures { result ≡ clock_after clock was drives.now }
+pub(crate) fn clock_after(bind: &Binding, was: Level, drives: &[(u16, Drive)]) -> Level
+    ensures { result ≡ clock_after bind.now.clock was drives.now }
 {
     let mut level = was;
     for (signal, drive) in drives {
-        level = clock_put(clock, level, *signal, *drive);
+        level = clock_put(bind, level, *signal, *drive);
     }
     level
-}
-
-/// How a signal is bound.
-pub(crate) fn bind_at(binds: &[Bind], signal: u16) -> Bind
-    ensures { result ≡ bind_at binds.now signal }
-{
-    if (signal as usize) < binds.len() {
-        binds[signal as usize]
-    } else {
-        Bind::Free
-    }
 }
 
 /// What inputs are driven to, after a drive.
@@ -213,12 +192,12 @@ fn put_at(held: &mut Vec<Level>, bind: Bind, drive: Drive)
 }
 
 /// What inputs are driven to, after these drives.
-pub(crate) fn put_all(held: &mut Vec<Level>, binds: &[Bind], drives: &[(u16, Drive)])
-    requires { (s : ℕ) → IsWithin (length held.old.items) (bind_at binds.now s) }
-    ensures all { held.new.items ≡ put_all binds.now held.old.items drives.now }
+pub(crate) fn put_all(held: &mut Vec<Level>, bind: &Binding, drives: &[(u16, Drive)])
+    requires { (s : ℕ) → IsWithin (length held.old.items) (bind_at bind.now.nets s) }
+    ensures all { held.new.items ≡ put_all bind.now.nets held.old.items drives.now }
     ensures count { length held.new.items ≡ length held.old.items }
 {
     for (signal, drive) in drives {
-        put_at(held, bind_at(binds, *signal), *drive);
+        put_at(held, bind.bind_at(*signal), *drive);
     }
 }

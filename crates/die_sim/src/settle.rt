@@ -8,9 +8,8 @@ ghost use Rattle.die_sim.specs.Marks.{mark_at, HasPlace, AreSeats, MarksEach, Ma
 ghost use Rattle.die_sim.specs.Walk.{same_level, is_unknown, is_off, is_flip_flop, AreTables, Puts, Waits, own_level, Refreshes, HaveLevels, HasLevel, HaveDriven, Carries, Visits};
 
 use crate::gate::{gate_level, is_one, is_zero};
-use crate::image::Bind;
+use crate::image::{Bind, Binding};
 use crate::marks::Marks;
-use crate::moment::bind_at;
 use bench_net::{Driver, Netlist};
 use tester_types::{Drive, Level};
 
@@ -189,19 +188,19 @@ pub(crate) fn refresh_driven(
     held: &[Level],
     levels: &mut Vec<Level>,
     marks: &mut Marks,
-    binds: &[Bind],
+    bind: &Binding,
     drives: &[(u16, Drive)],
 )
     requires tables { AreTables net.now fixed.now held.now levels.old.items }
     requires waits { Waits net.now.net.drivers fixed.now held.now levels.old.items marks.old }
     requires seats { AreSeats net.now.order marks.old }
-    requires binds { (s : ℕ) → IsNetBind net.now.net.drivers (bind_at binds.now s) }
+    requires binds { (s : ℕ) → IsNetBind net.now.net.drivers (bind_at bind.now.nets s) }
     ensures refreshes { Refreshes net.now.net.drivers fixed.now held.now levels.old.items levels.new.items marks.old marks.new }
-    ensures driven { HaveDriven fixed.now held.now levels.new.items binds.now drives.now }
+    ensures driven { HaveDriven fixed.now held.now levels.new.items bind.now.nets drives.now }
     ensures seats { AreSeats net.now.order marks.new }
 {
     for (signal, _) in drives {
-        refresh_bound(net, fixed, held, levels, marks, bind_at(binds, *signal));
+        refresh_bound(net, fixed, held, levels, marks, bind.bind_at(*signal));
     }
 }
 

@@ -6,6 +6,6 @@ use Rattle.die_sim.proofs.settle.refresh_driven.Given as goal
 abbrev pub invariant-loop-signal : goal.invariant-loop-signal
 invariant-loop-signal l = record {
   refreshes : Refreshes l.net.net.drivers l.fixed l.held l.fn.levels.items l.levels.items l.fn.marks l.marks;
-  driven : HaveDriven l.fixed l.held l.levels.items l.binds (take l.signal-index l.drives);
+  driven : HaveDriven l.fixed l.held l.levels.items l.bind.nets (take l.signal-index l.drives);
   seats : AreSeats l.net.order l.marks;
 }
