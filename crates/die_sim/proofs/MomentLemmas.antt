@@ -1,6 +1,5 @@
 -- The flip-flops capture one after another, and the inputs get their levels.
 use Rattle.std.proofs.Common.{◌≡◌, ◌≢◌, ℕ, suc, ◌+◌, ◌<◌, ◌≤◌, ◌⊎◌, ◌++◌, Bool, true, false, cond, List, [], ◌∷◌, length, get_or, set, refl, sym, ap, ◌∙◌, subst, arith, inl, inr, length-set, length-append}
-use Rattle.std.specs.Prelude.{fold}
 use Rattle.std.proofs.lemmas.List.{get_or-set_same, get_or-set_other, get_or_append_left, get_or_push, get_or_past}
 use Rattle.std.proofs.lemmas.Bool.{cases_Bool, cases_eq, cases_lt, both_ways}
 use borrow.Author.Count.{below_more}
@@ -9,12 +8,12 @@ use Rattle.tester_types.specs.declared.level.Level.TheVariants.{Zero, One, X, Z}
 use Rattle.tester_types.specs.declared.level.Drive.{Drive}
 use Rattle.bench_net.specs.declared.gate.Driver.{Driver}
 use Rattle.bench_net.specs.declared.gate.Driver.TheVariants.{Input, Dff, Gate}
-use Rattle.bench_net.specs.Wiring.{driver_at, gate_at, is_gate}
+use Rattle.bench_net.specs.Wiring.{driver_at, is_gate}
 use Rattle.die_sim.specs.declared.image.Bind.{Bind}
 use Rattle.die_sim.specs.declared.image.Bind.TheVariants as bind
 use Rattle.die_sim.specs.declared.moment.Edge.{Edge}
 use Rattle.die_sim.specs.declared.moment.Edge.TheVariants.{Takes, Doubts, Keeps}
-use Rattle.die_sim.specs.Gates.{level_at, read}
+use Rattle.die_sim.specs.Gates.{level_at}
 use Rattle.die_sim.specs.Die.{bind_at}
 use Rattle.die_sim.specs.Moment.{captured, capture, agreed, Captures, drive_level, put_at, put_all}
 use Rattle.die_sim.specs.Walk.{is_flip_flop, StandsAt, AreFlipFlops, MayCapture}

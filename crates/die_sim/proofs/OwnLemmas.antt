@@ -1,7 +1,7 @@
 -- The binding of the tests: an image with it is sound, and drives of inputs and the clock are drives of its die.
 use Rattle.std.proofs.Common.{◌≡◌, ℕ, ◌+◌, ◌<◌, ◌≤◌, ◌⊎◌, ◌++◌, Bool, true, false, cond, Some, List, [], ◌∷◌, length, get_or, take, refl, sym, ap, ◌∙◌, subst, arith, inl, inr, length-append}
 use Rattle.std.proofs.lemmas.List.{get_or_append_left, get_or_push, get_or-take, length-take-le, get_or_default}
-use Rattle.std.proofs.lemmas.Bool.{cases_Bool, cases_eq, cases_lt, both_ways}
+use Rattle.std.proofs.lemmas.Bool.{cases_Bool, cases_eq}
 use Rattle.tester_types.specs.declared.level.Drive.{Drive}
 use Rattle.bench_net.specs.declared.gate.Driver.{Driver}
 use Rattle.bench_net.specs.declared.gate.Driver.TheVariants.{Input, Dff, Gate}

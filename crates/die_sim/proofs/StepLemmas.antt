@@ -1,9 +1,8 @@
 -- One moment: after the flip-flops and the driven inputs got their levels, all inputs and flip-flops have theirs.
-use Rattle.std.proofs.Common.{◌≡◌, ◌≢◌, ℕ, ◌+◌, ◌<◌, ◌≤◌, ◌⊎◌, Bool, true, false, List, length, get_or, refl, sym, ap, ◌∙◌, subst, arith, inl, inr, Option, None}
-use Rattle.std.specs.Prelude.{slice_index_or, unwrap_or, replicate, map}
-use Rattle.std.proofs.lemmas.Bool.{cases_Bool, both_ways}
+use Rattle.std.proofs.Common.{◌≡◌, ◌≢◌, ℕ, ◌<◌, ◌⊎◌, Bool, true, false, List, length, get_or, refl, sym, ap, ◌∙◌, subst, inl, inr, Option, None}
+use Rattle.std.specs.Prelude.{slice_index_or, unwrap_or}
+use Rattle.std.proofs.lemmas.Bool.{both_ways}
 use Rattle.tester_types.specs.declared.level.Level.{Level}
-use Rattle.tester_types.specs.declared.level.Level.TheVariants.{Zero, X}
 use Rattle.tester_types.specs.declared.level.Drive.{Drive}
 use Rattle.bench_net.specs.declared.gate.Driver.{Driver}
 use Rattle.bench_net.specs.declared.gate.Driver.TheVariants.{Input, Dff, Gate}
@@ -13,12 +12,12 @@ use Rattle.die_sim.specs.declared.image.Bind.TheVariants as bind
 use Rattle.die_sim.specs.declared.moment.Edge.{Edge}
 use Rattle.die_sim.specs.declared.moment.Edge.TheVariants.{Takes, Doubts, Keeps}
 use Rattle.die_sim.specs.Gates.{level_at}
-use Rattle.die_sim.specs.Die.{driven, wanted, Settled, IsNetBind, bind_at}
+use Rattle.die_sim.specs.Die.{driven, Settled, bind_at}
 use Rattle.die_sim.specs.Moment.{captured, Captures, put_all}
-use Rattle.die_sim.specs.Spread.{Reads, IsSpread}
+use Rattle.die_sim.specs.Spread.{IsSpread}
 use Rattle.die_sim.specs.Marks.{MarkState, mark_at}
-use Rattle.die_sim.specs.Walk.{is_flip_flop, StandsAt, MayCapture, HasLevel, HaveLevels, HaveDriven, Waits, Refreshes, HasCause, before, by, own_level, Carries}
-use Rattle.die_sim.proofs.MomentLemmas.{captured-keeps, IsDriven, put_all-other}
+use Rattle.die_sim.specs.Walk.{is_flip_flop, MayCapture, HasLevel, HaveLevels, HaveDriven, Waits, Refreshes, HasCause, before, by, own_level, Carries}
+use Rattle.die_sim.proofs.MomentLemmas.{put_all-other}
 use Rattle.die_sim.proofs.WalkLemmas.{wanted_source, Refreshes-keeps, Refreshes-then}
 
 driven_gate : (d : Driver) (own own' : Level) (v : List Level) → is_gate d ≡ true → driven d own v ≡ driven d own' v

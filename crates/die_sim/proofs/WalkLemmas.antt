@@ -1,15 +1,14 @@
 -- The event-driven walk: a write keeps each net that doesn't read the written one, and marks those that do.
-use Rattle.std.proofs.Common.{◌≡◌, ◌≢◌, ℕ, ◌+◌, ◌<◌, ◌≤◌, ◌⊎◌, Bool, true, false, cond, List, [], length, get_or, take, set, refl, sym, ap, ◌∙◌, subst, arith, inl, inr, eqb, Option, None, length-set}
+use Rattle.std.proofs.Common.{◌≡◌, ◌≢◌, ℕ, ◌+◌, ◌<◌, ◌≤◌, ◌⊎◌, Bool, true, false, cond, List, [], length, get_or, take, set, refl, sym, ap, ◌∙◌, subst, arith, inl, inr, Option, None, length-set}
 use Rattle.std.specs.Prelude.{count_by, All, slice_index_or, unwrap_or}
 use Rattle.std.proofs.lemmas.List.{get_or-set_same, get_or-set_other, take-take, get_or-take, length-take-le, get_or_default}
 use Rattle.std.proofs.lemmas.List.Sums.{sum_by_more, sum_by-take-drop}
-use Rattle.std.proofs.lemmas.Bool.{cases_Bool, cases_lt, cases_eq, eq-eqb, ne_eqb, both_ways}
+use Rattle.std.proofs.lemmas.Bool.{cases_Bool, cases_lt, cases_eq, both_ways}
 use Rattle.tester_types.specs.declared.level.Level.{Level}
 use Rattle.tester_types.specs.declared.level.Level.TheVariants.{Zero, One, X, Z}
 use Rattle.bench_net.specs.declared.gate.Driver.{Driver}
 use Rattle.bench_net.specs.declared.gate.Driver.TheVariants.{Input, Dff, Gate}
 use Rattle.bench_net.specs.Wiring.{driver_at, is_gate, gate_at, pins_at, IsWired, IsOrder}
-use Rattle.bench_net.specs.Circuit.{Circuit, IsWhole}
 use Rattle.die_sim.specs.Gates.{level_at}
 use Rattle.tester_types.specs.declared.level.Drive.{Drive}
 use Rattle.die_sim.specs.declared.image.Bind.{Bind}
@@ -19,7 +18,7 @@ use Rattle.die_sim.specs.Spread.{Reads}
 use Rattle.die_sim.specs.Marks.{MarkState, mark_at, MarksReaders}
 use Rattle.die_sim.specs.Walk.{same_level, Puts, Waits, own_level, HasCause, before, by, Refreshes, HaveLevels, HasLevel, HaveDriven, Carries, Visits, WalkedTo}
 use Rattle.die_sim.proofs.GateLemmas.{wanted-same}
-use Rattle.die_sim.proofs.OrderLemmas.{times, All-times, reader_is_gate, pins-none, gate_within, place_of, gate_in_order, later, not_itself, reads_is_times}
+use Rattle.die_sim.proofs.OrderLemmas.{times, All-times, reader_is_gate, pins-none, gate_within, place_of, gate_in_order, later, not_itself}
 
 -- two levels are one where the test says so, and the other way round
 pub same_level-true : (a b : Level) → same_level a b ≡ true → a ≡ b

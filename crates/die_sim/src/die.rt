@@ -141,11 +141,7 @@ fn stuck(value: bool) -> Level
 fn unfixed(alloc: Global, nets: u32) -> Result<Vec<Option<Level>>, AllocError>
     ensures { IfOk result (λ fixed. fixed.items ≡ replicate nets None) }
 {
-    let mut fixed = Vec::new(alloc);
-    for _ in 0..nets {
-        fixed.push(None)?;
-    }
-    Ok(fixed)
+    vec![in alloc; None; nets as usize]
 }
 
 /// For each net the level at which a fault fixes it.
@@ -169,11 +165,7 @@ fn fixed_levels(
 fn unknown_levels(alloc: Global, nets: u32) -> Result<Vec<Level>, AllocError>
     ensures { IfOk result (λ levels. levels.items ≡ replicate nets X) }
 {
-    let mut levels = Vec::new(alloc);
-    for _ in 0..nets {
-        levels.push(Level::X)?;
-    }
-    Ok(levels)
+    vec![in alloc; Level::X; nets as usize]
 }
 
 /// For each net the level at which it is stuck, else X.

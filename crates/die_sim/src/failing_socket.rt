@@ -44,9 +44,7 @@ impl FailingSocket {
             count: 0,
         }
     }
-}
 
-impl FailingSocket {
     /// Counts a call, and loses contact where it is the one that fails.
     fn begin(&mut self) -> Result<(), Contact>
         ensures die { self.new.die ≡ self.old.die }

@@ -71,11 +71,7 @@ impl Marks {
 fn nowhere(alloc: Global, nets: u32) -> Result<Vec<u32>, AllocError>
     ensures { IfOk result (λ places. places.items ≡ replicate nets nowhere) }
 {
-    let mut places = Vec::new(alloc);
-    for _ in 0..nets {
-        places.push(u32::MAX)?;
-    }
-    Ok(places)
+    vec![in alloc; u32::MAX; nets as usize]
 }
 
 /// Gives each gate its place in the netlist's order, and marks it.

@@ -1,8 +1,7 @@
-use Rattle.std.proofs.Common.{◌≡◌, ◌<◌, ◌+◌, ◌∙◌, ℕ, Bool, true, List, length, get_or, set, sym, subst, ap, arith, length-set}
+use Rattle.std.proofs.Common.{◌<◌, ◌+◌, ◌∙◌, ℕ, Bool, true, List, length, get_or, set, sym, subst, ap, arith, length-set}
 use Rattle.die_sim.specs.Marks.{SeatedTo}
-use Rattle.bench_net.specs.Circuit.{IsWhole}
 use Rattle.die_sim.proofs.OrderLemmas.{gate_within, gate_in_order, length-order-le}
-use Rattle.die_sim.proofs.MarkLemmas.{SeatedTo-none, SeatedTo-more}
+use Rattle.die_sim.proofs.MarkLemmas.{SeatedTo-more}
 use Rattle.die_sim.proofs.marks.seat_all.Goals as goal
 
 pub overflow_cast-place : goal.overflow_cast-place

@@ -4,7 +4,7 @@ use Rattle.tester_types.specs.declared.level.Level.TheVariants.{Zero}
 use Rattle.bench_net.specs.Wiring.{driver_at}
 use Rattle.die_sim.specs.Gates.{level_at}
 use Rattle.die_sim.specs.Moment.{captured}
-use Rattle.die_sim.proofs.MomentLemmas.{flip_flop_within, CapturedTo-more, CapturedTo-all}
+use Rattle.die_sim.proofs.MomentLemmas.{flip_flop_within, CapturedTo-more}
 use Rattle.std.proofs.Common.{ap, ◌∙◌}
 use Rattle.bench_net.specs.declared.gate.Driver.{Driver}
 use Rattle.tester_types.specs.declared.level.Level.{Level}

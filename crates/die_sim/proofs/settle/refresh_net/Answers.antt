@@ -1,4 +1,3 @@
-use Rattle.std.proofs.Common.{◌≡◌, arith}
 use Rattle.die_sim.proofs.WalkLemmas.{Refreshes-one}
 use Rattle.die_sim.proofs.settle.refresh_net.Goals as goal
 

@@ -1,6 +1,5 @@
-use Rattle.std.proofs.Common.{◌≡◌, ◌<◌, ◌≤◌, ℕ, ◌+◌, List, true, false, length, get_or, sym, subst, ap, arith}
-use Rattle.die_sim.specs.Marks.{mark_at}
-use Rattle.die_sim.specs.Walk.{Visits, WalkedTo}
+use Rattle.std.proofs.Common.{◌<◌, ◌≤◌, ℕ, ◌+◌, List, length, get_or, subst, arith}
+use Rattle.die_sim.specs.Walk.{Visits}
 use Rattle.die_sim.proofs.WalkLemmas.{visited, WalkedTo-on, WalkedTo-settled, WalkedTo-clear}
 use Rattle.die_sim.proofs.settle.walk.Goals as goal
 

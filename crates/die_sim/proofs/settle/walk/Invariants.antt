@@ -1,4 +1,4 @@
-use Rattle.std.proofs.Common.{◌≡◌, ◌<◌, ◌≤◌, ◌-◌, true, length, get_or}
+use Rattle.std.proofs.Common.{◌≡◌, ◌<◌, ◌-◌, true, length, get_or}
 use Rattle.die_sim.specs.Marks.{mark_at, AreSeats}
 use Rattle.die_sim.specs.Walk.{WalkedTo}
 use Rattle.die_sim.proofs.settle.walk.Given as goal

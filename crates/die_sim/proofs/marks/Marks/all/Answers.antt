@@ -1,4 +1,4 @@
-use Rattle.std.proofs.Common.{◌≡◌, List, ℕ, length, ap, arith}
+use Rattle.std.proofs.Common.{List, ℕ, length, ap, arith}
 use Rattle.die_sim.proofs.OrderLemmas.{length-order-le}
 use Rattle.die_sim.proofs.MarkLemmas.{marked_gates}
 use Rattle.die_sim.proofs.marks.Marks.all.Goals as goal

@@ -1,4 +1,4 @@
-use Rattle.std.proofs.Common.{◌≡◌, ◌∙◌, ◌<◌, ◌≤◌, ℕ, List, Bool, true, false, length, get_or, ap, subst, sym, arith}
+use Rattle.std.proofs.Common.{◌≡◌, ◌∙◌, ◌<◌, ◌≤◌, ℕ, true, false, length, get_or, ap, subst}
 use Rattle.die_sim.specs.Marks.{MarkState, place_at, mark_at}
 use Rattle.die_sim.proofs.marks.Marks.next.Goals as goal
 

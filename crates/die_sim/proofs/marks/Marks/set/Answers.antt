@@ -1,4 +1,4 @@
-use Rattle.std.proofs.Common.{◌≡◌, ◌<◌, ℕ, ◌∙◌, List, Bool, true, false, length, get_or, set, subst, sym, ap, arith}
+use Rattle.std.proofs.Common.{◌≡◌, true, get_or, subst, sym, arith}
 use Rattle.std.proofs.lemmas.List.{get_or_read}
 use Rattle.die_sim.specs.Marks.{MarkState, nowhere, HasPlace, SetsMark}
 use Rattle.die_sim.proofs.MarkLemmas.{place_within, SetsMark-set}
