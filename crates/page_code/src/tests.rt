@@ -8,7 +8,7 @@ use super::*;
 use std::alloc::{AllocError, Global};
 use std::test::*;
 use std::thread;
-use tester_types::{Cycle, MemSink};
+use tester_types::{Cycle, MemSink, NoMemory};
 
 /// A signal a, a table w with waves for 0 and 1, the rows 0 and 1, and an executive up to its chains.
 const FRONT: [u8; 69] = [
@@ -177,6 +177,17 @@ fn long_program(alloc: Global) -> Result<Vec<u8>, AllocError> {
     program(alloc, 559, &[RUN; 254], &rest)
 }
 
+/// Whether the saved form of a code is these bytes, written in puts of at most 7.
+fn is_saved_as(alloc: Global, code: &Code, bytes: &[u8]) -> Result<bool, NoMemory> {
+    let none = Vec::new(alloc);
+    let mut sink = MemSink::new(alloc, bytes.len(), 7, none, Vec::new(alloc))?;
+    Ok(
+        saved_len(code) == bytes.len() as u64
+            && save(code, &mut sink).is_ok()
+            && sink.bytes() == bytes,
+    )
+}
+
 #[test]
 fn three_pages_with_a_loop_across_a_border(rt: HostRuntime) -> Result<(), Fail> {
     let bytes = long_program(rt.alloc())?;
@@ -187,6 +198,7 @@ fn three_pages_with_a_loop_across_a_border(rt: HostRuntime) -> Result<(), Fail> 
     assert_eq!(rt; cycles.len(), 762 + 12 + 900);
     let last = cycles.last().ok_or("there are cycles")?;
     assert_eq!(rt; last.start, 167_300_000_000);
+    assert!(rt; is_saved_as(rt.alloc(), &code, &bytes)?);
     Ok(())
 }
 
@@ -195,10 +207,7 @@ fn what_is_saved_was_loaded(rt: HostRuntime) -> Result<(), Fail> {
     let bytes = program(rt.alloc(), 2, &[RUN, DONE], &[])?;
     let code = load(rt.alloc(), &bytes).ok().ok_or("the bytes are a code")?;
     assert_eq!(rt; saved_len(&code), 105);
-    let none = Vec::new(rt.alloc());
-    let mut sink = MemSink::new(rt.alloc(), 105, 7, none, Vec::new(rt.alloc()))?;
-    assert!(rt; save(&code, &mut sink).is_ok());
-    assert!(rt; sink.bytes() == bytes.as_slice());
+    assert!(rt; is_saved_as(rt.alloc(), &code, &bytes)?);
     Ok(())
 }
 
