@@ -11,7 +11,7 @@ use std::fmt;
 #[derive(Clone, Copy, Debug, PartialEq, Eq)]
 pub enum SavedFault {
     NoMemory,
-    /// One of the first four bytes differs from D7 53 54 50.
+    /// One of the first four bytes differs from 0xD7, 0x53, 0x54 and 0x50.
     BadMagic,
     /// Another version than 1.
     BadVersion,
