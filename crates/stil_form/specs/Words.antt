@@ -32,14 +32,14 @@ abbrev pub begins_name : List ℕ → Bool
 begins_name [] = false
 begins_name (byte ∷ bytes) = is_letter byte || byte == 95
 
--- what may stand in double quotes as a name
-abbrev pub is_quoted_name : List ℕ → Bool
-is_quoted_name bytes = nat_lt 0 (length bytes) && nat_le (length bytes) longest_name && list_all may_name bytes
+-- 1 to 1,024 bytes from 0x20 to 0x7E
+abbrev pub fits_name : List ℕ → Bool
+fits_name bytes = nat_lt 0 (length bytes) && nat_le (length bytes) longest_name && list_all may_name bytes
 
 -- a name: a Word that begins with a letter or `_`, or what stands in double quotes, of 1 to 1,024 bytes from 0x20 to 0x7E
 abbrev pub named_by : Lexeme → Option (List ℕ)
-named_by (word bytes) = if begins_name bytes && nat_le (length bytes) longest_name then Some bytes else None
-named_by (name bytes) = if is_quoted_name bytes then Some bytes else None
+named_by (word bytes) = if begins_name bytes && fits_name bytes then Some bytes else None
+named_by (name bytes) = if fits_name bytes then Some bytes else None
 named_by (text bytes) = None
 named_by (sign mark) = None
 

@@ -3,7 +3,7 @@
 ghost use Rattle.std.specs.Prelude.{◌≡◌, MatchOption, None, Some, fold};
 ghost use Rattle.std.specs.List.{list_all};
 ghost use Rattle.stil_form.specs.Lexeme.{lexeme_of};
-ghost use Rattle.stil_form.specs.Words.{is_keyword, named_by, begins_name, is_quoted_name, may_name, number_by, with_digit, are_digits, is_digit};
+ghost use Rattle.stil_form.specs.Words.{is_keyword, named_by, begins_name, fits_name, may_name, number_by, with_digit, are_digits, is_digit};
 
 use crate::part::Part;
 
@@ -35,14 +35,15 @@ pub fn name_of<'a>(part: &Part<'a>) -> Option<&'a [u8]>
     ensures { MatchOption result (named_by (lexeme_of part.now) ≡ None) (λ bytes. named_by (lexeme_of part.now) ≡ Some bytes.now) }
 {
     match *part {
-        Part::Word(word) if begins_name(word) && word.len() <= LONGEST_NAME => Some(word),
-        Part::Name(name) if is_name(name) => Some(name),
+        Part::Word(word) if begins_name(word) && fits_name(word) => Some(word),
+        Part::Name(name) if fits_name(name) => Some(name),
         _ => None,
     }
 }
 
-fn is_name(name: &[u8]) -> bool
-    ensures { result ≡ is_quoted_name name.now }
+/// Whether these are 1 to 1,024 bytes from 0x20 to 0x7E.
+fn fits_name(name: &[u8]) -> bool
+    ensures { result ≡ fits_name name.now }
 {
     !name.is_empty() && name.len() <= LONGEST_NAME && may_all_name(name)
 }

@@ -6,10 +6,11 @@ use Rattle.std.specs.List.{flat_map}
 use Rattle.tester_types.specs.declared.outside.SinkFault.{SinkFault}
 use Rattle.tester_types.specs.Outside.{gained, GainsFront, Puts}
 use Rattle.tester_types.proofs.OutsideLemmas.{gained-gained, puts_stops, puts_last, front_more, front_behind}
-use Rattle.stil_tool.specs.declared.thin.ThinText.{ThinText}
+use Rattle.thin_stil.specs.declared.thin.ThinText.{ThinText}
 use Rattle.stil_tool.specs.CyclesText.{cycle_line}
-use Rattle.stil_tool.specs.Rows.{rows_text, row_line, row_after}
-use Rattle.stil_tool.specs.Thin.{cycles_of}
+use Rattle.thin_stil.specs.Rows.{row_after}
+use Rattle.stil_tool.specs.Rows.{rows_text, row_line}
+use Rattle.thin_stil.specs.Thin.{cycles_of}
 use Rattle.stil_tool.proofs.RowsLemmas.{rows-are-cycles}
 
 suc-plus : (i : ℕ) → suc i ≡ i + 1

@@ -3,8 +3,8 @@ use Rattle.std.specs.Prelude.{ℕ, ◌*◌, List, ◌++◌, Option, None, Some, 
 use Rattle.std.specs.List.{flat_map}
 use Rattle.tester_types.specs.Printing.{printed_name, printed_title}
 use Rattle.stil_ast.specs.Cycles.{Dated}
-use Rattle.stil_tool.specs.declared.thin.ThinText.{ThinText}
-use Rattle.stil_tool.specs.Thin.{cycles_of}
+use Rattle.thin_stil.specs.declared.thin.ThinText.{ThinText}
+use Rattle.thin_stil.specs.Thin.{cycles_of}
 
 -- a character of a signal, `-` for none
 abbrev pub shown : Option ℕ → ℕ

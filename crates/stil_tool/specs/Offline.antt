@@ -5,8 +5,8 @@ use Rattle.tester_types.specs.Outside.{HasRisen, gained, GainsFront, Files, Tell
 use Rattle.tester_types.specs.Printing.{printed_name}
 use Rattle.stil_tool.specs.declared.status.Status.{Status}
 use Rattle.stil_tool.specs.declared.status.Status.TheVariants.{Done, Usage, ReadFault, WriteFault, RefusedStil, OutOfMemory, TooLong}
-use Rattle.stil_tool.specs.declared.thin.ThinText.{ThinText}
-use Rattle.stil_tool.specs.Thin.{IsThin}
+use Rattle.thin_stil.specs.declared.thin.ThinText.{ThinText}
+use Rattle.thin_stil.specs.Thin.{IsThin}
 use Rattle.stil_tool.specs.CyclesText.{cycles_text}
 
 -- words without where they lie in memory

@@ -1,12 +1,8 @@
 -- What the printing of cycles does from vector to vector, with a row of bytes; no public clause cites it.
-use Rattle.std.specs.Prelude.{ℕ, ◌+◌, ◌*◌, List, [], ◌∷◌, ◌++◌, codes, decimal, slice_set}
+use Rattle.std.specs.Prelude.{ℕ, ◌+◌, ◌*◌, List, [], ◌∷◌, ◌++◌, codes, decimal}
 use Rattle.tester_types.specs.Printing.{printed_name}
-use Rattle.stil_tool.specs.declared.thin.ThinText.{ThinText}
-
--- a row after the characters of a V
-abbrev pub row_after : List (ℕ × ℕ) → List ℕ → List ℕ
-row_after [] row = row
-row_after (given ∷ rest) row = row_after rest (slice_set row given.0 given.1)
+use Rattle.thin_stil.specs.declared.thin.ThinText.{ThinText}
+use Rattle.thin_stil.specs.Rows.{row_after}
 
 -- a cycle by its row
 abbrev pub row_line : ℕ → ℕ → List ℕ → List ℕ → List ℕ

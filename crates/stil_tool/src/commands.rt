@@ -7,11 +7,10 @@ ghost use Rattle.stil_tool.specs.Offline.{words_seen, AreCycles, Answers, Ends, 
 ghost use Rattle.stil_tool.specs.declared.status.Status.TheVariants.{OutOfMemory};
 
 use crate::cycles::put_cycles;
-use crate::reader;
 use crate::status::Status;
-use crate::thin::{ThinFault, ThinText};
 use std::alloc::Global;
 use tester_types::{Piece, Shelf, ShelfFault, Sink, put_each};
+use thin_stil::{ThinFault, ThinText, read};
 
 /// The most bytes that a file may have.
 pub const LIMIT: usize = 16_777_216;
@@ -97,7 +96,7 @@ fn cycles_of<K: Sink>(alloc: Global, bytes: &[u8], out: &mut K) -> Status
     ensures answers { Answers (BytesWant bytes.now) (K.told out.old) (K.faults out.old) result (K.told out.new) (K.faults out.new) }
     ensures puts { K.faults out.old ≤ K.faults out.new }
 {
-    match reader::read(alloc, bytes) {
+    match read(alloc, bytes) {
         Ok(text) => print(alloc, &text, out),
         Err(ThinFault::NoMemory) => no_memory(out),
         Err(ThinFault::NotThin) => {

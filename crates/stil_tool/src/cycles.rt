@@ -3,10 +3,10 @@
 ghost use Rattle.std.specs.Prelude.{◌≡◌, ◌≤◌, ◌*◌, length, replicate, OnErr};
 ghost use Rattle.tester_types.specs.Outside.{HasRisen, Puts};
 ghost use Rattle.stil_tool.specs.CyclesText.{cycles_text, exec_line, end_line};
-ghost use Rattle.stil_tool.specs.Rows.{row_after, row_line, rows_text};
+ghost use Rattle.stil_tool.specs.Rows.{row_line, rows_text};
 
-use crate::thin::ThinText;
 use tester_types::{Piece, Sink, SinkFault, put_each};
+use thin_stil::{ThinText, assign};
 
 /// Puts the dated cycles of a thin text, with a row that has one byte for each signal.
 pub fn put_cycles<K: Sink>(sink: &mut K, text: &ThinText, row: &mut [u8]) -> Result<(), SinkFault>
@@ -80,18 +80,6 @@ fn time_of(cycles: usize, period: u64) -> u128
     ensures { result ≡ cycles * period }
 {
     cycles as u128 * u128::from(period)
-}
-
-/// Writes the characters that a V assigns into the row.
-fn assign(row: &mut [u8], given: &[(u16, u8)])
-    ensures { row.new ≡ row_after given.now row.old }
-{
-    for (signal, letter) in given {
-        let place = usize::from(*signal);
-        if place < row.len() {
-            row[place] = *letter;
-        }
-    }
 }
 
 fn put_vectors<K: Sink>(sink: &mut K, text: &ThinText, row: &mut [u8]) -> Result<(), SinkFault>

@@ -3,7 +3,7 @@ use Rattle.std.proofs.lemmas.Result.{err_from_is_err_and}
 use Rattle.std.specs.List.{flat_map}
 use Rattle.tester_types.specs.Outside.{GainsFront, gained}
 use Rattle.stil_tool.specs.CyclesText.{exec_line, cycle_line, end_line}
-use Rattle.stil_tool.specs.Thin.{cycles_of}
+use Rattle.thin_stil.specs.Thin.{cycles_of}
 use Rattle.stil_tool.proofs.PrintLemmas.{first_stops, second_stops, third_ends, rows-of}
 use Rattle.stil_tool.proofs.cycles.put_cycles.Goals as goal
 

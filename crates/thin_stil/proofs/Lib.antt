@@ -1,0 +1,4 @@
+pub mod KeptLemmas
+pub mod ReadLemmas
+pub mod StandardFacts
+pub mod CycleLemmas

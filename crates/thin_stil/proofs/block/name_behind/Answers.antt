@@ -1,0 +1,11 @@
+use Rattle.std.proofs.Common.{rules}
+use Rattle.thin_stil.proofs.KeptLemmas.{name_behind-short, name_behind-long}
+use Rattle.thin_stil.proofs.block.name_behind.Goals as goal
+use Rattle.thin_stil.proofs.block.name_behind.Goals.{in_default-via-then-head-lt2, in_default-via-else-head-lt2+else-head-lt3}
+
+pub returns-in_default : goal.returns-in_default
+returns-in_default c =
+    elim c.in_default.branch [
+      | in_default-via-then-head-lt2 w ↦ search (rules, name_behind-short)
+      | in_default-via-else-head-lt2+else-head-lt3 w ↦ search (rules, name_behind-long)
+    ]

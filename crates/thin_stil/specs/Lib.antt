@@ -1,0 +1,4 @@
+pub mod ThinForm
+pub mod ThinBlocks
+pub mod Thin
+pub mod Rows

@@ -1,0 +1,273 @@
+//! The Pattern of a thin text, its burst and its executive.
+
+ghost use Rattle.std.specs.Prelude.{◌≡◌, ◌==◌, ◌&&◌, None, Some, MatchOption, MatchResult, Ok, Err, length, map, option_map};
+ghost use Rattle.std.specs.List.{list_any};
+ghost use Rattle.stil_tree.specs.Trees.{entry_of};
+ghost use Rattle.stil_form.specs.Lexeme.{lexeme_of, head_of, body_of};
+ghost use Rattle.stil_form.specs.Reading.{Answers, AnswersBy};
+ghost use Rattle.thin_stil.specs.ThinForm.{kept, not_thin, only};
+ghost use Rattle.thin_stil.specs.ThinBlocks.{has_wave, given_by, given_said, given_of, vector_of, vectors_in, pattern_in, is_name, is_list_of, has_list_of, burst_of, runs_alone, name_both, runs_with, runs, exec_of};
+
+use crate::block::{
+    NOT_THIN, block, is_called, name_behind, names, one_of, plain_block, title_behind, two_of,
+};
+use crate::signals::signal_number;
+use crate::thin::{ThinPattern, ThinSignal};
+use std::alloc::Global;
+use stil_form::{Form, FormFault, Mark, Part, body, head, name_of, read_each};
+use stil_tree::Stmt;
+use tester_types::{Items, Table, Text, Wave};
+
+/// The most vectors of a pattern.
+const MOST_VECTORS: usize = 65_536;
+
+/// Whether the table defines the character for the signal.
+fn has_wave(waves: &[Wave], signal: u16, letter: u8) -> bool
+    ensures { result ≡ has_wave waves.now signal letter }
+{
+    waves
+        .iter()
+        .any(|wave| wave.signal == signal && wave.letter == letter)
+}
+
+/// One character that the table defines for the signal of this name.
+fn given_by(signals: &[ThinSignal], waves: &[Wave], name: &[u8], text: &[u8]) -> Option<(u16, u8)>
+    ensures { result ≡ given_by signals.now waves.now name.now text.now }
+{
+    let [letter] = text else {
+        return None;
+    };
+    let signal = signal_number(signals, name)?;
+    if has_wave(waves, signal, *letter) {
+        Some((signal, *letter))
+    } else {
+        None
+    }
+}
+
+/// What `name=Word` assigns.
+fn given_said(signals: &[ThinSignal], waves: &[Wave], head: &[Part]) -> Option<(u16, u8)>
+    ensures { result ≡ given_said signals.now waves.now (map lexeme_of head.now) }
+{
+    match head {
+        [called, Part::Sign(Mark::Equals), Part::Word(text)] => {
+            given_by(signals, waves, name_of(called)?, text)
+        }
+        _ => None,
+    }
+}
+
+/// Statements that assign one character to one signal.
+#[derive(Clone, Copy)]
+struct GivenForm<'a> {
+    parts: &'a [Part<'a>],
+    signals: &'a [ThinSignal],
+    waves: &'a [Wave],
+}
+
+impl Form for GivenForm<'_> {
+    type Data = (u16, u8);
+
+    ghost judge = { λ form _ e. kept (given_of form.signals.now form.waves.now (head_of (map lexeme_of form.parts.now) e) (body_of e)) };
+
+    fn judge_one(
+        &self,
+        alloc: Global,
+        before: &[(u16, u8)],
+        stmt: &Stmt,
+    ) -> Result<(u16, u8), FormFault> {
+        let _ = (alloc, before.len());
+        if body(stmt).is_some() {
+            return Err(NOT_THIN);
+        }
+        match given_said(self.signals, self.waves, head(self.parts, stmt)) {
+            Some(given) => Ok(given),
+            None => Err(NOT_THIN),
+        }
+    }
+}
+
+/// Statements that are vectors.
+#[derive(Clone, Copy)]
+struct VectorForm<'a> {
+    parts: &'a [Part<'a>],
+    signals: &'a [ThinSignal],
+    waves: &'a [Wave],
+}
+
+impl Form for VectorForm<'_> {
+    type Data = Items<(u16, u8)>;
+
+    ghost judge = { λ form. vector_of (map lexeme_of form.parts.now) form.signals.now form.waves.now };
+
+    fn judge_one(
+        &self,
+        alloc: Global,
+        before: &[Items<(u16, u8)>],
+        stmt: &Stmt,
+    ) -> Result<Items<(u16, u8)>, FormFault> {
+        if before.len() >= MOST_VECTORS {
+            return Err(NOT_THIN);
+        }
+        let stmts = plain_block(b"V", self.parts, stmt)?;
+        let form = GivenForm {
+            parts: self.parts,
+            signals: self.signals,
+            waves: self.waves,
+        };
+        Ok(Items::from_vec(read_each(alloc, &form, stmts)?))
+    }
+}
+
+/// `W` of the table, and then the vectors.
+fn read_vectors(
+    alloc: Global,
+    parts: &[Part],
+    signals: &[ThinSignal],
+    table: &Table,
+    stmts: &[Stmt],
+) -> Result<Items<Items<(u16, u8)>>, FormFault>
+    ensures { Answers result (vectors_in (map lexeme_of parts.now) signals.now table.now (map entry_of stmts.now)) }
+{
+    let [first, rest @ ..] = stmts else {
+        return Err(NOT_THIN);
+    };
+    if !names(b"W", table.name.as_slice(), parts, first) {
+        return Err(NOT_THIN);
+    }
+    let form = VectorForm {
+        parts,
+        signals,
+        waves: table.waves.as_slice(),
+    };
+    Ok(Items::from_vec(read_each(alloc, &form, rest)?))
+}
+
+/// A Pattern: its name, and its vectors.
+pub fn read_pattern(
+    alloc: Global,
+    parts: &[Part],
+    signals: &[ThinSignal],
+    table: &Table,
+    stmt: &Stmt,
+) -> Result<ThinPattern, FormFault>
+    ensures { Answers result (pattern_in (map lexeme_of parts.now) signals.now table.now (entry_of stmt.now)) }
+{
+    let Some(name) = name_behind(b"Pattern", head(parts, stmt)) else {
+        return Err(NOT_THIN);
+    };
+    let vectors = read_vectors(alloc, parts, signals, table, block(stmt)?)?;
+    Ok(ThinPattern {
+        name: Items::from_vec(Vec::from_slice(alloc, name)?),
+        vectors,
+    })
+}
+
+fn is_name(wanted: &[u8], head: &[Part]) -> bool
+    ensures { result ≡ is_name wanted.now (map lexeme_of head.now) }
+{
+    match head {
+        [called] => is_called(wanted, name_of(called)),
+        _ => false,
+    }
+}
+
+/// Whether statements are `name;` of this name alone.
+fn is_list_of(wanted: &[u8], parts: &[Part], stmts: &[Stmt]) -> bool
+    ensures { result ≡ is_list_of wanted.now (map lexeme_of parts.now) (map entry_of stmts.now) }
+{
+    match one_of(stmts) {
+        Some(stmt) => body(stmt).is_none() && is_name(wanted, head(parts, stmt)),
+        None => false,
+    }
+}
+
+/// Whether statements are a PatList of this name alone.
+fn has_list_of(wanted: &[u8], parts: &[Part], stmts: &[Stmt]) -> bool
+    ensures { result ≡ has_list_of wanted.now (map lexeme_of parts.now) (map entry_of stmts.now) }
+{
+    let Some(stmt) = one_of(stmts) else {
+        return false;
+    };
+    match plain_block(b"PatList", parts, stmt) {
+        Ok(list) => is_list_of(wanted, parts, list),
+        Err(_) => false,
+    }
+}
+
+/// The name of a PatternBurst that runs the pattern of this name.
+pub fn read_burst<'a>(
+    parts: &[Part<'a>],
+    pattern: &[u8],
+    stmt: &Stmt,
+) -> Result<&'a [u8], FormFault>
+    ensures { MatchResult result (λ name. burst_of (map lexeme_of parts.now) pattern.now (entry_of stmt.now) ≡ Ok name.now)
+        (λ fault. (fault ≡ not_thin) × (burst_of (map lexeme_of parts.now) pattern.now (entry_of stmt.now) ≡ Err not_thin)) }
+{
+    let Some(name) = name_behind(b"PatternBurst", head(parts, stmt)) else {
+        return Err(NOT_THIN);
+    };
+    if has_list_of(pattern, parts, block(stmt)?) {
+        Ok(name)
+    } else {
+        Err(NOT_THIN)
+    }
+}
+
+fn runs_alone(burst: &[u8], parts: &[Part], stmts: &[Stmt]) -> bool
+    ensures { result ≡ runs_alone burst.now (map lexeme_of parts.now) (map entry_of stmts.now) }
+{
+    match one_of(stmts) {
+        Some(stmt) => names(b"PatternBurst", burst, parts, stmt),
+        None => false,
+    }
+}
+
+fn name_both(timing: &[u8], burst: &[u8], parts: &[Part], first: &Stmt, second: &Stmt) -> bool
+    ensures { result ≡ name_both timing.now burst.now (map lexeme_of parts.now) (entry_of first.now) (entry_of second.now) }
+{
+    names(b"Timing", timing, parts, first) && names(b"PatternBurst", burst, parts, second)
+}
+
+fn runs_with(timing: &[u8], burst: &[u8], parts: &[Part], stmts: &[Stmt]) -> bool
+    ensures { result ≡ runs_with timing.now burst.now (map lexeme_of parts.now) (map entry_of stmts.now) }
+{
+    match two_of(stmts) {
+        Some((first, second)) => {
+            name_both(timing, burst, parts, first, second)
+                || name_both(timing, burst, parts, second, first)
+        }
+        None => false,
+    }
+}
+
+/// Whether an executive names the Timing, exactly where it has a name, and the burst.
+fn runs(timing: &[u8], burst: &[u8], parts: &[Part], stmts: &[Stmt]) -> bool
+    ensures { result ≡ runs timing.now burst.now (map lexeme_of parts.now) (map entry_of stmts.now) }
+{
+    if timing.is_empty() {
+        runs_alone(burst, parts, stmts)
+    } else {
+        runs_with(timing, burst, parts, stmts)
+    }
+}
+
+/// The name of a PatternExec, which may be empty.
+pub fn read_exec(
+    alloc: Global,
+    parts: &[Part],
+    timing: &[u8],
+    burst: &[u8],
+    stmt: &Stmt,
+) -> Result<Text, FormFault>
+    ensures { Answers result (exec_of (map lexeme_of parts.now) timing.now burst.now (entry_of stmt.now)) }
+{
+    let Some(title) = title_behind(b"PatternExec", head(parts, stmt)) else {
+        return Err(NOT_THIN);
+    };
+    if runs(timing, burst, parts, block(stmt)?) {
+        Ok(Items::from_vec(Vec::from_slice(alloc, title)?))
+    } else {
+        Err(NOT_THIN)
+    }
+}

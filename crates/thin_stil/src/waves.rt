@@ -1,0 +1,329 @@
+//! The waveforms of a thin text.
+
+ghost use Rattle.std.specs.Prelude.{◌≡◌, ◌==◌, ◌&&◌, ◌+◌, ◌*◌, ◌<◌, ◌≤◌, None, Some, MatchOption, IfOk, length, map, option_map, ◌++◌};
+ghost use Rattle.std.specs.List.{list_all, list_any};
+ghost use Rattle.stil_tree.specs.Trees.{entry_of};
+ghost use Rattle.stil_form.specs.Lexeme.{lexeme_of, head_of, body_of};
+ghost use Rattle.stil_form.specs.Reading.{Answers, AnswersBy};
+ghost use Rattle.thin_stil.specs.ThinForm.{kept, not_thin, nanoseconds, act_of, is_slash, with_part, acts_of, last_time, fits_row, row_said, row_with, row_from, row_of, is_character, are_apart, is_given, are_letters, letters_of, group_of, wave_signal, waves_of};
+
+use crate::block::{NOT_THIN, block};
+use crate::signals::signal_number;
+use crate::thin::{EventRow, SignalWaves, ThinSignal, WaveGroup};
+use std::alloc::Global;
+use stil_form::{Form, FormFault, Mark, Part, body, head, is_word, name_of, number_of, read_each};
+use stil_tree::Stmt;
+use tester_types::{Act, Items, Look, Push};
+
+/// Femtoseconds of a nanosecond.
+pub const NANOSECOND: u64 = 1_000_000;
+
+/// The most events of a waveform.
+const MOST_EVENTS: usize = 16;
+
+/// Digits directly followed by `ns`: a time in nanoseconds.
+pub fn nanoseconds(text: &[u8]) -> Option<u64>
+    ensures { result ≡ nanoseconds text.now }
+{
+    let (digits, unit) = text.split_at(text.len().saturating_sub(2));
+    if unit == b"ns".as_slice() {
+        number_of(digits)
+    } else {
+        None
+    }
+}
+
+/// The acts D, U, L, H and X.
+fn act_of(part: &Part) -> Option<Act>
+    ensures { result ≡ act_of (lexeme_of part.now) }
+{
+    if is_word(part, b"D") {
+        Some(Act::Push(Push::Down))
+    } else if is_word(part, b"U") {
+        Some(Act::Push(Push::Up))
+    } else if is_word(part, b"L") {
+        Some(Act::Look(Look::Low))
+    } else if is_word(part, b"H") {
+        Some(Act::Look(Look::High))
+    } else if is_word(part, b"X") {
+        Some(Act::Look(Look::Close))
+    } else {
+        None
+    }
+}
+
+fn is_slash(part: &Part) -> bool
+    ensures { result ≡ is_slash (lexeme_of part.now) }
+{
+    matches!(part, Part::Sign(Mark::Slash))
+}
+
+/// Takes one more part of acts with `/` between them: a `/`, or an act.
+fn take_part(acts: &mut Vec<Act>, slash_next: bool, part: &Part) -> Result<(), FormFault>
+    ensures { AnswersBy (λ _. acts.new.items) result (kept (with_part slash_next acts.old.items (lexeme_of part.now))) }
+{
+    if slash_next {
+        return if is_slash(part) {
+            Ok(())
+        } else {
+            Err(NOT_THIN)
+        };
+    }
+    match act_of(part) {
+        Some(act) => Ok(acts.push(act)?),
+        None => Err(NOT_THIN),
+    }
+}
+
+/// One act, or acts with `/` between them.
+fn acts_of(alloc: Global, head: &[Part]) -> Result<Items<Act>, FormFault>
+    ensures { Answers result (kept (acts_of (map lexeme_of head.now))) }
+{
+    let mut acts = Vec::new(alloc);
+    let mut slash_next = false;
+    for part in head {
+        take_part(&mut acts, slash_next, part)?;
+        slash_next = !slash_next;
+    }
+    if slash_next {
+        Ok(Items::from_vec(acts))
+    } else {
+        Err(NOT_THIN)
+    }
+}
+
+/// The time of the last event so far, 0 where there is none.
+fn last_time(rows: &[EventRow]) -> u64
+    ensures { result ≡ last_time rows.now }
+{
+    match rows.last() {
+        Some(row) => row.time,
+        None => 0,
+    }
+}
+
+/// Whether one more event may stand here: inside the period, not before the event before, at most 16 events.
+fn fits_row(period: u64, before: &[EventRow], time: u64) -> bool
+    ensures { result ≡ fits_row period before.now time }
+{
+    time < period && last_time(before) <= time && before.len() < MOST_EVENTS
+}
+
+/// The time and the acts of `Text act/act/..`.
+fn row_parts<'p, 'a>(
+    period: u64,
+    before: &[EventRow],
+    head: &'p [Part<'a>],
+) -> Option<(u64, &'p [Part<'a>])>
+    ensures { MatchOption result (row_said period before.now (map lexeme_of head.now) ≡ None)
+        (λ said. row_said period before.now (map lexeme_of head.now) ≡ Some (said.0, map lexeme_of said.1.now)) }
+{
+    let [Part::Text(text), acts @ ..] = head else {
+        return None;
+    };
+    let time = nanoseconds(text)?.saturating_mul(NANOSECOND);
+    if fits_row(period, before, time) {
+        Some((time, acts))
+    } else {
+        None
+    }
+}
+
+/// Statements that are events of a waveform.
+#[derive(Clone, Copy)]
+struct RowForm<'a> {
+    parts: &'a [Part<'a>],
+    letters: usize,
+    period: u64,
+}
+
+impl Form for RowForm<'_> {
+    type Data = EventRow;
+
+    ghost judge = { λ form before e. row_of form.letters form.period before (head_of (map lexeme_of form.parts.now) e) (body_of e) };
+
+    fn judge_one(
+        &self,
+        alloc: Global,
+        before: &[EventRow],
+        stmt: &Stmt,
+    ) -> Result<EventRow, FormFault> {
+        if body(stmt).is_some() {
+            return Err(NOT_THIN);
+        }
+        let Some((time, acts)) = row_parts(self.period, before, head(self.parts, stmt)) else {
+            return Err(NOT_THIN);
+        };
+        read_row(alloc, self.letters, time, acts)
+    }
+}
+
+/// An event with one act, or one for each character.
+fn row_with(letters: usize, time: u64, acts: Items<Act>) -> Option<EventRow>
+    ensures { result ≡ row_with letters time acts }
+{
+    if acts.len() == 1 || acts.len() == letters {
+        Some(EventRow { time, acts })
+    } else {
+        None
+    }
+}
+
+/// The acts of an event at this time.
+fn read_row(alloc: Global, letters: usize, time: u64, head: &[Part]) -> Result<EventRow, FormFault>
+    ensures { Answers result (row_from letters time (map lexeme_of head.now)) }
+{
+    let acts = acts_of(alloc, head)?;
+    match row_with(letters, time, acts) {
+        Some(row) => Ok(row),
+        None => Err(NOT_THIN),
+    }
+}
+
+fn is_character(byte: u8) -> bool
+    ensures { result ≡ is_character byte }
+{
+    byte.is_ascii_alphabetic() || byte.is_ascii_digit()
+}
+
+/// Whether no character stands twice.
+fn are_apart(letters: &[u8]) -> bool
+    ensures { result ≡ are_apart letters.now }
+{
+    for (place, letter) in letters.iter().enumerate() {
+        if letters[place + 1..].contains(letter) {
+            return false;
+        }
+    }
+    true
+}
+
+/// Whether a group before defines the character.
+fn is_given(before: &[WaveGroup], letter: u8) -> bool
+    ensures { result ≡ is_given before.now letter }
+{
+    before
+        .iter()
+        .any(|group| group.letters.as_slice().contains(&letter))
+}
+
+fn are_characters(letters: &[u8]) -> bool
+    ensures { result ≡ list_all is_character letters.now }
+{
+    letters.iter().all(|letter| is_character(*letter))
+}
+
+fn any_given(before: &[WaveGroup], letters: &[u8]) -> bool
+    ensures { result ≡ list_any (is_given before.now) letters.now }
+{
+    letters.iter().any(|letter| is_given(before, *letter))
+}
+
+/// Letters and digits, none of them twice for one signal.
+fn are_letters(before: &[WaveGroup], letters: &[u8]) -> bool
+    ensures { result ≡ are_letters before.now letters.now }
+{
+    are_characters(letters) && are_apart(letters) && !any_given(before, letters)
+}
+
+fn letters_of<'a>(before: &[WaveGroup], head: &[Part<'a>]) -> Option<&'a [u8]>
+    ensures { MatchOption result (letters_of before.now (map lexeme_of head.now) ≡ None)
+        (λ letters. letters_of before.now (map lexeme_of head.now) ≡ Some letters.now) }
+{
+    match head {
+        [Part::Word(letters)] if are_letters(before, letters) => Some(letters),
+        _ => None,
+    }
+}
+
+/// Statements that are waveforms of a signal.
+#[derive(Clone, Copy)]
+struct GroupForm<'a> {
+    parts: &'a [Part<'a>],
+    period: u64,
+}
+
+impl Form for GroupForm<'_> {
+    type Data = WaveGroup;
+
+    ghost judge = { λ form. group_of (map lexeme_of form.parts.now) form.period };
+
+    fn judge_one(
+        &self,
+        alloc: Global,
+        before: &[WaveGroup],
+        stmt: &Stmt,
+    ) -> Result<WaveGroup, FormFault> {
+        let Some(letters) = letters_of(before, head(self.parts, stmt)) else {
+            return Err(NOT_THIN);
+        };
+        let stmts = block(stmt)?;
+        let form = RowForm {
+            parts: self.parts,
+            letters: letters.len(),
+            period: self.period,
+        };
+        let rows = read_each(alloc, &form, stmts)?;
+        Ok(WaveGroup {
+            letters: Items::from_vec(Vec::from_slice(alloc, letters)?),
+            rows: Items::from_vec(rows),
+        })
+    }
+}
+
+/// Whether a signal has its waveforms already.
+fn is_waved(before: &[SignalWaves], signal: u16) -> bool
+    ensures { result ≡ list_any (λ waves. waves.signal == signal) before.now }
+{
+    before.iter().any(|waves| waves.signal == signal)
+}
+
+/// The signal that a statement of Waveforms is about.
+fn wave_signal(signals: &[ThinSignal], before: &[SignalWaves], head: &[Part]) -> Option<u16>
+    ensures { result ≡ wave_signal signals.now before.now (map lexeme_of head.now) }
+{
+    let [called] = head else {
+        return None;
+    };
+    let signal = signal_number(signals, name_of(called)?)?;
+    if is_waved(before, signal) {
+        None
+    } else {
+        Some(signal)
+    }
+}
+
+/// Statements that give the waveforms of a signal.
+#[derive(Clone, Copy)]
+pub struct WavesForm<'a> {
+    pub parts: &'a [Part<'a>],
+    pub signals: &'a [ThinSignal],
+    pub period: u64,
+}
+
+impl Form for WavesForm<'_> {
+    type Data = SignalWaves;
+
+    ghost judge = { λ form. waves_of (map lexeme_of form.parts.now) form.signals.now form.period };
+
+    fn judge_one(
+        &self,
+        alloc: Global,
+        before: &[SignalWaves],
+        stmt: &Stmt,
+    ) -> Result<SignalWaves, FormFault> {
+        let Some(signal) = wave_signal(self.signals, before, head(self.parts, stmt)) else {
+            return Err(NOT_THIN);
+        };
+        let stmts = block(stmt)?;
+        let form = GroupForm {
+            parts: self.parts,
+            period: self.period,
+        };
+        let groups = read_each(alloc, &form, stmts)?;
+        Ok(SignalWaves {
+            signal,
+            groups: Items::from_vec(groups),
+        })
+    }
+}
