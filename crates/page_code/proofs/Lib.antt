@@ -1,3 +1,4 @@
+pub mod AcceptedLemmas
 pub mod ExecLaws
 pub mod ItemsLemmas
 pub mod LettersLemmas

@@ -6,6 +6,7 @@ pub mod Spelling
 pub mod Saved
 pub mod Fields
 pub mod Reading
+pub mod Accepted
 pub mod Nest
 pub mod Cycles
 pub mod Walk

@@ -1,6 +1,7 @@
 //! Compiled test programs: code that keeps its loops, the walk over its cycles, and its saved bytes.
 #![tactic(auto)]
 
+mod accepted;
 mod beginning;
 mod code;
 mod exec;

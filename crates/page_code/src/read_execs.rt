@@ -5,10 +5,12 @@ ghost use Rattle.std.specs.List.{list_all, list_any, take_while, AllByRecursion}
 ghost use Rattle.std.specs.Int.{w16, w32, w64};
 ghost use Rattle.page_meaning.specs.Whole.{IsRest};
 ghost use Rattle.page_code.specs.Letters.{is_place};
+ghost use Rattle.page_code.specs.Accepted.{AreAccepted};
 ghost use Rattle.page_code.specs.Conditions.{IsRising};
 ghost use Rattle.page_code.specs.Fields.{Gives, Fails, byte_at, number_at, known, checked, piece_at, items_at};
 ghost use Rattle.page_code.specs.Reading.{letters_at, row_at, name_at, chain_at, are_zero, instr_of, instr_at, exec_at};
 
+use crate::accepted::Accepted;
 use crate::exec::{CodeExec, CodeExecList};
 use crate::fault::{ReadError, Refusal};
 use crate::fields::{
@@ -153,16 +155,19 @@ fn exec<'a>(
     signals: usize,
     tables: &[Table],
     rows: &RowList,
+    accepted: &mut Accepted,
     bytes: &'a [u8],
 ) -> Result<(CodeExec, &'a [u8]), ReadError>
-    requires { AllByRecursion (λ table. IsRising table.waves) tables.now }
-    ensures { Gives (λ x. (x.0, x.1.now)) result (exec_at signals tables.now rows.now bytes.now) }
+    requires rising { AllByRecursion (λ table. IsRising table.waves) tables.now }
+    requires accepted { AreAccepted tables.now rows.now accepted.old.keys }
+    ensures accepted { AreAccepted tables.now rows.now accepted.new.keys }
+    ensures read { Gives (λ x. (x.0, x.1.now)) result (exec_at signals tables.now rows.now bytes.now) }
 {
     let (name, rest) = text(alloc, bytes)?;
     let (count, rest) = number16_to(256, rest)?;
     let (chains, rest) = chains(alloc, signals, count, rest)?;
     let (count, rest) = instr_count(rest)?;
-    let (instrs, rest) = instrs(alloc, tables, rows, count, rest)?;
+    let (instrs, rest) = instrs(alloc, tables, rows, accepted, count, rest)?;
     Ok((CodeExec::new(name, chains, instrs), rest))
 }
 
@@ -178,10 +183,11 @@ pub(crate) fn execs<'a>(
     requires { AllByRecursion (λ table. IsRising table.waves) tables.now }
     ensures { Gives (λ x. (x.0, x.1.now)) result (items_at (λ before. exec_at signals tables.now rows.now) count [] bytes.now) }
 {
+    let mut accepted = Accepted::new(alloc);
     let mut execs = Vec::new(alloc);
     let mut rest = bytes;
     for _ in 0..count {
-        let (exec, after) = exec(alloc, signals, tables, rows, rest)?;
+        let (exec, after) = exec(alloc, signals, tables, rows, &mut accepted, rest)?;
         execs.push(exec)?;
         rest = after;
     }

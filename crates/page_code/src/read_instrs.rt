@@ -5,19 +5,20 @@ ghost use Rattle.std.specs.List.{list_all, list_any};
 ghost use Rattle.std.specs.Int.{w16, w32, w64, from_le_bytes};
 ghost use Rattle.page_code.specs.Fields.{Gives, Fails, known, piece_at, items_at};
 ghost use Rattle.page_code.specs.Reading.{are_zero, part, instr_of, follows, is_bounded, instr_with, instr_at};
+ghost use Rattle.page_code.specs.Accepted.{AreAccepted};
 ghost use Rattle.page_code.specs.Conditions.{IsRising, IsNarrow};
 ghost use Rattle.std.specs.List.{AllByRecursion};
 ghost use Rattle.page_meaning.specs.Whole.{IsRest, IsWhole};
 ghost use Rattle.page_meaning.specs.declared.instr.Instr.TheVariants.{Done};
 ghost use Rattle.page_code.specs.Nest.{IsNest, depth_after, begins};
 
+use crate::accepted::{Accepted, has_waves_for};
 use crate::fault::ReadError;
 use crate::fields::{bad, piece};
 use crate::parts::InstrList;
 use crate::rows::RowList;
-use crate::wave_check::has_each_wave;
 use page_meaning::{Instr, MOST_LOOPS, MOST_TIMES, cycles};
-use std::alloc::Global;
+use std::alloc::{AllocError, Global};
 use tester_types::Table;
 
 /// A number of 16 bits at a place.
@@ -143,9 +144,18 @@ impl Nest {
 }
 
 /// Whether an instruction may stand, as the last one or not, inside these loops.
-fn may_stand(tables: &[Table], rows: &RowList, is_last: bool, nest: Nest, instr: Instr) -> bool
-    requires { AllByRecursion (λ table. IsRising table.waves) tables.now }
-    ensures { result ≡ follows tables.now rows.now is_last nest.depth nest.begun instr }
+fn may_stand(
+    tables: &[Table],
+    rows: &RowList,
+    accepted: &mut Accepted,
+    is_last: bool,
+    nest: Nest,
+    instr: Instr,
+) -> Result<bool, AllocError>
+    requires rising { AllByRecursion (λ table. IsRising table.waves) tables.now }
+    requires accepted { AreAccepted tables.now rows.now accepted.old.keys }
+    ensures stands { IfOk result (λ stands. stands ≡ follows tables.now rows.now is_last nest.depth nest.begun instr) }
+    ensures accepted { AreAccepted tables.now rows.now accepted.new.keys }
 {
     match instr {
         Instr::Run {
@@ -154,20 +164,20 @@ fn may_stand(tables: &[Table], rows: &RowList, is_last: bool, nest: Nest, instr:
             times,
             ..
         } => {
-            !is_last
-                && times > 0
-                && (table as usize) < tables.len()
-                && (row as usize) < rows.len()
-                && has_each_wave(
-                    tables[table as usize].waves.as_slice(),
-                    rows.row(row as usize),
-                )
+            if is_last
+                || times == 0
+                || table as usize >= tables.len()
+                || row as usize >= rows.len()
+            {
+                return Ok(false);
+            }
+            has_waves_for(tables, rows, accepted, table, row)
         }
-        Instr::Loop { times } => {
-            !is_last && times > 0 && times <= MOST_TIMES && nest.depth < MOST_LOOPS
-        }
-        Instr::End => !is_last && !nest.begun && nest.depth > 0,
-        Instr::Done => is_last && nest.depth == 0,
+        Instr::Loop { times } => Ok(
+            !is_last && times > 0 && times <= MOST_TIMES && nest.depth < MOST_LOOPS,
+        ),
+        Instr::End => Ok(!is_last && !nest.begun && nest.depth > 0),
+        Instr::Done => Ok(is_last && nest.depth == 0),
     }
 }
 
@@ -187,20 +197,23 @@ fn is_within(instrs: &[Instr], last: Instr) -> bool
 fn instr<'a>(
     tables: &[Table],
     rows: &RowList,
+    accepted: &mut Accepted,
     is_last: bool,
     nest: Nest,
     instrs: &mut Vec<Instr>,
     bytes: &'a [u8],
 ) -> Result<(Instr, &'a [u8]), ReadError>
     requires rising { AllByRecursion (λ table. IsRising table.waves) tables.now }
+    requires accepted { AreAccepted tables.now rows.now accepted.old.keys }
     requires nest { IsNest instrs.old.items nest }
+    ensures accepted { AreAccepted tables.now rows.now accepted.new.keys }
     ensures narrow { IfOk result (λ x. IsNarrow x.0) }
     ensures read { MatchResult result
         (λ x. (instr_with tables.now rows.now is_last instrs.old.items bytes.now ≡ Ok (x.0, x.1.now)) × (instrs.new.items ≡ instrs.old.items ++ x.0 ∷ []))
         (λ e. Fails e (instr_with tables.now rows.now is_last instrs.old.items bytes.now)) }
 {
     let (instr, rest) = raw_instr(bytes)?;
-    if !may_stand(tables, rows, is_last, nest, instr) {
+    if !may_stand(tables, rows, accepted, is_last, nest, instr)? {
         return Err(bad(bytes));
     }
     instrs.push(instr)?;
@@ -215,10 +228,13 @@ pub(crate) fn instrs<'a>(
     alloc: Global,
     tables: &[Table],
     rows: &RowList,
+    accepted: &mut Accepted,
     count: u32,
     bytes: &'a [u8],
 ) -> Result<(InstrList, &'a [u8]), ReadError>
-    requires { AllByRecursion (λ table. IsRising table.waves) tables.now }
+    requires rising { AllByRecursion (λ table. IsRising table.waves) tables.now }
+    requires accepted { AreAccepted tables.now rows.now accepted.old.keys }
+    ensures accepted { AreAccepted tables.now rows.now accepted.new.keys }
     ensures read { Gives (λ x. (x.0, x.1.now)) result (items_at (instr_at tables.now rows.now count) count [] bytes.now) }
     ensures whole { IfOk result (λ x. 0 < count → IsWhole x.0) }
 {
@@ -227,7 +243,7 @@ pub(crate) fn instrs<'a>(
     let mut rest = bytes;
     for place in 0..count {
         let is_last = place + 1 == count;
-        let (last, after) = instr(tables, rows, is_last, nest, &mut instrs, rest)?;
+        let (last, after) = instr(tables, rows, accepted, is_last, nest, &mut instrs, rest)?;
         nest = nest.after(last);
         rest = after;
     }

@@ -34,6 +34,7 @@ loop-place-preserved c =
       so_far = rw read.1
           (goes_on one before c.args.count c.loop-place.place c.loop-place.rest.now c.in_ok-last.last c.in_ok-last.after.now
           (items_at one c.args.count [] c.args.bytes.now) c.loop-place-test.true here c.loop-place.invariant.so_far);
+      accepted = c.instr.ensures.accepted;
       size = ap length read.1 ∙ length-append before (c.in_ok-last.last ∷ []) ∙ omega (arith, c.loop-place.invariant.size);
       whole = λ end some.
           let last : eqb (c.loop-place.place + 1) c.args.count ≡ true = eq-eqb (c.loop-place.place + 1) c.args.count end in
