@@ -18,4 +18,6 @@ pub use bound_plan::BoundPlan;
 pub use plan::{FileList, Plan};
 
 #[cfg(test)]
+mod plan_tests;
+#[cfg(test)]
 mod tests;

@@ -1,170 +1,223 @@
-//! What small plans bind to, by the rules of binding.
+//! How signals are bound to nets: each rule by small cases.
 
-use super::*;
 use crate::bindings::{bindings_of, text_of};
 use crate::pins::pins_of;
 use bench_net::Netlist;
-use die_sim::Bind;
+use die_sim::{Bind, Binding};
 use page_code::{CodeSignal, Direction};
-use plan_rows::{BindRow, PlanFault, Row};
+use plan_rows::{PlanFault, RowList, read_rows};
 use std::alloc::Global;
 use std::sync::Arc;
 use std::test::*;
-use tester_types::NoMemory;
 
 /// Two inputs, of which B is an output too, and an output Z.
 const NETS: &[u8] = b"INPUT(A)\nINPUT(B)\nOUTPUT(Z)\nOUTPUT(B)\nZ = NOT(A)\n";
 
-/// How signals are bound to these nets: to A by 0, B by 1, Z by 2; or the name of the first that can't be.
-fn binds(
-    alloc: Global,
-    rows: &[Row],
-    signals: &[(&[u8], Direction)],
-) -> Result<Result<Vec<Bind>, Vec<u8>>, Fail> {
-    let mut list = Vec::new(alloc);
-    for (name, direction) in signals {
-        list.push(CodeSignal {
-            name: text_of(alloc, name)?,
-            direction: *direction,
+/// Rows of a plan, the names of signals and the first letters of their directions (`B` for both), and how they are bound:
+/// `a` drives A, `A` shows it, `-` is free; or `?` and the first signal that can't be bound.
+type Case<'a> = (&'a [u8], &'a [u8], &'a [u8], &'a [u8]);
+
+/// The rows of this text behind those of a lot.
+fn rows_of(alloc: Global, text: &[u8]) -> Result<RowList, Fail> {
+    let mut whole = Vec::from_slice(alloc, b"lot,1,1,0,,\n")?;
+    whole.extend_from_slice(text)?;
+    if whole.len() > 1_000_000 {
+        return Err(Fail::from("a short text"));
+    }
+    Ok(read_rows(alloc, &whole)?)
+}
+
+/// The direction of this first letter.
+fn direction_of(letter: u8) -> Direction {
+    match letter {
+        b'I' => Direction::In,
+        b'O' => Direction::Out,
+        b'B' => Direction::InOut,
+        b'S' => Direction::Supply,
+        _ => Direction::Pseudo,
+    }
+}
+
+/// Signals with names of a letter each.
+fn signals_of(alloc: Global, names: &[u8], directions: &[u8]) -> Result<Vec<CodeSignal>, Fail> {
+    let mut signals = Vec::new(alloc);
+    for (number, name) in names.iter().enumerate() {
+        let letter = directions.get(number).ok_or("a direction")?;
+        signals.push(CodeSignal {
+            name: text_of(alloc, &[*name])?,
+            direction: direction_of(*letter),
         })?;
     }
-    let mut nets = Vec::new(alloc);
-    let net = Netlist::read(alloc, NETS).ok().ok_or("a netlist")?;
-    nets.push(Arc::new(alloc, net)?)?;
-    let pins = pins_of(alloc, rows, &list)?;
-    match bindings_of(alloc, &nets, &pins, None) {
-        Ok(bindings) => match bindings.first() {
-            Some(binding) => Ok(Ok(Vec::from_slice(alloc, binding.nets.as_slice())?)),
-            None => Err(Fail::from("a binding")),
-        },
-        Err(PlanFault::Unbound(name)) => Ok(Err(name.into_vec())),
+    Ok(signals)
+}
+
+/// The letter of a bind.
+fn letter_of(bind: Bind) -> u8 {
+    match bind {
+        Bind::Free => b'-',
+        Bind::Input(0) => b'a',
+        Bind::Input(1) => b'b',
+        Bind::Output(1) => b'B',
+        Bind::Output(2) => b'Z',
+        _ => b'!',
+    }
+}
+
+/// The letters of binds.
+fn letters_of(alloc: Global, binds: &[Bind]) -> Result<Vec<u8>, Fail> {
+    let mut letters = Vec::new(alloc);
+    for bind in binds {
+        letters.push(letter_of(*bind))?;
+    }
+    Ok(letters)
+}
+
+/// The letters of the first binding.
+fn first_letters(alloc: Global, bindings: &[Arc<Binding>]) -> Result<Vec<u8>, Fail> {
+    match bindings.first() {
+        Some(binding) => letters_of(alloc, binding.nets.as_slice()),
+        None => Err(Fail::from("a binding")),
+    }
+}
+
+/// A mark and the name of a signal that can't be bound.
+fn unbound(alloc: Global, name: &[u8]) -> Result<Vec<u8>, Fail> {
+    let mut text = Vec::from_slice(alloc, b"?")?;
+    text.extend_from_slice(name)?;
+    Ok(text)
+}
+
+/// The bindings as a case shows them.
+fn shown(alloc: Global, answer: Result<Vec<Arc<Binding>>, PlanFault>) -> Result<Vec<u8>, Fail> {
+    match answer {
+        Ok(bindings) => first_letters(alloc, &bindings),
+        Err(PlanFault::Unbound(name)) => unbound(alloc, name.as_slice()),
         Err(_) => Err(Fail::from("a binding or a signal")),
     }
 }
 
-/// A row that binds a signal to a net.
-fn bind(alloc: Global, signal: &[u8], net: &[u8]) -> Result<Row, NoMemory> {
-    Ok(Row::Bind(BindRow {
-        signal: text_of(alloc, signal)?,
-        net: Some(text_of(alloc, net)?),
-    }))
+/// The netlist.
+fn nets(alloc: Global) -> Result<Vec<Arc<Netlist>>, Fail> {
+    let net = Netlist::read(alloc, NETS).ok().ok_or("a netlist")?;
+    let mut nets = Vec::new(alloc);
+    nets.push(Arc::new(alloc, net)?)?;
+    Ok(nets)
 }
 
-/// A row that leaves a signal free.
-fn free(alloc: Global, signal: &[u8]) -> Result<Row, NoMemory> {
-    Ok(Row::Bind(BindRow {
-        signal: text_of(alloc, signal)?,
-        net: None,
-    }))
+/// How signals are bound to the netlist.
+fn binds(
+    alloc: Global,
+    rows: &RowList,
+    signals: &[CodeSignal],
+    nets: &[Arc<Netlist>],
+) -> Result<Vec<u8>, Fail> {
+    let pins = pins_of(alloc, rows.as_slice(), signals)?;
+    shown(alloc, bindings_of(alloc, nets, &pins, None))
 }
 
-/// Whether the signals are bound so.
-fn are(answer: &Result<Vec<Bind>, Vec<u8>>, wanted: &[Bind]) -> bool {
-    matches!(answer, Ok(binds) if binds.as_slice() == wanted)
+/// Whether a case is bound as it says.
+fn is_bound(alloc: Global, case: Case<'_>) -> Result<bool, Fail> {
+    let (rows, names, directions, wanted) = case;
+    let rows = rows_of(alloc, rows)?;
+    let signals = signals_of(alloc, names, directions)?;
+    let answer = binds(alloc, &rows, &signals, &nets(alloc)?)?;
+    Ok(answer.as_slice() == wanted)
 }
 
-/// Whether the signal of this name is unbound.
-fn is_unbound(answer: &Result<Vec<Bind>, Vec<u8>>, name: &[u8]) -> bool {
-    matches!(answer, Err(unbound) if unbound.as_slice() == name)
+/// The number of the first case that is bound otherwise.
+fn first_wrong(alloc: Global, cases: &[Case<'_>]) -> Result<Option<usize>, Fail> {
+    for (number, case) in cases.iter().enumerate() {
+        if !is_bound(alloc, *case)? {
+            return Ok(Some(number));
+        }
+    }
+    Ok(None)
 }
 
 #[test]
 fn a_signal_has_the_net_of_its_name(rt: HostRuntime) -> Result<(), Fail> {
-    let answer = binds(
-        rt.alloc(),
-        &[],
-        &[
-            (b"A", Direction::In),
-            (b"Z", Direction::Out),
-            (b"VDD", Direction::Supply),
-            (b"P", Direction::Pseudo),
-            (b"B", Direction::InOut),
-        ],
-    )?;
-    assert!(rt;
-        are(
-            &answer,
-            &[
-                Bind::Input(0),
-                Bind::Output(2),
-                Bind::Free,
-                Bind::Free,
-                Bind::Input(1)
-            ]
-        )
-    );
+    let cases = [
+        (
+            b"".as_slice(),
+            b"AZB".as_slice(),
+            b"IOI".as_slice(),
+            b"aZb".as_slice(),
+        ),
+        (b"", b"VPAQ", b"SPIS", b"--a-"),
+        (b"", b"QA", b"II", b"?Q"),
+    ];
+    assert_eq!(rt; first_wrong(rt.alloc(), &cases)?, None);
     Ok(())
 }
 
 #[test]
 fn a_net_fits_its_direction(rt: HostRuntime) -> Result<(), Fail> {
-    let alloc = rt.alloc();
-    assert!(rt; is_unbound(&binds(alloc, &[], &[(b"Z", Direction::In)])?, b"Z"));
-    assert!(rt; is_unbound(&binds(alloc, &[], &[(b"A", Direction::Out)])?, b"A"));
-    assert!(rt;
-        are(
-            &binds(alloc, &[], &[(b"B", Direction::Out)])?,
-            &[Bind::Output(1)]
-        )
-    );
-    assert!(rt;
-        are(
-            &binds(alloc, &[], &[(b"Z", Direction::InOut)])?,
-            &[Bind::Output(2)]
-        )
-    );
-    assert!(rt; is_unbound(&binds(alloc, &[], &[(b"Q", Direction::InOut)])?, b"Q"));
+    let cases = [
+        (
+            b"".as_slice(),
+            b"Z".as_slice(),
+            b"I".as_slice(),
+            b"?Z".as_slice(),
+        ),
+        (b"", b"A", b"O", b"?A"),
+        (b"", b"B", b"O", b"B"),
+        (b"", b"BZ", b"BB", b"bZ"),
+        (b"", b"Q", b"B", b"?Q"),
+    ];
+    assert_eq!(rt; first_wrong(rt.alloc(), &cases)?, None);
     Ok(())
 }
 
 #[test]
 fn a_bind_row_names_another_net_or_none(rt: HostRuntime) -> Result<(), Fail> {
-    let alloc = rt.alloc();
-    let moved = [bind(alloc, b"A", b"B")?];
-    assert!(rt;
-        are(
-            &binds(alloc, &moved, &[(b"A", Direction::In)])?,
-            &[Bind::Input(1)]
-        )
-    );
-    let unknown = [bind(alloc, b"A", b"Q")?];
-    assert!(rt; is_unbound(&binds(alloc, &unknown, &[(b"A", Direction::In)])?, b"A"));
-    let none = [free(alloc, b"A")?];
-    assert!(rt;
-        are(
-            &binds(alloc, &none, &[(b"A", Direction::In)])?,
-            &[Bind::Free]
-        )
-    );
+    let cases = [
+        (
+            b"bind,A,B,,,".as_slice(),
+            b"A".as_slice(),
+            b"I".as_slice(),
+            b"b".as_slice(),
+        ),
+        (b"bind,A,Q,,,", b"A", b"I", b"?A"),
+        (b"bind,V,Q,,,\nbind,P,A,,,", b"VP", b"SP", b"--"),
+        (b"bind,A,-,,,\nbind,Z,-,,,", b"AZB", b"IOI", b"--b"),
+    ];
+    assert_eq!(rt; first_wrong(rt.alloc(), &cases)?, None);
     Ok(())
 }
 
 #[test]
 fn an_input_is_driven_once(rt: HostRuntime) -> Result<(), Fail> {
-    let alloc = rt.alloc();
-    let rows = [bind(alloc, b"X", b"B")?, bind(alloc, b"Y", b"Z")?];
-    let twice = [(&b"B"[..], Direction::In), (&b"X"[..], Direction::In)];
-    assert!(rt; is_unbound(&binds(alloc, &rows, &twice)?, b"X"));
-    let either = [(&b"B"[..], Direction::In), (&b"X"[..], Direction::InOut)];
-    assert!(rt; is_unbound(&binds(alloc, &rows, &either)?, b"X"));
-    let shown = [(&b"Z"[..], Direction::Out), (&b"Y"[..], Direction::Out)];
-    assert!(rt;
-        are(
-            &binds(alloc, &rows, &shown)?,
-            &[Bind::Output(2), Bind::Output(2)]
-        )
-    );
+    let cases = [
+        (
+            b"bind,X,B,,,".as_slice(),
+            b"BX".as_slice(),
+            b"II".as_slice(),
+            b"?X".as_slice(),
+        ),
+        (b"bind,X,B,,,", b"BX", b"IB", b"?X"),
+        (b"bind,X,B,,,", b"XB", b"BI", b"?B"),
+        (b"bind,X,B,,,", b"BX", b"IO", b"bB"),
+        (b"bind,Y,Z,,,", b"ZY", b"OO", b"ZZ"),
+    ];
+    assert_eq!(rt; first_wrong(rt.alloc(), &cases)?, None);
     Ok(())
 }
 
 #[test]
-fn a_text_is_read_as_a_plan(rt: HostRuntime) -> Result<(), Fail> {
-    let alloc = rt.alloc();
-    let text = b"lot,256,1,8,,\ndie,0,a,f.bench,,\ndie,3,b,f.bench,,\n";
-    let plan = Plan::read(alloc, text).ok().ok_or("a plan")?;
-    assert_eq!(rt; plan.sites(), 4);
-    assert_eq!(rt; plan.files().len(), 1);
-    let dice = Plan::read(alloc, b"lot,256,1,8,,\ndice,0,a,f.bench,,\n");
-    assert!(rt; matches!(dice, Err(PlanFault::Shape(2))));
+fn the_clock_drives_its_input_where_it_can(rt: HostRuntime) -> Result<(), Fail> {
+    let cases = [
+        (
+            b"clock,A,,,,".as_slice(),
+            b"A".as_slice(),
+            b"O".as_slice(),
+            b"a".as_slice(),
+        ),
+        (b"clock,A,,,,\nbind,A,-,,,", b"A", b"I", b"-"),
+        (b"clock,K,,,,", b"K", b"I", b"-"),
+        (b"clock,K,,,,\nbind,K,Z,,,", b"KZ", b"IO", b"-Z"),
+        (b"clock,K,,,,\nbind,K,A,,,", b"KA", b"II", b"?A"),
+        (b"clock,K,,,,\nbind,K,A,,,", b"AK", b"II", b"a-"),
+    ];
+    assert_eq!(rt; first_wrong(rt.alloc(), &cases)?, None);
     Ok(())
 }
