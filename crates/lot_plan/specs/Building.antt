@@ -13,10 +13,11 @@ use Rattle.lot_plan.specs.Stored.{no_die, stored_in}
 abbrev pub no_binding : Binding
 no_binding = record { clock = None; nets = [] }
 
--- the circuit and the binding of a file
+-- the circuit of a file
 abbrev pub circuit_no : List Circuit → ℕ → Circuit
 circuit_no circuits file = slice_index_or circuits file no_circuit
 
+-- the binding of a file
 abbrev pub binding_no : List Binding → ℕ → Binding
 binding_no bindings file = slice_index_or bindings file no_binding
 
@@ -39,10 +40,11 @@ pub record IsReady (circuits : List Circuit) (bindings : List Binding) (rows : D
   pub sound : (number : ℕ) → IsSound (loaded (circuit_no circuits rows.file) (binding_no bindings rows.file) number
       (map (numbered (circuit_no circuits rows.file)) rows.faults))
 
--- the dies of a site, and of all sites
+-- each die of a site is ready
 abbrev pub IsSiteReady : List Circuit → List Binding → List DieRows → Type 0
 IsSiteReady circuits bindings site = (d : ℕ) → d < length site → IsReady circuits bindings (rows_of site d)
 
+-- the dies of a site are made of their rows, in order
 pub record IsSiteBuilt (circuits : List Circuit) (bindings : List Binding) (tries : ℕ) (site : List DieRows)
     (dies : List BoundDie) : Type 0 where
   pub count : length dies ≡ length site
@@ -50,9 +52,11 @@ pub record IsSiteBuilt (circuits : List Circuit) (bindings : List Binding) (trie
       → IsBuilt (circuit_no circuits (rows_of site d).file) (binding_no bindings (rows_of site d).file) tries (rows_of site d)
       (slice_index_or dies d no_die)
 
+-- each die of each site is ready
 abbrev pub AreReady : List Circuit → List Binding → List (List DieRows) → Type 0
 AreReady circuits bindings sites = (s : ℕ) → s < length sites → IsSiteReady circuits bindings (group_at sites s)
 
+-- the dies of all sites are made of their rows, site by site
 pub record AreBuilt (circuits : List Circuit) (bindings : List Binding) (tries : ℕ) (sites : List (List DieRows))
     (dies : List (List BoundDie)) : Type 0 where
   pub count : length dies ≡ length sites

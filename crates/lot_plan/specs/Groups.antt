@@ -26,10 +26,11 @@ no_rows = record { die = record { site = 0; name = []; file = [] }; file = 0; fa
 abbrev pub rows_of : List DieRows → ℕ → DieRows
 rows_of dies die = slice_index_or dies die no_rows
 
--- a site of these, and a die there
+-- a site of these
 abbrev pub group_at : List (List DieRows) → ℕ → List DieRows
 group_at sites site = slice_index_or sites site []
 
+-- a die of a site of these
 abbrev pub rows_at : List (List DieRows) → ℕ → ℕ → DieRows
 rows_at sites site die = rows_of (group_at sites site) die
 
@@ -42,10 +43,11 @@ abbrev pub circuit_in : List (List DieRows) → List Circuit → ℕ → ℕ →
 circuit_in sites circuits site die = option_map_or (λ file. slice_index_or circuits file no_circuit) (file_in sites site die)
     no_circuit
 
--- one more fault, one more stop
+-- one more fault
 abbrev pub with_fault : DieRows → FaultRow → DieRows
 with_fault d f = record { die = d.die; file = d.file; faults = d.faults ++ f ∷ []; stops = d.stops }
 
+-- one more stop
 abbrev pub with_stop : DieRows → StopRow → DieRows
 with_stop d s = record { die = d.die; file = d.file; faults = d.faults; stops = d.stops ++ s ∷ [] }
 
@@ -57,10 +59,11 @@ new_die files d = record { die = d; file = position_or_len (bytes_eq d.file) fil
 abbrev pub put_die : List (List ℕ) → List (List DieRows) → DieRow → List (List DieRows)
 put_die files sites d = slice_set sites d.site (group_at sites d.site ++ new_die files d ∷ [])
 
--- one more fault, one more stop at its die
+-- one more fault at its die
 abbrev pub put_fault : List (List DieRows) → FaultRow → List (List DieRows)
 put_fault sites f = slice_set sites f.site (slice_set (group_at sites f.site) f.die (with_fault (rows_at sites f.site f.die) f))
 
+-- one more stop at its die
 abbrev pub put_stop : List (List DieRows) → StopRow → List (List DieRows)
 put_stop sites s = slice_set sites s.site (slice_set (group_at sites s.site) s.die (with_stop (rows_at sites s.site s.die) s))
 

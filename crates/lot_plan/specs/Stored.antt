@@ -21,10 +21,11 @@ pub record IsPlan (rows : List Row) (sites : ℕ) (files : List (List ℕ)) : Ty
 abbrev pub no_die : BoundDie
 no_die = record { name = []; file = 0; images = []; stops = [] }
 
--- the dies of a site in store, and one of them
+-- the dies of a site in store
 abbrev pub stored_in : List (List BoundDie) → ℕ → List BoundDie
 stored_in sites site = slice_index_or sites site []
 
+-- a die of a site in store
 abbrev pub stored_at : List (List BoundDie) → ℕ → ℕ → BoundDie
 stored_at sites site die = slice_index_or (stored_in sites site) die no_die
 

@@ -74,6 +74,7 @@ impl<'a> DieGroup<'a> {
         self.stops.as_slice()
     }
 
+    /// Puts a fault behind the others.
     fn add_fault(&mut self, fault: &'a FaultRow) -> Result<(), AllocError>
         ensures { OnOk result (self.new ≡ with_fault self.old fault.now) }
     {
@@ -81,6 +82,7 @@ impl<'a> DieGroup<'a> {
         Ok(())
     }
 
+    /// Puts a stop behind the others.
     fn add_stop(&mut self, stop: StopRow) -> Result<(), AllocError>
         ensures { OnOk result (self.new ≡ with_stop self.old stop) }
     {
@@ -121,6 +123,7 @@ impl<'a> SiteGroup<'a> {
         self.dies.as_slice()
     }
 
+    /// Puts a die behind the others.
     fn add_die(&mut self, die: DieGroup<'a>) -> Result<(), AllocError>
         ensures { OnOk result (self.new ≡ self.old ++ die.entry ∷ []) }
     {
@@ -128,6 +131,7 @@ impl<'a> SiteGroup<'a> {
         Ok(())
     }
 
+    /// Puts a fault behind those of a die.
     fn add_fault(&mut self, die: usize, fault: &'a FaultRow) -> Result<(), AllocError>
         requires { die < length self.old }
         ensures { OnOk result (self.new ≡ slice_set self.old die (with_fault (rows_of self.old die) fault.now)) }
@@ -135,6 +139,7 @@ impl<'a> SiteGroup<'a> {
         self.dies[die].add_fault(fault)
     }
 
+    /// Puts a stop behind those of a die.
     fn add_stop(&mut self, die: usize, stop: StopRow) -> Result<(), AllocError>
         requires { die < length self.old }
         ensures { OnOk result (self.new ≡ slice_set self.old die (with_stop (rows_of self.old die) stop)) }

@@ -8,6 +8,7 @@ ghost use Rattle.lot_plan.specs.Views.{behind};
 use plan_rows::{BinRow, BindRow, DieRow, FaultRow, LotRow, Row, StopRow};
 use std::alloc::{AllocError, Global};
 
+/// The die row that a row is.
 fn as_die(row: &Row) -> Option<&DieRow>
     ensures { option_copied result ≡ as_die row.now }
 {
@@ -17,6 +18,7 @@ fn as_die(row: &Row) -> Option<&DieRow>
     }
 }
 
+/// The fault row that a row is.
 fn as_fault(row: &Row) -> Option<&FaultRow>
     ensures { option_copied result ≡ as_fault row.now }
 {
@@ -26,6 +28,7 @@ fn as_fault(row: &Row) -> Option<&FaultRow>
     }
 }
 
+/// The bind row that a row is.
 fn as_bind(row: &Row) -> Option<&BindRow>
     ensures { option_copied result ≡ as_bind row.now }
 {
@@ -35,6 +38,7 @@ fn as_bind(row: &Row) -> Option<&BindRow>
     }
 }
 
+/// The signal of the clock row that a row is.
 fn as_clock(row: &Row) -> Option<&[u8]>
     ensures { option_copied result ≡ as_clock row.now }
 {
@@ -44,6 +48,7 @@ fn as_clock(row: &Row) -> Option<&[u8]>
     }
 }
 
+/// The stop row that a row is.
 fn as_stop(row: &Row) -> Option<StopRow>
     ensures { result ≡ as_stop row.now }
 {
@@ -53,6 +58,7 @@ fn as_stop(row: &Row) -> Option<StopRow>
     }
 }
 
+/// The bin row that a row is.
 fn as_bin(row: &Row) -> Option<BinRow>
     ensures { result ≡ as_bin row.now }
 {
@@ -62,6 +68,7 @@ fn as_bin(row: &Row) -> Option<BinRow>
     }
 }
 
+/// The lot's own row, where a row is that.
 fn as_lot(row: &Row) -> Option<LotRow>
     ensures { result ≡ as_lot row.now }
 {
