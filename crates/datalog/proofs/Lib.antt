@@ -1,0 +1,6 @@
+mod StandardFacts
+pub mod SequenceLemmas
+pub mod NumberedLemmas
+pub mod CountLemmas
+pub mod CellLemmas
+pub mod LotLemmas

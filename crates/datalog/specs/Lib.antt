@@ -1,0 +1,3 @@
+pub mod DatalogText
+pub mod Printable
+pub mod Counts

@@ -1,0 +1,103 @@
+//! The cells of scan chains that fails name.
+
+ghost use Rattle.std.specs.Prelude.{◌≡◌, ◌==◌, ◌<◌, ◌≤◌, OnErr, length, slice_get};
+ghost use Rattle.std.specs.List.{find};
+ghost use Rattle.std.specs.Option.{option_copied};
+ghost use Rattle.tester_types.specs.Outside.{HasRisen, Puts};
+ghost use Rattle.datalog.specs.DatalogText.{chain_at, cell_behind, marked_cell, cell_in, cell_of, cell_words};
+ghost use Rattle.datalog.specs.Printable.{IsKnown};
+
+use page_code::{Code, CodeChain};
+use tester_types::{Fail, Piece, Sink, SinkFault, Text, put_each};
+
+/// Puts the cell that a fail names, if it names one.
+pub(crate) fn put_cell<K: Sink>(sink: &mut K, code: &Code, fail: &Fail) -> Result<(), SinkFault>
+    requires { IsKnown code.now fail.now }
+    ensures puts { Puts (K.told sink.old) (cell_words (cell_of code.now fail.now)) result (K.told sink.new) }
+    ensures count { K.faults sink.old ≤ K.faults sink.new }
+    ensures cause { OnErr result (HasRisen (K.faults sink.old) (K.faults sink.new)) }
+{
+    match chain_at(code, fail.exec, fail.signal) {
+        Some(chain) => put_cell_in(sink, fail.mark, chain),
+        None => Ok(()),
+    }
+}
+
+/// Puts the cell of a chain that a mark means, if it means one.
+fn put_cell_in<K: Sink>(sink: &mut K, mark: u32, chain: &CodeChain) -> Result<(), SinkFault>
+    ensures puts { Puts (K.told sink.old) (cell_words (cell_in mark chain.now)) result (K.told sink.new) }
+    ensures count { K.faults sink.old ≤ K.faults sink.new }
+    ensures cause { OnErr result (HasRisen (K.faults sink.old) (K.faults sink.new)) }
+{
+    match marked_cell(mark, chain) {
+        Some(cell) => put_names(sink, chain.name.as_slice(), cell),
+        None => Ok(()),
+    }
+}
+
+/// Puts the names of a chain and a cell.
+fn put_names<'a, K: Sink>(sink: &mut K, chain: &'a [u8], cell: &'a [u8]) -> Result<(), SinkFault>
+    ensures puts { Puts (K.told sink.old) (cell_words (Some (record { chain = chain.now; name = cell.now }))) result (K.told sink.new) }
+    ensures count { K.faults sink.old ≤ K.faults sink.new }
+    ensures cause { OnErr result (HasRisen (K.faults sink.old) (K.faults sink.new)) }
+{
+    let words = [
+        Piece::Text(b" "),
+        Piece::Name(chain),
+        Piece::Text(b" "),
+        Piece::Name(cell),
+    ];
+    put_each(sink, &words)
+}
+
+/// The first chain of an executive whose scan-out signal this is.
+fn chain_at(code: &Code, exec: u16, signal: u16) -> Option<&CodeChain>
+    requires { exec < length code.now.execs }
+    ensures { option_copied result ≡ chain_at code.now exec signal }
+{
+    first_chain(code.chains(exec).as_slice(), signal)
+}
+
+/// The first of the chains whose scan-out signal this is.
+fn first_chain(chains: &[CodeChain], signal: u16) -> Option<&CodeChain>
+    ensures { option_copied result ≡ find (λ chain. chain.out == signal) chains.now }
+{
+    for chain in chains {
+        if chain.out == signal {
+            return Some(chain);
+        }
+    }
+    None
+}
+
+/// The name of the cell of a chain that a mark means.
+fn marked_cell(mark: u32, chain: &CodeChain) -> Option<&[u8]>
+    ensures { option_copied result ≡ marked_cell mark chain.now }
+{
+    if mark == 0 {
+        None
+    } else {
+        cell_behind(mark - 1, chain)
+    }
+}
+
+/// The name of the cell whose character leaves a chain at this shift, from 0.
+fn cell_behind(shift: u32, chain: &CodeChain) -> Option<&[u8]>
+    ensures { option_copied result ≡ cell_behind shift chain.now }
+{
+    if shift < chain.length {
+        name_at(chain.cells.as_slice(), chain.length - 1 - shift)
+    } else {
+        None
+    }
+}
+
+/// The name at a place, where there is one.
+fn name_at(cells: &[Text], place: u32) -> Option<&[u8]>
+    ensures { option_copied result ≡ slice_get cells.now place }
+{
+    match cells.get(place as usize) {
+        Some(cell) => Some(cell.as_slice()),
+        None => None,
+    }
+}

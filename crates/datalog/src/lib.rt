@@ -1,0 +1,13 @@
+//! The printed text of a lot's records: what the tries of each die found, and how many dies each bin has.
+#![tactic(auto)]
+
+mod cells;
+mod fails;
+mod letters;
+mod lot;
+mod records;
+mod totals;
+mod trials;
+
+pub use lot::print_lot;
+pub use records::print_record;

@@ -1,0 +1,86 @@
+//! The text of a lot: the records of each site, and the totals of their bins.
+
+ghost use Rattle.std.specs.Prelude.{◌≡◌, ◌<◌, ◌≤◌, All, OnErr, length};
+ghost use Rattle.std.specs.List.{flat_map};
+ghost use Rattle.tester_types.specs.Outside.{HasRisen, Puts};
+ghost use Rattle.datalog.specs.DatalogText.{record_text, site_text, numbered, lot_text};
+ghost use Rattle.datalog.specs.Printable.{IsPrintable, IsPrintableAt, ArePrintable};
+
+use crate::records::print_record;
+use crate::totals::{counts_of, put_totals};
+use crate::trials::put_numbered;
+use lot_plan::BoundPlan;
+use page_code::Code;
+use tester_types::{Record, RecordList, Sink, SinkFault};
+
+/// Puts the text of a lot: the records of each site, by the sites' numbers, and how many dies each bin has.
+pub fn print_lot<K: Sink>(
+    code: &Code,
+    plan: &BoundPlan,
+    sites: &[RecordList],
+    sink: &mut K,
+) -> Result<(), SinkFault>
+    requires { ArePrintable code.now plan.now sites.now }
+    ensures puts { Puts (K.told sink.old) (lot_text code.now plan.now sites.now) result (K.told sink.new) }
+    ensures count { K.faults sink.old ≤ K.faults sink.new }
+    ensures cause { OnErr result (HasRisen (K.faults sink.old) (K.faults sink.new)) }
+{
+    put_sites(sink, code, plan, sites)?;
+    put_totals(sink, &counts_of(plan, sites))
+}
+
+/// Puts the sites, by their numbers.
+fn put_sites<K: Sink>(
+    sink: &mut K,
+    code: &Code,
+    plan: &BoundPlan,
+    sites: &[RecordList],
+) -> Result<(), SinkFault>
+    requires { ArePrintable code.now plan.now sites.now }
+    ensures puts { Puts (K.told sink.old) (numbered (site_text code.now plan.now) 0 sites.now) result (K.told sink.new) }
+    ensures count { K.faults sink.old ≤ K.faults sink.new }
+    ensures cause { OnErr result (HasRisen (K.faults sink.old) (K.faults sink.new)) }
+{
+    for (number, entries) in sites.iter().enumerate() {
+        put_site(sink, code, plan, number, entries.as_slice())?;
+    }
+    Ok(())
+}
+
+/// Puts a site with its dies, and nothing for a site without records.
+fn put_site<K: Sink>(
+    sink: &mut K,
+    code: &Code,
+    plan: &BoundPlan,
+    number: usize,
+    entries: &[Record],
+) -> Result<(), SinkFault>
+    requires { All (IsPrintableAt code.now plan.now number) entries.now }
+    ensures puts { Puts (K.told sink.old) (site_text code.now plan.now number entries.now) result (K.told sink.new) }
+    ensures count { K.faults sink.old ≤ K.faults sink.new }
+    ensures cause { OnErr result (HasRisen (K.faults sink.old) (K.faults sink.new)) }
+{
+    if entries.is_empty() {
+        return Ok(());
+    }
+    put_numbered(sink, b"site ", number as u128)?;
+    put_records(sink, code, plan, entries)
+}
+
+/// Puts the texts of records.
+fn put_records<K: Sink>(
+    sink: &mut K,
+    code: &Code,
+    plan: &BoundPlan,
+    entries: &[Record],
+) -> Result<(), SinkFault>
+    requires { All (IsPrintable code.now plan.now) entries.now }
+    ensures puts { Puts (K.told sink.old) (flat_map (record_text code.now plan.now) entries.now) result (K.told sink.new) }
+    ensures count { K.faults sink.old ≤ K.faults sink.new }
+    ensures cause { OnErr result (HasRisen (K.faults sink.old) (K.faults sink.new)) }
+{
+    for entry in entries {
+        print_record(code, plan, entry, sink)?;
+    }
+    Ok(())
+}

@@ -1,0 +1,76 @@
+//! How many dies each bin has.
+
+ghost use Rattle.std.specs.Prelude.{◌≡◌, ℕ, ◌^◌, ◌<◌, ◌≤◌, All, OnErr, [], length, map, slice_index};
+ghost use Rattle.tester_types.specs.Outside.{HasRisen, Puts};
+ghost use Rattle.datalog.specs.Counts.{AreCounts, HaveGrown};
+ghost use Rattle.datalog.specs.DatalogText.{die_bin, bins_of, numbered, total_line};
+
+use crate::records::die_bin;
+use lot_plan::BoundPlan;
+use tester_types::{Piece, Record, RecordList, Sink, SinkFault, put_each};
+
+/// How many bins there may be: a bin is a byte.
+const BINS: usize = 256;
+
+/// Puts the totals of the bins.
+pub(crate) fn put_totals<K: Sink>(sink: &mut K, counts: &[u128]) -> Result<(), SinkFault>
+    ensures puts { Puts (K.told sink.old) (numbered total_line 0 counts.now) result (K.told sink.new) }
+    ensures count { K.faults sink.old ≤ K.faults sink.new }
+    ensures cause { OnErr result (HasRisen (K.faults sink.old) (K.faults sink.new)) }
+{
+    for (bin, dies) in counts.iter().enumerate() {
+        put_total(sink, bin, *dies)?;
+    }
+    Ok(())
+}
+
+/// Puts how many dies a bin has, and nothing for a bin without a die.
+fn put_total<K: Sink>(sink: &mut K, bin: usize, dies: u128) -> Result<(), SinkFault>
+    ensures puts { Puts (K.told sink.old) (total_line bin dies) result (K.told sink.new) }
+    ensures count { K.faults sink.old ≤ K.faults sink.new }
+    ensures cause { OnErr result (HasRisen (K.faults sink.old) (K.faults sink.new)) }
+{
+    if dies == 0 {
+        return Ok(());
+    }
+    let line = [
+        Piece::Text(b"total "),
+        Piece::Number(bin as u128),
+        Piece::Text(b" "),
+        Piece::Number(dies),
+        Piece::Text(b"\n"),
+    ];
+    put_each(sink, &line)
+}
+
+/// How many dies fell into each bin.
+pub(crate) fn counts_of(plan: &BoundPlan, sites: &[RecordList]) -> [u128; BINS]
+    requires few { length sites.now ≤ 64 }
+    requires tried { All (All (λ entry. 0 < length entry.trials)) sites.now }
+    ensures { AreCounts (bins_of plan.now sites.now) result }
+{
+    let mut counts = no_counts();
+    for entries in sites {
+        count_dies(&mut counts, plan, entries.as_slice());
+    }
+    counts
+}
+
+/// The counts without a die.
+fn no_counts() -> [u128; BINS]
+    ensures { AreCounts [] result }
+{
+    [0; BINS]
+}
+
+/// Counts the dies of a site.
+fn count_dies(counts: &mut [u128], plan: &BoundPlan, entries: &[Record])
+    requires size { length counts.old ≡ 256 }
+    requires room { (bin : ℕ) → bin < 256 → slice_index counts.old bin ≤ 2 ^ 100 }
+    requires tried { All (λ entry. 0 < length entry.trials) entries.now }
+    ensures { HaveGrown counts.old (map (die_bin plan.now) entries.now) counts.new }
+{
+    for entry in entries {
+        counts[die_bin(plan, entry) as usize] += 1;
+    }
+}
