@@ -1,9 +1,9 @@
 //! Known dies.
 
-use crate::StuckAt;
 use crate::fixture::Fixture;
+use crate::{Bind, BindList, Binding, StuckAt};
 use bench_net::NetFault;
-use std::alloc::Global;
+use std::alloc::{AllocError, Global};
 use tester_types::{Drive, Level};
 
 /// The circuit s27 of ISCAS-89.
@@ -192,6 +192,27 @@ fn a_fault_fixes_its_net(rt: HostRuntime) -> Result<(), NetFault> {
     ] {
         let die = stuck(rt.alloc(), net, value)?;
         assert!(rt; die.shows(&[b"ck", b"d", b"n", b"q", b"m", b"k"], shown));
+    }
+    Ok(())
+}
+
+#[test]
+fn a_signal_is_bound_as_its_entry_says(rt: HostRuntime) -> Result<(), AllocError> {
+    let nets = vec![in rt.alloc(); Bind::Input(7), Bind::Output(7), Bind::Free]?;
+    let bind = Binding {
+        clock: Some(2),
+        nets: BindList::from_vec(nets),
+    };
+    for (signal, bound, is_clock, is_input, has_net) in [
+        (0, Bind::Input(7), false, true, true),
+        (1, Bind::Output(7), false, false, true),
+        (2, Bind::Free, true, false, false),
+        (3, Bind::Free, false, false, false),
+    ] {
+        assert_eq!(rt; bind.bind_at(signal), bound);
+        assert_eq!(rt; bind.is_clock(signal), is_clock);
+        assert_eq!(rt; bind.is_input(signal), is_input);
+        assert_eq!(rt; bind.has_net(signal), has_net);
     }
     Ok(())
 }
