@@ -7,9 +7,8 @@ use Rattle.page_code.specs.Program.{Program}
 use Rattle.plan_rows.specs.Rows.{sites_of, dies_at}
 use Rattle.lot_plan.specs.Bound.{Bound}
 
--- a fail is of an executive and a signal of the code
+-- a fail is of a signal of the code
 pub record IsKnown (code : Program) (fail : Fail) : Type 0 where
-  pub exec : fail.exec < length code.execs
   pub signal : fail.signal < length code.signals
 
 -- each kept fail of a try is known

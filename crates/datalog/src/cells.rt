@@ -5,14 +5,12 @@ ghost use Rattle.std.specs.List.{find};
 ghost use Rattle.std.specs.Option.{option_copied};
 ghost use Rattle.tester_types.specs.Outside.{HasRisen, Puts};
 ghost use Rattle.datalog.specs.DatalogText.{chain_at, cell_behind, marked_cell, cell_in, cell_of, cell_words};
-ghost use Rattle.datalog.specs.Printable.{IsKnown};
 
 use page_code::{Code, CodeChain};
 use tester_types::{Fail, Piece, Sink, SinkFault, Text, put_each};
 
 /// Puts the cell that a fail names, if it names one.
 pub(crate) fn put_cell<K: Sink>(sink: &mut K, code: &Code, fail: &Fail) -> Result<(), SinkFault>
-    requires { IsKnown code.now fail.now }
     ensures puts { Puts (K.told sink.old) (cell_words (cell_of code.now fail.now)) result (K.told sink.new) }
     ensures count { K.faults sink.old ≤ K.faults sink.new }
     ensures cause { OnErr result (HasRisen (K.faults sink.old) (K.faults sink.new)) }
@@ -52,10 +50,13 @@ fn put_names<'a, K: Sink>(sink: &mut K, chain: &'a [u8], cell: &'a [u8]) -> Resu
 
 /// The first chain of an executive whose scan-out signal this is.
 fn chain_at(code: &Code, exec: u16, signal: u16) -> Option<&CodeChain>
-    requires { exec < length code.now.execs }
     ensures { option_copied result ≡ chain_at code.now exec signal }
 {
-    first_chain(code.chains(exec).as_slice(), signal)
+    if exec < code.execs() {
+        first_chain(code.chains(exec).as_slice(), signal)
+    } else {
+        None
+    }
 }
 
 /// The first of the chains whose scan-out signal this is.

@@ -72,6 +72,14 @@ impl Plan {
         Ok(Plan { rows, sites, files })
     }
 
+    /// Its rows, in order.
+    pub fn rows(&self) -> &[Row]
+        ensures rows { result.now ≡ self.now }
+        ensures kept { AreKept self.now }
+    {
+        self.rows.as_slice()
+    }
+
     /// How many sites it has: the greatest site plus 1, and none without a die.
     pub fn sites(&self) -> u8
         ensures { result ≡ sites_of self.now }

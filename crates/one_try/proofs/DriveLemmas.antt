@@ -12,10 +12,10 @@ use Rattle.tester_types.specs.declared.level.Drive.{Drive}
 use Rattle.tester_types.specs.declared.level.Drive.TheVariants as drive
 use Rattle.die_sim.specs.declared.image.Bind.{Bind}
 use Rattle.die_sim.specs.declared.image.Bind.TheVariants as bind
-use Rattle.die_sim.specs.Die.{Device, bind_at, is_clock}
+use Rattle.die_sim.specs.Die.{Device, bind_at, is_clock, is_input}
 use Rattle.die_sim.specs.Moment.{AreDrives, IsInputBind}
 use Rattle.one_try.specs.Places.{Place}
-use Rattle.one_try.specs.Drives.{steady, steady_of, given, prior, drive_of, is_input, is_driven, driven}
+use Rattle.one_try.specs.Drives.{steady, steady_of, given, prior, drive_of, is_driven, driven}
 use Rattle.one_try.specs.Step.{Rises, handed, all_handed, put_steady, after_drive}
 
 -- ---- elements of lists

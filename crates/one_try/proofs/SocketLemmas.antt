@@ -13,14 +13,14 @@ use Rattle.bench_net.specs.Wiring.{driver_at}
 use Rattle.die_sim.specs.declared.image.Bind.{Bind}
 use Rattle.die_sim.specs.declared.image.Bind.TheVariants as bind
 use Rattle.die_sim.specs.Gates.{level_at}
-use Rattle.die_sim.specs.Die.{Device, State, Settled, bind_at, is_clock, IsBoundTo}
+use Rattle.die_sim.specs.Die.{Device, State, Settled, bind_at, is_clock, IsBoundTo, has_net}
 use Rattle.die_sim.specs.Moment.{edge, captured, IsStep}
 use Rattle.die_sim.specs.Socket.{Told, CanDrive, CanSense, Moves, Shows}
 use Rattle.strobe_check.specs.Sensed.{is_sensed}
 use Rattle.strobe_check.specs.Step.{is_watched}
 use Rattle.strobe_check.specs.History.{Held, Answers, sensed, open_window}
 use Rattle.strobe_check.proofs.SensedLemmas.{is_sensed-watched}
-use Rattle.one_try.specs.Run.{has_net, is_bound, bound_of}
+use Rattle.one_try.specs.Run.{is_bound, bound_of}
 use Rattle.one_try.specs.Step.{AreLevels, IsCheckedBy, IsSettled}
 
 -- ---- no drives

@@ -1,15 +1,13 @@
 -- What a die is driven to at a moment. A drive P stands for the last Down or Up that an earlier moment gave its
 -- signal (IEEE 1450-1999, the event P).
-use Rattle.std.specs.Prelude.{ℕ, ◌==◌, Bool, true, false, ◌||◌, if◌then◌else◌, List, map, filter, Option, Some, None, unwrap_or}
+use Rattle.std.specs.Prelude.{ℕ, ◌==◌, Bool, ◌||◌, if◌then◌else◌, List, map, filter, Option, Some, None, unwrap_or}
 use Rattle.std.specs.List.{flat_map, filter_map, last_or}
 use Rattle.tester_types.specs.declared.wave.Push.{Push}
 use Rattle.tester_types.specs.declared.wave.Push.TheVariants as push
 use Rattle.tester_types.specs.declared.level.Drive.{Drive}
 use Rattle.tester_types.specs.declared.level.Drive.TheVariants as drive
 use Rattle.tester_types.specs.declared.cycle.Moment.{Moment}
-use Rattle.die_sim.specs.declared.image.Bind.{Bind}
-use Rattle.die_sim.specs.declared.image.Bind.TheVariants as bind
-use Rattle.die_sim.specs.Die.{Device, bind_at, is_clock}
+use Rattle.die_sim.specs.Die.{Device, bind_at, is_clock, is_input}
 use Rattle.one_try.specs.Places.{Place}
 
 -- Down and Up stay for a later P
@@ -39,12 +37,6 @@ drive_of last push.Up = drive.Up
 drive_of last push.Off = drive.Off
 drive_of last push.Unknown = drive.Unknown
 drive_of last push.Prior = last
-
--- bound to an input
-abbrev pub is_input : Bind → Bool
-is_input bind.Free = false
-is_input (bind.Input net) = true
-is_input (bind.Output net) = false
 
 -- the signals that are driven: those bound to an input, and the clock
 abbrev pub is_driven : Device → ℕ → Bool

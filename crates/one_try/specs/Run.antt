@@ -1,11 +1,9 @@
 -- What a die does in a try, and the fails of the looks at it.
-use Rattle.std.specs.Prelude.{ℕ, ◌==◌, Bool, true, false, ◌||◌, List, [], ◌∷◌, ◌++◌, map, filter, length}
+use Rattle.std.specs.Prelude.{ℕ, ◌==◌, Bool, ◌||◌, List, [], ◌∷◌, ◌++◌, map, filter, length}
 use Rattle.std.specs.List.{flat_map, range_with_len, zip}
 use Rattle.tester_types.specs.declared.level.Level.{Level}
 use Rattle.tester_types.specs.declared.record.Fail.{Fail}
-use Rattle.die_sim.specs.declared.image.Bind.{Bind}
-use Rattle.die_sim.specs.declared.image.Bind.TheVariants as bind
-use Rattle.die_sim.specs.Die.{Device, State, bind_at, is_clock, level_of}
+use Rattle.die_sim.specs.Die.{Device, State, bind_at, is_clock, has_net, level_of}
 use Rattle.die_sim.specs.Moment.{IsStep}
 use Rattle.strobe_check.specs.Entry.{Entry}
 use Rattle.strobe_check.specs.Fails.{fails}
@@ -20,12 +18,6 @@ GoesThrough device state before [] (next ∷ states) = ⊥
 GoesThrough device state before (place ∷ later) [] = ⊥
 GoesThrough device state before (place ∷ later) (next ∷ states) =
     IsStep device state next (driven device before place.moment) × GoesThrough device next (before ++ place ∷ []) later states
-
--- bound to a net
-abbrev pub has_net : Bind → Bool
-has_net bind.Free = false
-has_net (bind.Input net) = true
-has_net (bind.Output net) = true
 
 -- the signals that are looked at: those bound to a net, and the clock
 abbrev pub is_bound : Device → ℕ → Bool

@@ -29,6 +29,7 @@ abbrev pub Rises : {A : Type 0} → List (ℕ × A) → Type 0
 Rises [] = Unit {0}
 Rises (given ∷ later) = AllByRecursion (λ next. given.0 < next.0) later × Rises later
 
+-- the signals of drives rise, and are among so many
 pub record AreOfSignals (signals : ℕ) (drives : List (ℕ × Push)) : Type 0 where
   pub rising : Rises drives
   pub below : All (λ given. given.0 < signals) drives
@@ -46,6 +47,7 @@ abbrev pub put_steady : List Drive → ℕ → Option Drive → List Drive
 put_steady last signal None = last
 put_steady last signal (Some next) = slice_set last signal next
 
+-- the last Down or Up of each signal after a drive
 abbrev pub after_drive : List Drive → ℕ × Push → List Drive
 after_drive last given = put_steady last given.0 (steady given.1)
 
@@ -118,6 +120,7 @@ pub record IsCheckerOf (device : Device) (held : Held) : Type 0 where
   pub seen : HasSeen history held
   pub bound : history.bound ≡ bound_of device
 
+-- the checker is of the loaded die
 abbrev pub IsCheckedBy : Option Device → Held → Type 0
 IsCheckedBy None held = ⊥
 IsCheckedBy (Some device) held = IsCheckerOf device held
@@ -126,11 +129,6 @@ IsCheckedBy (Some device) held = IsCheckerOf device held
 abbrev pub IsSettled : Option Device → State → Type 0
 IsSettled None state = ⊥
 IsSettled (Some device) state = Settled device.circuit.net.drivers device.fixed state.held state.levels
-
--- what a socket still tells where all went well but the state
-pub record KeepsDie (old new : Told) : Type 0 where
-  pub loaded : new.loaded ≡ old.loaded
-  pub count : old.count ≤ new.count
 
 -- a try is under way, whatever places it has gone through
 pub record IsOnTheWay (device : Device) (number : ℕ) (held : Held) (last : List Drive) (told : Told) : Type 0 where

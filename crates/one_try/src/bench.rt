@@ -29,22 +29,14 @@ pub(crate) struct Bench {
 fn unknown_drives(alloc: Global, signals: u16) -> Result<Vec<Drive>, AllocError>
     ensures { IfOk result (λ last. last.items ≡ replicate signals drive.Unknown) }
 {
-    let mut last = Vec::new(alloc);
-    for _ in 0..signals {
-        last.push(Drive::Unknown)?;
-    }
-    Ok(last)
+    vec![in alloc; Drive::Unknown; usize::from(signals)]
 }
 
 /// X for each signal.
 fn unknown_levels(alloc: Global, signals: u16) -> Result<Vec<Level>, AllocError>
     ensures { IfOk result (λ levels. levels.items ≡ replicate signals level.X) }
 {
-    let mut levels = Vec::new(alloc);
-    for _ in 0..signals {
-        levels.push(Level::X)?;
-    }
-    Ok(levels)
+    vec![in alloc; Level::X; usize::from(signals)]
 }
 
 impl Bench {
