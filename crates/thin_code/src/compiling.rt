@@ -1,0 +1,92 @@
+//! The code of a thin text.
+
+ghost use Rattle.std.specs.Prelude.{◌≡◌, ◌≤◌, ◌∷◌, [], All, map, length, IfOk};
+ghost use Rattle.thin_stil.specs.Thin.{IsSaid};
+ghost use Rattle.thin_code.specs.Compiled.{IsCodeOf, direction_of, signal_of};
+ghost use Rattle.thin_code.specs.Order.{HasPlace, in_order};
+
+use crate::order::in_order;
+use crate::vectors::compile_vectors;
+use page_code::{
+    Code, CodeChainList, CodeExec, CodeExecList, CodeSignal, CodeSignalList, Direction, Instr,
+    InstrList,
+};
+use std::alloc::{AllocError, Global};
+use tester_types::{Items, NoMemory, Table, TableList};
+use thin_stil::{ThinSignal, ThinText};
+
+/// In or Out.
+fn direction_of(is_out: bool) -> Direction
+    ensures { result ≡ direction_of is_out }
+{
+    if is_out {
+        Direction::Out
+    } else {
+        Direction::In
+    }
+}
+
+/// The signals of a code.
+fn signals_of(alloc: Global, signals: Vec<ThinSignal>) -> Result<CodeSignalList, AllocError>
+    ensures { IfOk result (λ list. list ≡ map signal_of signals.items) }
+{
+    let mut list = Vec::new(alloc);
+    for signal in signals {
+        list.push(CodeSignal {
+            direction: direction_of(signal.is_out),
+            name: signal.name,
+        })?;
+    }
+    Ok(CodeSignalList::from_vec(list))
+}
+
+/// The table with its waves in the order that a code keeps.
+fn ordered_table(alloc: Global, signals: usize, table: Table) -> Result<Table, AllocError>
+    requires few { signals ≤ 1024 }
+    requires places { All (HasPlace signals) table.waves }
+    ensures { IfOk result (λ made. made ≡ record { name = table.name; period = table.period; waves = in_order signals table.waves }) }
+{
+    let Table {
+        name,
+        period,
+        waves,
+    } = table;
+    Ok(Table {
+        name,
+        period,
+        waves: in_order(alloc, signals, waves)?,
+    })
+}
+
+/// A list of one item.
+fn one<T: Drop>(alloc: Global, item: T) -> Result<Items<T>, AllocError>
+    ensures { IfOk result (λ list. list ≡ item ∷ []) }
+{
+    let mut list = Vec::new(alloc);
+    list.push(item)?;
+    Ok(Items::from_vec(list))
+}
+
+/// The code of a thin text. Its cycles are the text's dated cycles, one Run each.
+pub fn compile(alloc: Global, text: ThinText) -> Result<Code, NoMemory>
+    requires { IsSaid text }
+    ensures { IfOk result (λ code. IsCodeOf text code) }
+{
+    let ThinText {
+        exec,
+        signals,
+        table,
+        vectors,
+    } = text;
+    let count = signals.len();
+    let (rows, mut instrs) = compile_vectors(alloc, count, vectors.as_slice())?;
+    instrs.push(Instr::Done)?;
+    let tables: TableList = one(alloc, ordered_table(alloc, count, table)?)?;
+    let chains = CodeChainList::from_vec(Vec::new(alloc));
+    let execs: CodeExecList = one(
+        alloc,
+        CodeExec::new(exec, chains, InstrList::from_vec(instrs)),
+    )?;
+    let signals = signals_of(alloc, signals.into_vec())?;
+    Ok(Code::new(signals, tables, rows, execs))
+}
