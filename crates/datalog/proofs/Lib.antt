@@ -2,5 +2,4 @@ mod StandardFacts
 pub mod SequenceLemmas
 pub mod NumberedLemmas
 pub mod CountLemmas
-pub mod CellLemmas
 pub mod LotLemmas

@@ -22,7 +22,11 @@ pub(crate) fn put_cell<K: Sink>(sink: &mut K, code: &Code, fail: &Fail) -> Resul
 }
 
 /// Puts the cell of a chain that a mark means, if it means one.
-fn put_cell_in<K: Sink>(sink: &mut K, mark: u32, chain: &CodeChain) -> Result<(), SinkFault>
+pub(crate) fn put_cell_in<K: Sink>(
+    sink: &mut K,
+    mark: u32,
+    chain: &CodeChain,
+) -> Result<(), SinkFault>
     ensures puts { Puts (K.told sink.old) (cell_words (cell_in mark chain.now)) result (K.told sink.new) }
     ensures count { K.faults sink.old ≤ K.faults sink.new }
     ensures cause { OnErr result (HasRisen (K.faults sink.old) (K.faults sink.new)) }

@@ -11,3 +11,6 @@ mod trials;
 
 pub use lot::print_lot;
 pub use records::print_record;
+
+#[cfg(test)]
+mod tests;

@@ -59,7 +59,7 @@ fn put_try<K: Sink>(sink: &mut K, trial: &Trial) -> Result<(), SinkFault>
 }
 
 /// Puts how a try ended.
-fn put_verdict<K: Sink>(sink: &mut K, verdict: &Verdict) -> Result<(), SinkFault>
+pub(crate) fn put_verdict<K: Sink>(sink: &mut K, verdict: &Verdict) -> Result<(), SinkFault>
     ensures puts { Puts (K.told sink.old) (verdict_line verdict.now) result (K.told sink.new) }
     ensures count { K.faults sink.old ≤ K.faults sink.new }
     ensures cause { OnErr result (HasRisen (K.faults sink.old) (K.faults sink.new)) }

@@ -1,0 +1,81 @@
+//! Lines that a sink in memory holds: verdicts, cells and totals.
+
+use crate::cells::put_cell_in;
+use crate::totals::put_totals;
+use crate::trials::put_verdict;
+use page_code::CodeChain;
+use std::alloc::Global;
+use std::test::Fail;
+use tester_types::{By, Items, MemSink, NoMemory, Text, Verdict};
+
+/// A sink with room, whose puts of these numbers fail.
+fn sink(alloc: Global, failing: Vec<u64>) -> Result<MemSink, NoMemory> {
+    MemSink::new(alloc, 999, 999, failing, Vec::new(alloc))
+}
+
+/// The bytes as a text.
+fn text(alloc: Global, bytes: &[u8]) -> Result<Text, NoMemory> {
+    Ok(Items::from_vec(Vec::from_slice(alloc, bytes)?))
+}
+
+/// A chain c1 of the cells f5, f6 and f7.
+fn chain(alloc: Global) -> Result<CodeChain, NoMemory> {
+    let mut cells = Vec::new(alloc);
+    cells.push(text(alloc, b"f5")?)?;
+    cells.push(text(alloc, b"f6")?)?;
+    cells.push(text(alloc, b"f7")?)?;
+    Ok(CodeChain {
+        name: text(alloc, b"c1")?,
+        out: 1,
+        length: 3,
+        cells: Items::from_vec(cells),
+    })
+}
+
+const VERDICTS: [Verdict; 5] = [
+    Verdict::Pass,
+    Verdict::Fail(3),
+    Verdict::Stopped(2, By::Plan),
+    Verdict::Stopped(0, By::Desk(1)),
+    Verdict::Contact(40_000_000),
+];
+
+#[test]
+fn verdicts_say_how_tries_ended(rt: HostRuntime) -> Result<(), Fail> {
+    let mut sink = sink(rt.alloc(), Vec::new(rt.alloc()))?;
+    for verdict in &VERDICTS {
+        put_verdict(&mut sink, verdict)?;
+    }
+    let lines =
+        b"verdict pass\nverdict fail 3\nverdict stopped 2 plan\nverdict stopped 0 desk 1\nverdict contact 40000000\n";
+    assert!(rt; sink.bytes() == lines.as_slice());
+    Ok(())
+}
+
+#[test]
+fn a_mark_counts_cells_from_the_scan_out(rt: HostRuntime) -> Result<(), Fail> {
+    let mut sink = sink(rt.alloc(), Vec::new(rt.alloc()))?;
+    let chain = chain(rt.alloc())?;
+    for mark in 0..5u32 {
+        put_cell_in(&mut sink, mark, &chain)?;
+    }
+    assert!(rt; sink.bytes() == b" c1 f7 c1 f6 c1 f5".as_slice());
+    Ok(())
+}
+
+#[test]
+fn bins_without_a_die_have_no_total(rt: HostRuntime) -> Result<(), Fail> {
+    let mut sink = sink(rt.alloc(), Vec::new(rt.alloc()))?;
+    put_totals(&mut sink, &[0, 3, 0, 1])?;
+    assert!(rt; sink.bytes() == b"total 1 3\ntotal 3 1\n".as_slice());
+    Ok(())
+}
+
+#[test]
+fn a_fault_leaves_what_was_written(rt: HostRuntime) -> Result<(), Fail> {
+    let failing = vec![in rt.alloc(); 2]?;
+    let mut sink = sink(rt.alloc(), failing)?;
+    assert!(rt; put_totals(&mut sink, &[0, 3]).is_err());
+    assert!(rt; sink.bytes() == b"total ".as_slice());
+    Ok(())
+}
