@@ -16,15 +16,14 @@ use Rattle.thin_stil.specs.declared.thin.ThinText.{ThinText}
 use Rattle.thin_stil.specs.Thin as thin_text
 use Rattle.thin_stil.specs.Rows.{rows_from}
 use Rattle.thin_stil.proofs.CycleLemmas.{cycles-are-dated, rows-show, all-plain, vectors_in}
-use Rattle.page_code.specs.declared.parts.CodeSignal.{CodeSignal}
-use Rattle.page_code.specs.Program.{Exec, Program}
+use Rattle.page_code.specs.Program.{Program}
 use Rattle.page_code.specs.Letters.{is_character}
 use Rattle.page_code.specs.Conditions.{EachBehind, IsProgram, IsTable, IsRow, IsInstr, IsExec, has_waves}
 use Rattle.page_code.specs.Cycles.{timed}
 use Rattle.page_code.proofs.Lists.{all_each}
 use Rattle.thin_code.specs.Compiled.{signal_of, read_cycle, read_cycles, IsTableOf, IsCodeOf}
 use Rattle.thin_code.specs.Order.{HasPlace, in_order}
-use Rattle.thin_code.specs.Step.{AreRuns, with_row, shown}
+use Rattle.thin_code.specs.Step.{AreRuns, ordered_table, exec_of, with_row, shown}
 use Rattle.thin_code.proofs.ListLemmas.{all_weaker}
 use Rattle.thin_code.proofs.SaidLemmas.{IsSaidWave, IsGiven, IsGood}
 use Rattle.thin_code.proofs.OrderLemmas.{is_ascii, in_order_rises, length-in_order, wave_of-in_order, has_waves-in_order}
@@ -32,33 +31,41 @@ use Rattle.thin_code.proofs.RowLemmas.{IsFit, rows_of, rows_fit, rows_are, rows_
 use Rattle.thin_code.proofs.RunLemmas.{runs_mean, runs_whole, runs_few, runs_fit, IsUsed, all_clear, none_clear, shown-none, reads}
 
 -- each wave has a place
-pub places : (signals period : ℕ) (waves : List Wave) → AllByRecursion (IsSaidWave signals period) waves → AllByRecursion (HasPlace signals) waves
+pub places : (signals period : ℕ) (waves : List Wave)
+    → AllByRecursion (IsSaidWave signals period) waves → AllByRecursion (HasPlace signals) waves
 places signals period waves all =
     all_weaker (IsSaidWave signals period) (HasPlace signals) (λ w is. record { signal = is.signal; letter = is_ascii w.letter is.letter }) waves all
 
-pub all_places : (thin : ThinText) → IsGood thin → All (HasPlace (length thin.signals)) thin.table.waves
+-- the same at each index
+pub all_places : (thin : ThinText) → IsGood thin
+    → All (HasPlace (length thin.signals)) thin.table.waves
 all_places thin good =
     All-from_recursion (HasPlace (length thin.signals)) thin.table.waves (places (length thin.signals) thin.table.period thin.table.waves good.waves)
 
 -- the table of the code
 abbrev pub table_of : ThinText → Table
-table_of thin = record { name = thin.table.name; period = thin.table.period; waves = in_order (length thin.signals) thin.table.waves }
+table_of thin = ordered_table (length thin.signals) thin.table
+
+-- the rows of the code
+abbrev pub code_rows : ThinText → List (List ℕ)
+code_rows thin = fold with_row [] (rows_of thin)
 
 -- the code with these instructions up to Done
 abbrev pub code_of : ThinText → List Instr → Program
 code_of thin instrs = record {
   signals = map signal_of thin.signals;
   tables = table_of thin ∷ [];
-  rows = fold with_row [] (rows_of thin);
-  execs = record { name = thin.exec; chains = []; instrs = instrs ++ Done ∷ [] } ∷ [];
+  rows = code_rows thin;
+  execs = exec_of thin.exec instrs ∷ [];
 }
 
 -- the instructions run the rows of the text
 abbrev pub RunRows : ThinText → List Instr → Type 0
-RunRows thin instrs = AreRuns (fold with_row [] (rows_of thin)) instrs (rows_of thin)
+RunRows thin instrs = AreRuns (code_rows thin) instrs (rows_of thin)
 
 -- ---- conditions
 
+-- the table of the code meets its conditions
 table_is : (thin : ThinText) → IsGood thin → IsTable (length thin.signals) [] (table_of thin)
 table_is thin good =
     let few : length thin.signals ≤ 1024 = good.few_signals in
@@ -72,17 +79,20 @@ table_is thin good =
       waves = in_order_rises (length thin.signals) thin.table.period (2 ^ 20) thin.table.waves good.waves (omega arith);
     }
 
+-- there are at most as many rows as vectors may be
 few_of_rows : (thin : ThinText) → IsGood thin → length (rows_of thin) ≤ 65536
 few_of_rows thin good =
     let few : length thin.vectors ≤ 65536 = good.few_vectors in
     omega (arith, length-rows_from (replicate (length thin.signals) 0) thin.vectors)
 
+-- the instructions are those of an executive
 pub instrs_whole : (thin : ThinText) (instrs : List Instr) → IsGood thin → RunRows thin instrs
     → IsWhole (instrs ++ Done ∷ [])
-instrs_whole thin instrs good are = runs_whole (fold with_row [] (rows_of thin)) instrs (rows_of thin) are (few_of_rows thin good)
+instrs_whole thin instrs good are = runs_whole (code_rows thin) instrs (rows_of thin) are (few_of_rows thin good)
 
+-- the executive meets its conditions
 exec_is : (thin : ThinText) (instrs : List Instr) → IsGood thin → RunRows thin instrs
-    → IsExec (length thin.signals) (table_of thin ∷ []) (fold with_row [] (rows_of thin)) (record { name = thin.exec; chains = []; instrs = instrs ++ Done ∷ [] })
+    → IsExec (length thin.signals) (table_of thin ∷ []) (code_rows thin) (exec_of thin.exec instrs)
 exec_is thin instrs good are =
     let signals : ℕ = length thin.signals in
     let said : List Wave = thin.table.waves in
@@ -90,10 +100,10 @@ exec_is thin instrs good are =
       name = good.exec;
       few_chains = omega arith;
       chains = tt;
-      few_instrs = runs_few (fold with_row [] (rows_of thin)) instrs (rows_of thin) are (few_of_rows thin good);
+      few_instrs = runs_few (code_rows thin) instrs (rows_of thin) are (few_of_rows thin good);
       instrs =
-          all_each (IsInstr (table_of thin ∷ []) (fold with_row [] (rows_of thin))) [] (instrs ++ Done ∷ [])
-          (runs_fit (table_of thin ∷ []) (fold with_row [] (rows_of thin)) instrs (rows_of thin) (omega arith)
+          all_each (IsInstr (table_of thin ∷ []) (code_rows thin)) [] (instrs ++ Done ∷ [])
+          (runs_fit (table_of thin ∷ []) (code_rows thin) instrs (rows_of thin) (omega arith)
           (all_weaker (IsFit signals said) (λ (letters : List ℕ). has_waves (in_order signals said) 0 letters ≡ true)
           (λ row fits. has_waves-in_order signals said 0 row (places signals thin.table.period said good.waves) ∙ fits.given) (rows_of thin) (rows_fit thin good))
           are);
@@ -105,12 +115,13 @@ product_few : (rows signals : ℕ) → rows ≤ 65536 → signals ≤ 1024 → r
 product_few rows signals few_rows few_signals = omega (arith, mul-le-mul few_rows few_signals)
 
 -- the code meets all conditions
-pub program_is : (thin : ThinText) (instrs : List Instr) → IsGood thin → RunRows thin instrs → IsProgram (code_of thin instrs)
+pub program_is : (thin : ThinText) (instrs : List Instr) → IsGood thin → RunRows thin instrs
+    → IsProgram (code_of thin instrs)
 program_is thin instrs good are =
     let size : length thin.signals ≡ length (map signal_of thin.signals) = sym (length-map thin.signals signal_of) in
     let few : length thin.signals ≤ 1024 = good.few_signals in
-    let rows : List (List ℕ) = fold with_row [] (rows_of thin) in
-    let few_rows : length (fold with_row [] (rows_of thin)) ≤ 65536 = rows_few thin good in
+    let rows : List (List ℕ) = code_rows thin in
+    let few_rows : length (code_rows thin) ≤ 65536 = rows_few thin good in
     record {
       few_signals = omega arith;
       signals = good.signals;
@@ -122,7 +133,7 @@ program_is thin instrs good are =
       some_execs = omega arith;
       few_execs = omega arith;
       execs = (
-        subst (λ (n : ℕ). IsExec n (table_of thin ∷ []) rows (record { name = thin.exec; chains = []; instrs = instrs ++ Done ∷ [] })) size
+        subst (λ (n : ℕ). IsExec n (table_of thin ∷ []) rows (exec_of thin.exec instrs)) size
             (exec_is thin instrs good are),
         tt,
       );
@@ -131,11 +142,13 @@ program_is thin instrs good are =
 -- ---- what the code says
 
 -- a character with a wave is not 0
-given_used : (signals period : ℕ) (waves : List Wave) (given : ℕ × ℕ) → AllByRecursion (IsSaidWave signals period) waves → IsGiven waves given
+given_used : (signals period : ℕ) (waves : List Wave) (given : ℕ × ℕ)
+    → AllByRecursion (IsSaidWave signals period) waves → IsGiven waves given
     → IsUsed given
 given_used signals period waves given all has none =
     false≢true (ap is_character (sym none) ∙ letter_of_wave signals period waves given.0 given.1 all has)
 
+-- no V gives a 0
 vectors_used : (thin : ThinText) → IsGood thin → AllByRecursion (AllByRecursion IsUsed) thin.vectors
 vectors_used thin good =
     all_weaker (AllByRecursion (IsGiven thin.table.waves)) (AllByRecursion IsUsed)
@@ -158,7 +171,8 @@ abbrev begin : ThinText → State
 begin thin = record { table = Some 0; letters = replicate (length thin.signals) None }
 
 -- the rows show the letters of the vectors
-rows_show : (thin : ThinText) → rows_of thin ≡ map (λ (v : Vector). map shown v.letters) (vectors_in thin)
+rows_show : (thin : ThinText)
+    → rows_of thin ≡ map (λ (v : Vector). map shown v.letters) (vectors_in thin)
 rows_show thin =
     ap (λ row. rows_from row thin.vectors) (sym (shown-none (length thin.signals)))
     ∙ rows-show shown (λ c. refl) (begin thin) thin.vectors
@@ -167,7 +181,7 @@ rows_show thin =
 cycles_are : (thin : ThinText) (instrs : List Instr) → IsGood thin → RunRows thin instrs
     → read_cycles (code_of thin instrs) 0 ≡ thin_text.cycles_of thin
 cycles_are thin instrs good are =
-    let rows : List (List ℕ) = fold with_row [] (rows_of thin) in
+    let rows : List (List ℕ) = code_rows thin in
     let shows : AreRuns rows instrs (map (λ (v : Vector). map shown v.letters) (vectors_in thin)) =
     subst (λ (all : List (List ℕ)). AreRuns rows instrs all) (rows_show thin) are in
     let mean = runs_mean rows instrs (map (λ (v : Vector). map shown v.letters) (vectors_in thin)) shows in
@@ -177,13 +191,14 @@ cycles_are thin instrs good are =
     ∙ sym (cycles-are-dated thin)
 
 -- the code is that of the text
-pub code_is : (thin : ThinText) (instrs : List Instr) → IsGood thin → RunRows thin instrs → IsCodeOf thin (code_of thin instrs)
+pub code_is : (thin : ThinText) (instrs : List Instr) → IsGood thin → RunRows thin instrs
+    → IsCodeOf thin (code_of thin instrs)
 code_is thin instrs good are = record {
   signals = refl;
   table = table_of thin;
   tables = refl;
   is_table = is_table thin good;
-  exec = record { name = thin.exec; chains = []; instrs = instrs ++ Done ∷ [] };
+  exec = exec_of thin.exec instrs;
   execs = refl;
   name = refl;
   chains = refl;
@@ -192,41 +207,53 @@ code_is thin instrs good are = record {
 
 -- ---- the parts that were made
 
--- the rows of the numbers and the vectors that the code counted and saw
-seen_rows : (thin : ThinText) (count : ℕ) (vectors : List (List (ℕ × ℕ))) → count ≡ length thin.signals → vectors ≡ thin.vectors
-    → rows_from (replicate count 0) vectors ≡ rows_of thin
+-- the rows of the signals and the vectors that were counted and seen
+seen_rows : (thin : ThinText) (count : ℕ) (vectors : List (List (ℕ × ℕ)))
+    → count ≡ length thin.signals
+    → vectors ≡ thin.vectors → rows_from (replicate count 0) vectors ≡ rows_of thin
 seen_rows thin count vectors counted seen =
-    ap (λ n. rows_from (replicate n 0) vectors) counted ∙ ap (rows_from (replicate (length thin.signals) 0)) seen
+    ap (λ n. rows_from (replicate n 0) vectors) counted
+    ∙ ap (rows_from (replicate (length thin.signals) 0)) seen
 
-pub rows_seen : (thin : ThinText) (count : ℕ) (vectors : List (List (ℕ × ℕ))) (rows : List (List ℕ)) → count ≡ length thin.signals
-    → vectors ≡ thin.vectors → rows ≡ fold with_row [] (rows_from (replicate count 0) vectors) → rows ≡ fold with_row [] (rows_of thin)
-rows_seen thin count vectors rows counted seen are = are ∙ ap (fold with_row []) (seen_rows thin count vectors counted seen)
+-- each of them once
+pub rows_seen : (thin : ThinText) (count : ℕ) (vectors : List (List (ℕ × ℕ))) (rows : List (List ℕ))
+    → count ≡ length thin.signals → vectors ≡ thin.vectors
+    → rows ≡ fold with_row [] (rows_from (replicate count 0) vectors) → rows ≡ code_rows thin
+rows_seen thin count vectors rows counted seen are =
+    are ∙ ap (fold with_row []) (seen_rows thin count vectors counted seen)
 
+-- the instructions that run them
 pub runs_seen : (thin : ThinText) (count : ℕ) (vectors : List (List (ℕ × ℕ))) (rows : List (List ℕ)) (instrs : List Instr)
-    → count ≡ length thin.signals → vectors ≡ thin.vectors → rows ≡ fold with_row [] (rows_from (replicate count 0) vectors)
+    → count ≡ length thin.signals → vectors ≡ thin.vectors
+    → rows ≡ fold with_row [] (rows_from (replicate count 0) vectors)
     → AreRuns rows instrs (rows_from (replicate count 0) vectors) → RunRows thin instrs
 runs_seen thin count vectors rows instrs counted seen rows_are are =
     let all : AreRuns rows instrs (rows_of thin) =
     subst (λ (rs : List (List ℕ)). AreRuns rows instrs rs) (seen_rows thin count vectors counted seen) are in
-    subst (λ (rs : List (List ℕ)). AreRuns rs instrs (rows_of thin)) (rows_seen thin count vectors rows counted seen rows_are) all
+    subst (λ (rs : List (List ℕ)). AreRuns rs instrs (rows_of thin))
+    (rows_seen thin count vectors rows counted seen rows_are) all
 
--- the code of parts that are as they should be
-pub made_code : (thin : ThinText) (instrs all : List Instr) (signals : List CodeSignal) (tables : List Table) (table : Table) (rows : List (List ℕ))
-    (execs : List Exec) (exec : Exec) → signals ≡ map signal_of thin.signals → tables ≡ table ∷ [] → table ≡ table_of thin
-    → rows ≡ fold with_row [] (rows_of thin) → execs ≡ exec ∷ [] → exec ≡ record { name = thin.exec; chains = []; instrs = all }
-    → all ≡ instrs ++ Done ∷ []
-    → ◌≡◌ {A = Program} (record { signals = signals; tables = tables; rows = rows; execs = execs }) (code_of thin instrs)
-made_code thin instrs all signals tables table rows execs exec signals_are tables_are table_is rows_are execs_are exec_is instrs_are =
-    let ones : tables ≡ table_of thin ∷ [] = tables_are ∙ ap (λ (t : Table). t ∷ []) table_is in
-    let runs : execs ≡ record { name = thin.exec; chains = []; instrs = instrs ++ Done ∷ [] } ∷ [] =
-    execs_are ∙ ap (λ (e : Exec). e ∷ []) exec_is
-    ∙ ap (λ (is : List Instr). record { name = thin.exec; chains = []; instrs = is } ∷ []) instrs_are in
-    λ i. record { signals = signals_are i; tables = ones i; rows = rows_are i; execs = runs i }
+-- a code of parts that are as they should be
+pub made_code : (thin : ThinText) (count : ℕ) (instrs : List Instr) (made : Program) (table : Table)
+    → count ≡ length thin.signals
+    → made.signals ≡ map signal_of thin.signals → made.tables ≡ table ∷ []
+    → table ≡ ordered_table count thin.table
+    → made.rows ≡ code_rows thin → made.execs ≡ exec_of thin.exec instrs ∷ []
+    → made ≡ code_of thin instrs
+made_code thin count instrs made table counted signals tables ordered rows execs =
+    let ones : made.tables ≡ table_of thin ∷ [] =
+    tables ∙ ap (λ (t : Table). t ∷ []) (ordered ∙ ap (λ n. ordered_table n thin.table) counted) in
+    λ i. record { signals = signals i; tables = ones i; rows = rows i; execs = execs i }
 
-pub made_program : (thin : ThinText) (instrs : List Instr) (made : Program) → IsGood thin → RunRows thin instrs → made ≡ code_of thin instrs
-    → IsProgram made
+-- such a code meets all conditions
+pub made_program : (thin : ThinText) (instrs : List Instr) (made : Program) → IsGood thin
+    → RunRows thin instrs
+    → made ≡ code_of thin instrs → IsProgram made
 made_program thin instrs made good are is = subst IsProgram (sym is) (program_is thin instrs good are)
 
-pub made_is : (thin : ThinText) (instrs : List Instr) (made : Program) → IsGood thin → RunRows thin instrs → made ≡ code_of thin instrs
-    → IsCodeOf thin made
-made_is thin instrs made good are is = subst (λ (code : Program). IsCodeOf thin code) (sym is) (code_is thin instrs good are)
+-- such a code is that of the text
+pub made_is : (thin : ThinText) (instrs : List Instr) (made : Program) → IsGood thin
+    → RunRows thin instrs
+    → made ≡ code_of thin instrs → IsCodeOf thin made
+made_is thin instrs made good are is =
+    subst (λ (code : Program). IsCodeOf thin code) (sym is) (code_is thin instrs good are)

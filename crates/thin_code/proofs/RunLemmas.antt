@@ -26,7 +26,9 @@ use Rattle.thin_code.proofs.ListLemmas.{all_set}
 
 -- ---- the instructions
 
-runs_rest : (rows : List (List ℕ)) (instrs : List Instr) (all : List (List ℕ)) → AreRuns rows instrs all → IsRest 0 false (instrs ++ Done ∷ [])
+-- they open no loop, and Done is the last
+runs_rest : (rows : List (List ℕ)) (instrs : List Instr) (all : List (List ℕ))
+    → AreRuns rows instrs all → IsRest 0 false (instrs ++ Done ∷ [])
 runs_rest rows [] [] are = (refl, refl)
 runs_rest rows [] (letters ∷ more) are = absurd are
 runs_rest rows (Run table row mark times ∷ instrs) [] are = absurd are
@@ -50,7 +52,9 @@ pub record MeansRows (rows : List (List ℕ)) (instrs : List Instr) (all : List 
   pub is : bodies (instrs ++ Done ∷ []) ≡ entries ∷ []
   pub are : AreEntries rows entries all
 
-pub runs_mean : (rows : List (List ℕ)) (instrs : List Instr) (all : List (List ℕ)) → AreRuns rows instrs all → MeansRows rows instrs all
+-- what they mean
+pub runs_mean : (rows : List (List ℕ)) (instrs : List Instr) (all : List (List ℕ))
+    → AreRuns rows instrs all → MeansRows rows instrs all
 unfolding bodies
 runs_mean rows [] [] are = record { entries = []; is = refl; are = tt }
 runs_mean rows [] (letters ∷ more) are = absurd are
@@ -67,14 +71,17 @@ runs_mean rows (Loop times ∷ instrs) more are = absurd are
 runs_mean rows (End ∷ instrs) more are = absurd are
 runs_mean rows (Done ∷ instrs) more are = absurd are
 
-length-entries : (rows : List (List ℕ)) (entries : List Entry) (all : List (List ℕ)) → AreEntries rows entries all → length entries ≡ length all
+-- one entry a row
+length-entries : (rows : List (List ℕ)) (entries : List Entry) (all : List (List ℕ))
+    → AreEntries rows entries all → length entries ≡ length all
 length-entries rows [] [] are = refl
 length-entries rows [] (letters ∷ more) are = absurd are
 length-entries rows (entry ∷ entries) [] are = absurd are
 length-entries rows (entry ∷ entries) (letters ∷ more) are = ap suc (length-entries rows entries more are.3)
 
 -- the instructions up to Done are those of an executive
-pub runs_whole : (rows : List (List ℕ)) (instrs : List Instr) (all : List (List ℕ)) → AreRuns rows instrs all → length all ≤ 65536
+pub runs_whole : (rows : List (List ℕ)) (instrs : List Instr) (all : List (List ℕ))
+    → AreRuns rows instrs all → length all ≤ 65536
     → IsWhole (instrs ++ Done ∷ [])
 runs_whole rows instrs all are few =
     let mean = runs_mean rows instrs all are in
@@ -83,7 +90,9 @@ runs_whole rows instrs all are few =
     cycle_count-length (instrs ++ Done ∷ []) ∙ ap (λ bs. length (top bs)) mean.is in
     record { rest = runs_rest rows instrs all are; cycles = omega arith }
 
-length-runs : (rows : List (List ℕ)) (instrs : List Instr) (all : List (List ℕ)) → AreRuns rows instrs all → length (instrs ++ Done ∷ []) ≡ suc (length all)
+-- one instruction a row, and Done
+length-runs : (rows : List (List ℕ)) (instrs : List Instr) (all : List (List ℕ))
+    → AreRuns rows instrs all → length (instrs ++ Done ∷ []) ≡ suc (length all)
 length-runs rows [] [] are = refl
 length-runs rows [] (letters ∷ more) are = absurd are
 length-runs rows (Run table row mark times ∷ instrs) [] are = absurd are
@@ -92,13 +101,17 @@ length-runs rows (Loop times ∷ instrs) more are = absurd are
 length-runs rows (End ∷ instrs) more are = absurd are
 length-runs rows (Done ∷ instrs) more are = absurd are
 
-pub runs_few : (rows : List (List ℕ)) (instrs : List Instr) (all : List (List ℕ)) → AreRuns rows instrs all → length all ≤ 65536
+-- there are few enough
+pub runs_few : (rows : List (List ℕ)) (instrs : List Instr) (all : List (List ℕ))
+    → AreRuns rows instrs all → length all ≤ 65536
     → length (instrs ++ Done ∷ []) ≤ 4194305
 runs_few rows instrs all are few = omega (arith, length-runs rows instrs all are)
 
 -- each instruction names the first table, and a row whose characters have waves there
-pub runs_fit : (tables : List Table) (rows : List (List ℕ)) (instrs : List Instr) (all : List (List ℕ)) → 0 < length tables
-    → AllByRecursion (λ (letters : List ℕ). has_waves (waves_of tables 0) 0 letters ≡ true) all → AreRuns rows instrs all
+pub runs_fit : (tables : List Table) (rows : List (List ℕ)) (instrs : List Instr) (all : List (List ℕ))
+    → 0 < length tables
+    → AllByRecursion (λ (letters : List ℕ). has_waves (waves_of tables 0) 0 letters ≡ true) all
+    → AreRuns rows instrs all
     → AllByRecursion (IsInstr tables rows) (instrs ++ Done ∷ [])
 runs_fit tables rows [] [] some all are = (tt, tt)
 runs_fit tables rows [] (letters ∷ more) some all are = absurd are
@@ -125,10 +138,13 @@ runs_fit tables rows (Done ∷ instrs) more some all are = absurd are
 abbrev IsClear : Option ℕ → Type 0
 IsClear c = letter_of (shown c) ≡ c
 
-read_back : (letters : List (Option ℕ)) → AllByRecursion IsClear letters → map letter_of (map shown letters) ≡ letters
+-- so are all of a row
+read_back : (letters : List (Option ℕ)) → AllByRecursion IsClear letters
+    → map letter_of (map shown letters) ≡ letters
 read_back [] all = refl
 read_back (c ∷ cs) all = ap (λ d. d ∷ map letter_of (map shown cs)) all.0 ∙ ap (λ ds. c ∷ ds) (read_back cs all.1)
 
+-- a character is read back if it is not 0
 clear_letter : (c : ℕ) → (c ≡ 0 → ⊥) → IsClear (Some c)
 clear_letter c used = cond-false (eqb c 0) None (Some c) (ne_eqb c 0 used)
 
@@ -136,7 +152,9 @@ clear_letter c used = cond-false (eqb c 0) None (Some c) (ne_eqb c 0 used)
 abbrev pub IsUsed : ℕ × ℕ → Type 0
 IsUsed given = given.1 ≡ 0 → ⊥
 
-assigned_clear : (given : List (ℕ × ℕ)) (held s : State) → AllByRecursion IsUsed given → AllByRecursion IsClear s.letters
+-- characters after a V are read back
+assigned_clear : (given : List (ℕ × ℕ)) (held s : State) → AllByRecursion IsUsed given
+    → AllByRecursion IsClear s.letters
     → AllByRecursion IsClear (received held (deal (assigns_of given) []).gifts s).letters
 assigned_clear [] held s all clear = clear
 assigned_clear (g ∷ rest) held s all clear =
@@ -146,7 +164,9 @@ assigned_clear (g ∷ rest) held s all clear =
 abbrev pub AreClear : Vector → Type 0
 AreClear v = AllByRecursion IsClear v.letters
 
-pub all_clear : (s : State) (vs : List (List (ℕ × ℕ))) → AllByRecursion (AllByRecursion IsUsed) vs → AllByRecursion IsClear s.letters
+-- those of each vector are
+pub all_clear : (s : State) (vs : List (List (ℕ × ℕ))) → AllByRecursion (AllByRecursion IsUsed) vs
+    → AllByRecursion IsClear s.letters
     → AllByRecursion AreClear (runs.run (vectors_of vs) s).vectors
 all_clear s [] all clear = tt
 all_clear s (given ∷ rest) all clear =
@@ -155,17 +175,21 @@ all_clear s (given ∷ rest) all clear =
     subst (λ (r : runs.Run). AllByRecursion AreClear r.vectors) (sym (run-vector (assigns_of given) (vectors_of rest) s))
     (here, all_clear next rest all.1 here)
 
+-- none is read back as none
 pub none_clear : (n : ℕ) → AllByRecursion IsClear (replicate n None)
 none_clear zero = tt
 none_clear (suc n) = (refl, none_clear n)
 
+-- none is shown as 0
 pub shown-none : (n : ℕ) → map shown (replicate n None) ≡ replicate n 0
 shown-none zero = refl
 shown-none (suc n) = ap (λ row. 0 ∷ row) (shown-none n)
 
 -- ---- the cycles
 
-same_vector : (v : Vector) (table : Option ℕ) (letters : List (Option ℕ)) (mark : ℕ) → table ≡ v.table → letters ≡ v.letters → mark ≡ v.mark
+-- a vector by its parts
+same_vector : (v : Vector) (table : Option ℕ) (letters : List (Option ℕ)) (mark : ℕ)
+    → table ≡ v.table → letters ≡ v.letters → mark ≡ v.mark
     → ◌≡◌ {A = Vector} (record { table = table; letters = letters; mark = mark }) v
 same_vector v table letters mark tables rows marks =
     ap (λ (t : Option ℕ). record { table = t; letters = letters; mark = mark }) tables
@@ -174,7 +198,8 @@ same_vector v table letters mark tables rows marks =
 
 -- what is read from the entries' cycles are the dated vectors
 pub reads : (period number start : ℕ) (tables : List Table) (rows : List (List ℕ)) (entries : List Entry) (vs : List Vector)
-    → period_of tables 0 ≡ period → AreEntries rows entries (map (λ (v : Vector). map shown v.letters) vs)
+    → period_of tables 0 ≡ period
+    → AreEntries rows entries (map (λ (v : Vector). map shown v.letters) vs)
     → AllByRecursion (IsPlain (Some 0)) vs → AllByRecursion AreClear vs
     → map (read_cycle rows) (enumerate_from number (timed tables start entries)) ≡ dated_from period number start vs
 reads period number start tables rows [] [] is are plain clear = refl

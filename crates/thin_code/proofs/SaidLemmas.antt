@@ -57,12 +57,14 @@ pub record IsGood (thin : ThinText) : Type 0 where
 
 -- ---- names
 
+-- bytes that fit a name
 fits_is_name : (bytes : List ℕ) → fits_name bytes ≡ true → IsName bytes
 fits_is_name bytes is =
     let p = and_parts (ltb 0 (length bytes) && leb (length bytes) longest_name) (list_all may_name bytes) is in
     let q = and_parts (ltb 0 (length bytes)) (leb (length bytes) longest_name) p.0 in
     record { text = record { short = leb-true (length bytes) 1024 q.1; printable = p.1 }; some = q.0 }
 
+-- a name of a lexeme
 named : (l : Lexeme) → IfSome (named_by l) IsName
 named (word bytes) =
     cond_holds (begins_name bytes && fits_name bytes) bytes IsName
@@ -71,11 +73,15 @@ named (name bytes) = cond_holds (fits_name bytes) bytes IsName (fits_is_name byt
 named (text bytes) = tt
 named (sign mark) = tt
 
-name_holds : (keyword : List ℕ) (head : List Lexeme) → IfSome (blocks.name_behind keyword head) IsName
+-- a name behind a keyword
+name_holds : (keyword : List ℕ) (head : List Lexeme)
+    → IfSome (blocks.name_behind keyword head) IsName
 name_holds keyword (one ∷ called ∷ []) = where_holds (is_keyword keyword one) (named_by called) IsName (named called)
 name_holds keyword _ = tt
 
-name_is_text : (keyword : List ℕ) (head : List Lexeme) → IfSome (blocks.name_behind keyword head) IsText
+-- it is a text too
+name_is_text : (keyword : List ℕ) (head : List Lexeme)
+    → IfSome (blocks.name_behind keyword head) IsText
 name_is_text keyword (one ∷ called ∷ []) = where_holds (is_keyword keyword one) (named_by called) IsText (weaker called)
   where
     weaker : (l : Lexeme) → IfSome (named_by l) IsText
@@ -87,10 +93,13 @@ name_is_text keyword (one ∷ called ∷ []) = where_holds (is_keyword keyword o
     weaker (sign mark) = tt
 name_is_text keyword _ = tt
 
+-- an empty text
 empty_text : IsText []
 empty_text = record { short = omega arith; printable = refl }
 
-title_holds : (keyword : List ℕ) (head : List Lexeme) → IfSome (blocks.title_behind keyword head) IsText
+-- a title is a text
+title_holds : (keyword : List ℕ) (head : List Lexeme)
+    → IfSome (blocks.title_behind keyword head) IsText
 title_holds keyword (one ∷ []) = cond_holds (is_keyword keyword one) [] IsText (λ _. empty_text)
 title_holds keyword (one ∷ name [] ∷ []) = cond_holds (is_keyword keyword one) [] IsText (λ _. empty_text)
 title_holds keyword head = name_is_text keyword head
@@ -101,14 +110,17 @@ title_holds keyword head = name_is_text keyword head
 abbrev AreSignals : List ThinSignal → Type 0
 AreSignals signals = (length signals ≤ 1024) × EachBehind IsSignal [] (map signal_of signals)
 
+-- tests that pass alike are equal
 same_truth : (a b : Bool) → (a ≡ true → b ≡ true) → (b ≡ true → a ≡ true) → a ≡ b
 same_truth true b there back = sym (there refl)
 same_truth false true there back = back refl
 same_truth false false there back = refl
 
+-- equality is symmetric
 eqb_swap : (x y : ℕ) → nat_eq x y ≡ nat_eq y x
 eqb_swap x y = grind arith
 
+-- so is that of bytes
 bytes_swap : (xs ys : List ℕ) → pointwise nat_eq xs ys ≡ pointwise nat_eq ys xs
 bytes_swap [] [] = refl
 bytes_swap [] (y ∷ ys) = refl
@@ -116,13 +128,17 @@ bytes_swap (x ∷ xs) [] = refl
 bytes_swap (x ∷ xs) (y ∷ ys) =
     ap (λ b. b && pointwise nat_eq xs ys) (eqb_swap x y) ∙ ap (λ b. nat_eq y x && b) (bytes_swap xs ys)
 
-fresh_name : (before : List ThinSignal) (called : List ℕ) → form.is_declared before called ≡ list_any (is_named called) (map signal_of before)
+-- a name is taken in a thin text where it is in the code
+fresh_name : (before : List ThinSignal) (called : List ℕ)
+    → form.is_declared before called ≡ list_any (is_named called) (map signal_of before)
 fresh_name [] called = refl
 fresh_name (s ∷ before) called =
     ap (λ b. b || form.is_declared before called) (bytes_swap s.name called)
     ∙ ap (λ b. is_named called (signal_of s) || b) (fresh_name before called)
 
-signal_more : (before : List ThinSignal) (signal : ThinSignal) → AreSignals before → IsName signal.name → length before < 1024
+-- one signal more
+signal_more : (before : List ThinSignal) (signal : ThinSignal) → AreSignals before
+    → IsName signal.name → length before < 1024
     → form.is_declared before signal.name ≡ false → AreSignals (before ++ signal ∷ [])
 signal_more before signal so_far called few fresh = (
   omega (arith, length-append before (signal ∷ [])),
@@ -131,7 +147,9 @@ signal_more before signal so_far called few fresh = (
       (record { name = called; fresh = sym (fresh_name before signal.name) ∙ fresh })),
 )
 
-new_holds : (before : List ThinSignal) (is_out : Bool) (called : List ℕ) → AreSignals before → IsName called
+-- a new signal
+new_holds : (before : List ThinSignal) (is_out : Bool) (called : List ℕ) → AreSignals before
+    → IsName called
     → IfSome (form.new_signal before is_out called) (λ signal. AreSignals (before ++ signal ∷ []))
 new_holds before is_out called so_far is_name =
     cond_holds {X = ThinSignal} (ltb (length before) 1024 && not (form.is_declared before called)) (record { name = called; is_out = is_out })
@@ -141,6 +159,7 @@ new_holds before is_out called so_far is_name =
     signal_more before (record { name = called; is_out = is_out }) so_far is_name (ltb-true (length before) 1024 p.0)
     (not-true (form.is_declared before called) p.1))
 
+-- a signal as it is said
 said_holds : (before : List ThinSignal) (head : List Lexeme) → AreSignals before
     → IfSome (form.signal_said before head) (λ signal. AreSignals (before ++ signal ∷ []))
 said_holds before (called ∷ word direction ∷ []) so_far =
@@ -150,6 +169,7 @@ said_holds before (called ∷ word direction ∷ []) so_far =
     (named called) (λ bytes is. new_holds before is_out bytes so_far is))
 said_holds before _ so_far = tt
 
+-- the block of signals
 signals_hold : (lexemes : List Lexeme) (e : Entry) → IfOk (blocks.signals_of lexemes e) AreSignals
 signals_hold lexemes e =
     next_holds (form.kept (blocks.plain_block (codes "Signals") lexemes e)) _ AreSignals (λ es.
@@ -164,22 +184,27 @@ signals_hold lexemes e =
 abbrev IsPeriod : ℕ → Type 0
 IsPeriod period = (0 < period) × (period ≤ 1000000000000)
 
-nanosecond_period : (number : ℕ) → (leb 1 number && leb number 1000000) ≡ true → IsPeriod (number * 1000000)
+-- a period of so many nanoseconds
+nanosecond_period : (number : ℕ) → (leb 1 number && leb number 1000000) ≡ true
+    → IsPeriod (number * 1000000)
 nanosecond_period number is =
     let p = and_parts (leb 1 number) (leb number 1000000) is in
     let low : 1 ≤ number = leb-true 1 number p.0 in
     let high : number ≤ 1000000 = leb-true number 1000000 p.1 in
     (omega arith, omega arith)
 
+-- a period as its text says
 period_by_holds : (bytes : List ℕ) → IfSome (blocks.period_by bytes) IsPeriod
 period_by_holds bytes =
     any_holds (λ number. cond (leb 1 number && leb number 1000000) (Some (number * 1000000)) None) (form.nanoseconds bytes) IsPeriod
     (λ number. cond_holds (leb 1 number && leb number 1000000) (number * 1000000) IsPeriod (nanosecond_period number))
 
+-- a period in a head
 period_in_holds : (head : List Lexeme) → IfSome (blocks.period_in head) IsPeriod
 period_in_holds (one ∷ text bytes ∷ []) = where_holds (is_keyword (codes "Period") one) (blocks.period_by bytes) IsPeriod (period_by_holds bytes)
 period_in_holds _ = tt
 
+-- a period as a statement
 period_holds : (lexemes : List Lexeme) (e : Entry) → IfSome (blocks.period_of lexemes e) IsPeriod
 period_holds lexemes e = unless_holds (is_some (body_of e)) (blocks.period_in (head_of lexemes e)) IsPeriod (period_in_holds (head_of lexemes e))
 
@@ -192,7 +217,9 @@ record IsRowAt (period : ℕ) (before : List EventRow) (row : EventRow) : Type 0
 abbrev AreRows : ℕ → List EventRow → Type 0
 AreRows period rows = (length rows ≤ 16) × EachBehind (IsRowAt period) [] rows
 
-row_more : (period : ℕ) (before : List EventRow) (row : EventRow) → AreRows period before → form.fits_row period before row.time ≡ true
+-- one row more
+row_more : (period : ℕ) (before : List EventRow) (row : EventRow) → AreRows period before
+    → form.fits_row period before row.time ≡ true
     → AreRows period (before ++ row ∷ [])
 row_more period before row so_far fits =
     let p = and_parts (ltb row.time period && leb (form.last_time before) row.time) (ltb (length before) 16) fits in
@@ -203,6 +230,7 @@ row_more period before row so_far fits =
           (record { order = leb-true (form.last_time before) row.time q.1; inside = ltb-true row.time period q.0 }),
     )
 
+-- the time of a row fits
 row_said_holds : (period : ℕ) (before : List EventRow) (head : List Lexeme)
     → IfSome (form.row_said period before head) (λ said. form.fits_row period before said.0 ≡ true)
 row_said_holds period before (text time ∷ acts) =
@@ -214,7 +242,9 @@ row_said_holds period before (text time ∷ acts) =
     (λ at is. is)
 row_said_holds period before _ = tt
 
-row_holds : (letters period : ℕ) (before : List EventRow) (head : List Lexeme) (block : Option (List Entry)) → AreRows period before
+-- a row as a statement
+row_holds : (letters period : ℕ) (before : List EventRow) (head : List Lexeme) (block : Option (List Entry))
+    → AreRows period before
     → IfOk (form.row_of letters period before head block) (λ row. AreRows period (before ++ row ∷ []))
 row_holds letters period before head block so_far =
     only_holds (not (is_some block)) (and_then (form.kept (form.row_said period before head)) (λ said. form.row_from letters said.0 said.1))
@@ -235,7 +265,9 @@ record IsGroup (period : ℕ) (group : WaveGroup) : Type 0 where
   letters : list_all form.is_character group.letters ≡ true
   rows : AreRows period group.rows
 
-letters_hold : (before : List WaveGroup) (head : List Lexeme) → IfSome (form.letters_of before head) (λ letters. list_all form.is_character letters ≡ true)
+-- the characters of a group
+letters_hold : (before : List WaveGroup) (head : List Lexeme)
+    → IfSome (form.letters_of before head) (λ letters. list_all form.is_character letters ≡ true)
 letters_hold before (word bytes ∷ []) =
     cond_holds (form.are_letters before bytes) bytes (λ letters. list_all form.is_character letters ≡ true)
     (λ is.
@@ -243,7 +275,9 @@ letters_hold before (word bytes ∷ []) =
     (and_parts (list_all form.is_character bytes) (form.are_apart bytes) p.0).0)
 letters_hold before _ = tt
 
-group_holds : (lexemes : List Lexeme) (period : ℕ) (before : List WaveGroup) (e : Entry) → IfOk (form.group_of lexemes period before e) (IsGroup period)
+-- a group as a statement
+group_holds : (lexemes : List Lexeme) (period : ℕ) (before : List WaveGroup) (e : Entry)
+    → IfOk (form.group_of lexemes period before e) (IsGroup period)
 group_holds lexemes period before e =
     then_holds (form.kept (form.letters_of before (head_of lexemes e))) _ (λ letters. list_all form.is_character letters ≡ true) (IsGroup period)
     (kept_holds (form.letters_of before (head_of lexemes e)) (λ letters. list_all form.is_character letters ≡ true)
@@ -260,16 +294,21 @@ record IsSignalWaves (signals period : ℕ) (waves : SignalWaves) : Type 0 where
   signal : waves.signal < signals
   groups : AllByRecursion (IsGroup period) waves.groups
 
-position_inside : {A : Type 0} (test : A → Bool) (xs : List A) → IfSome (position test xs) (λ i. i < length xs)
+-- a position is inside the list
+position_inside : {A : Type 0} (test : A → Bool) (xs : List A)
+    → IfSome (position test xs) (λ i. i < length xs)
 position_inside test xs =
     cond_holds (ltb (position_or_len test xs) (length xs)) (position_or_len test xs) (λ i. i < length xs)
     (λ is. ltb-true (position_or_len test xs) (length xs) is)
 
-number_holds : (signals : List ThinSignal) (called : List ℕ) → IfSome (form.signal_number signals called) (λ number. number < length signals)
+-- the number of a signal is below theirs
+number_holds : (signals : List ThinSignal) (called : List ℕ)
+    → IfSome (form.signal_number signals called) (λ number. number < length signals)
 number_holds signals called =
     some_holds form.short_number (position (form.has_name called) signals) (λ i. i < length signals) (λ number. number < length signals)
     (position_inside (form.has_name called) signals) (λ i inside. cond_holds (ltb i 65536) i (λ number. number < length signals) (λ _. inside))
 
+-- so is that of the signal of waves
 wave_signal_holds : (signals : List ThinSignal) (before : List SignalWaves) (head : List Lexeme)
     → IfSome (form.wave_signal signals before head) (λ number. number < length signals)
 wave_signal_holds signals before (called ∷ []) =
@@ -280,6 +319,7 @@ wave_signal_holds signals before (called ∷ []) =
     (λ number inside. unless_holds (list_any (λ waves. eqb waves.signal number) before) (Some number) (λ number. number < length signals) inside))
 wave_signal_holds signals before _ = tt
 
+-- the waves of a signal as a statement
 waves_hold : (lexemes : List Lexeme) (signals : List ThinSignal) (period : ℕ) (before : List SignalWaves) (e : Entry)
     → IfOk (form.waves_of lexemes signals period before e) (IsSignalWaves (length signals) period)
 waves_hold lexemes signals period before e =
@@ -297,19 +337,23 @@ waves_hold lexemes signals period before e =
 abbrev event_at : ℕ → EventRow → Event
 event_at place row = record { time = row.time; act = form.act_at place row.acts }
 
+-- an event has the time of its row
 time-event : (place : ℕ) (o : Option EventRow)
     → option_map_or (λ (e : Event). e.time) (option_map (event_at place) o) 0 ≡ option_map_or (λ (row : EventRow). row.time) o 0
 time-event place None = refl
 time-event place (Some row) = refl
 
 -- the time of the last event is that of the last row
-latest-events_at : (place : ℕ) (rows : List EventRow) → latest (form.events_at place rows) ≡ form.last_time rows
+latest-events_at : (place : ℕ) (rows : List EventRow)
+    → latest (form.events_at place rows) ≡ form.last_time rows
 latest-events_at place rows =
     ap (λ n. option_map_or (λ (e : Event). e.time) (slice_get (map (event_at place) rows) (n - 1)) 0) (length-map rows (event_at place))
     ∙ ap (λ o. option_map_or (λ (e : Event). e.time) o 0) (slice_get-map (event_at place) rows (length rows - 1))
     ∙ time-event place (slice_get rows (length rows - 1))
 
-events_fit : (period place : ℕ) (rows : List EventRow) → AreRows period rows → EachBehind (IsEvent period) [] (form.events_at place rows)
+-- the events of a character
+events_fit : (period place : ℕ) (rows : List EventRow) → AreRows period rows
+    → EachBehind (IsEvent period) [] (form.events_at place rows)
 events_fit period place rows are =
     each_map (event_at place) (IsRowAt period) (IsEvent period)
     (λ before row is. record {
@@ -317,13 +361,16 @@ events_fit period place rows are =
       inside = is.inside;
     }) [] rows are.1
 
+-- characters with their places
 numbered : (n : ℕ) (letters : List ℕ) → list_all form.is_character letters ≡ true
     → AllByRecursion (λ (letter : ℕ × ℕ). form.is_character letter.1 ≡ true) (enumerate_from n letters)
 numbered n [] all = tt
 numbered n (c ∷ cs) all =
     let p = and_parts (form.is_character c) (list_all form.is_character cs) all in (p.0, numbered (n + 1) cs p.1)
 
-reordered : (upper lower digit : Bool) → (upper || lower || digit) ≡ true → (digit || upper || lower) ≡ true
+-- three alternatives in another order
+reordered : (upper lower digit : Bool) → (upper || lower || digit) ≡ true
+    → (digit || upper || lower) ≡ true
 reordered upper lower true is = refl
 reordered true lower false is = refl
 reordered false true false is = refl
@@ -337,7 +384,9 @@ is_letter_of_code c is = reordered (leb 65 c && leb c 90) (leb 97 c && leb c 122
 abbrev wave_at : ℕ → WaveGroup → ℕ × ℕ → Wave
 wave_at signal group letter = record { signal = signal; letter = letter.1; events = form.events_at letter.0 group.rows }
 
-group_waves_fit : (signals period signal : ℕ) (group : WaveGroup) → signal < signals → IsGroup period group
+-- the waves of a group
+group_waves_fit : (signals period signal : ℕ) (group : WaveGroup) → signal < signals
+    → IsGroup period group
     → AllByRecursion (IsSaidWave signals period) (form.group_waves signal group)
 group_waves_fit signals period signal group inside is =
     all_map (wave_at signal group)
@@ -349,7 +398,9 @@ group_waves_fit signals period signal group inside is =
       events = events_fit period letter.0 group.rows is.rows;
     }) (enumerate_from 0 group.letters) (numbered 0 group.letters is.letters)
 
-all_waves_fit : (signals period : ℕ) (waves : List SignalWaves) → AllByRecursion (IsSignalWaves signals period) waves
+-- all waves
+all_waves_fit : (signals period : ℕ) (waves : List SignalWaves)
+    → AllByRecursion (IsSignalWaves signals period) waves
     → AllByRecursion (IsSaidWave signals period) (form.all_waves waves)
 all_waves_fit signals period waves all =
     all_flat_map (λ signal. flat_map (form.group_waves signal.signal) signal.groups) (IsSignalWaves signals period) (IsSaidWave signals period)
@@ -366,7 +417,9 @@ record IsSaidTable (signals : ℕ) (table : Table) : Type 0 where
   period : table.period ≤ 1000000000000
   waves : AllByRecursion (IsSaidWave signals table.period) table.waves
 
-table_holds : (lexemes : List Lexeme) (signals : List ThinSignal) (called : List ℕ) (es : List Entry) → IsName called
+-- the statements of a table
+table_holds : (lexemes : List Lexeme) (signals : List ThinSignal) (called : List ℕ) (es : List Entry)
+    → IsName called
     → IfOk (blocks.table_of lexemes signals called es) (IsSaidTable (length signals))
 table_holds lexemes signals called es is_name =
     next_holds (form.kept (blocks.two_of es)) _ (IsSaidTable (length signals)) (λ pair.
@@ -380,6 +433,7 @@ table_holds lexemes signals called es is_name =
     (λ one is. all_push (IsSignalWaves (length signals) period) waves one so_far is)))
     (λ waves are. record { called = is_name; some = fits.0; period = fits.1; waves = all_waves_fit (length signals) period waves are }))))
 
+-- a table in its Timing
 timing_in_holds : (lexemes : List Lexeme) (signals : List ThinSignal) (title : List ℕ) (outer : List Entry)
     → IfOk (blocks.timing_in lexemes signals title outer) (λ timing. IsSaidTable (length signals) timing.table)
 timing_in_holds lexemes signals title outer =
@@ -391,6 +445,7 @@ timing_in_holds lexemes signals title outer =
     then_holds (blocks.table_of lexemes signals called es) _ (IsSaidTable (length signals)) P (table_holds lexemes signals called es is_name)
     (λ table is. is))))
 
+-- the block of the Timing
 timing_holds : (lexemes : List Lexeme) (signals : List ThinSignal) (e : Entry)
     → IfOk (blocks.timing_of lexemes signals e) (λ timing. IsSaidTable (length signals) timing.table)
 timing_holds lexemes signals e =
@@ -404,6 +459,7 @@ timing_holds lexemes signals e =
 abbrev AreVectors : List Wave → List (List (ℕ × ℕ)) → Type 0
 AreVectors waves vectors = (length vectors ≤ 65536) × AllByRecursion (AllByRecursion (IsGiven waves)) vectors
 
+-- a character for a signal
 given_by_holds : (signals : List ThinSignal) (waves : List Wave) (called letters : List ℕ)
     → IfSome (blocks.given_by signals waves called letters) (IsGiven waves)
 given_by_holds signals waves called (letter ∷ []) =
@@ -412,14 +468,18 @@ given_by_holds signals waves called (letter ∷ []) =
 given_by_holds signals waves called [] = tt
 given_by_holds signals waves called (letter ∷ other ∷ more) = tt
 
-given_said_holds : (signals : List ThinSignal) (waves : List Wave) (head : List Lexeme) → IfSome (blocks.given_said signals waves head) (IsGiven waves)
+-- what one statement of a V gives
+given_said_holds : (signals : List ThinSignal) (waves : List Wave) (head : List Lexeme)
+    → IfSome (blocks.given_said signals waves head) (IsGiven waves)
 given_said_holds signals waves (called ∷ sign Equals ∷ word bytes ∷ []) =
     any_holds (λ wanted. blocks.given_by signals waves wanted bytes) (named_by called) (IsGiven waves)
     (λ wanted. given_by_holds signals waves wanted bytes)
 given_said_holds signals waves _ = tt
 
+-- a V as a statement
 vector_holds : (lexemes : List Lexeme) (signals : List ThinSignal) (waves : List Wave) (before : List (List (ℕ × ℕ))) (e : Entry)
-    → AreVectors waves before → IfOk (blocks.vector_of lexemes signals waves before e) (λ vector. AreVectors waves (before ++ vector ∷ []))
+    → AreVectors waves before
+    → IfOk (blocks.vector_of lexemes signals waves before e) (λ vector. AreVectors waves (before ++ vector ∷ []))
 vector_holds lexemes signals waves before e so_far =
     let P : List (ℕ × ℕ) → Type 0 = λ vector. AreVectors waves (before ++ vector ∷ []) in
     only_holds (ltb (length before) 65536) (and_then (form.kept (blocks.plain_block (codes "V") lexemes e)) (λ es.
@@ -435,6 +495,7 @@ vector_holds lexemes signals waves before e so_far =
     let few : length before < 65536 = ltb-true (length before) 65536 room in
     (omega (arith, length-append before (vector ∷ [])), all_push (AllByRecursion (IsGiven waves)) before vector so_far.1 all))))
 
+-- the statements of a pattern
 vectors_hold : (lexemes : List Lexeme) (signals : List ThinSignal) (table : Table) (es : List Entry)
     → IfOk (blocks.vectors_in lexemes signals table es) (AreVectors table.waves)
 vectors_hold lexemes signals table [] = tt
@@ -443,6 +504,7 @@ vectors_hold lexemes signals table (first ∷ es) =
     (λ _. reading_holds (blocks.vector_of lexemes signals table.waves) (AreVectors table.waves) [] es (omega arith, tt)
     (λ vectors e so_far. vector_holds lexemes signals table.waves vectors e so_far))
 
+-- the block of the pattern
 pattern_holds : (lexemes : List Lexeme) (signals : List ThinSignal) (table : Table) (e : Entry)
     → IfOk (blocks.pattern_in lexemes signals table e) (λ pattern. AreVectors table.waves pattern.vectors)
 pattern_holds lexemes signals table e =
@@ -453,12 +515,15 @@ pattern_holds lexemes signals table e =
 
 -- ---- the text
 
-exec_holds : (lexemes : List Lexeme) (timing burst : List ℕ) (e : Entry) → IfOk (blocks.exec_of lexemes timing burst e) IsText
+-- the block of the executive
+exec_holds : (lexemes : List Lexeme) (timing burst : List ℕ) (e : Entry)
+    → IfOk (blocks.exec_of lexemes timing burst e) IsText
 exec_holds lexemes timing burst e =
     then_holds (form.kept (blocks.title_behind (codes "PatternExec") (head_of lexemes e))) _ IsText IsText
     (kept_holds (blocks.title_behind (codes "PatternExec") (head_of lexemes e)) IsText (title_holds (codes "PatternExec") (head_of lexemes e)))
     (λ title is. next_holds (form.kept (body_of e)) _ IsText (λ es. only_holds (blocks.runs timing burst lexemes es) (Ok title) IsText (λ _. is)))
 
+-- the five blocks
 blocks_hold : (lexemes : List Lexeme) (es : List Entry) → IfOk (blocks.blocks_of lexemes es) IsGood
 blocks_hold lexemes es =
     next_holds (blocks.block_of (codes "Signals") lexemes es) _ IsGood (λ e.
@@ -484,6 +549,7 @@ blocks_hold lexemes es =
       vectors = vectors.1;
     }))))))))))
 
+-- the text as a whole
 thin_holds : (lexemes : List Lexeme) (es : List Entry) → IfOk (blocks.thin_of lexemes es) IsGood
 thin_holds lexemes [] = tt
 thin_holds lexemes (header ∷ es) =

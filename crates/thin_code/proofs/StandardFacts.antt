@@ -16,15 +16,19 @@ use Rattle.page_code.specs.Program.{Program}
 use Rattle.thin_code.specs.Compiled.{read_cycles, IsCodeOf}
 use Rattle.thin_code.specs.Order.{in_order}
 
+-- a wave of one event
 abbrev wave : ℕ → ℕ → ℕ → Act → Wave
 wave signal letter time what = record { signal = signal; letter = letter; events = record { time = time; act = what } ∷ [] }
 
+-- the first signal driven down
 abbrev down : Wave
 down = wave 0 48 0 (act.Push push.Down)
 
+-- the first signal driven up
 abbrev up : Wave
 up = wave 0 49 0 (act.Push push.Up)
 
+-- a look at the second signal
 abbrev high : Wave
 high = wave 1 72 40 (act.Look look.High)
 
@@ -36,6 +40,7 @@ three_in_order = refl
 pub later_wave_counts : in_order 1 (up ∷ wave 0 49 5 (act.Push push.Off) ∷ []) ≡ wave 0 49 5 (act.Push push.Off) ∷ []
 later_wave_counts = refl
 
+-- their table
 abbrev table : Table
 table = record { name = codes "w"; period = 100; waves = down ∷ up ∷ high ∷ [] }
 
@@ -48,6 +53,7 @@ text = record {
   vectors = ((0, 49) ∷ []) ∷ ((1, 72) ∷ []) ∷ ((0, 49) ∷ []) ∷ [];
 }
 
+-- its code: the third vector runs the second row again
 abbrev code : Program
 code = record {
   signals = record { name = codes "a"; direction = In } ∷ record { name = codes "y"; direction = Out } ∷ [];
@@ -56,6 +62,7 @@ code = record {
   execs = record { name = codes "e"; chains = []; instrs = Run 0 0 0 1 ∷ Run 0 1 0 1 ∷ Run 0 1 0 1 ∷ Done ∷ [] } ∷ [];
 }
 
+-- a cycle of the first table without a mark
 abbrev cycle : ℕ → ℕ → List (Option ℕ) → Dated
 cycle number start letters = record { number = number; start = start; vector = record { table = Some 0; letters = letters; mark = 0 } }
 

@@ -18,13 +18,16 @@ pub record AreCompiled (first : List ℕ) (vectors : List (List (ℕ × ℕ))) (
   pub are : rows ≡ fold with_row [] made
   pub runs : AreRuns rows instrs made
 
-slice_get-append : (xs ys : List (List ℕ)) (i : ℕ) (x : List ℕ) → slice_get xs i ≡ Some x → slice_get (xs ++ ys) i ≡ Some x
+-- an item in front stays
+slice_get-append : (xs ys : List (List ℕ)) (i : ℕ) (x : List ℕ) → slice_get xs i ≡ Some x
+    → slice_get (xs ++ ys) i ≡ Some x
 slice_get-append [] ys i x is = absurd cc
 slice_get-append (y ∷ xs) ys zero x is = is
 slice_get-append (y ∷ xs) ys (suc i) x is = slice_get-append xs ys i x is
 
 -- a row that is there stays where it is
-slice_get-with_row : (rows : List (List ℕ)) (row : List ℕ) (i : ℕ) (x : List ℕ) → slice_get rows i ≡ Some x → slice_get (with_row rows row) i ≡ Some x
+slice_get-with_row : (rows : List (List ℕ)) (row : List ℕ) (i : ℕ) (x : List ℕ)
+    → slice_get rows i ≡ Some x → slice_get (with_row rows row) i ≡ Some x
 slice_get-with_row rows row i x is = by_test (is_row_of rows row)
   where
     by_test : (b : Bool) → slice_get (cond b rows (rows ++ row ∷ [])) i ≡ Some x
@@ -32,7 +35,8 @@ slice_get-with_row rows row i x is = by_test (is_row_of rows row)
     by_test false = slice_get-append rows (row ∷ []) i x is
 
 -- the instructions run the same rows where there is one more
-runs_with_row : (rows : List (List ℕ)) (row : List ℕ) (instrs : List Instr) (all : List (List ℕ)) → AreRuns rows instrs all
+runs_with_row : (rows : List (List ℕ)) (row : List ℕ) (instrs : List Instr) (all : List (List ℕ))
+    → AreRuns rows instrs all
     → AreRuns (with_row rows row) instrs all
 runs_with_row rows row [] [] are = tt
 runs_with_row rows row [] (letters ∷ more) are = absurd are
@@ -44,8 +48,10 @@ runs_with_row rows row (End ∷ instrs) more are = absurd are
 runs_with_row rows row (Done ∷ instrs) more are = absurd are
 
 -- one Run more
-runs_push : (rows : List (List ℕ)) (instrs : List Instr) (all : List (List ℕ)) (row : ℕ) (letters : List ℕ) → AreRuns rows instrs all
-    → slice_get rows row ≡ Some letters → AreRuns rows (instrs ++ Run 0 row 0 1 ∷ []) (all ++ letters ∷ [])
+runs_push : (rows : List (List ℕ)) (instrs : List Instr) (all : List (List ℕ)) (row : ℕ) (letters : List ℕ)
+    → AreRuns rows instrs all
+    → slice_get rows row ≡ Some letters
+    → AreRuns rows (instrs ++ Run 0 row 0 1 ∷ []) (all ++ letters ∷ [])
 runs_push rows [] [] row letters are is = (refl, refl, refl, is, tt)
 runs_push rows [] (other ∷ more) row letters are is = absurd are
 runs_push rows (Run table at mark times ∷ instrs) [] row letters are is = absurd are
@@ -55,23 +61,29 @@ runs_push rows (Loop times ∷ instrs) more row letters are is = absurd are
 runs_push rows (End ∷ instrs) more row letters are is = absurd are
 runs_push rows (Done ∷ instrs) more row letters are is = absurd are
 
-fold-push : (rows all : List (List ℕ)) (row : List ℕ) → fold with_row rows (all ++ row ∷ []) ≡ with_row (fold with_row rows all) row
+-- rows are put one after another
+fold-push : (rows all : List (List ℕ)) (row : List ℕ)
+    → fold with_row rows (all ++ row ∷ []) ≡ with_row (fold with_row rows all) row
 fold-push rows [] row = refl
 fold-push rows (other ∷ more) row = fold-push (with_row rows other) more row
 
+-- a V keeps the length of a row
 length-row_after : (given : List (ℕ × ℕ)) (row : List ℕ) → length (row_after given row) ≡ length row
 length-row_after [] row = refl
 length-row_after (g ∷ rest) row = length-row_after rest (set row g.0 g.1) ∙ length-set row g.0 g.1
 
 -- a row that was written as a whole
-pub row_written : (given : List (ℕ × ℕ)) (row written : List ℕ) (size : ℕ) → size ≡ length row → written ≡ row_after given row
+pub row_written : (given : List (ℕ × ℕ)) (row written : List ℕ) (size : ℕ) → size ≡ length row
+    → written ≡ row_after given row
     → take size (written ++ drop (length written) row) ≡ row_after given row
 row_written given row written size sized is =
     let long : length written ≡ length row = ap length is ∙ length-row_after given row in
     let past : drop (length written) row ≡ [] = drop_all (length written) row (omega arith) in
     ap (λ (rest : List ℕ). take size (written ++ rest)) past ∙ ap (take size) (append-nil written) ∙ take_all size written (omega arith) ∙ is
 
-pub starts : (first : List ℕ) (vectors : List (List (ℕ × ℕ))) → AreCompiled first vectors 0 first [] []
+-- before the first vector
+pub starts : (first : List ℕ) (vectors : List (List (ℕ × ℕ)))
+    → AreCompiled first vectors 0 first [] []
 starts first vectors = record { made = []; whole = refl; count = refl; are = refl; runs = tt }
 
 -- there is room for one more row
@@ -84,8 +96,10 @@ has_room first vectors at row rows instrs so_far =
 -- one vector more
 pub goes_on : (first : List ℕ) (vectors : List (List (ℕ × ℕ))) (at : ℕ) (row : List ℕ) (rows : List (List ℕ)) (instrs : List Instr)
     (given : List (ℕ × ℕ)) (now_rows : List (List ℕ)) (now_instrs : List Instr)
-    → AreCompiled first vectors at row rows instrs → at < length vectors → given ≡ get_or vectors at given
-    → now_rows ≡ with_row rows (row_after given row) → IsRunAdded now_rows (row_after given row) instrs now_instrs
+    → AreCompiled first vectors at row rows instrs → at < length vectors
+    → given ≡ get_or vectors at given
+    → now_rows ≡ with_row rows (row_after given row)
+    → IsRunAdded now_rows (row_after given row) instrs now_instrs
     → AreCompiled first vectors (at + 1) (row_after given row) now_rows now_instrs
 goes_on first vectors at row rows instrs given now_rows now_instrs so_far inside is rows_are added =
     let next : List ℕ = row_after given row in

@@ -2,12 +2,23 @@
 use Rattle.std.specs.Prelude.{◌≡◌, ℕ, List, [], ◌∷◌, ◌++◌, Option, Some, None, slice_get, if◌then◌else◌}
 use Rattle.page_meaning.specs.declared.instr.Instr.{Instr}
 use Rattle.page_meaning.specs.declared.instr.Instr.TheVariants.{Run, Loop, End, Done}
+use Rattle.tester_types.specs.declared.wave.Table.{Table}
+use Rattle.page_code.specs.Program.{Exec}
 use Rattle.page_code.specs.Rows.{is_row_of}
+use Rattle.thin_code.specs.Order.{in_order}
 
 -- what shows in a row of bytes
 abbrev pub shown : Option ℕ → ℕ
 shown None = 0
 shown (Some letter) = letter
+
+-- a table with its waves in order, of so many signals
+abbrev pub ordered_table : ℕ → Table → Table
+ordered_table signals table = record { name = table.name; period = table.period; waves = in_order signals table.waves }
+
+-- an executive without chains, whose instructions end with Done
+abbrev pub exec_of : List ℕ → List Instr → Exec
+exec_of name instrs = record { name = name; chains = []; instrs = instrs ++ Done ∷ [] }
 
 -- one Run a row, in order
 abbrev pub AreRuns : List (List ℕ) → List Instr → List (List ℕ) → Type 0

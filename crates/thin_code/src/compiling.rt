@@ -1,9 +1,11 @@
 //! The code of a thin text.
 
-ghost use Rattle.std.specs.Prelude.{◌≡◌, ◌≤◌, ◌∷◌, [], All, map, length, IfOk};
+ghost use Rattle.std.specs.Prelude.{◌≡◌, ◌≤◌, ◌∷◌, ◌++◌, [], All, map, IfOk};
+ghost use Rattle.page_meaning.specs.Whole.{IsWhole};
 ghost use Rattle.thin_stil.specs.Thin.{IsSaid};
 ghost use Rattle.thin_code.specs.Compiled.{IsCodeOf, direction_of, signal_of};
-ghost use Rattle.thin_code.specs.Order.{HasPlace, in_order};
+ghost use Rattle.thin_code.specs.Order.{HasPlace};
+ghost use Rattle.thin_code.specs.Step.{exec_of, ordered_table};
 
 use crate::order::in_order;
 use crate::vectors::compile_vectors;
@@ -12,7 +14,7 @@ use page_code::{
     InstrList,
 };
 use std::alloc::{AllocError, Global};
-use tester_types::{Items, NoMemory, Table, TableList};
+use tester_types::{Items, NoMemory, Table, Text};
 use thin_stil::{ThinSignal, ThinText};
 
 /// In or Out.
@@ -44,7 +46,7 @@ fn signals_of(alloc: Global, signals: Vec<ThinSignal>) -> Result<CodeSignalList,
 fn ordered_table(alloc: Global, signals: usize, table: Table) -> Result<Table, AllocError>
     requires few { signals ≤ 1024 }
     requires places { All (HasPlace signals) table.waves }
-    ensures { IfOk result (λ made. made ≡ record { name = table.name; period = table.period; waves = in_order signals table.waves }) }
+    ensures { IfOk result (λ made. made ≡ ordered_table signals table) }
 {
     let Table {
         name,
@@ -67,6 +69,19 @@ fn one<T: Drop>(alloc: Global, item: T) -> Result<Items<T>, AllocError>
     Ok(Items::from_vec(list))
 }
 
+/// The one executive: its instructions end with Done.
+fn execs_of(alloc: Global, name: Text, mut instrs: Vec<Instr>) -> Result<CodeExecList, AllocError>
+    requires { IsWhole (instrs.items ++ Instr.Done ∷ []) }
+    ensures { IfOk result (λ list. list ≡ exec_of name instrs.items ∷ []) }
+{
+    instrs.push(Instr::Done)?;
+    let chains = CodeChainList::from_vec(Vec::new(alloc));
+    one(
+        alloc,
+        CodeExec::new(name, chains, InstrList::from_vec(instrs)),
+    )
+}
+
 /// The code of a thin text. Its cycles are the text's dated cycles, one Run each.
 pub fn compile(alloc: Global, text: ThinText) -> Result<Code, NoMemory>
     requires { IsSaid text }
@@ -79,14 +94,9 @@ pub fn compile(alloc: Global, text: ThinText) -> Result<Code, NoMemory>
         vectors,
     } = text;
     let count = signals.len();
-    let (rows, mut instrs) = compile_vectors(alloc, count, vectors.as_slice())?;
-    instrs.push(Instr::Done)?;
-    let tables: TableList = one(alloc, ordered_table(alloc, count, table)?)?;
-    let chains = CodeChainList::from_vec(Vec::new(alloc));
-    let execs: CodeExecList = one(
-        alloc,
-        CodeExec::new(exec, chains, InstrList::from_vec(instrs)),
-    )?;
+    let (rows, instrs) = compile_vectors(alloc, count, vectors.as_slice())?;
+    let tables = one(alloc, ordered_table(alloc, count, table)?)?;
+    let execs = execs_of(alloc, exec, instrs)?;
     let signals = signals_of(alloc, signals.into_vec())?;
     Ok(Code::new(signals, tables, rows, execs))
 }
