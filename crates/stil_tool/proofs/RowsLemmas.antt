@@ -1,19 +1,13 @@
 -- The rows that are printed one after another are the lines of the dated cycles: `rows-are-cycles`.
-use Rattle.std.proofs.Common.{◌≡◌, ℕ, zero, suc, ◌+◌, ◌*◌, List, [], ◌∷◌, ◌++◌, length, map, replicate, None, Some, sym, refl, ap, ◌∙◌, arith, append_assoc, sum_by, length-append, zero-add}
-use Rattle.std.specs.List.{flat_map, enumerate_from}
-use Rattle.std.proofs.lemmas.List.{map-set}
-use Rattle.std.proofs.lemmas.List.Sums.{sum_by-append}
-use Rattle.std.proofs.Math.Seq.{take-append_seam}
-use Rattle.stil_ast.specs.State.{State, Vector}
-use Rattle.stil_ast.specs.Dealing.{deal, received, with_letter}
+use Rattle.std.proofs.Common.{◌≡◌, ℕ, zero, suc, ◌+◌, ◌*◌, List, [], ◌∷◌, ◌++◌, length, map, replicate, None, Some, sym, refl, ap, ◌∙◌, arith}
+use Rattle.std.specs.List.{flat_map}
+use Rattle.stil_ast.specs.State.{State}
 use Rattle.stil_ast.specs.Running.{outside}
 use Rattle.stil_ast.specs.Run.{Run, run, assigned}
 use Rattle.stil_ast.proofs.ThinLaws.{run-vector}
-use Rattle.stil_ast.specs.Cycles.{Dated, starts_at}
 use Rattle.thin_stil.specs.declared.thin.ThinText.{ThinText}
 use Rattle.thin_stil.specs.Thin.{vectors_of, assigns_of, cycles_of}
 use Rattle.stil_tool.specs.CyclesText.{cycle_line, shown}
-use Rattle.thin_stil.specs.Rows.{row_after}
 use Rattle.thin_stil.proofs.CycleLemmas.{dated_from, row-after, cycles-are-dated, vectors_in}
 use Rattle.stil_tool.specs.Rows.{row_line, rows_text}
 
