@@ -2,12 +2,15 @@
 
 ghost use Rattle.std.specs.Prelude.{◌≡◌, None};
 
-use std::alloc::Global;
+use die_sim::{SimSocket, SocketBox};
+use std::alloc::{AllocError, Global};
 use std::io::{ErrorKind, Read, Write};
 use std::rt::{Env, Files};
+use std::sync::Wait;
+use std::thread::Threads;
 use std::{env, fs, io};
-use stil_tool::{Status, offline};
-use tester_types::{Failed, Shelf, ShelfFault, Sink};
+use stil_tool::{Status, tester};
+use tester_types::{Failed, OpenGate, Shelf, ShelfFault, SilentDesk, Sink};
 
 /// Files by their paths. It tells nothing of what they hold, and counts the loads that fail.
 #[derive(Drop)]
@@ -93,10 +96,37 @@ fn words<R: Env + AllocGlobal>(rt: &R) -> io::Result<Vec<String>> {
         .map_err(io::Error::from)
 }
 
-/// Runs the command that the command line names.
-pub fn run<R: Files + Env + Print + AllocGlobal>(rt: &R) -> Status {
-    let words = words(rt).unwrap_or_else(|_| Vec::new(rt.alloc()));
+/// How many dies can be tested at once.
+const SITES: usize = 16;
+
+/// A socket with a simulated die for each site.
+fn sockets(alloc: Global) -> Result<Vec<SocketBox>, AllocError> {
+    let mut sockets = Vec::new(alloc);
+    for _ in 0..SITES {
+        let socket: SocketBox = Box::new(alloc, SimSocket::new(alloc))?;
+        sockets.push(socket)?;
+    }
+    Ok(sockets)
+}
+
+/// Runs the command that the command line names. No desk says anything yet, and the gate is open.
+pub fn run<R: Files + Env + Print + AllocGlobal + Threads + Wait + Sync>(rt: &R) -> Status {
+    let alloc = rt.alloc();
+    let words = words(rt).unwrap_or_else(|_| Vec::new(alloc));
     let mut shelf = RealShelf::new(rt);
     let mut sink = RealSink::new(io::writer(rt));
-    offline(rt.alloc(), words.as_slice(), &mut shelf, &mut sink)
+    let Ok(mut sockets) = sockets(alloc) else {
+        return Status::OutOfMemory;
+    };
+    let mut desk = SilentDesk::new();
+    tester(
+        rt,
+        alloc,
+        words.as_slice(),
+        &mut shelf,
+        &mut sockets,
+        &mut desk,
+        &OpenGate,
+        &mut sink,
+    )
 }

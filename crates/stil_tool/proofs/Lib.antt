@@ -2,3 +2,7 @@ pub mod RowsLemmas
 pub mod PrintLemmas
 pub mod WordsLemmas
 pub mod FileLemmas
+pub mod FileNames
+pub mod OneDieLemmas
+pub mod LotLemmas
+pub mod RunLemmas

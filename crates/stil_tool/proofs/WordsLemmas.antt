@@ -21,3 +21,23 @@ two_words words a b command seen file least below first second seen_is same file
     ap words_seen (two_items words a b least below first second)
     ∙ ap (λ w. w ∷ string_bytes b ∷ []) (sym seen_is ∙ (bytes_decides seen command).0 (sym same))
     ∙ ap (λ w. command ∷ w ∷ []) (sym file_is)
+
+-- a list of three items
+pub three_items : {X : Type 0} (xs : List X) (a b c : X) → 3 ≤ length xs → length xs < 4 →
+    a ≡ get_or xs 0 a → b ≡ get_or xs 1 b → c ≡ get_or xs 2 c → xs ≡ a ∷ b ∷ c ∷ []
+three_items [] a b c least below first second third = absurd (omega arith)
+three_items (x ∷ []) a b c least below first second third = absurd (omega arith)
+three_items (x ∷ y ∷ []) a b c least below first second third = absurd (omega arith)
+three_items (x ∷ y ∷ z ∷ []) a b c least below first second third =
+    ap (λ h. h ∷ y ∷ z ∷ []) (sym first) ∙ ap (λ h. a ∷ h ∷ z ∷ []) (sym second) ∙ ap (λ h. a ∷ b ∷ h ∷ []) (sym third)
+three_items (x ∷ y ∷ z ∷ w ∷ xs) a b c least below first second third = absurd (omega arith)
+
+-- three words, of which the first is this one
+pub three_words : (words : List (String Global)) (a b c : String Global) (command seen first_file second_file : List ℕ) →
+    3 ≤ length words → length words < 4 → a ≡ get_or words 0 a → b ≡ get_or words 1 b → c ≡ get_or words 2 c →
+    seen ≡ string_bytes a → true ≡ pointwise nat_eq seen command → first_file ≡ string_bytes b → second_file ≡ string_bytes c →
+    words_seen words ≡ command ∷ first_file ∷ second_file ∷ []
+three_words words a b c command seen first_file second_file least below first second third seen_is same first_is second_is =
+    ap words_seen (three_items words a b c least below first second third)
+    ∙ ap (λ w. w ∷ string_bytes b ∷ string_bytes c ∷ []) (sym seen_is ∙ (bytes_decides seen command).0 (sym same))
+    ∙ ap (λ w. command ∷ w ∷ string_bytes c ∷ []) (sym first_is) ∙ ap (λ w. command ∷ first_file ∷ w ∷ []) (sym second_is)

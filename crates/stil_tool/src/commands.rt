@@ -1,15 +1,13 @@
 //! The commands that need no tester: what each answers, and the line of each refusal.
 
 ghost use Rattle.std.specs.Prelude.{◌≡◌, ◌≤◌, List, ℕ, length, IfSome, IfNone};
-ghost use Rattle.std.specs.List.{flat_map};
-ghost use Rattle.tester_types.specs.Printing.{piece_text};
-ghost use Rattle.stil_tool.specs.Offline.{words_seen, AreCycles, Answers, Ends, Wants, FileWants, BytesWant, TextWants, memory_line};
-ghost use Rattle.stil_tool.specs.declared.status.Status.TheVariants.{OutOfMemory};
+ghost use Rattle.stil_tool.specs.Offline.{words_seen, AreCycles, Answers, Wants, FileWants, BytesWant, TextWants};
 
 use crate::cycles::put_cycles;
+use crate::ending::{ended, no_memory};
 use crate::status::Status;
 use std::alloc::Global;
-use tester_types::{Piece, Shelf, ShelfFault, Sink, put_each};
+use tester_types::{Piece, Shelf, ShelfFault, Sink};
 use thin_stil::{ThinFault, ThinText, read};
 
 /// The most bytes that a file may have.
@@ -47,17 +45,6 @@ fn file_of_cycles(words: &[String]) -> Option<&str>
     match words {
         [command, file] if command.as_str() == "cycles" => Some(file.as_str()),
         _ => None,
-    }
-}
-
-/// Puts the line of a refusal, and answers its status.
-fn ended<K: Sink>(out: &mut K, line: &[Piece], status: Status) -> Status
-    ensures ends { Ends (K.told out.old) (K.faults out.old) status (flat_map piece_text line.now) result (K.told out.new) (K.faults out.new) }
-    ensures puts { K.faults out.old ≤ K.faults out.new }
-{
-    match put_each(out, line) {
-        Ok(()) => status,
-        Err(_) => Status::WriteFault,
     }
 }
 
@@ -118,11 +105,4 @@ fn print<K: Sink>(alloc: Global, text: &ThinText, out: &mut K) -> Status
         },
         Err(_) => no_memory(out),
     }
-}
-
-fn no_memory<K: Sink>(out: &mut K) -> Status
-    ensures ends { Ends (K.told out.old) (K.faults out.old) OutOfMemory memory_line result (K.told out.new) (K.faults out.new) }
-    ensures puts { K.faults out.old ≤ K.faults out.new }
-{
-    ended(out, &[Piece::Text(b"out of memory\n")], Status::OutOfMemory)
 }

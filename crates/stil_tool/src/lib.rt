@@ -3,10 +3,19 @@
 
 mod commands;
 mod cycles;
+mod ending;
+mod inputs;
+mod lot;
+mod one_die;
+mod refusal;
 mod status;
+mod top_call;
 
 pub use commands::{LIMIT, offline};
 pub use status::Status;
+pub use top_call::tester;
 
+#[cfg(test)]
+mod lot_tests;
 #[cfg(test)]
 mod tests;

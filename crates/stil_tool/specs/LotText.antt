@@ -1,0 +1,80 @@
+-- The status and the line of each reason for which a lot isn't run.
+use Rattle.std.specs.Prelude.{ℕ, List, ◌++◌, codes, decimal}
+use Rattle.tester_types.specs.Printing.{printed_name}
+use Rattle.bench_net.specs.declared.fault.NetFault.{NetFault}
+use Rattle.bench_net.specs.declared.fault.NetFault.TheVariants as net
+use Rattle.plan_rows.specs.declared.fault.PlanFault.{PlanFault}
+use Rattle.plan_rows.specs.declared.fault.PlanFault.TheVariants as plan
+use Rattle.stil_tool.specs.declared.status.Status.{Status}
+use Rattle.stil_tool.specs.declared.status.Status.TheVariants.{ReadFault, RefusedStil, RefusedNet, RefusedPlan, TooFewSockets, OutOfMemory, TooLong}
+use Rattle.stil_tool.specs.declared.refusal.Refusal.{Refusal}
+use Rattle.stil_tool.specs.declared.refusal.Refusal.TheVariants as refusal
+use Rattle.stil_tool.specs.Offline.{read_fault_line, too_long_line, refused_thin_line, memory_line}
+
+-- a netlist that is refused: its file, the kind of its fault, and the line or the net, `-` where there is neither
+abbrev pub net_fault_line : List ℕ → List ℕ → List ℕ → List ℕ
+net_fault_line file kind part = codes "refused net " ++ printed_name file ++ kind ++ part ++ codes "\n"
+
+-- the same by its fault
+abbrev pub net_line : List ℕ → NetFault → List ℕ
+net_line file net.NoMemory = memory_line
+net_line file (net.Line n) = net_fault_line file (codes " Line ") (decimal n)
+net_line file net.OutOfRange = net_fault_line file (codes " OutOfRange ") (codes "-")
+net_line file (net.Arity name) = net_fault_line file (codes " Arity ") (printed_name name)
+net_line file (net.Twice name) = net_fault_line file (codes " Twice ") (printed_name name)
+net_line file (net.Missing name) = net_fault_line file (codes " Missing ") (printed_name name)
+net_line file (net.Loop name) = net_fault_line file (codes " Loop ") (printed_name name)
+
+-- a netlist is refused, but for want of memory
+abbrev pub net_status : NetFault → Status
+net_status net.NoMemory = OutOfMemory
+net_status (net.Line n) = RefusedNet
+net_status net.OutOfRange = RefusedNet
+net_status (net.Arity name) = RefusedNet
+net_status (net.Twice name) = RefusedNet
+net_status (net.Missing name) = RefusedNet
+net_status (net.Loop name) = RefusedNet
+
+-- a plan that is refused: the kind of its fault, and the row or the signal
+abbrev pub plan_fault_line : List ℕ → List ℕ → List ℕ
+plan_fault_line kind part = codes "refused plan " ++ kind ++ part ++ codes "\n"
+
+-- the same by its fault
+abbrev pub plan_line : PlanFault → List ℕ
+plan_line plan.NoMemory = memory_line
+plan_line (plan.Shape row) = plan_fault_line (codes "Shape ") (decimal row)
+plan_line (plan.UnknownName row) = plan_fault_line (codes "UnknownName ") (decimal row)
+plan_line (plan.Twice row) = plan_fault_line (codes "Twice ") (decimal row)
+plan_line (plan.OutOfRange row) = plan_fault_line (codes "OutOfRange ") (decimal row)
+plan_line (plan.Unbound signal) = plan_fault_line (codes "Unbound ") (printed_name signal)
+
+-- a plan is refused, but for want of memory
+abbrev pub plan_status : PlanFault → Status
+plan_status plan.NoMemory = OutOfMemory
+plan_status (plan.Shape row) = RefusedPlan
+plan_status (plan.UnknownName row) = RefusedPlan
+plan_status (plan.Twice row) = RefusedPlan
+plan_status (plan.OutOfRange row) = RefusedPlan
+plan_status (plan.Unbound signal) = RefusedPlan
+
+-- the status of a refusal
+abbrev pub status_of : Refusal → Status
+status_of refusal.NoMemory = OutOfMemory
+status_of (refusal.ReadFault file) = ReadFault
+status_of (refusal.TooLong file) = TooLong
+status_of refusal.NotThin = RefusedStil
+status_of (refusal.Net file fault) = net_status fault
+status_of (refusal.Plan fault) = plan_status fault
+status_of refusal.NotOneDie = RefusedPlan
+status_of refusal.NoSocket = TooFewSockets
+
+-- the line of a refusal
+abbrev pub line_of : Refusal → List ℕ
+line_of refusal.NoMemory = memory_line
+line_of (refusal.ReadFault file) = read_fault_line file
+line_of (refusal.TooLong file) = too_long_line file
+line_of refusal.NotThin = refused_thin_line
+line_of (refusal.Net file fault) = net_line file fault
+line_of (refusal.Plan fault) = plan_line fault
+line_of refusal.NotOneDie = codes "refused plan Shape 1\n"
+line_of refusal.NoSocket = codes "too few sockets 1 0\n"
