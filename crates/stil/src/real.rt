@@ -3,7 +3,7 @@
 ghost use Rattle.std.specs.Prelude.{◌≡◌, None};
 
 use die_sim::{SimSocket, SocketBox};
-use std::alloc::{AllocError, Global};
+use std::alloc::Global;
 use std::io::{ErrorKind, Read, Write};
 use std::rt::{Env, Files};
 use std::sync::Wait;
@@ -96,18 +96,8 @@ fn words<R: Env + AllocGlobal>(rt: &R) -> io::Result<Vec<String>> {
         .map_err(io::Error::from)
 }
 
-/// How many dies can be tested at once.
+/// How many sockets with simulated dies there are, one for each site.
 const SITES: usize = 16;
-
-/// A socket with a simulated die for each site.
-fn sockets(alloc: Global) -> Result<Vec<SocketBox>, AllocError> {
-    let mut sockets = Vec::new(alloc);
-    for _ in 0..SITES {
-        let socket: SocketBox = Box::new(alloc, SimSocket::new(alloc))?;
-        sockets.push(socket)?;
-    }
-    Ok(sockets)
-}
 
 /// Runs the command that the command line names. No desk says anything yet, and the gate is open.
 pub fn run<R: Files + Env + Print + AllocGlobal + Threads + Wait + Sync>(rt: &R) -> Status {
@@ -115,9 +105,16 @@ pub fn run<R: Files + Env + Print + AllocGlobal + Threads + Wait + Sync>(rt: &R)
     let words = words(rt).unwrap_or_else(|_| Vec::new(alloc));
     let mut shelf = RealShelf::new(rt);
     let mut sink = RealSink::new(io::writer(rt));
-    let Ok(mut sockets) = sockets(alloc) else {
-        return Status::OutOfMemory;
-    };
+    let mut sockets: Vec<SocketBox> = Vec::new(alloc);
+    for _ in 0..SITES {
+        let Ok(socket) = Box::new(alloc, SimSocket::new(alloc)) else {
+            return Status::OutOfMemory;
+        };
+        let socket: SocketBox = socket;
+        if sockets.push(socket).is_err() {
+            return Status::OutOfMemory;
+        }
+    }
     let mut desk = SilentDesk::new();
     tester(
         rt,
