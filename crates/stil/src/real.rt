@@ -10,7 +10,7 @@ use std::sync::Wait;
 use std::thread::Threads;
 use std::{env, fs, io};
 use stil_tool::{Status, tester};
-use tester_types::{Failed, OpenGate, Shelf, ShelfFault, SilentDesk, Sink};
+use tester_types::{Failed, OpenGate, Shelf, ShelfFault, SilentDesk, Sink, put_all};
 
 /// Files by their paths. It tells nothing of what they hold, and counts the loads that fail.
 #[derive(Drop)]
@@ -99,6 +99,14 @@ fn words<R: Env + AllocGlobal>(rt: &R) -> io::Result<Vec<String>> {
 /// How many sockets with simulated dies there are, one for each site.
 const SITES: usize = 16;
 
+/// Says that there was no memory for the sockets.
+fn no_memory<K: Sink>(sink: &mut K) -> Status {
+    match put_all(sink, b"out of memory\n") {
+        Ok(()) => Status::OutOfMemory,
+        Err(_) => Status::WriteFault,
+    }
+}
+
 /// Runs the command that the command line names. No desk says anything yet, and the gate is open.
 pub fn run<R: Files + Env + Print + AllocGlobal + Threads + Wait + Sync>(rt: &R) -> Status {
     let alloc = rt.alloc();
@@ -108,11 +116,11 @@ pub fn run<R: Files + Env + Print + AllocGlobal + Threads + Wait + Sync>(rt: &R)
     let mut sockets: Vec<SocketBox> = Vec::new(alloc);
     for _ in 0..SITES {
         let Ok(socket) = Box::new(alloc, SimSocket::new(alloc)) else {
-            return Status::OutOfMemory;
+            return no_memory(&mut sink);
         };
         let socket: SocketBox = socket;
         if sockets.push(socket).is_err() {
-            return Status::OutOfMemory;
+            return no_memory(&mut sink);
         }
     }
     let mut desk = SilentDesk::new();
