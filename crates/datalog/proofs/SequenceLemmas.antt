@@ -1,28 +1,10 @@
 -- Texts that are put one after another, and how a fault in each of them leaves the sink.
-use Rattle.std.proofs.Common.{◌≡◌, ℕ, ◌+◌, ◌<◌, List, [], ◌∷◌, ◌++◌, length, take, get_or, Option, Result, ap, sym, ◌∙◌, subst}
+use Rattle.std.proofs.Common.{◌≡◌, ℕ, ◌+◌, ◌<◌, List, [], ◌∷◌, ◌++◌, length, take, get_or, Option, ap, sym, ◌∙◌}
 use Rattle.std.proofs.lemmas.Grind.{flat_map-append}
 use Rattle.std.proofs.lemmas.List.{append-nil, take_more}
 use Rattle.std.specs.List.{flat_map}
-use Rattle.tester_types.specs.declared.outside.SinkFault.{SinkFault}
-use Rattle.tester_types.specs.Outside.{gained, GainsFront, Puts}
-use Rattle.tester_types.proofs.OutsideLemmas.{gained-gained, puts_last, front_more, front_behind}
-
--- a fault in the first
-pub first_stops : (held now : Option (List ℕ)) (a b c : List ℕ) → GainsFront held a now → GainsFront held ((a ++ b) ++ c) now
-first_stops held now a b c front = front_more held now (a ++ b) c (front_more held now a b front)
-
--- a fault in the second
-pub second_stops : (held before now : Option (List ℕ)) (a b c : List ℕ) → before ≡ gained held a →
-    GainsFront before b now → GainsFront held ((a ++ b) ++ c) now
-second_stops held before now a b c first front =
-    front_more held now (a ++ b) c (front_behind held now a b (subst (λ (was : Option (List ℕ)). GainsFront was b now) first front))
-
--- the third ends them all as it ends
-pub third_ends : (held before between now : Option (List ℕ)) (a b c : List ℕ) (r : Result (Unit {0}) SinkFault) →
-    before ≡ gained held a → between ≡ gained before b → Puts between c r now → Puts held ((a ++ b) ++ c) r now
-third_ends held before between now a b c r first second last =
-    puts_last held between now (a ++ b) c r
-    (second ∙ ap (λ was. gained was b) first ∙ gained-gained held a b) last
+use Rattle.tester_types.specs.Outside.{gained}
+use Rattle.tester_types.proofs.OutsideLemmas.{gained-gained}
 
 -- one more text among many
 flat_map-more : {X : Type 0} (text : X → List ℕ) (items : List X) (i : ℕ) (item : X) → i < length items →

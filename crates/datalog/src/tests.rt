@@ -15,7 +15,7 @@ fn sink(alloc: Global, failing: Vec<u64>) -> Result<MemSink, NoMemory> {
 
 /// The bytes as a text.
 fn text(alloc: Global, bytes: &[u8]) -> Result<Text, NoMemory> {
-    Ok(Items::from_vec(Vec::from_slice(alloc, bytes)?))
+    Ok(Items::from_slice(alloc, bytes)?)
 }
 
 /// A chain c1 of the cells f5, f6 and f7.

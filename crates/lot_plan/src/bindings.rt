@@ -99,7 +99,7 @@ fn bind_to(net: &Netlist, driven: &[bool], pin: &Pin<'_>) -> Option<Bind>
 pub(crate) fn text_of(alloc: Global, bytes: &[u8]) -> Result<Text, NoMemory>
     ensures { IfOk result (λ text. text ≡ bytes.now) }
 {
-    Ok(Items::from_vec(Vec::from_slice(alloc, bytes)?))
+    Ok(Items::from_slice(alloc, bytes)?)
 }
 
 /// The bind, or else the refusal of the signal of this name.

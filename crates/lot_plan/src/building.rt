@@ -134,10 +134,10 @@ fn bound_die(
     let faults = numbered_rows(alloc, net, group.faults())?;
     let images = images(alloc, net, bind, &faults, tries)?;
     Ok(BoundDie {
-        name: Items::from_vec(Vec::from_slice(alloc, group.die().name.as_slice())?),
+        name: Items::from_slice(alloc, group.die().name.as_slice())?,
         file: group.file(),
         images,
-        stops: Items::from_vec(Vec::from_slice(alloc, group.stops())?),
+        stops: Items::from_slice(alloc, group.stops())?,
     })
 }
 

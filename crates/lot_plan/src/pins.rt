@@ -36,7 +36,7 @@ fn signal_of(alloc: Global, code: &Code, number: u16) -> Result<CodeSignal, NoMe
     ensures { IfOk result (λ signal. slice_get code.now.signals number ≡ Some signal) }
 {
     Ok(CodeSignal {
-        name: Items::from_vec(Vec::from_slice(alloc, code.signal_name(number))?),
+        name: Items::from_slice(alloc, code.signal_name(number))?,
         direction: code.direction(number),
     })
 }

@@ -77,10 +77,10 @@ fn die(alloc: Global, net: Netlist, faults: Vec<StuckAt>) -> Result<DieImage, Ne
     if !is_one_fault(&net, faults.as_slice()) {
         return Err(NetFault::OutOfRange);
     }
-    let nets = BindList::from_vec(Vec::from_slice(
+    let nets = BindList::from_slice(
         alloc,
         &[Bind::Input(0), Bind::Output(1), Bind::Free],
-    )?);
+    )?;
     let clock = Some(2);
     Ok(DieImage {
         net: Arc::new(alloc, net)?,

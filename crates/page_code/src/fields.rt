@@ -168,7 +168,7 @@ pub(crate) fn text(alloc: Global, bytes: &[u8]) -> Result<(Text, &[u8]), ReadErr
     if !are_printable(raw) {
         return Err(bad(bytes));
     }
-    Ok((Text::from_vec(Vec::from_slice(alloc, raw)?), rest))
+    Ok((Text::from_slice(alloc, raw)?, rest))
 }
 
 /// A text that is not empty.
@@ -180,5 +180,5 @@ pub(crate) fn name(alloc: Global, bytes: &[u8]) -> Result<(Text, &[u8]), ReadErr
     if !are_printable(raw) || raw.is_empty() {
         return Err(bad(bytes));
     }
-    Ok((Text::from_vec(Vec::from_slice(alloc, raw)?), rest))
+    Ok((Text::from_slice(alloc, raw)?, rest))
 }

@@ -95,7 +95,7 @@ fn fresh_name<'a>(
     if !are_printable(raw) || raw.is_empty() || is_taken(raw, before) {
         return Err(bad(bytes));
     }
-    Ok((Text::from_vec(Vec::from_slice(alloc, raw)?), rest))
+    Ok((Text::from_slice(alloc, raw)?, rest))
 }
 
 /// A signal behind those before it.

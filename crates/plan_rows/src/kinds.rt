@@ -37,7 +37,7 @@ const LAST_BIN: u64 = 99;
 pub(crate) fn text(alloc: Global, bytes: &[u8]) -> Result<Text, AllocError>
     ensures { IfOk result (λ t. t ≡ bytes.now) }
 {
-    Ok(Items::from_vec(Vec::from_slice(alloc, bytes)?))
+    Ok(Items::from_slice(alloc, bytes)?)
 }
 
 /// The lot's own row, or that a number is out of its range.

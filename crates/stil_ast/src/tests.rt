@@ -24,7 +24,7 @@ fn data_may_cross_threads() {
 fn a_refusal_prints_its_kind_and_line(rt: HostRuntime) -> Result<(), Fail> {
     let fault = StilFault {
         kind: StilKind::EventOutside,
-        block: Text::from_vec(Vec::from_slice(rt.alloc(), b"Timing")?),
+        block: Text::from_slice(rt.alloc(), b"Timing")?,
         name: Text::from_vec(Vec::new(rt.alloc())),
         line: 7,
     };

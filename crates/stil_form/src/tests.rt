@@ -35,7 +35,7 @@ fn statements_of_listed_words_are_skipped(rt: HostRuntime) -> Result<(), Fail> {
     let stmts = forest(rt.alloc(), tokens.as_slice()).map_err(|_| "statements")?;
     let parts = parts(rt.alloc(), text, tokens.as_slice())?;
     let mut words = Vec::new(rt.alloc());
-    words.push(Items::from_vec(Vec::from_slice(rt.alloc(), b"note")?))?;
+    words.push(Items::from_slice(rt.alloc(), b"note")?)?;
     let all = read_each(rt.alloc(), &Numbered, stmts.as_slice()).map_err(|_| "all")?;
     assert_eq!(rt; all.len(), 4);
     let some = read_unskipped(

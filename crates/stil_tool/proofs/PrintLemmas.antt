@@ -1,11 +1,10 @@
 -- A loop that puts a text line by line: what was written, and what is left, are the whole.
-use Rattle.std.proofs.Common.{◌≡◌, ℕ, suc, ◌+◌, ◌*◌, ◌^◌, ◌<◌, List, ◌∷◌, ◌++◌, length, drop, get_or, Option, sym, ap, ◌∙◌, subst, arith, replicate, Result}
+use Rattle.std.proofs.Common.{◌≡◌, ℕ, suc, ◌+◌, ◌*◌, ◌^◌, ◌<◌, List, ◌∷◌, ◌++◌, length, drop, get_or, Option, sym, ap, ◌∙◌, subst, arith, replicate}
 use Rattle.std.proofs.Math.Seq.{drop-cons}
 use Rattle.std.proofs.lemmas.Nat.{mul-lt}
 use Rattle.std.specs.List.{flat_map}
-use Rattle.tester_types.specs.declared.outside.SinkFault.{SinkFault}
-use Rattle.tester_types.specs.Outside.{gained, GainsFront, Puts}
-use Rattle.tester_types.proofs.OutsideLemmas.{gained-gained, puts_stops, puts_last, front_more, front_behind}
+use Rattle.tester_types.specs.Outside.{gained, GainsFront}
+use Rattle.tester_types.proofs.OutsideLemmas.{puts_stops}
 use Rattle.thin_stil.specs.declared.thin.ThinText.{ThinText}
 use Rattle.stil_tool.specs.CyclesText.{cycle_line}
 use Rattle.thin_stil.specs.Rows.{row_after}
@@ -27,12 +26,6 @@ pub line_stops : (held before now : Option (List ℕ)) (whole written line rest 
     whole ≡ written ++ (line ++ rest) → before ≡ gained held written → GainsFront before line now → GainsFront held whole now
 line_stops held before now whole written line rest is first front =
     subst (λ (all : List ℕ). GainsFront held all now) (sym is) (puts_stops held before now written line rest first front)
-
--- the line at hand was written too
-pub line-written : (held before now : Option (List ℕ)) (written line : List ℕ) →
-    before ≡ gained held written → now ≡ gained before line → now ≡ gained held (written ++ line)
-line-written held before now written line first more =
-    more ∙ ap (λ was. gained was line) first ∙ gained-gained held written line
 
 -- the text of what is left begins with the line of the vector at hand
 pub rows_text-item : (text : ThinText) (number : ℕ) (row : List ℕ) (vs : List (List (ℕ × ℕ))) (given : List (ℕ × ℕ)) →
@@ -64,20 +57,6 @@ whole-next text number start row row' name whole written vs given seen same with
     ∙ ap (λ n. written ++ (row_line number (number * text.table.period) n row'
     ++ rows_text text (number + 1) row' (drop (number + 1) text.vectors))) (sym name_is)
     ∙ ap (λ s. written ++ (row_line number s name row' ++ rows_text text (number + 1) row' (drop (number + 1) text.vectors))) (sym start_is)
-
--- three texts, one after another: a fault in the first, in the second, and how the last one ends
-pub first_stops : (held now : Option (List ℕ)) (a b c : List ℕ) → GainsFront held a now → GainsFront held ((a ++ b) ++ c) now
-first_stops held now a b c front = front_more held now (a ++ b) c (front_more held now a b front)
-
-pub second_stops : (held before now : Option (List ℕ)) (a b c : List ℕ) → before ≡ gained held a →
-    GainsFront before b now → GainsFront held ((a ++ b) ++ c) now
-second_stops held before now a b c first front =
-    front_more held now (a ++ b) c (front_behind held now a b (subst (λ (was : Option (List ℕ)). GainsFront was b now) first front))
-
-pub third_ends : (held before between now : Option (List ℕ)) (a b c : List ℕ) (r : Result (Unit {0}) SinkFault) →
-    before ≡ gained held a → between ≡ gained before b → Puts between c r now → Puts held ((a ++ b) ++ c) r now
-third_ends held before between now a b c r first second last =
-    puts_last held between now (a ++ b) c r (line-written held before between a b first second) last
 
 -- the text of the rows, from a row without characters on, is the text of the cycles
 pub rows-of : (text : ThinText) (row : List ℕ) → row ≡ replicate (length text.signals) 45 →

@@ -32,20 +32,11 @@ struct ReadyLot {
     plan: BoundPlan,
 }
 
-/// A list of one item.
-fn one<T: Drop>(alloc: Global, item: T) -> Result<Items<T>, AllocError>
-    ensures { IfOk result (λ list. list ≡ item ∷ []) }
-{
-    let mut list = Vec::new(alloc);
-    list.push(item)?;
-    Ok(Items::from_vec(list))
-}
-
 /// The one netlist, as it is shared.
 fn shared(alloc: Global, net: Netlist) -> Result<Items<Arc<Netlist>>, AllocError>
     ensures { IfOk result (λ nets. map arc_value nets ≡ net ∷ []) }
 {
-    one(alloc, Arc::new(alloc, net)?)
+    Items::of_one(alloc, Arc::new(alloc, net)?)
 }
 
 /// The plan of one file, bound to a program and its netlist.
@@ -114,9 +105,9 @@ fn records_of(alloc: Global, trial: Trial) -> Result<Items<RecordList>, AllocErr
     let record = Record {
         site: 0,
         die: 0,
-        trials: one(alloc, trial)?,
+        trials: Items::of_one(alloc, trial)?,
     };
-    one(alloc, one(alloc, record)?)
+    Items::of_one(alloc, Items::of_one(alloc, record)?)
 }
 
 /// Runs the one try of the die, and prints what was recorded.

@@ -23,7 +23,7 @@ fn moment(alloc: Global, at: u64, looks: &[(u16, Look)]) -> Result<Moment, NoMem
     Ok(Moment {
         at: u128::from(at),
         drives: PushList::from_vec(Vec::new(alloc)),
-        looks: LookList::from_vec(Vec::from_slice(alloc, looks)?),
+        looks: LookList::from_slice(alloc, looks)?,
     })
 }
 

@@ -52,6 +52,27 @@ puts_stops held before now a b c first front =
     front_behind held now a (b ++ c)
     (front_more (gained held a) now b c (subst (λ (was : Option (List ℕ)). GainsFront was b now) first front))
 
+-- two texts were gained, one after another
+pub gained_both : (held before now : Option (List ℕ)) (a b : List ℕ) →
+    before ≡ gained held a → now ≡ gained before b → now ≡ gained held (a ++ b)
+gained_both held before now a b first second = second ∙ ap (λ was. gained was b) first ∙ gained-gained held a b
+
+-- a fault in the first of three texts that stand to the left
+pub first_stops : (held now : Option (List ℕ)) (a b c : List ℕ) → GainsFront held a now → GainsFront held ((a ++ b) ++ c) now
+first_stops held now a b c front = front_more held now (a ++ b) c (front_more held now a b front)
+
+-- a fault in the second of them
+pub second_stops : (held before now : Option (List ℕ)) (a b c : List ℕ) → before ≡ gained held a →
+    GainsFront before b now → GainsFront held ((a ++ b) ++ c) now
+second_stops held before now a b c first front =
+    front_more held now (a ++ b) c (front_behind held now a b (subst (λ (was : Option (List ℕ)). GainsFront was b now) first front))
+
+-- the third ends them all as it ends
+pub third_ends : (held before between now : Option (List ℕ)) (a b c : List ℕ) (r : Result (Unit {0}) SinkFault) →
+    before ≡ gained held a → between ≡ gained before b → Puts between c r now → Puts held ((a ++ b) ++ c) r now
+third_ends held before between now a b c r first second last =
+    puts_last held between now (a ++ b) c r (gained_both held before between a b first second) last
+
 suc-plus : (i : ℕ) → suc i ≡ i + 1
 suc-plus i = omega arith
 

@@ -1,7 +1,8 @@
 //! A list of values, which contracts see as the list itself.
 
-ghost use Rattle.std.specs.Prelude.{◌≡◌, ◌↔◌, List, [], IsTrue, length};
+ghost use Rattle.std.specs.Prelude.{◌≡◌, ◌↔◌, List, [], ◌∷◌, IsTrue, IfOk, length};
 
+use std::alloc::{AllocError, Global};
 use std::marker::Model;
 
 /// A list that owns its items. It is made from a `Vec` and gives it back, and neither takes memory.
@@ -50,5 +51,26 @@ impl<T> Items<T> {
         ensures { IsTrue result ↔ (self.now ≡ []) }
     {
         self.items.is_empty()
+    }
+}
+
+impl<T: Drop> Items<T> {
+    /// The list of one item.
+    pub fn of_one(alloc: Global, item: T) -> Result<Self, AllocError>
+        ensures { IfOk result (λ list. list ≡ item ∷ []) }
+    {
+        let mut items = Vec::with_capacity(alloc, 1)?;
+        items.push(item)?;
+        Ok(Items { items })
+    }
+}
+
+impl<T: Copy> Items<T> {
+    /// The list of a slice's items, copied.
+    pub fn from_slice(alloc: Global, items: &[T]) -> Result<Self, AllocError>
+        ensures { IfOk result (λ list. list ≡ items.now) }
+    {
+        let items = Vec::from_slice(alloc, items)?;
+        Ok(Items { items })
     }
 }

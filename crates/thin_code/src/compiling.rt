@@ -60,15 +60,6 @@ fn ordered_table(alloc: Global, signals: usize, table: Table) -> Result<Table, A
     })
 }
 
-/// A list of one item.
-fn one<T: Drop>(alloc: Global, item: T) -> Result<Items<T>, AllocError>
-    ensures { IfOk result (λ list. list ≡ item ∷ []) }
-{
-    let mut list = Vec::new(alloc);
-    list.push(item)?;
-    Ok(Items::from_vec(list))
-}
-
 /// The one executive: its instructions end with Done.
 fn execs_of(alloc: Global, name: Text, mut instrs: Vec<Instr>) -> Result<CodeExecList, AllocError>
     requires { IsWhole (instrs.items ++ Instr.Done ∷ []) }
@@ -76,7 +67,7 @@ fn execs_of(alloc: Global, name: Text, mut instrs: Vec<Instr>) -> Result<CodeExe
 {
     instrs.push(Instr::Done)?;
     let chains = CodeChainList::from_vec(Vec::new(alloc));
-    one(
+    Items::of_one(
         alloc,
         CodeExec::new(name, chains, InstrList::from_vec(instrs)),
     )
@@ -95,7 +86,7 @@ pub fn compile(alloc: Global, text: ThinText) -> Result<Code, NoMemory>
     } = text;
     let count = signals.len();
     let (rows, instrs) = compile_vectors(alloc, count, vectors.as_slice())?;
-    let tables = one(alloc, ordered_table(alloc, count, table)?)?;
+    let tables = Items::of_one(alloc, ordered_table(alloc, count, table)?)?;
     let execs = execs_of(alloc, exec, instrs)?;
     let signals = signals_of(alloc, signals.into_vec())?;
     Ok(Code::new(signals, tables, rows, execs))

@@ -158,7 +158,7 @@ pub fn read_pattern(
     };
     let vectors = read_vectors(alloc, parts, signals, table, block(stmt)?)?;
     Ok(ThinPattern {
-        name: Items::from_vec(Vec::from_slice(alloc, name)?),
+        name: Items::from_slice(alloc, name)?,
         vectors,
     })
 }
@@ -266,7 +266,7 @@ pub fn read_exec(
         return Err(NOT_THIN);
     };
     if runs(timing, burst, parts, block(stmt)?) {
-        Ok(Items::from_vec(Vec::from_slice(alloc, title)?))
+        Ok(Items::from_slice(alloc, title)?)
     } else {
         Err(NOT_THIN)
     }

@@ -105,7 +105,7 @@ impl Form for SignalForm<'_> {
         }
         match signal_parts(before, head(self.parts, stmt)) {
             Some((name, is_out)) => Ok(ThinSignal {
-                name: Items::from_vec(Vec::from_slice(alloc, name)?),
+                name: Items::from_slice(alloc, name)?,
                 is_out,
             }),
             None => Err(NOT_THIN),

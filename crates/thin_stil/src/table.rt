@@ -138,7 +138,7 @@ fn read_table(
     };
     let waves = read_each(alloc, &form, stmts)?;
     Ok(Table {
-        name: Items::from_vec(Vec::from_slice(alloc, name)?),
+        name: Items::from_slice(alloc, name)?,
         period,
         waves: all_waves(alloc, waves.as_slice())?,
     })
@@ -162,7 +162,7 @@ fn read_timing_in(
     };
     let table = read_table(alloc, parts, signals, name, block(stmt)?)?;
     Ok(ThinTiming {
-        name: Items::from_vec(Vec::from_slice(alloc, title)?),
+        name: Items::from_slice(alloc, title)?,
         table,
     })
 }

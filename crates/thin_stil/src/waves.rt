@@ -265,7 +265,7 @@ impl Form for GroupForm<'_> {
         };
         let rows = read_each(alloc, &form, stmts)?;
         Ok(WaveGroup {
-            letters: Items::from_vec(Vec::from_slice(alloc, letters)?),
+            letters: Items::from_slice(alloc, letters)?,
             rows: Items::from_vec(rows),
         })
     }

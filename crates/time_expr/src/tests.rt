@@ -6,7 +6,7 @@ use tester_types::Text;
 
 /// The value of a text in which `t0` stands for 5 ns.
 fn value_in(alloc: Global, text: &[u8]) -> Result<Fraction, ExprFault> {
-    let name = Text::from_vec(Vec::from_slice(alloc, b"t0")?);
+    let name = Text::from_slice(alloc, b"t0")?;
     let mut entries = Vec::new(alloc);
     entries.push((name, Fraction::whole(5_000_000)))?;
     value(&read_expr(alloc, text)?, &Vars::from_vec(entries))
@@ -81,7 +81,7 @@ fn least_of_three_times(rt: HostRuntime) -> Result<(), ExprFault> {
 fn name_without_a_value(rt: HostRuntime) -> Result<(), ExprFault> {
     let alloc = rt.alloc();
     let vars = Vars::from_vec(Vec::new(alloc));
-    let name = Expr::Name(Text::from_vec(Vec::from_slice(alloc, b"t0")?));
+    let name = Expr::Name(Text::from_slice(alloc, b"t0")?);
     assert_eq!(rt; value(&name, &vars), Err(ExprFault::UnknownName));
     Ok(())
 }

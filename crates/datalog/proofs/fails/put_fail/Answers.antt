@@ -1,7 +1,7 @@
 use Rattle.std.proofs.lemmas.Result.{err_from_is_err_and}
 use Rattle.std.specs.Prelude.{codes}
 use Rattle.datalog.specs.DatalogText.{found_words, cell_words, cell_of}
-use Rattle.datalog.proofs.SequenceLemmas.{first_stops, second_stops, third_ends}
+use Rattle.tester_types.proofs.OutsideLemmas.{first_stops, second_stops, third_ends}
 use Rattle.datalog.proofs.fails.put_fail.Goals as goal
 
 pub returns-in_err-put_found-clause-puts : goal.returns-in_err-put_found-clause-puts

@@ -2,7 +2,7 @@ use Rattle.std.proofs.lemmas.Result.{err_from_is_err_and}
 use Rattle.std.specs.List.{flat_map}
 use Rattle.lot_plan.specs.Bound.{die_at}
 use Rattle.datalog.specs.DatalogText.{die_line, trial_text, bin_line, die_bin}
-use Rattle.datalog.proofs.SequenceLemmas.{first_stops, second_stops, third_ends}
+use Rattle.tester_types.proofs.OutsideLemmas.{first_stops, second_stops, third_ends}
 use Rattle.datalog.proofs.records.print_record.Goals as goal
 
 pub returns-in_err-put_die-clause-puts : goal.returns-in_err-put_die-clause-puts

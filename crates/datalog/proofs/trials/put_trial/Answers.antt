@@ -1,7 +1,7 @@
 use Rattle.std.proofs.lemmas.Result.{err_from_is_err_and}
 use Rattle.std.specs.List.{flat_map}
 use Rattle.datalog.specs.DatalogText.{try_line, fail_line, verdict_line}
-use Rattle.datalog.proofs.SequenceLemmas.{first_stops, second_stops, third_ends}
+use Rattle.tester_types.proofs.OutsideLemmas.{first_stops, second_stops, third_ends}
 use Rattle.datalog.proofs.trials.put_trial.Goals as goal
 
 pub returns-in_err-put_try-clause-puts : goal.returns-in_err-put_try-clause-puts

@@ -4,7 +4,8 @@ use Rattle.std.specs.List.{flat_map}
 use Rattle.tester_types.specs.Outside.{GainsFront, gained}
 use Rattle.stil_tool.specs.CyclesText.{exec_line, cycle_line, end_line}
 use Rattle.thin_stil.specs.Thin.{cycles_of}
-use Rattle.stil_tool.proofs.PrintLemmas.{first_stops, second_stops, third_ends, rows-of}
+use Rattle.tester_types.proofs.OutsideLemmas.{first_stops, second_stops, third_ends}
+use Rattle.stil_tool.proofs.PrintLemmas.{rows-of}
 use Rattle.stil_tool.proofs.cycles.put_cycles.Goals as goal
 
 pub returns-in_err-put_exec-clause-puts : goal.returns-in_err-put_exec-clause-puts

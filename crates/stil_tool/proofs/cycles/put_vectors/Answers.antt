@@ -1,7 +1,8 @@
 use Rattle.std.proofs.Common.{◌++◌, ◌∙◌, append_assoc, sym, arith}
 use Rattle.std.proofs.lemmas.Result.{err_from_is_err_and}
 use Rattle.stil_tool.specs.Rows.{row_line}
-use Rattle.stil_tool.proofs.PrintLemmas.{line_stops, line-written, whole-next}
+use Rattle.tester_types.proofs.OutsideLemmas.{gained_both}
+use Rattle.stil_tool.proofs.PrintLemmas.{line_stops, whole-next}
 use Rattle.stil_tool.proofs.cycles.put_vectors.Goals as goal
 
 pub returns-in_err-put_cycle-clause-puts : goal.returns-in_err-put_cycle-clause-puts
@@ -20,7 +21,7 @@ pub loop-number-preserved : goal.loop-number-preserved
 loop-number-preserved g c = (
   c.loop-number.invariant.0
       ++ row_line c.loop-number.number c.time_of-start.result c.as_slice-in-loop-number.result.now c.assign.new.row,
-  line-written _ _ _ _ _ c.loop-number.invariant.1 c.in_ok-put_cycle.ensures.puts,
+  gained_both _ _ _ _ _ c.loop-number.invariant.1 c.in_ok-put_cycle.ensures.puts,
   whole-next c.args.text.now c.loop-number.number c.time_of-start.result c.loop-number.row c.assign.new.row _ _ c.loop-number.invariant.0
       c.as_slice-given-items.result.now c.given-item.result c.as_slice.result.now
       c.as_slice-given-items.ensures c.loop-number-test.true c.given-item.is c.as_slice.ensures c.assign.ensures
