@@ -1,13 +1,16 @@
 -- The loop over a text: what is read of it so far.
-use Rattle.std.proofs.Common.{◌≡◌, ℕ, ◌+◌, ◌≤◌, ◌<◌, List, [], ◌∷◌, ◌++◌, length, take, drop, get_or, Option, Some, None, Result, Err, refl, sym, ap, subst, ◌∙◌, arith, append_assoc, length-append, cond}
+use Rattle.std.proofs.Common.{◌≡◌, ℕ, ◌+◌, ◌≤◌, ◌<◌, List, [], ◌∷◌, ◌++◌, length, take, drop, get_or, true, false, Option, Some, None, Result, Err, refl, sym, ap, subst, ◌∙◌, arith, append_assoc, length-append, cond}
 use Rattle.std.specs.Prelude.{count_by, ◌==◌}
 use Rattle.std.proofs.lemmas.List.{drop_at, take_at, append-nil, take-append-drop, drop_more, length-take-le, take_all, drop_all}
 use Rattle.std.proofs.lemmas.List.Sums.{sum_by-append}
-use Rattle.stil_lex.specs.Bytes.{line_feed}
+use Rattle.std.specs.List.{list_all}
+use Rattle.std.proofs.lemmas.Bool.{and_parts, eqb-true, false≢true, false_from_ne_true}
+use Rattle.stil_lex.specs.Bytes.{line_feed, is_word, is_printing}
 use Rattle.stil_lex.specs.Pieces.{Piece, gap, token, spelling, IsPiece}
 use Rattle.stil_lex.specs.Tokens.{spelled, ArePieces, tokens_of, line_behind, Reads}
 use Rattle.stil_lex.specs.Faults.{IsFault}
-use Rattle.stil_lex.specs.Step.{kept, front_of}
+use Rattle.stil_lex.specs.Step.{kept, feeds_of, front_of}
+use Rattle.stil_lex.specs.declared.token.TokenKind.TheVariants.{Word, Name, Text, Sign}
 use Rattle.stil_lex.specs.declared.token.TokenKind.{TokenKind}
 use Rattle.stil_lex.specs.declared.token.Token.{Token}
 use Rattle.stil_lex.specs.declared.front.Front.{Front}
@@ -105,6 +108,39 @@ goes_on bytes at line tokens kind len feeds r f is_feeds =
       is_line = let counts = sum_by-append (λ b. cond (b == line_feed) 1 0) read f.by in
           sym (ap line_behind front ∙ (ap (λ n. 1 + n) counts ∙ omega (arith, r.is_line, feeds_is)));
     }
+
+-- a word has no line feed
+no_feeds : (text : List ℕ) → list_all is_word text ≡ true → count_by (λ b. b == line_feed) text ≡ 0
+unfolding is_word
+no_feeds [] each = refl
+no_feeds (b ∷ text) each =
+    let parts = and_parts (is_word b) (list_all is_word text) each in
+    let other : (b == line_feed) ≡ false = false_from_ne_true (b == line_feed) (λ same.
+    false≢true (ap is_word (sym (eqb-true b line_feed same)) ∙ parts.0)) in
+    rw other (no_feeds text parts.1)
+
+-- a sign has none
+no_feed : (b : ℕ) → is_printing b ≡ true → (b == line_feed) ≡ false
+unfolding is_printing
+no_feed b prints =
+    false_from_ne_true (b == line_feed) (λ same. false≢true (ap is_printing (sym (eqb-true b line_feed same)) ∙ prints))
+
+-- what is counted of a piece are all its line feeds
+feeds_are : (kind : Option TokenKind) (text after : List ℕ) → IsPiece (piece_of kind text) after →
+    feeds_of kind text ≡ count_by (λ b. b == line_feed) text
+feeds_are None text after piece = refl
+feeds_are (Some Word) text after word = sym (no_feeds text word.each)
+feeds_are (Some Name) text after quoted = refl
+feeds_are (Some Text) text after quoted = refl
+feeds_are (Some (Sign b)) text after sign =
+    sym (ap (count_by (λ c. c == line_feed)) sign.spelled ∙ rw (no_feed b sign.printing) refl)
+
+-- the same of the piece at the front of a text
+pub feeds_at : (text : List ℕ) (kind : Option TokenKind) (len feeds : ℕ) → IsFront text kind len →
+    feeds ≡ feeds_of kind (take len text) → feeds ≡ count_by (λ b. b == line_feed) (take len text)
+feeds_at text kind len feeds f is =
+    let here : take len text ≡ f.by = ap (take len) f.spelled ∙ take_at f.by f.after len (sym f.is_len) in
+    is ∙ ap (feeds_of kind) here ∙ feeds_are kind f.by f.after f.piece ∙ ap (count_by (λ b. b == line_feed)) (sym here)
 
 -- an end
 pub is_done : (bytes : List ℕ) (at line : ℕ) (tokens : List Token) → IsRead bytes at line tokens → length bytes ≤ at → Reads bytes tokens

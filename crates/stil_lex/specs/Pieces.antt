@@ -89,10 +89,12 @@ pub data Piece : Type 0 where
   gap : List ℕ → Piece
   token : TokenKind → List ℕ → Piece
 
+-- the bytes of a piece
 abbrev pub spelling : Piece → List ℕ
 spelling (gap text) = text
 spelling (token kind text) = text
 
+-- the piece is one, where `after` stands behind it
 abbrev pub IsPiece : Piece → List ℕ → Type 0
 IsPiece (gap text) after = IsGap text after
 IsPiece (token kind text) after = IsToken kind text after

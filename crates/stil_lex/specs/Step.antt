@@ -1,5 +1,5 @@
 -- What stands at the front of a text, as the code finds it. No public clause cites this file.
-use Rattle.std.specs.Prelude.{ℕ, ◌+◌, Bool, false, ◌==◌, nat_lt, ◌&&◌, if◌then◌else◌, List, [], ◌∷◌, length, take, drop, Option, Some, None, Result, Ok, Err}
+use Rattle.std.specs.Prelude.{ℕ, ◌+◌, Bool, false, ◌==◌, nat_lt, ◌&&◌, if◌then◌else◌, List, [], ◌∷◌, length, take, drop, count_by, Option, Some, None, Result, Ok, Err}
 use Rattle.std.specs.List.{prefix_len, position_or_len}
 use Rattle.stil_lex.specs.Bytes.{line_feed, double_quote, single_quote, slash, star, open_brace, close_brace, is_blank, is_word, is_printing, may_be_quoted, starts_pair}
 use Rattle.stil_lex.specs.declared.token.TokenKind.{TokenKind}
@@ -78,3 +78,11 @@ front_of at (b ∷ rest) =
     else if b == single_quote then quoted_front at single_quote Text rest
     else if is_printing b then sign_front at b (b ∷ rest)
     else Err (BadByte at)
+
+-- how many line feeds the code counts in a piece of this kind: a word and a sign have none
+abbrev pub feeds_of : Option TokenKind → List ℕ → ℕ
+feeds_of None text = count_by (λ b. b == line_feed) text
+feeds_of (Some Word) text = 0
+feeds_of (Some Name) text = count_by (λ b. b == line_feed) text
+feeds_of (Some Text) text = count_by (λ b. b == line_feed) text
+feeds_of (Some (Sign byte)) text = 0

@@ -3,7 +3,7 @@
 ghost use Rattle.std.specs.Prelude.{◌≡◌, ◌≤◌, ◌⊎◌, ◌++◌, List, length, IfOk, IfErr, OnOk, MatchResult};
 ghost use Rattle.stil_lex.specs.Tokens.{Reads};
 ghost use Rattle.stil_lex.specs.Faults.{IsFault};
-ghost use Rattle.stil_lex.specs.Step.{kept};
+ghost use Rattle.stil_lex.specs.Step.{kept, feeds_of};
 ghost use Rattle.stil_lex.specs.declared.token.Token.{Token};
 ghost use Rattle.stil_lex.specs.declared.fault.LexFault.{LexFault};
 ghost use Rattle.stil_lex.specs.declared.fault.LexFault.TheVariants.{NoMemory};
@@ -36,6 +36,16 @@ pub(crate) fn keep(
     Ok(())
 }
 
+/// How many line feeds stand in a piece. A word and a sign have none.
+fn feeds_of(kind: Option<TokenKind>, piece: &[u8]) -> usize
+    ensures { result ≡ feeds_of kind piece.now }
+{
+    match kind {
+        Some(TokenKind::Word) | Some(TokenKind::Sign(_)) => 0,
+        Some(TokenKind::Name) | Some(TokenKind::Text) | None => line_feeds(piece),
+    }
+}
+
 fn tokens_of(alloc: Global, bytes: &[u8]) -> Result<Vec<Token>, LexFault>
     requires { length bytes.now ≤ 16777216 }
     ensures found { IfOk result (λ tokens. Reads bytes.now tokens.items) }
@@ -49,7 +59,7 @@ fn tokens_of(alloc: Global, bytes: &[u8]) -> Result<Vec<Token>, LexFault>
         let front = front_of(rest, at)?;
         let end = at + front.len;
         keep(&mut tokens, front.kind, at, end, line)?;
-        line += line_feeds(&rest[..front.len]) as u32;
+        line += feeds_of(front.kind, &rest[..front.len]) as u32;
         at = end;
     }
     Ok(tokens)

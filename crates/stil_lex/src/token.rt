@@ -19,12 +19,12 @@ pub enum TokenKind {
 #[derive(Clone, Copy, PartialEq, Eq, Debug)]
 pub struct Token {
     pub kind: TokenKind,
+    /// Its line, counted from 1. It stands beside the kind, where it takes no room of its own.
+    pub line: u32,
     /// The place of its first byte. A Name and a Text begin at their opening quote.
     pub start: usize,
     /// The place behind its last byte, which in a Name and a Text is the closing quote.
     pub end: usize,
-    /// Its line, counted from 1.
-    pub line: u32,
 }
 
 impl TokenKind {

@@ -1,5 +1,6 @@
 pub mod StandardFacts
 pub mod Lists
+pub mod Blocks
 pub mod Steps
 pub mod Runs
 pub mod Reached

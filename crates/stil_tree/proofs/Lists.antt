@@ -5,7 +5,7 @@ use Rattle.stil_tree.specs.declared.stmt.Stmt.{Stmt}
 use Rattle.stil_tree.specs.declared.stmt.StmtList.{StmtList}
 use Rattle.stil_tree.specs.declared.stmt.Stmt.TheViews.{out-StmtList, roll-Stmt}
 use Rattle.stil_tree.specs.declared.stmt.Stmt.TheFolds.{fold_out-StmtList, fold-roll-Stmt}
-use Rattle.stil_tree.specs.Trees.{Trees, end, plain, block, Entry, in_front, trees_from, entries, trees, entry_of, stmt_step, list_step}
+use Rattle.stil_tree.specs.Trees.{Trees, end, Entry, in_front, trees_from, entries, trees, entry_of, stmt_step, list_step}
 use Rattle.stil_tree.specs.Step.{join}
 use Rattle.stil_tree.specs.Memory.{trees_of}
 
@@ -54,16 +54,11 @@ entry_of-plain first count = fold-roll-Stmt Entry Trees stmt_step list_step (rec
 pub entry_of-block : (first count : ℕ) (l : StmtList) → entry_of (roll-Stmt (record { first = first; count = count; body = Some l })) ≡ record { first = first; count = count; body = Some (trees l) }
 entry_of-block first count l = fold-roll-Stmt Entry Trees stmt_step list_step (record { first = first; count = count; body = Some l })
 
--- one more statement without a block
-pub trees_of-push_plain : (xs ys : List Stmt) (first count : ℕ) → ys ≡ xs ++ roll-Stmt (record { first = first; count = count; body = None }) ∷ []
-    → trees_of ys ≡ join (trees_of xs) (plain first count end)
-trees_of-push_plain xs ys first count e =
-    ap trees_of e ∙ trees_of-push xs (roll-Stmt (record { first = first; count = count; body = None })) (record { first = first; count = count; body = None }) (entry_of-plain first count)
-
 -- one more statement with a block
-pub trees_of-push_block : (xs ys : List Stmt) (first count : ℕ) (l : StmtList) (body : Trees) → ys ≡ xs ++ roll-Stmt (record { first = first; count = count; body = Some l }) ∷ [] → trees l ≡ body
-    → trees_of ys ≡ join (trees_of xs) (block first count body end)
-trees_of-push_block xs ys first count l body e is =
-    ap trees_of e
-    ∙ (trees_of-push xs (roll-Stmt (record { first = first; count = count; body = Some l })) (record { first = first; count = count; body = Some (trees l) }) (entry_of-block first count l)
-    ∙ ap (λ b. join (trees_of xs) (block first count b end)) is)
+pub entries-push_block : (xs ys : List Stmt) (first count : ℕ) (l : StmtList) (body : Trees) →
+    ys ≡ xs ++ roll-Stmt (record { first = first; count = count; body = Some l }) ∷ [] → trees l ≡ body →
+    map entry_of ys ≡ map entry_of xs ++ record { first = first; count = count; body = Some body } ∷ []
+entries-push_block xs ys first count l body e is =
+    ap (map entry_of) e ∙ map_push entry_of xs (roll-Stmt (record { first = first; count = count; body = Some l }))
+    ∙ ap (λ entry. map entry_of xs ++ entry ∷ [])
+    (entry_of-block first count l ∙ ap (λ b. record { first = first; count = count; body = Some b }) is)

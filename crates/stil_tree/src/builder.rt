@@ -1,34 +1,36 @@
 //! The statements that are read so far.
 
-ghost use Rattle.std.specs.Prelude.{◌≡◌, ◌⊎◌, ◌+◌, ◌-◌, ◌<◌, ◌≤◌, [], ◌∷◌, ◌++◌, OnOk, MatchResult, Ok, Err};
+ghost use Rattle.std.specs.Prelude.{◌≡◌, ◌⊎◌, ◌+◌, ◌-◌, ◌<◌, ◌≤◌, [], ◌∷◌, ◌++◌, OnOk, MatchResult, Ok, Err, Some, length, map, take, drop};
 ghost use Rattle.stil_tree.specs.Marks.{is_sign};
-ghost use Rattle.stil_tree.specs.Trees.{trees, block, end};
-ghost use Rattle.stil_tree.specs.Step.{State, going, join, ended_by, opened, closed, step_on, outcome};
-ghost use Rattle.stil_tree.specs.Memory.{trees_of, frames_of, state_of, Gives};
+ghost use Rattle.stil_tree.specs.Trees.{trees, trees_from, entry_of, end};
+ghost use Rattle.stil_tree.specs.Step.{State, going, ended_by, opened, closed, step_on, outcome};
+ghost use Rattle.stil_tree.specs.Memory.{level_of, frames_of, state_of, AreStanding, ended_entry, Gives};
 ghost use Rattle.stil_tree.specs.declared.fault.TreeFault.TheVariants.{NoMemory};
 
 use crate::fault::TreeFault;
 use crate::stmt::{Stmt, StmtList};
 use std::alloc::{AllocError, Global};
-use std::mem;
 use stil_lex::{Token, TokenKind};
 
 /// How many blocks may stand one inside another.
 const MOST_LEVELS: usize = 16;
 
-/// A block that is open: the head of its statement, and the statements before it.
-#[derive(Drop)]
+/// A block that is open: how many statements were done before it, and the head of its statement.
+#[derive(Clone, Copy)]
 pub(crate) struct Open {
-    before: Vec<Stmt>,
+    start: usize,
     first: u32,
     count: u32,
 }
 
-/// The open blocks, the innermost last, the statements done in the innermost, and where its unfinished head begins.
+/// What is read so far.
 #[derive(Drop)]
 pub(crate) struct Builder {
+    /// The open blocks, the innermost last.
     blocks: Vec<Open>,
+    /// The statements that are done in them, those of the innermost last.
     done: Vec<Stmt>,
+    /// Where the unfinished head begins.
     first: usize,
 }
 
@@ -42,48 +44,35 @@ pub(crate) fn is_sign(token: &Token, byte: u8) -> bool
     }
 }
 
-/// Appends a statement. The first of a block takes room for itself alone, since many blocks have one.
-fn push(stmts: &mut Vec<Stmt>, stmt: Stmt) -> Result<(), AllocError>
-    ensures { OnOk result (stmts.new.items ≡ stmts.old.items ++ stmt ∷ []) }
-{
-    if stmts.is_empty() {
-        stmts.reserve_exact(1)?;
-    }
-    stmts.push(stmt)?;
-    Ok(())
-}
-
 /// Appends the statement whose head stands from `first` up to `at`, where that isn't empty.
 fn push_plain(done: &mut Vec<Stmt>, first: usize, at: usize) -> Result<(), AllocError>
     requires below { first ≤ at }
     requires small { at < 16777216 }
-    ensures { OnOk result (trees_of done.new.items ≡ ended_by (trees_of done.old.items) first (at - first)) }
+    ensures { OnOk result (map entry_of done.new.items ≡ map entry_of done.old.items ++ ended_entry first (at - first)) }
 {
     if first < at {
-        push(
-            done,
-            Stmt {
-                first: first as u32,
-                count: (at - first) as u32,
-                body: None,
-            },
-        )?;
+        done.push(Stmt {
+            first: first as u32,
+            count: (at - first) as u32,
+            body: None,
+        })?;
     }
     Ok(())
 }
 
-/// Appends the statement with a block, which keeps no spare room.
-fn push_block(
-    done: &mut Vec<Stmt>,
-    first: u32,
-    count: u32,
-    mut body: Vec<Stmt>,
-) -> Result<(), AllocError>
-    ensures { OnOk result (trees_of done.new.items ≡ join (trees_of done.old.items) (block first count (trees_of body.items) end)) }
+/// Makes the last statements, from that of the number `start` on, the block of one statement.
+fn close(done: &mut Vec<Stmt>, block: &Open) -> Result<(), AllocError>
+    requires { block.now.start ≤ length done.old.items }
+    ensures { OnOk result (map entry_of done.new.items
+        ≡ take block.now.start (map entry_of done.old.items)
+        ++ record { first = block.now.first; count = block.now.count; body = Some (trees_from (drop block.now.start (map entry_of done.old.items))) } ∷ []) }
 {
-    body.shrink_to_fit();
-    let body = Some(StmtList::from_vec(body));
-    push(done, Stmt { first, count, body })?;
+    let body = done.split_off(block.start)?;
+    done.push(Stmt {
+        first: block.first,
+        count: block.count,
+        body: Some(StmtList::from_vec(body)),
+    })?;
     Ok(())
 }
 
@@ -92,6 +81,7 @@ impl Builder {
     pub(crate) fn new(alloc: Global) -> Builder
         ensures state { state_of result ≡ going [] end 0 }
         ensures first { result.first ≡ 0 }
+        ensures standing { AreStanding result }
     {
         Builder {
             blocks: Vec::new(alloc),
@@ -104,8 +94,10 @@ impl Builder {
     fn end_statement(&mut self, at: usize) -> Result<(), TreeFault>
         requires below { self.old.first ≤ at }
         requires small { at < 16777216 }
-        ensures state { Gives result (state_of self.new) (going (frames_of self.old.blocks.items) (ended_by (trees_of self.old.done.items) self.old.first (at - self.old.first)) (at + 1)) }
+        requires standing { AreStanding self.old }
+        ensures state { Gives result (state_of self.new) (going (frames_of self.old) (ended_by (level_of self.old) self.old.first (at - self.old.first)) (at + 1)) }
         ensures first { OnOk result (self.new.first ≡ at + 1) }
+        ensures stands { OnOk result (AreStanding self.new) }
     {
         push_plain(&mut self.done, self.first, at)?;
         self.first = at + 1;
@@ -113,18 +105,19 @@ impl Builder {
     }
 
     /// A `{` with the index `at`.
-    fn open_block(&mut self, alloc: Global, at: usize) -> Result<(), TreeFault>
+    fn open_block(&mut self, at: usize) -> Result<(), TreeFault>
         requires below { self.old.first ≤ at }
         requires small { at < 16777216 }
-        ensures state { Gives result (state_of self.new) (opened at (frames_of self.old.blocks.items) (trees_of self.old.done.items) self.old.first) }
+        requires standing { AreStanding self.old }
+        ensures state { Gives result (state_of self.new) (opened at (frames_of self.old) (level_of self.old) self.old.first) }
         ensures first { OnOk result (self.new.first ≡ at + 1) }
+        ensures stands { OnOk result (AreStanding self.new) }
     {
         if self.blocks.len() == MOST_LEVELS {
             return Err(TreeFault::TooDeep(at));
         }
-        let before = mem::replace(&mut self.done, Vec::new(alloc));
         self.blocks.push(Open {
-            before,
+            start: self.done.len(),
             first: self.first as u32,
             count: (at - self.first) as u32,
         })?;
@@ -135,8 +128,10 @@ impl Builder {
     /// A `}` with the index `at`.
     fn close_block(&mut self, at: usize) -> Result<(), TreeFault>
         requires small { at < 16777216 }
-        ensures state { Gives result (state_of self.new) (closed at (frames_of self.old.blocks.items) (trees_of self.old.done.items) self.old.first) }
+        requires standing { AreStanding self.old }
+        ensures state { Gives result (state_of self.new) (closed at (frames_of self.old) (level_of self.old) self.old.first) }
         ensures first { OnOk result (self.new.first ≡ at + 1) }
+        ensures stands { OnOk result (AreStanding self.new) }
     {
         let Some(block) = self.blocks.pop() else {
             return Err(TreeFault::StrayClose(at));
@@ -144,29 +139,25 @@ impl Builder {
         if self.first != at {
             return Err(TreeFault::OpenStatement(self.first));
         }
-        let Open {
-            before,
-            first,
-            count,
-        } = block;
-        let body = mem::replace(&mut self.done, before);
-        push_block(&mut self.done, first, count, body)?;
+        close(&mut self.done, &block)?;
         self.first = at + 1;
         Ok(())
     }
 
     /// One token more, which has the index `at`.
     #[tactic(auto, unfolding(crate::specs::Step::step))]
-    pub(crate) fn token(&mut self, alloc: Global, at: usize, token: &Token) -> Result<(), TreeFault>
+    pub(crate) fn token(&mut self, at: usize, token: &Token) -> Result<(), TreeFault>
         requires below { self.old.first ≤ at }
         requires small { at < 16777216 }
+        requires standing { AreStanding self.old }
         ensures state { Gives result (state_of self.new) (step_on at (state_of self.old) token.now) }
         ensures first { OnOk result (self.new.first ≤ at + 1) }
+        ensures stands { OnOk result (AreStanding self.new) }
     {
         if is_sign(token, b';') {
             self.end_statement(at)
         } else if is_sign(token, b'{') {
-            self.open_block(alloc, at)
+            self.open_block(at)
         } else if is_sign(token, b'}') {
             self.close_block(at)
         } else {

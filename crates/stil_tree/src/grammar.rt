@@ -20,7 +20,7 @@ fn forest_of(alloc: Global, tokens: &[Token]) -> Result<StmtList, TreeFault>
 {
     let mut builder = Builder::new(alloc);
     for (at, token) in tokens.iter().enumerate() {
-        builder.token(alloc, at, token)?;
+        builder.token(at, token)?;
     }
     builder.finish(tokens.len())
 }

@@ -1,7 +1,7 @@
-use Rattle.std.proofs.Common.{◌∙◌, sym, inr, Ok, arith}
+use Rattle.std.proofs.Common.{◌∙◌, sym, inr, Ok, drop, arith}
 use Rattle.std.proofs.lemmas.List.{take_rest, length-take, length-drop}
 use Rattle.std.proofs.lemmas.Result.{err_from_is_err_and}
-use Rattle.stil_lex.proofs.Loop.{front_at, front_len, goes_on, stops}
+use Rattle.stil_lex.proofs.Loop.{front_at, front_len, feeds_at, goes_on, stops}
 use Rattle.stil_lex.proofs.lexer.tokens_of.Goals as goal
 
 pub returns-in_err-front-clause-fault : goal.returns-in_err-front-clause-fault
@@ -17,8 +17,8 @@ overflow_add-end c =
     let f = front_at c.args.bytes.now c.loop-at.at (Ok c.in_ok-front.front) (omega arith) (sym c.in_ok-front.was ∙ is) in
     omega (arith, (front_len c.args.bytes.now c.loop-at.at _ _ (omega arith) f).1)
 
-pub slice_bounds-line_feeds-end : goal.slice_bounds-line_feeds-end
-slice_bounds-line_feeds-end c =
+pub slice_bounds-feeds_of-end : goal.slice_bounds-feeds_of-end
+slice_bounds-feeds_of-end c =
     let is = rw take_rest at c.front_of.ensures in
     let f = front_at c.args.bytes.now c.loop-at.at (Ok c.in_ok-front.front) (omega arith) (sym c.in_ok-front.was ∙ is) in
     let len = front_len c.args.bytes.now c.loop-at.at _ _ (omega arith) f in
@@ -35,6 +35,7 @@ pub loop-at-preserved : goal.loop-at-preserved
 loop-at-preserved c =
     let is = rw take_rest at c.front_of.ensures in
     let f = front_at c.args.bytes.now c.loop-at.at (Ok c.in_ok-front.front) (omega arith) (sym c.in_ok-front.was ∙ is) in
-    let feeds = rw take_rest at c.line_feeds.ensures in
-    let next = goes_on c.args.bytes.now c.loop-at.at c.loop-at.line c.loop-at.tokens.items c.in_ok-front.front.kind c.in_ok-front.front.len c.line_feeds.result c.loop-at.invariant f feeds in
+    let told = rw take_rest at c.feeds_of.ensures in
+    let feeds = feeds_at (drop c.loop-at.at c.args.bytes.now) _ _ c.feeds_of.result f told in
+    let next = goes_on c.args.bytes.now c.loop-at.at c.loop-at.line c.loop-at.tokens.items c.in_ok-front.front.kind c.in_ok-front.front.len c.feeds_of.result c.loop-at.invariant f feeds in
     rw c.in_ok-keep.ensures next

@@ -17,4 +17,5 @@ pub loop-at-preserved : goal.loop-at-preserved
 loop-at-preserved c = record {
   state = goes_on c.args.tokens.now c.loop-at.at _ (state_of c.loop-at.builder) (state_of c.token.new.self) (omega arith) c.loop-at.invariant.state c.in_ok-token.ensures.state;
   within = c.in_ok-token.ensures.first;
+  standing = c.in_ok-token.ensures.stands;
 }
