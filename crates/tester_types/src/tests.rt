@@ -1,7 +1,8 @@
 //! Values that no clause names: printed names, and the objects in memory in each of their ways.
 
 use crate::{
-    Ask, Desk, ListDesk, MemShelf, MemSink, Piece, Shelf, ShelfFault, Sink, put_all, put_each,
+    Ask, Desk, ListDesk, MemShelf, MemSink, NoMemory, Piece, Shelf, ShelfFault, Sink, SinkFault,
+    put_all, put_each,
 };
 use std::test::Fail;
 
@@ -83,5 +84,14 @@ fn a_desk_answers_its_list_and_then_nothing(rt: HostRuntime) -> Result<(), Fail>
     let mut desk = ListDesk::new(vec![in rt.alloc(); Ask::Stop(1)]?);
     assert_eq!(rt; desk.next(), Ask::Stop(1));
     assert_eq!(rt; desk.next(), Ask::Nothing);
+    Ok(())
+}
+
+#[test]
+fn want_of_memory_and_a_failed_put_print_a_line(rt: HostRuntime) -> Result<(), Fail> {
+    let line = NoMemory.to_string(rt.alloc())?;
+    assert_eq!(rt; line.as_str(), "out of memory");
+    let line = SinkFault.to_string(rt.alloc())?;
+    assert_eq!(rt; line.as_str(), "the text could not be written whole");
     Ok(())
 }
