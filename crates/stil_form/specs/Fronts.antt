@@ -1,11 +1,11 @@
 -- Indices and references to signals at the front of a head, and what stands behind them.
-use Rattle.std.specs.Prelude.{ℕ, ◌^◌, Bool, ◌&&◌, nat_lt, if◌then◌else◌, List, [], ◌∷◌, Option, Some, None, option_map}
+use Rattle.std.specs.Prelude.{ℕ, ◌^◌, ◌&&◌, nat_lt, if◌then◌else◌, List, [], ◌∷◌, Option, Some, None, option_map}
 use Rattle.std.specs.Option.{option_and_then}
 use Rattle.stil_form.specs.declared.part.Mark.TheVariants.{Open, Close, Dot}
 use Rattle.stil_form.specs.declared.front.Span.{Span}
 use Rattle.stil_form.specs.declared.front.Reference.{Reference}
 use Rattle.stil_form.specs.declared.front.Reference.TheVariants as reference
-use Rattle.stil_form.specs.Lexeme.{Lexeme, word, name, text, sign}
+use Rattle.stil_form.specs.Lexeme.{Lexeme, word, text, sign}
 use Rattle.stil_form.specs.Words.{named_by, number_by}
 
 -- the number that a word of digits is

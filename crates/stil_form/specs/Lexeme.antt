@@ -9,6 +9,7 @@ use Rattle.stil_form.specs.declared.part.Mark.{Mark}
 use Rattle.stil_form.specs.declared.part.Mark.TheVariants.{Open, Close, Dot, Equals, Hash, Percent, Slash, Backslash, Colon, Plus, Minus, Bang, Other}
 use Rattle.stil_form.specs.declared.part.Part.{Part}
 use Rattle.stil_form.specs.declared.part.Part.TheVariants.{Word, Name, Text, Sign}
+use Rattle.stil_form.specs.declared.source.Source.{Source}
 
 -- a token without its place
 pub data Lexeme : Type 0 where
@@ -55,6 +56,10 @@ lexeme_at bytes token = lexeme_from token.kind (text_of bytes token)
 -- the lexemes of tokens
 abbrev pub lexemes_of : List ℕ → List Token → List Lexeme
 lexemes_of bytes tokens = map (lexeme_at bytes) tokens
+
+-- the lexemes of a text with its tokens
+abbrev pub lexemes : Source → List Lexeme
+lexemes source = lexemes_of source.bytes.now source.tokens.now
 
 -- the head of a statement
 abbrev pub head_of : List Lexeme → Entry → List Lexeme

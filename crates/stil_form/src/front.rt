@@ -1,11 +1,12 @@
 //! Indices and references to signals at the front of a head (IEEE 1450-1999, signal references).
 
-ghost use Rattle.std.specs.Prelude.{◌≡◌, ℕ, List, Option, Some, None, map, MatchOption};
-ghost use Rattle.stil_form.specs.Lexeme.{Lexeme, lexeme_of};
+ghost use Rattle.std.specs.Prelude.{◌≡◌, ℕ, List, Option, Some, None, MatchOption};
+ghost use Rattle.stil_form.specs.Lexeme.{Lexeme, lexeme_of, lexemes};
 ghost use Rattle.stil_form.specs.Words.{named_by};
 ghost use Rattle.stil_form.specs.Fronts.{index_by, last_front, behind_first, opened_front, index_front, ref_of, behind_name, reference_front, indices_of};
 
 use crate::part::{Mark, Part};
+use crate::source::{Source, first_part};
 use crate::word::{name_of, number_of};
 
 /// The indices of `[first..last]`, upwards or downwards; `[n]` has n for both. A number beyond 2^64 - 1 is read as that.
@@ -47,73 +48,72 @@ fn index_of(part: &Part) -> Option<u64>
     }
 }
 
-/// The last index and its `]`, and the parts behind them.
-fn last_front<'p, 'a>(first: u64, parts: &'p [Part<'a>]) -> Option<(Span, &'p [Part<'a>])>
-    ensures { MatchOption result (last_front first (map lexeme_of parts.now) ≡ None) (λ found. last_front first (map lexeme_of parts.now) ≡ Some (found.0, map lexeme_of found.1.now)) }
+/// The last index and its `]`, and what stands behind them.
+fn last_front<'a>(first: u64, source: Source<'a>) -> Option<(Span, Source<'a>)>
+    ensures { MatchOption result (last_front first (lexemes source.entry) ≡ None) (λ found. last_front first (lexemes source.entry) ≡ Some (found.0, lexemes found.1)) }
 {
-    match parts {
-        [last, Part::Sign(Mark::Close), rest @ ..] => {
-            let last = index_of(last)?;
+    let (last, rest) = first_part(source)?;
+    match first_part(rest) {
+        Some((Part::Sign(Mark::Close), rest)) => {
+            let last = index_of(&last)?;
             Some((Span { first, last }, rest))
         }
         _ => None,
     }
 }
 
-/// What stands behind the first index: `]`, or two dots and the last index; and the parts behind them.
-fn behind_first<'p, 'a>(parts: &'p [Part<'a>], first: u64) -> Option<(Span, &'p [Part<'a>])>
-    ensures { MatchOption result (behind_first (map lexeme_of parts.now) first ≡ None) (λ found. behind_first (map lexeme_of parts.now) first ≡ Some (found.0, map lexeme_of found.1.now)) }
+/// What stands behind the first index: `]`, or two dots and the last index; and what stands behind them.
+fn behind_first<'a>(source: Source<'a>, first: u64) -> Option<(Span, Source<'a>)>
+    ensures { MatchOption result (behind_first (lexemes source.entry) first ≡ None) (λ found. behind_first (lexemes source.entry) first ≡ Some (found.0, lexemes found.1)) }
 {
-    match parts {
-        [Part::Sign(Mark::Close), rest @ ..] => Some((Span { first, last: first }, rest)),
-        [Part::Sign(Mark::Dot), Part::Sign(Mark::Dot), rest @ ..] => last_front(first, rest),
+    match first_part(source) {
+        Some((Part::Sign(Mark::Close), rest)) => Some((Span { first, last: first }, rest)),
+        Some((Part::Sign(Mark::Dot), rest)) => match first_part(rest) {
+            Some((Part::Sign(Mark::Dot), rest)) => last_front(first, rest),
+            _ => None,
+        },
         _ => None,
     }
 }
 
-/// Indices behind their `[`, and the parts behind them.
-fn opened_front<'p, 'a>(parts: &'p [Part<'a>]) -> Option<(Span, &'p [Part<'a>])>
-    ensures { MatchOption result (opened_front (map lexeme_of parts.now) ≡ None) (λ found. opened_front (map lexeme_of parts.now) ≡ Some (found.0, map lexeme_of found.1.now)) }
+/// Indices behind their `[`, and what stands behind them.
+fn opened_front<'a>(source: Source<'a>) -> Option<(Span, Source<'a>)>
+    ensures { MatchOption result (opened_front (lexemes source.entry) ≡ None) (λ found. opened_front (lexemes source.entry) ≡ Some (found.0, lexemes found.1)) }
 {
-    match parts {
-        [first, rest @ ..] => behind_first(rest, index_of(first)?),
+    let (first, rest) = first_part(source)?;
+    behind_first(rest, index_of(&first)?)
+}
+
+/// The indices in brackets that stand first, and what stands behind them; none where something else stands first.
+pub fn index_front<'a>(source: Source<'a>) -> Option<(Span, Source<'a>)>
+    ensures { MatchOption result (index_front (lexemes source.entry) ≡ None) (λ found. index_front (lexemes source.entry) ≡ Some (found.0, lexemes found.1)) }
+{
+    match first_part(source) {
+        Some((Part::Sign(Mark::Open), rest)) => opened_front(rest),
         _ => None,
     }
 }
 
-/// The indices in brackets at the front of parts, and the parts behind them; none where the parts begin otherwise.
-pub fn index_front<'p, 'a>(parts: &'p [Part<'a>]) -> Option<(Span, &'p [Part<'a>])>
-    ensures { MatchOption result (index_front (map lexeme_of parts.now) ≡ None) (λ found. index_front (map lexeme_of parts.now) ≡ Some (found.0, map lexeme_of found.1.now)) }
+/// A reference that begins with this name, and what stands behind it.
+fn behind_name<'a>(source: Source<'a>, called: &'a [u8]) -> Option<(Reference<'a>, Source<'a>)>
+    ensures { MatchOption result (behind_name (lexemes source.entry) called.now ≡ None) (λ found. behind_name (lexemes source.entry) called.now ≡ Some (ref_of found.0, lexemes found.1)) }
 {
-    match parts {
-        [Part::Sign(Mark::Open), rest @ ..] => opened_front(rest),
-        _ => None,
-    }
-}
-
-/// A reference that begins with this name, and the parts behind it.
-fn behind_name<'p, 'a>(
-    parts: &'p [Part<'a>],
-    called: &'a [u8],
-) -> Option<(Reference<'a>, &'p [Part<'a>])>
-    ensures { MatchOption result (behind_name (map lexeme_of parts.now) called.now ≡ None) (λ found. behind_name (map lexeme_of parts.now) called.now ≡ Some (ref_of found.0, map lexeme_of found.1.now)) }
-{
-    match parts {
-        [Part::Sign(Mark::Open), rest @ ..] => {
+    match first_part(source) {
+        Some((Part::Sign(Mark::Open), rest)) => {
             let (span, rest) = opened_front(rest)?;
             Some((Reference::Name(called, Some(span)), rest))
         }
-        _ => Some((Reference::Name(called, None), parts)),
+        _ => Some((Reference::Name(called, None), source)),
     }
 }
 
-/// The reference at the front of parts, and the parts behind it; none where the parts begin otherwise.
-pub fn reference_front<'p, 'a>(parts: &'p [Part<'a>]) -> Option<(Reference<'a>, &'p [Part<'a>])>
-    ensures { MatchOption result (reference_front (map lexeme_of parts.now) ≡ None) (λ found. reference_front (map lexeme_of parts.now) ≡ Some (ref_of found.0, map lexeme_of found.1.now)) }
+/// The reference that stands first, and what stands behind it; none where something else stands first.
+pub fn reference_front<'a>(source: Source<'a>) -> Option<(Reference<'a>, Source<'a>)>
+    ensures { MatchOption result (reference_front (lexemes source.entry) ≡ None) (λ found. reference_front (lexemes source.entry) ≡ Some (ref_of found.0, lexemes found.1)) }
 {
-    match parts {
-        [Part::Text(expression), rest @ ..] => Some((Reference::Group(expression), rest)),
-        [called, rest @ ..] => behind_name(rest, name_of(called)?),
-        [] => None,
+    match first_part(source) {
+        Some((Part::Text(expression), rest)) => Some((Reference::Group(expression), rest)),
+        Some((called, rest)) => behind_name(rest, name_of(&called)?),
+        None => None,
     }
 }

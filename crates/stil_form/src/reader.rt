@@ -4,12 +4,13 @@ ghost use Rattle.std.specs.Prelude.{◌≡◌, List, [], Result, map};
 ghost use Rattle.stil_tree.specs.Trees.{Entry, entry_of};
 ghost use Rattle.std.specs.List.{list_any};
 ghost use Rattle.std.specs.Str.{bytes_eq};
-ghost use Rattle.stil_form.specs.Lexeme.{lexeme_of, head_of};
+ghost use Rattle.stil_form.specs.Lexeme.{lexemes, head_of};
 ghost use Rattle.stil_form.specs.Reading.{Answers, AnswersBy, reading, is_skipped, unskipped};
 ghost use Rattle.stil_form.specs.declared.fault.FormFault.{FormFault};
 
 use crate::fault::FormFault;
-use crate::part::{Part, head};
+use crate::part::Part;
+use crate::source::{Source, first_part, head};
 use std::alloc::Global;
 use stil_tree::Stmt;
 use tester_types::Text;
@@ -39,7 +40,7 @@ pub fn read_each<F: Form>(
 ) -> Result<Vec<F::Data>, FormFault>
     ensures { AnswersBy (λ read. read.items) result (reading (F.judge form.now) [] (map entry_of stmts.now)) }
 {
-    let mut read = Vec::new(alloc);
+    let mut read = Vec::with_capacity(alloc, stmts.len())?;
     for stmt in stmts {
         let data = form.judge_one(alloc, read.as_slice(), stmt)?;
         read.push(data)?;
@@ -54,36 +55,36 @@ fn is_listed(words: &[Text], word: &[u8]) -> bool
 }
 
 /// Whether a head begins with one of the words.
-pub fn is_skipped(words: &[Text], head: &[Part]) -> bool
-    ensures { result ≡ is_skipped words.now (map lexeme_of head.now) }
+pub fn is_skipped(words: &[Text], head: Source) -> bool
+    ensures { result ≡ is_skipped words.now (lexemes head.entry) }
 {
-    match head {
-        [Part::Word(word), ..] => is_listed(words, word),
+    match first_part(head) {
+        Some((Part::Word(word), _)) => is_listed(words, word),
         _ => false,
     }
 }
 
 /// Whether a statement begins with one of the words.
-fn skips(words: &[Text], parts: &[Part], stmt: &Stmt) -> bool
-    ensures { result ≡ is_skipped words.now (head_of (map lexeme_of parts.now) (entry_of stmt.now)) }
+fn skips(words: &[Text], source: Source, stmt: &Stmt) -> bool
+    ensures { result ≡ is_skipped words.now (head_of (lexemes source.entry) (entry_of stmt.now)) }
 {
-    is_skipped(words, head(parts, stmt))
+    is_skipped(words, head(source, stmt))
 }
 
 /// The same as `read_each`, but for statements that begin with one of the words, which are skipped.
 pub fn read_unskipped<F: Form>(
     alloc: Global,
     form: &F,
-    parts: &[Part],
+    source: Source,
     words: &[Text],
     stmts: &[Stmt],
 ) -> Result<Vec<F::Data>, FormFault>
     ensures { AnswersBy (λ read. read.items) result
-        (reading (F.judge form.now) [] (unskipped words.now (map lexeme_of parts.now) (map entry_of stmts.now))) }
+        (reading (F.judge form.now) [] (unskipped words.now (lexemes source.entry) (map entry_of stmts.now))) }
 {
     let mut read = Vec::new(alloc);
     for stmt in stmts {
-        if skips(words, parts, stmt) {
+        if skips(words, source, stmt) {
             continue;
         }
         let data = form.judge_one(alloc, read.as_slice(), stmt)?;

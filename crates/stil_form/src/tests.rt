@@ -3,12 +3,12 @@
 ghost use Rattle.std.specs.Prelude.{Ok, length};
 
 use crate::{
-    Form, FormFault, Mark, Part, Reference, Span, head, index_front, is_skipped, name_of,
-    number_of, parts, read_each, read_unskipped, reference_front,
+    Form, FormFault, Part, Reference, Source, Span, head, index_front, is_skipped, name_of,
+    number_of, read_each, read_unskipped, reference_front,
 };
 use std::alloc::Global;
 use std::test::Fail;
-use stil_lex::lex;
+use stil_lex::{TokenList, lex};
 use stil_tree::{Stmt, forest};
 use tester_types::Items;
 
@@ -33,7 +33,10 @@ fn statements_of_listed_words_are_skipped(rt: HostRuntime) -> Result<(), Fail> {
     let tokens = lex(rt.alloc(), text).map_err(|_| "tokens")?;
     assert!(rt; tokens.len() < 100);
     let stmts = forest(rt.alloc(), tokens.as_slice()).map_err(|_| "statements")?;
-    let parts = parts(rt.alloc(), text, tokens.as_slice())?;
+    let source = Source {
+        bytes: text,
+        tokens: tokens.as_slice(),
+    };
     let mut words = Vec::new(rt.alloc());
     words.push(Items::from_slice(rt.alloc(), b"note")?)?;
     let all = read_each(rt.alloc(), &Numbered, stmts.as_slice()).map_err(|_| "all")?;
@@ -41,13 +44,13 @@ fn statements_of_listed_words_are_skipped(rt: HostRuntime) -> Result<(), Fail> {
     let some = read_unskipped(
         rt.alloc(),
         &Numbered,
-        parts.as_slice(),
+        source,
         words.as_slice(),
         stmts.as_slice(),
     );
     assert_eq!(rt; some.map_err(|_| "some")?.len(), 2);
     for stmt in stmts.as_slice() {
-        let skipped = is_skipped(words.as_slice(), head(parts.as_slice(), stmt));
+        let skipped = is_skipped(words.as_slice(), head(source, stmt));
         assert!(rt; !skipped || stmt.first > 0);
     }
     Ok(())
@@ -67,21 +70,37 @@ fn numbers_stop_at_the_greatest_and_names_begin_with_a_letter(rt: HostRuntime) {
     assert!(rt; name_of(&Part::Name(b"")).is_none());
 }
 
+/// The tokens of a short text.
+fn tokens_of(alloc: Global, text: &[u8]) -> Option<TokenList> {
+    if text.len() < 100 {
+        lex(alloc, text).ok()
+    } else {
+        None
+    }
+}
+
+/// The indices that stand first in a text, and how many tokens stand behind them.
+fn indices_in(alloc: Global, text: &[u8]) -> Option<(Span, usize)> {
+    let tokens = tokens_of(alloc, text)?;
+    let source = Source {
+        bytes: text,
+        tokens: tokens.as_slice(),
+    };
+    let (span, rest) = index_front(source)?;
+    Some((span, rest.tokens.len()))
+}
+
 #[test]
 fn indices_stand_in_brackets(rt: HostRuntime) {
-    let open = Part::Sign(Mark::Open);
-    let close = Part::Sign(Mark::Close);
-    let dot = Part::Sign(Mark::Dot);
-    let one = [open, Part::Word(b"007"), close, dot];
-    let found = index_front(&one).map(|(span, rest)| (span, rest.len()));
-    assert_eq!(rt; found, Some((Span { first: 7, last: 7 }, 1)));
-    let down = [open, Part::Word(b"3"), dot, dot, Part::Word(b"0"), close];
-    let found = index_front(&down).map(|(span, rest)| (span, rest.len()));
-    assert_eq!(rt; found, Some((Span { first: 3, last: 0 }, 0)));
-    assert!(rt; index_front(&[open, Part::Word(b"3"), dot, Part::Word(b"0"), close]).is_none());
-    assert!(rt; index_front(&[open, Part::Word(b"x"), close]).is_none());
-    assert!(rt; index_front(&[open, Part::Name(b"3"), close]).is_none());
-    assert!(rt; index_front(&[open, Part::Word(b"3")]).is_none());
+    let alloc = rt.alloc();
+    let one = Span { first: 7, last: 7 };
+    assert_eq!(rt; indices_in(alloc, b"[007]."), Some((one, 1)));
+    let down = Span { first: 3, last: 0 };
+    assert_eq!(rt; indices_in(alloc, b"[3..0]"), Some((down, 0)));
+    assert!(rt; indices_in(alloc, b"[3.0]").is_none());
+    assert!(rt; indices_in(alloc, b"[x]").is_none());
+    assert!(rt; indices_in(alloc, b"[\"3\"]").is_none());
+    assert!(rt; indices_in(alloc, b"[3").is_none());
 }
 
 #[test]
@@ -98,31 +117,41 @@ fn an_index_has_32_bits(rt: HostRuntime) {
     assert_eq!(rt; beyond.indices(), None);
 }
 
-/// Whether a reference stands there with these indices, and so many parts behind it.
-fn is_named(parts: &[Part], wanted: Option<Span>, behind: usize) -> bool {
-    match reference_front(parts) {
-        Some((Reference::Name(_, span), rest)) => span == wanted && rest.len() == behind,
-        _ => false,
+/// The indices of the name that stands first in a text, and how many tokens stand behind the reference.
+fn name_in(alloc: Global, text: &[u8]) -> Option<(Option<Span>, usize)> {
+    let tokens = tokens_of(alloc, text)?;
+    let source = Source {
+        bytes: text,
+        tokens: tokens.as_slice(),
+    };
+    match reference_front(source)? {
+        (Reference::Name(_, span), rest) => Some((span, rest.tokens.len())),
+        (Reference::Group(_), _) => None,
+    }
+}
+
+/// How many tokens stand behind the text that stands first.
+fn group_in(alloc: Global, text: &[u8]) -> Option<usize> {
+    let tokens = tokens_of(alloc, text)?;
+    let source = Source {
+        bytes: text,
+        tokens: tokens.as_slice(),
+    };
+    match reference_front(source)? {
+        (Reference::Group(_), rest) => Some(rest.tokens.len()),
+        (Reference::Name(_, _), _) => None,
     }
 }
 
 #[test]
 fn a_reference_is_a_name_or_a_text(rt: HostRuntime) {
-    let open = Part::Sign(Mark::Open);
-    let close = Part::Sign(Mark::Close);
-    let equals = Part::Sign(Mark::Equals);
-    assert!(rt; is_named(&[Part::Word(b"a"), equals], None, 1));
+    let alloc = rt.alloc();
+    assert_eq!(rt; name_in(alloc, b"a="), Some((None, 1)));
     let span = Span { first: 3, last: 3 };
-    assert!(rt;
-        is_named(
-            &[Part::Name(b"a b"), open, Part::Word(b"3"), close],
-            Some(span),
-            0
-        )
-    );
-    assert!(rt; !is_named(&[Part::Text(b"a+b"), equals], None, 1));
-    assert!(rt; reference_front(&[Part::Text(b"a+b"), equals]).is_some());
-    assert!(rt; reference_front(&[Part::Word(b"1a")]).is_none());
-    assert!(rt; reference_front(&[Part::Word(b"a"), open, close]).is_none());
-    assert!(rt; reference_front(&[]).is_none());
+    assert_eq!(rt; name_in(alloc, b"\"a b\"[3]"), Some((Some(span), 0)));
+    assert!(rt; name_in(alloc, b"'a+b'=").is_none());
+    assert_eq!(rt; group_in(alloc, b"'a+b'="), Some(1));
+    assert!(rt; name_in(alloc, b"1a").is_none());
+    assert!(rt; name_in(alloc, b"a[]").is_none());
+    assert!(rt; name_in(alloc, b"").is_none());
 }

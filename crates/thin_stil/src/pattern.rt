@@ -3,7 +3,7 @@
 ghost use Rattle.std.specs.Prelude.{◌≡◌, ◌==◌, ◌&&◌, None, Some, MatchOption, MatchResult, Ok, Err, length, map, option_map};
 ghost use Rattle.std.specs.List.{list_any};
 ghost use Rattle.stil_tree.specs.Trees.{entry_of};
-ghost use Rattle.stil_form.specs.Lexeme.{lexeme_of, head_of, body_of};
+ghost use Rattle.stil_form.specs.Lexeme.{lexemes, head_of, body_of};
 ghost use Rattle.stil_form.specs.Reading.{Answers, AnswersBy};
 ghost use Rattle.thin_stil.specs.ThinForm.{kept, not_thin, only};
 ghost use Rattle.thin_stil.specs.ThinBlocks.{has_wave, given_by, given_said, given_of, vector_of, vectors_in, pattern_in, is_name, is_list_of, has_list_of, burst_of, runs_alone, name_both, runs_with, runs, exec_of};
@@ -14,7 +14,9 @@ use crate::block::{
 use crate::signals::signal_number;
 use crate::thin::{ThinPattern, ThinSignal};
 use std::alloc::Global;
-use stil_form::{Form, FormFault, Mark, Part, body, head, name_of, read_each};
+use stil_form::{
+    Form, FormFault, Mark, Part, Source, body, first_part, head, name_of, part_of, read_each,
+};
 use stil_tree::Stmt;
 use tester_types::{Items, Table, Text, Wave};
 
@@ -46,12 +48,16 @@ fn given_by(signals: &[ThinSignal], waves: &[Wave], name: &[u8], text: &[u8]) ->
 }
 
 /// What `name=Word` assigns.
-fn given_said(signals: &[ThinSignal], waves: &[Wave], head: &[Part]) -> Option<(u16, u8)>
-    ensures { result ≡ given_said signals.now waves.now (map lexeme_of head.now) }
+fn given_said(signals: &[ThinSignal], waves: &[Wave], head: Source) -> Option<(u16, u8)>
+    ensures { result ≡ given_said signals.now waves.now (lexemes head.entry) }
 {
-    match head {
-        [called, Part::Sign(Mark::Equals), Part::Word(text)] => {
-            given_by(signals, waves, name_of(called)?, text)
+    let (called, rest) = first_part(head)?;
+    let Some((Part::Sign(Mark::Equals), rest)) = first_part(rest) else {
+        return None;
+    };
+    match first_part(rest) {
+        Some((Part::Word(text), rest)) if rest.tokens.is_empty() => {
+            given_by(signals, waves, name_of(&called)?, text)
         }
         _ => None,
     }
@@ -60,7 +66,7 @@ fn given_said(signals: &[ThinSignal], waves: &[Wave], head: &[Part]) -> Option<(
 /// Statements that assign one character to one signal.
 #[derive(Clone, Copy)]
 struct GivenForm<'a> {
-    parts: &'a [Part<'a>],
+    source: Source<'a>,
     signals: &'a [ThinSignal],
     waves: &'a [Wave],
 }
@@ -68,7 +74,7 @@ struct GivenForm<'a> {
 impl Form for GivenForm<'_> {
     type Data = (u16, u8);
 
-    ghost judge = { λ form _ e. kept (given_of form.signals.now form.waves.now (head_of (map lexeme_of form.parts.now) e) (body_of e)) };
+    ghost judge = { λ form _ e. kept (given_of form.signals.now form.waves.now (head_of (lexemes form.source) e) (body_of e)) };
 
     fn judge_one(
         &self,
@@ -80,7 +86,7 @@ impl Form for GivenForm<'_> {
         if body(stmt).is_some() {
             return Err(NOT_THIN);
         }
-        match given_said(self.signals, self.waves, head(self.parts, stmt)) {
+        match given_said(self.signals, self.waves, head(self.source, stmt)) {
             Some(given) => Ok(given),
             None => Err(NOT_THIN),
         }
@@ -90,7 +96,7 @@ impl Form for GivenForm<'_> {
 /// Statements that are vectors.
 #[derive(Clone, Copy)]
 struct VectorForm<'a> {
-    parts: &'a [Part<'a>],
+    source: Source<'a>,
     signals: &'a [ThinSignal],
     waves: &'a [Wave],
 }
@@ -98,7 +104,7 @@ struct VectorForm<'a> {
 impl Form for VectorForm<'_> {
     type Data = Items<(u16, u8)>;
 
-    ghost judge = { λ form. vector_of (map lexeme_of form.parts.now) form.signals.now form.waves.now };
+    ghost judge = { λ form. vector_of (lexemes form.source) form.signals.now form.waves.now };
 
     fn judge_one(
         &self,
@@ -109,9 +115,9 @@ impl Form for VectorForm<'_> {
         if before.len() >= MOST_VECTORS {
             return Err(NOT_THIN);
         }
-        let stmts = plain_block(b"V", self.parts, stmt)?;
+        let stmts = plain_block(b"V", self.source, stmt)?;
         let form = GivenForm {
-            parts: self.parts,
+            source: self.source,
             signals: self.signals,
             waves: self.waves,
         };
@@ -122,21 +128,21 @@ impl Form for VectorForm<'_> {
 /// `W` of the table, and then the vectors.
 fn read_vectors(
     alloc: Global,
-    parts: &[Part],
+    source: Source,
     signals: &[ThinSignal],
     table: &Table,
     stmts: &[Stmt],
 ) -> Result<Items<Items<(u16, u8)>>, FormFault>
-    ensures { Answers result (vectors_in (map lexeme_of parts.now) signals.now table.now (map entry_of stmts.now)) }
+    ensures { Answers result (vectors_in (lexemes source.entry) signals.now table.now (map entry_of stmts.now)) }
 {
     let [first, rest @ ..] = stmts else {
         return Err(NOT_THIN);
     };
-    if !names(b"W", table.name.as_slice(), parts, first) {
+    if !names(b"W", table.name.as_slice(), source, first) {
         return Err(NOT_THIN);
     }
     let form = VectorForm {
-        parts,
+        source,
         signals,
         waves: table.waves.as_slice(),
     };
@@ -146,126 +152,126 @@ fn read_vectors(
 /// A Pattern: its name, and its vectors.
 pub fn read_pattern(
     alloc: Global,
-    parts: &[Part],
+    source: Source,
     signals: &[ThinSignal],
     table: &Table,
     stmt: &Stmt,
 ) -> Result<ThinPattern, FormFault>
-    ensures { Answers result (pattern_in (map lexeme_of parts.now) signals.now table.now (entry_of stmt.now)) }
+    ensures { Answers result (pattern_in (lexemes source.entry) signals.now table.now (entry_of stmt.now)) }
 {
-    let Some(name) = name_behind(b"Pattern", head(parts, stmt)) else {
+    let Some(name) = name_behind(b"Pattern", head(source, stmt)) else {
         return Err(NOT_THIN);
     };
-    let vectors = read_vectors(alloc, parts, signals, table, block(stmt)?)?;
+    let vectors = read_vectors(alloc, source, signals, table, block(stmt)?)?;
     Ok(ThinPattern {
         name: Items::from_slice(alloc, name)?,
         vectors,
     })
 }
 
-fn is_name(wanted: &[u8], head: &[Part]) -> bool
-    ensures { result ≡ is_name wanted.now (map lexeme_of head.now) }
+fn is_name(wanted: &[u8], head: Source) -> bool
+    ensures { result ≡ is_name wanted.now (lexemes head.entry) }
 {
-    match head {
-        [called] => is_called(wanted, name_of(called)),
+    match head.tokens {
+        [called] => is_called(wanted, name_of(&part_of(head.bytes, called))),
         _ => false,
     }
 }
 
 /// Whether statements are `name;` of this name alone.
-fn is_list_of(wanted: &[u8], parts: &[Part], stmts: &[Stmt]) -> bool
-    ensures { result ≡ is_list_of wanted.now (map lexeme_of parts.now) (map entry_of stmts.now) }
+fn is_list_of(wanted: &[u8], source: Source, stmts: &[Stmt]) -> bool
+    ensures { result ≡ is_list_of wanted.now (lexemes source.entry) (map entry_of stmts.now) }
 {
     match one_of(stmts) {
-        Some(stmt) => body(stmt).is_none() && is_name(wanted, head(parts, stmt)),
+        Some(stmt) => body(stmt).is_none() && is_name(wanted, head(source, stmt)),
         None => false,
     }
 }
 
 /// Whether statements are a PatList of this name alone.
-fn has_list_of(wanted: &[u8], parts: &[Part], stmts: &[Stmt]) -> bool
-    ensures { result ≡ has_list_of wanted.now (map lexeme_of parts.now) (map entry_of stmts.now) }
+fn has_list_of(wanted: &[u8], source: Source, stmts: &[Stmt]) -> bool
+    ensures { result ≡ has_list_of wanted.now (lexemes source.entry) (map entry_of stmts.now) }
 {
     let Some(stmt) = one_of(stmts) else {
         return false;
     };
-    match plain_block(b"PatList", parts, stmt) {
-        Ok(list) => is_list_of(wanted, parts, list),
+    match plain_block(b"PatList", source, stmt) {
+        Ok(list) => is_list_of(wanted, source, list),
         Err(_) => false,
     }
 }
 
 /// The name of a PatternBurst that runs the pattern of this name.
 pub fn read_burst<'a>(
-    parts: &[Part<'a>],
+    source: Source<'a>,
     pattern: &[u8],
     stmt: &Stmt,
 ) -> Result<&'a [u8], FormFault>
-    ensures { MatchResult result (λ name. burst_of (map lexeme_of parts.now) pattern.now (entry_of stmt.now) ≡ Ok name.now)
-        (λ fault. (fault ≡ not_thin) × (burst_of (map lexeme_of parts.now) pattern.now (entry_of stmt.now) ≡ Err not_thin)) }
+    ensures { MatchResult result (λ name. burst_of (lexemes source.entry) pattern.now (entry_of stmt.now) ≡ Ok name.now)
+        (λ fault. (fault ≡ not_thin) × (burst_of (lexemes source.entry) pattern.now (entry_of stmt.now) ≡ Err not_thin)) }
 {
-    let Some(name) = name_behind(b"PatternBurst", head(parts, stmt)) else {
+    let Some(name) = name_behind(b"PatternBurst", head(source, stmt)) else {
         return Err(NOT_THIN);
     };
-    if has_list_of(pattern, parts, block(stmt)?) {
+    if has_list_of(pattern, source, block(stmt)?) {
         Ok(name)
     } else {
         Err(NOT_THIN)
     }
 }
 
-fn runs_alone(burst: &[u8], parts: &[Part], stmts: &[Stmt]) -> bool
-    ensures { result ≡ runs_alone burst.now (map lexeme_of parts.now) (map entry_of stmts.now) }
+fn runs_alone(burst: &[u8], source: Source, stmts: &[Stmt]) -> bool
+    ensures { result ≡ runs_alone burst.now (lexemes source.entry) (map entry_of stmts.now) }
 {
     match one_of(stmts) {
-        Some(stmt) => names(b"PatternBurst", burst, parts, stmt),
+        Some(stmt) => names(b"PatternBurst", burst, source, stmt),
         None => false,
     }
 }
 
-fn name_both(timing: &[u8], burst: &[u8], parts: &[Part], first: &Stmt, second: &Stmt) -> bool
-    ensures { result ≡ name_both timing.now burst.now (map lexeme_of parts.now) (entry_of first.now) (entry_of second.now) }
+fn name_both(timing: &[u8], burst: &[u8], source: Source, first: &Stmt, second: &Stmt) -> bool
+    ensures { result ≡ name_both timing.now burst.now (lexemes source.entry) (entry_of first.now) (entry_of second.now) }
 {
-    names(b"Timing", timing, parts, first) && names(b"PatternBurst", burst, parts, second)
+    names(b"Timing", timing, source, first) && names(b"PatternBurst", burst, source, second)
 }
 
-fn runs_with(timing: &[u8], burst: &[u8], parts: &[Part], stmts: &[Stmt]) -> bool
-    ensures { result ≡ runs_with timing.now burst.now (map lexeme_of parts.now) (map entry_of stmts.now) }
+fn runs_with(timing: &[u8], burst: &[u8], source: Source, stmts: &[Stmt]) -> bool
+    ensures { result ≡ runs_with timing.now burst.now (lexemes source.entry) (map entry_of stmts.now) }
 {
     match two_of(stmts) {
         Some((first, second)) => {
-            name_both(timing, burst, parts, first, second)
-                || name_both(timing, burst, parts, second, first)
+            name_both(timing, burst, source, first, second)
+                || name_both(timing, burst, source, second, first)
         }
         None => false,
     }
 }
 
 /// Whether an executive names the Timing, exactly where it has a name, and the burst.
-fn runs(timing: &[u8], burst: &[u8], parts: &[Part], stmts: &[Stmt]) -> bool
-    ensures { result ≡ runs timing.now burst.now (map lexeme_of parts.now) (map entry_of stmts.now) }
+fn runs(timing: &[u8], burst: &[u8], source: Source, stmts: &[Stmt]) -> bool
+    ensures { result ≡ runs timing.now burst.now (lexemes source.entry) (map entry_of stmts.now) }
 {
     if timing.is_empty() {
-        runs_alone(burst, parts, stmts)
+        runs_alone(burst, source, stmts)
     } else {
-        runs_with(timing, burst, parts, stmts)
+        runs_with(timing, burst, source, stmts)
     }
 }
 
 /// The name of a PatternExec, which may be empty.
 pub fn read_exec(
     alloc: Global,
-    parts: &[Part],
+    source: Source,
     timing: &[u8],
     burst: &[u8],
     stmt: &Stmt,
 ) -> Result<Text, FormFault>
-    ensures { Answers result (exec_of (map lexeme_of parts.now) timing.now burst.now (entry_of stmt.now)) }
+    ensures { Answers result (exec_of (lexemes source.entry) timing.now burst.now (entry_of stmt.now)) }
 {
-    let Some(title) = title_behind(b"PatternExec", head(parts, stmt)) else {
+    let Some(title) = title_behind(b"PatternExec", head(source, stmt)) else {
         return Err(NOT_THIN);
     };
-    if runs(timing, burst, parts, block(stmt)?) {
+    if runs(timing, burst, source, block(stmt)?) {
         Ok(Items::from_slice(alloc, title)?)
     } else {
         Err(NOT_THIN)

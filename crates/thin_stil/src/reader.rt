@@ -2,7 +2,7 @@
 
 ghost use Rattle.std.specs.Prelude.{◌≡◌, ◌≤◌, ◌&&◌, ◌==◌, Ok, IfOk, MatchResult, length, map};
 ghost use Rattle.stil_tree.specs.Trees.{entry_of};
-ghost use Rattle.stil_form.specs.Lexeme.{lexeme_of, lexemes_of, head_of, body_of};
+ghost use Rattle.stil_form.specs.Lexeme.{lexemes, lexemes_of, head_of, body_of};
 ghost use Rattle.stil_form.specs.Reading.{Answers};
 ghost use Rattle.thin_stil.specs.Thin.{IsThin};
 ghost use Rattle.thin_stil.specs.ThinForm.{kept, not_thin, only};
@@ -15,41 +15,46 @@ use crate::signals::read_signals;
 use crate::table::read_timing;
 use crate::thin::{ThinFault, ThinText};
 use std::alloc::Global;
-use stil_form::{FormFault, Mark, Part, body, head, is_word, parts};
+use stil_form::{FormFault, Mark, Part, Source, body, head, is_word, part_of};
 use stil_lex::{LexFault, Token, lex};
 use stil_tree::{Stmt, TreeFault, forest};
 
-fn is_stil_1_0(head: &[Part]) -> bool
-    ensures { result ≡ is_stil_1_0 (map lexeme_of head.now) }
+fn is_stil_1_0(head: Source) -> bool
+    ensures { result ≡ is_stil_1_0 (lexemes head.entry) }
 {
-    match head {
-        [stil, major, Part::Sign(Mark::Dot), minor] => {
-            is_word(stil, b"STIL") && is_word(major, b"1") && is_word(minor, b"0")
+    let [stil, major, dot, minor] = head.tokens else {
+        return false;
+    };
+    match part_of(head.bytes, dot) {
+        Part::Sign(Mark::Dot) => {
+            is_word(&part_of(head.bytes, stil), b"STIL")
+                && is_word(&part_of(head.bytes, major), b"1")
+                && is_word(&part_of(head.bytes, minor), b"0")
         }
         _ => false,
     }
 }
 
 /// Whether a statement is `STIL 1.0;`.
-fn is_header(parts: &[Part], stmt: &Stmt) -> bool
-    ensures { result ≡ is_header (map lexeme_of parts.now) (entry_of stmt.now) }
+fn is_header(source: Source, stmt: &Stmt) -> bool
+    ensures { result ≡ is_header (lexemes source.entry) (entry_of stmt.now) }
 {
-    body(stmt).is_none() && is_stil_1_0(head(parts, stmt))
+    body(stmt).is_none() && is_stil_1_0(head(source, stmt))
 }
 
 /// The five blocks behind the header, in any order.
-fn read_blocks(alloc: Global, parts: &[Part], stmts: &[Stmt]) -> Result<ThinText, FormFault>
-    ensures { Answers result (blocks_of (map lexeme_of parts.now) (map entry_of stmts.now)) }
+fn read_blocks(alloc: Global, source: Source, stmts: &[Stmt]) -> Result<ThinText, FormFault>
+    ensures { Answers result (blocks_of (lexemes source.entry) (map entry_of stmts.now)) }
 {
-    let signals = read_signals(alloc, parts, block_of(b"Signals", parts, stmts)?)?;
-    let stmt = block_of(b"Timing", parts, stmts)?;
-    let timing = read_timing(alloc, parts, signals.as_slice(), stmt)?;
-    let stmt = block_of(b"Pattern", parts, stmts)?;
-    let pattern = read_pattern(alloc, parts, signals.as_slice(), &timing.table, stmt)?;
-    let stmt = block_of(b"PatternBurst", parts, stmts)?;
-    let burst = read_burst(parts, pattern.name.as_slice(), stmt)?;
-    let stmt = block_of(b"PatternExec", parts, stmts)?;
-    let exec = read_exec(alloc, parts, timing.name.as_slice(), burst, stmt)?;
+    let signals = read_signals(alloc, source, block_of(b"Signals", source, stmts)?)?;
+    let stmt = block_of(b"Timing", source, stmts)?;
+    let timing = read_timing(alloc, source, signals.as_slice(), stmt)?;
+    let stmt = block_of(b"Pattern", source, stmts)?;
+    let pattern = read_pattern(alloc, source, signals.as_slice(), &timing.table, stmt)?;
+    let stmt = block_of(b"PatternBurst", source, stmts)?;
+    let burst = read_burst(source, pattern.name.as_slice(), stmt)?;
+    let stmt = block_of(b"PatternExec", source, stmts)?;
+    let exec = read_exec(alloc, source, timing.name.as_slice(), burst, stmt)?;
     Ok(ThinText {
         exec,
         signals,
@@ -59,14 +64,14 @@ fn read_blocks(alloc: Global, parts: &[Part], stmts: &[Stmt]) -> Result<ThinText
 }
 
 /// A thin text by its statements.
-fn read_stmts(alloc: Global, parts: &[Part], stmts: &[Stmt]) -> Result<ThinText, FormFault>
-    ensures { Answers result (thin_of (map lexeme_of parts.now) (map entry_of stmts.now)) }
+fn read_stmts(alloc: Global, source: Source, stmts: &[Stmt]) -> Result<ThinText, FormFault>
+    ensures { Answers result (thin_of (lexemes source.entry) (map entry_of stmts.now)) }
 {
     let [header, rest @ ..] = stmts else {
         return Err(NOT_THIN);
     };
-    if is_header(parts, header) && rest.len() == 5 {
-        read_blocks(alloc, parts, rest)
+    if is_header(source, header) && rest.len() == 5 {
+        read_blocks(alloc, source, rest)
     } else {
         Err(NOT_THIN)
     }
@@ -91,18 +96,15 @@ fn tree_fault(fault: TreeFault) -> ThinFault
 }
 
 /// A thin text by its tokens and its statements.
-fn read_tree(
+fn read_tree<'a>(
     alloc: Global,
-    bytes: &[u8],
-    tokens: &[Token],
+    bytes: &'a [u8],
+    tokens: &'a [Token],
     stmts: &[Stmt],
 ) -> Result<ThinText, ThinFault>
     ensures { ThinAnswers result (thin_of (lexemes_of bytes.now tokens.now) (map entry_of stmts.now)) }
 {
-    let Ok(parts) = parts(alloc, bytes, tokens) else {
-        return Err(ThinFault::NoMemory);
-    };
-    match read_stmts(alloc, parts.as_slice(), stmts) {
+    match read_stmts(alloc, Source { bytes, tokens }, stmts) {
         Ok(text) => Ok(text),
         Err(FormFault::NoMemory) => Err(ThinFault::NoMemory),
         Err(FormFault::Refused(_, _)) => Err(ThinFault::NotThin),

@@ -3,7 +3,7 @@
 ghost use Rattle.std.specs.Prelude.{◌≡◌, ◌<◌, None, Some, MatchOption, position, is_some, length, map};
 ghost use Rattle.std.specs.List.{list_any};
 ghost use Rattle.stil_tree.specs.Trees.{entry_of};
-ghost use Rattle.stil_form.specs.Lexeme.{lexeme_of, head_of, body_of};
+ghost use Rattle.stil_form.specs.Lexeme.{lexemes, head_of, body_of};
 ghost use Rattle.stil_form.specs.Reading.{Answers, AnswersBy};
 ghost use Rattle.thin_stil.specs.ThinForm.{kept, not_thin, has_name, direction_of, signal_of, signal_said, signal_number, short_number, is_declared, new_signal};
 ghost use Rattle.thin_stil.specs.ThinBlocks.{signals_of};
@@ -11,7 +11,7 @@ ghost use Rattle.thin_stil.specs.ThinBlocks.{signals_of};
 use crate::block::{NOT_THIN, plain_block};
 use crate::thin::ThinSignal;
 use std::alloc::Global;
-use stil_form::{Form, FormFault, Part, body, head, name_of, read_each};
+use stil_form::{Form, FormFault, Part, Source, body, first_part, head, name_of, read_each};
 use stil_tree::Stmt;
 use tester_types::Items;
 
@@ -64,18 +64,19 @@ fn is_declared(signals: &[ThinSignal], name: &[u8]) -> bool
 }
 
 /// The name and the direction that a statement gives to one more signal.
-fn signal_parts<'a>(before: &[ThinSignal], head: &[Part<'a>]) -> Option<(&'a [u8], bool)>
-    ensures { MatchOption result (signal_said before.now (map lexeme_of head.now) ≡ None)
-        (λ said. signal_said before.now (map lexeme_of head.now) ≡ Some (record { name = said.0.now; is_out = said.1 })) }
+fn signal_parts<'a>(before: &[ThinSignal], head: Source<'a>) -> Option<(&'a [u8], bool)>
+    ensures { MatchOption result (signal_said before.now (lexemes head.entry) ≡ None)
+        (λ said. signal_said before.now (lexemes head.entry) ≡ Some (record { name = said.0.now; is_out = said.1 })) }
 {
-    let [called, direction] = head else {
+    let (called, rest) = first_part(head)?;
+    let Some((Part::Word(word), rest)) = first_part(rest) else {
         return None;
     };
-    let Part::Word(word) = direction else {
+    if !rest.tokens.is_empty() {
         return None;
-    };
+    }
     let is_out = direction_of(word)?;
-    let name = name_of(called)?;
+    let name = name_of(&called)?;
     if before.len() < MOST_SIGNALS && !is_declared(before, name) {
         Some((name, is_out))
     } else {
@@ -86,13 +87,13 @@ fn signal_parts<'a>(before: &[ThinSignal], head: &[Part<'a>]) -> Option<(&'a [u8
 /// Statements that declare signals.
 #[derive(Clone, Copy)]
 struct SignalForm<'a> {
-    parts: &'a [Part<'a>],
+    source: Source<'a>,
 }
 
 impl Form for SignalForm<'_> {
     type Data = ThinSignal;
 
-    ghost judge = { λ form before e. kept (signal_of before (head_of (map lexeme_of form.parts.now) e) (body_of e)) };
+    ghost judge = { λ form before e. kept (signal_of before (head_of (lexemes form.source) e) (body_of e)) };
 
     fn judge_one(
         &self,
@@ -103,7 +104,7 @@ impl Form for SignalForm<'_> {
         if body(stmt).is_some() {
             return Err(NOT_THIN);
         }
-        match signal_parts(before, head(self.parts, stmt)) {
+        match signal_parts(before, head(self.source, stmt)) {
             Some((name, is_out)) => Ok(ThinSignal {
                 name: Items::from_slice(alloc, name)?,
                 is_out,
@@ -116,11 +117,11 @@ impl Form for SignalForm<'_> {
 /// The signals that the Signals block declares.
 pub fn read_signals(
     alloc: Global,
-    parts: &[Part],
+    source: Source,
     stmt: &Stmt,
 ) -> Result<Items<ThinSignal>, FormFault>
-    ensures { Answers result (signals_of (map lexeme_of parts.now) (entry_of stmt.now)) }
+    ensures { Answers result (signals_of (lexemes source.entry) (entry_of stmt.now)) }
 {
-    let stmts = plain_block(b"Signals", parts, stmt)?;
-    Ok(Items::from_vec(read_each(alloc, &SignalForm { parts }, stmts)?))
+    let stmts = plain_block(b"Signals", source, stmt)?;
+    Ok(Items::from_vec(read_each(alloc, &SignalForm { source }, stmts)?))
 }

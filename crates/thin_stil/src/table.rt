@@ -3,7 +3,7 @@
 ghost use Rattle.std.specs.Prelude.{◌≡◌, ◌*◌, ◌++◌, None, Some, MatchOption, IfOk, OnOk, length, map};
 ghost use Rattle.std.specs.List.{flat_map, enumerate_from};
 ghost use Rattle.stil_tree.specs.Trees.{entry_of};
-ghost use Rattle.stil_form.specs.Lexeme.{lexeme_of, head_of, body_of};
+ghost use Rattle.stil_form.specs.Lexeme.{lexemes, head_of, body_of};
 ghost use Rattle.stil_form.specs.Reading.{Answers, AnswersBy};
 ghost use Rattle.thin_stil.specs.ThinForm.{kept, not_thin, act_at, events_at, group_waves, all_waves};
 ghost use Rattle.thin_stil.specs.ThinBlocks.{period_by, period_in, period_of, table_of, timing_in, timing_of};
@@ -12,7 +12,7 @@ use crate::block::{NOT_THIN, block, name_behind, one_of, plain_block, title_behi
 use crate::thin::{EventRow, SignalWaves, ThinSignal, ThinTiming, WaveGroup};
 use crate::waves::{NANOSECOND, WavesForm, nanoseconds};
 use std::alloc::{AllocError, Global};
-use stil_form::{FormFault, Part, body, head, is_word, read_each};
+use stil_form::{FormFault, Part, Source, body, first_part, head, is_word, read_each};
 use stil_tree::Stmt;
 use tester_types::{Act, Event, Items, Look, Table, Wave};
 
@@ -28,23 +28,26 @@ fn period_by(text: &[u8]) -> Option<u64>
     }
 }
 
-fn period_in(head: &[Part]) -> Option<u64>
-    ensures { result ≡ period_in (map lexeme_of head.now) }
+fn period_in(head: Source) -> Option<u64>
+    ensures { result ≡ period_in (lexemes head.entry) }
 {
-    match head {
-        [one, Part::Text(text)] if is_word(one, b"Period") => period_by(text),
+    let (one, rest) = first_part(head)?;
+    match first_part(rest) {
+        Some((Part::Text(text), rest)) if rest.tokens.is_empty() && is_word(&one, b"Period") => {
+            period_by(text)
+        }
         _ => None,
     }
 }
 
 /// The period that a statement gives.
-fn period_of(parts: &[Part], stmt: &Stmt) -> Option<u64>
-    ensures { result ≡ period_of (map lexeme_of parts.now) (entry_of stmt.now) }
+fn period_of(source: Source, stmt: &Stmt) -> Option<u64>
+    ensures { result ≡ period_of (lexemes source.entry) (entry_of stmt.now) }
 {
     if body(stmt).is_some() {
         None
     } else {
-        period_in(head(parts, stmt))
+        period_in(head(source, stmt))
     }
 }
 
@@ -117,22 +120,22 @@ fn all_waves(alloc: Global, signals: &[SignalWaves]) -> Result<Items<Wave>, Allo
 /// The table of `{ Period Text; Waveforms { .. } }`.
 fn read_table(
     alloc: Global,
-    parts: &[Part],
+    source: Source,
     signals: &[ThinSignal],
     name: &[u8],
     stmts: &[Stmt],
 ) -> Result<Table, FormFault>
-    ensures { Answers result (table_of (map lexeme_of parts.now) signals.now name.now (map entry_of stmts.now)) }
+    ensures { Answers result (table_of (lexemes source.entry) signals.now name.now (map entry_of stmts.now)) }
 {
     let Some((first, second)) = two_of(stmts) else {
         return Err(NOT_THIN);
     };
-    let Some(period) = period_of(parts, first) else {
+    let Some(period) = period_of(source, first) else {
         return Err(NOT_THIN);
     };
-    let stmts = plain_block(b"Waveforms", parts, second)?;
+    let stmts = plain_block(b"Waveforms", source, second)?;
     let form = WavesForm {
-        parts,
+        source,
         signals,
         period,
     };
@@ -147,20 +150,20 @@ fn read_table(
 /// The one table of a Timing.
 fn read_timing_in(
     alloc: Global,
-    parts: &[Part],
+    source: Source,
     signals: &[ThinSignal],
     title: &[u8],
     stmts: &[Stmt],
 ) -> Result<ThinTiming, FormFault>
-    ensures { Answers result (timing_in (map lexeme_of parts.now) signals.now title.now (map entry_of stmts.now)) }
+    ensures { Answers result (timing_in (lexemes source.entry) signals.now title.now (map entry_of stmts.now)) }
 {
     let Some(stmt) = one_of(stmts) else {
         return Err(NOT_THIN);
     };
-    let Some(name) = name_behind(b"WaveformTable", head(parts, stmt)) else {
+    let Some(name) = name_behind(b"WaveformTable", head(source, stmt)) else {
         return Err(NOT_THIN);
     };
-    let table = read_table(alloc, parts, signals, name, block(stmt)?)?;
+    let table = read_table(alloc, source, signals, name, block(stmt)?)?;
     Ok(ThinTiming {
         name: Items::from_slice(alloc, title)?,
         table,
@@ -170,14 +173,14 @@ fn read_timing_in(
 /// A Timing: its name, which may be empty, and its one table.
 pub fn read_timing(
     alloc: Global,
-    parts: &[Part],
+    source: Source,
     signals: &[ThinSignal],
     stmt: &Stmt,
 ) -> Result<ThinTiming, FormFault>
-    ensures { Answers result (timing_of (map lexeme_of parts.now) signals.now (entry_of stmt.now)) }
+    ensures { Answers result (timing_of (lexemes source.entry) signals.now (entry_of stmt.now)) }
 {
-    let Some(title) = title_behind(b"Timing", head(parts, stmt)) else {
+    let Some(title) = title_behind(b"Timing", head(source, stmt)) else {
         return Err(NOT_THIN);
     };
-    read_timing_in(alloc, parts, signals, title, block(stmt)?)
+    read_timing_in(alloc, source, signals, title, block(stmt)?)
 }

@@ -3,7 +3,7 @@
 ghost use Rattle.std.specs.Prelude.{◌≡◌, ◌==◌, ◌&&◌, ◌+◌, ◌*◌, ◌<◌, ◌≤◌, None, Some, MatchOption, IfOk, length, map, option_map, ◌++◌};
 ghost use Rattle.std.specs.List.{list_all, list_any};
 ghost use Rattle.stil_tree.specs.Trees.{entry_of};
-ghost use Rattle.stil_form.specs.Lexeme.{lexeme_of, head_of, body_of};
+ghost use Rattle.stil_form.specs.Lexeme.{lexeme_of, lexemes, head_of, body_of};
 ghost use Rattle.stil_form.specs.Reading.{Answers, AnswersBy};
 ghost use Rattle.thin_stil.specs.ThinForm.{kept, not_thin, nanoseconds, act_of, is_slash, with_part, acts_of, last_time, fits_row, row_said, row_with, row_from, row_of, is_character, are_apart, is_given, are_letters, letters_of, group_of, wave_signal, waves_of};
 
@@ -11,7 +11,10 @@ use crate::block::{NOT_THIN, block};
 use crate::signals::signal_number;
 use crate::thin::{EventRow, SignalWaves, ThinSignal, WaveGroup};
 use std::alloc::Global;
-use stil_form::{Form, FormFault, Mark, Part, body, head, is_word, name_of, number_of, read_each};
+use stil_form::{
+    Form, FormFault, Mark, Part, Source, body, first_part, head, is_word, name_of, number_of,
+    part_of, read_each,
+};
 use stil_tree::Stmt;
 use tester_types::{Act, Items, Look, Push};
 
@@ -76,13 +79,13 @@ fn take_part(acts: &mut Vec<Act>, slash_next: bool, part: &Part) -> Result<(), F
 }
 
 /// One act, or acts with `/` between them.
-fn acts_of(alloc: Global, head: &[Part]) -> Result<Items<Act>, FormFault>
-    ensures { Answers result (kept (acts_of (map lexeme_of head.now))) }
+fn acts_of(alloc: Global, head: Source) -> Result<Items<Act>, FormFault>
+    ensures { Answers result (kept (acts_of (lexemes head.entry))) }
 {
     let mut acts = Vec::new(alloc);
     let mut slash_next = false;
-    for part in head {
-        take_part(&mut acts, slash_next, part)?;
+    for token in head.tokens {
+        take_part(&mut acts, slash_next, &part_of(head.bytes, token))?;
         slash_next = !slash_next;
     }
     if slash_next {
@@ -110,15 +113,11 @@ fn fits_row(period: u64, before: &[EventRow], time: u64) -> bool
 }
 
 /// The time and the acts of `Text act/act/..`.
-fn row_parts<'p, 'a>(
-    period: u64,
-    before: &[EventRow],
-    head: &'p [Part<'a>],
-) -> Option<(u64, &'p [Part<'a>])>
-    ensures { MatchOption result (row_said period before.now (map lexeme_of head.now) ≡ None)
-        (λ said. row_said period before.now (map lexeme_of head.now) ≡ Some (said.0, map lexeme_of said.1.now)) }
+fn row_parts<'a>(period: u64, before: &[EventRow], head: Source<'a>) -> Option<(u64, Source<'a>)>
+    ensures { MatchOption result (row_said period before.now (lexemes head.entry) ≡ None)
+        (λ said. row_said period before.now (lexemes head.entry) ≡ Some (said.0, lexemes said.1)) }
 {
-    let [Part::Text(text), acts @ ..] = head else {
+    let Some((Part::Text(text), acts)) = first_part(head) else {
         return None;
     };
     let time = nanoseconds(text)?.saturating_mul(NANOSECOND);
@@ -132,7 +131,7 @@ fn row_parts<'p, 'a>(
 /// Statements that are events of a waveform.
 #[derive(Clone, Copy)]
 struct RowForm<'a> {
-    parts: &'a [Part<'a>],
+    source: Source<'a>,
     letters: usize,
     period: u64,
 }
@@ -140,7 +139,7 @@ struct RowForm<'a> {
 impl Form for RowForm<'_> {
     type Data = EventRow;
 
-    ghost judge = { λ form before e. row_of form.letters form.period before (head_of (map lexeme_of form.parts.now) e) (body_of e) };
+    ghost judge = { λ form before e. row_of form.letters form.period before (head_of (lexemes form.source) e) (body_of e) };
 
     fn judge_one(
         &self,
@@ -151,7 +150,7 @@ impl Form for RowForm<'_> {
         if body(stmt).is_some() {
             return Err(NOT_THIN);
         }
-        let Some((time, acts)) = row_parts(self.period, before, head(self.parts, stmt)) else {
+        let Some((time, acts)) = row_parts(self.period, before, head(self.source, stmt)) else {
             return Err(NOT_THIN);
         };
         read_row(alloc, self.letters, time, acts)
@@ -170,8 +169,8 @@ fn row_with(letters: usize, time: u64, acts: Items<Act>) -> Option<EventRow>
 }
 
 /// The acts of an event at this time.
-fn read_row(alloc: Global, letters: usize, time: u64, head: &[Part]) -> Result<EventRow, FormFault>
-    ensures { Answers result (row_from letters time (map lexeme_of head.now)) }
+fn read_row(alloc: Global, letters: usize, time: u64, head: Source) -> Result<EventRow, FormFault>
+    ensures { Answers result (row_from letters time (lexemes head.entry)) }
 {
     let acts = acts_of(alloc, head)?;
     match row_with(letters, time, acts) {
@@ -226,12 +225,15 @@ fn are_letters(before: &[WaveGroup], letters: &[u8]) -> bool
     are_characters(letters) && are_apart(letters) && !any_given(before, letters)
 }
 
-fn letters_of<'a>(before: &[WaveGroup], head: &[Part<'a>]) -> Option<&'a [u8]>
-    ensures { MatchOption result (letters_of before.now (map lexeme_of head.now) ≡ None)
-        (λ letters. letters_of before.now (map lexeme_of head.now) ≡ Some letters.now) }
+fn letters_of<'a>(before: &[WaveGroup], head: Source<'a>) -> Option<&'a [u8]>
+    ensures { MatchOption result (letters_of before.now (lexemes head.entry) ≡ None)
+        (λ letters. letters_of before.now (lexemes head.entry) ≡ Some letters.now) }
 {
-    match head {
-        [Part::Word(letters)] if are_letters(before, letters) => Some(letters),
+    let [one] = head.tokens else {
+        return None;
+    };
+    match part_of(head.bytes, one) {
+        Part::Word(letters) if are_letters(before, letters) => Some(letters),
         _ => None,
     }
 }
@@ -239,14 +241,14 @@ fn letters_of<'a>(before: &[WaveGroup], head: &[Part<'a>]) -> Option<&'a [u8]>
 /// Statements that are waveforms of a signal.
 #[derive(Clone, Copy)]
 struct GroupForm<'a> {
-    parts: &'a [Part<'a>],
+    source: Source<'a>,
     period: u64,
 }
 
 impl Form for GroupForm<'_> {
     type Data = WaveGroup;
 
-    ghost judge = { λ form. group_of (map lexeme_of form.parts.now) form.period };
+    ghost judge = { λ form. group_of (lexemes form.source) form.period };
 
     fn judge_one(
         &self,
@@ -254,12 +256,12 @@ impl Form for GroupForm<'_> {
         before: &[WaveGroup],
         stmt: &Stmt,
     ) -> Result<WaveGroup, FormFault> {
-        let Some(letters) = letters_of(before, head(self.parts, stmt)) else {
+        let Some(letters) = letters_of(before, head(self.source, stmt)) else {
             return Err(NOT_THIN);
         };
         let stmts = block(stmt)?;
         let form = RowForm {
-            parts: self.parts,
+            source: self.source,
             letters: letters.len(),
             period: self.period,
         };
@@ -279,13 +281,13 @@ fn is_waved(before: &[SignalWaves], signal: u16) -> bool
 }
 
 /// The signal that a statement of Waveforms is about.
-fn wave_signal(signals: &[ThinSignal], before: &[SignalWaves], head: &[Part]) -> Option<u16>
-    ensures { result ≡ wave_signal signals.now before.now (map lexeme_of head.now) }
+fn wave_signal(signals: &[ThinSignal], before: &[SignalWaves], head: Source) -> Option<u16>
+    ensures { result ≡ wave_signal signals.now before.now (lexemes head.entry) }
 {
-    let [called] = head else {
+    let [called] = head.tokens else {
         return None;
     };
-    let signal = signal_number(signals, name_of(called)?)?;
+    let signal = signal_number(signals, name_of(&part_of(head.bytes, called))?)?;
     if is_waved(before, signal) {
         None
     } else {
@@ -296,7 +298,7 @@ fn wave_signal(signals: &[ThinSignal], before: &[SignalWaves], head: &[Part]) ->
 /// Statements that give the waveforms of a signal.
 #[derive(Clone, Copy)]
 pub struct WavesForm<'a> {
-    pub parts: &'a [Part<'a>],
+    pub source: Source<'a>,
     pub signals: &'a [ThinSignal],
     pub period: u64,
 }
@@ -304,7 +306,7 @@ pub struct WavesForm<'a> {
 impl Form for WavesForm<'_> {
     type Data = SignalWaves;
 
-    ghost judge = { λ form. waves_of (map lexeme_of form.parts.now) form.signals.now form.period };
+    ghost judge = { λ form. waves_of (lexemes form.source) form.signals.now form.period };
 
     fn judge_one(
         &self,
@@ -312,12 +314,12 @@ impl Form for WavesForm<'_> {
         before: &[SignalWaves],
         stmt: &Stmt,
     ) -> Result<SignalWaves, FormFault> {
-        let Some(signal) = wave_signal(self.signals, before, head(self.parts, stmt)) else {
+        let Some(signal) = wave_signal(self.signals, before, head(self.source, stmt)) else {
             return Err(NOT_THIN);
         };
         let stmts = block(stmt)?;
         let form = GroupForm {
-            parts: self.parts,
+            source: self.source,
             period: self.period,
         };
         let groups = read_each(alloc, &form, stmts)?;

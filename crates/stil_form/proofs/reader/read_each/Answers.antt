@@ -6,7 +6,7 @@ use Rattle.stil_form.proofs.reader.read_each.Goals as goal
 
 pub returns-in_err-data : goal.returns-in_err-data
 returns-in_err-data g c =
-    let p = err_from_is_err_and c.from_residual.result c.from_residual.ensures.1 in
+    let p = err_from_is_err_and c.from_residual-in_err-data.result c.from_residual-in_err-data.ensures.1 in
     rw (p.1, p.2)
     (stops_at {Z = Vec g.row.F-Data.Denot Global} (λ read. read.items) entry_of (g.F.Form.judge c.args.form.now) c.loop-stmt.read.items c.args.stmts.now
     c.loop-stmt.stmt-index c.stmt-item.result _ c.in_err-data.field-0.0 c.loop-stmt-test.true c.stmt-item.is c.loop-stmt.invariant

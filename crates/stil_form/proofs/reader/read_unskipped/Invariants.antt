@@ -1,11 +1,11 @@
 use Rattle.std.proofs.Common.{◌≡◌, map, drop, []}
 use Rattle.stil_tree.specs.Trees.{entry_of}
-use Rattle.stil_form.specs.Lexeme.{lexeme_of}
+use Rattle.stil_form.specs.Lexeme.{lexemes}
 use Rattle.stil_form.specs.Reading.{reading, unskipped}
 use Rattle.stil_form.proofs.reader.read_unskipped.Given as goal
 
 -- what was read, and the rest, are the whole
 abbrev pub invariant-loop-stmt : goal.invariant-loop-stmt
 invariant-loop-stmt g l =
-    reading (g.F.Form.judge l.form) l.read.items (unskipped l.words (map lexeme_of l.parts) (map entry_of (drop l.stmt-index l.stmts)))
-    ≡ reading (g.F.Form.judge l.form) [] (unskipped l.words (map lexeme_of l.parts) (map entry_of l.stmts))
+    reading (g.F.Form.judge l.form) l.read.items (unskipped l.words (lexemes l.source) (map entry_of (drop l.stmt-index l.stmts)))
+    ≡ reading (g.F.Form.judge l.form) [] (unskipped l.words (lexemes l.source) (map entry_of l.stmts))

@@ -8,5 +8,5 @@ pub returns-in_err-take_part : goal.returns-in_err-take_part
 returns-in_err-take_part c =
     let p = err_from_is_err_and c.from_residual.result c.from_residual.ensures.1 in
     rw (p.1, p.2)
-    (acts_stop {Z = Unit {0}} {W = List Act} (λ _. c.take_part.new.acts.items) (λ x. x) c.loop-part.slash_next c.loop-part.acts.items c.args.head.now c.loop-part.part-index _ _
-    c.in_err-take_part.field-0.0 c.loop-part-test.true c.in_err-take_part.ensures c.loop-part.invariant)
+    (acts_stop {Z = Unit {0}} {W = List Act} (λ _. c.take_part.new.acts.items) (λ x. x) c.loop-token.slash_next c.loop-token.acts.items c.args.head.bytes.now c.args.head.tokens.now c.loop-token.token-index _ _ _
+    c.in_err-take_part.field-0.0 c.loop-token-test.true c.part_of.ensures c.in_err-take_part.ensures c.loop-token.invariant)
