@@ -1,5 +1,5 @@
 -- A reader of records as it goes through a text: what it read and what it has left are the text.
-use Rattle.std.proofs.Common.{Bor, ◌≡◌, ℕ, ◌+◌, ◌≤◌, true, false, List, [], ◌∷◌, ◌++◌, length, None, Some, Ok, Err, refl, sym, ◌∙◌, arith, inl, inr}
+use Rattle.std.proofs.Common.{Bor, ◌≡◌, ℕ, ◌+◌, ◌≤◌, true, false, List, [], ◌∷◌, ◌++◌, length, None, Some, Ok, Err, refl, sym, ap, ◌∙◌, arith, inl, inr}
 use Rattle.csv.specs.Reading.{Reached, Ready, ReadRecord, default_config, source_of, strip_bom}
 use Rattle.csv.specs.declared.reader.Reader.{Reader}
 use Rattle.csv.specs.declared.parser.State.TheVariants as st
@@ -25,10 +25,10 @@ pub record IsGoing (bytes : List ℕ) (rdr : Reader (Bor (List ℕ))) (rows : Li
   pub read : reading [] records ≡ Ok rows
 
 -- before the first record
-pub starts : (bytes : List ℕ) (rdr : Reader (Bor (List ℕ))) → rdr.trim ≡ trim.None → rdr.has_headers ≡ false → rdr.headers ≡ None →
-    rdr.config ≡ default_config → source_of (λ (s : Bor (List ℕ)). Some s.now) rdr ≡ Some (strip_bom bytes) → rdr.state ≡ st.StartRecord → IsGoing bytes rdr []
+pub starts : (bytes : List ℕ) (rdr : Reader (Bor (List ℕ))) (rows : List Row) → rows ≡ [] → rdr.trim ≡ trim.None → rdr.has_headers ≡ false → rdr.headers ≡ None →
+    rdr.config ≡ default_config → source_of (λ (s : Bor (List ℕ)). Some s.now) rdr ≡ Some (strip_bom bytes) → rdr.state ≡ st.StartRecord → IsGoing bytes rdr rows
 unfolding Reached
-starts bytes rdr plain names headers config source state = record {
+starts bytes rdr rows none plain names headers config source state = record {
   plain = plain;
   ready = inr (inr (names, headers));
   config = config;
@@ -36,13 +36,13 @@ starts bytes rdr plain names headers config source state = record {
   source = source;
   records = [];
   reached = (sym state, refl);
-  read = refl;
+  read = ap Ok (sym none);
 }
 
 -- a record was read and is one more row
-pub goes_on : (bytes : List ℕ) (old new : Reader (Bor (List ℕ))) (rows : List Row) (fields : List (List ℕ)) (x : Row) → IsGoing bytes old rows →
-    ReadRecord (λ (s : Bor (List ℕ)). Some s.now) old new true fields → new.first ≡ true → judge rows fields ≡ Ok x → IsGoing bytes new (rows ++ x ∷ [])
-goes_on bytes old new rows fields x g step first judged =
+pub goes_on : (bytes : List ℕ) (old new : Reader (Bor (List ℕ))) (rows made : List Row) (fields : List (List ℕ)) (x : Row) → IsGoing bytes old rows →
+    ReadRecord (λ (s : Bor (List ℕ)). Some s.now) old new true fields → new.first ≡ true → judge rows fields ≡ Ok x → made ≡ rows ++ x ∷ [] → IsGoing bytes new made
+goes_on bytes old new rows made fields x g step first judged more =
     let (z, source, reached) = rows-more (λ (s : Bor (List ℕ)). Some s.now) old new fields default_config st.StartRecord (strip_bom bytes) g.rest g.records
     g.config g.source g.reached step in
     record {
@@ -53,7 +53,7 @@ goes_on bytes old new rows fields x g step first judged =
       source = source;
       records = g.records ++ fields ∷ [];
       reached = reached;
-      read = reading-one g.records rows fields x g.read judged;
+      read = reading-one g.records rows fields x g.read judged ∙ ap Ok (sym more);
     }
 
 -- a record was read and is refused

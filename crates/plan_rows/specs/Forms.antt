@@ -30,7 +30,7 @@ abbrev pub given : {A B : Type 0} → Option A → (A → Option B) → Option B
 given None rest = None
 given (Some x) rest = rest x
 
--- the same, where these fields are empty
+-- a part, where these fields are empty
 abbrev pub unused : {A : Type 0} → List (List ℕ) → Option A → Option A
 unused fields rest = if list_all (λ f. length f == 0) fields then rest else None
 

@@ -43,7 +43,7 @@ pub record IsBook (b : Book) : Type 0 where
   pub tally : IsTally b.tally b.rows.items
   pub subjects : key_texts b.subjects.keys ≡ map subject_of b.rows.items
 
--- what a row that is no lot's own finds before it, and what its numbers keep
+-- what a row finds before it, and what its numbers keep: nothing stands before the lot's own row
 abbrev pub Suits : List Row → Row → Type 0
 Suits before (row.Lot l) = (length before ≡ 0) × IsLot l
 Suits before (row.Clock s) = 0 < length before

@@ -43,12 +43,12 @@ abbrev pub die_fits : List Row → Bool
 die_fits before = nat_le (length (dies_of before) + 1) 4096
     && nat_le ((length (dies_of before) + 1) * ((lot_of before).tries * (lot_of before).keep)) 1048576
 
--- the tries of a fault
+-- the tries of a fault within their range; all tries where none are written
 abbrev pub tries_fit : Option ℕ → Bool
 tries_fit None = true
 tries_fit (Some tries) = is_within 1 8 tries
 
--- the number of a failing executive
+-- an ending whose executive is within its range
 abbrev pub ending_fits : Ending → Bool
 ending_fits Pass = true
 ending_fits (Fail executive) = nat_le executive 63
@@ -120,11 +120,11 @@ placed place before (Some w) = if stands before w then Ok w else Err (Shape plac
 abbrev pub once : ℕ → List Row → Row → Result Row PlanFault
 once place before x = if says_again before x then Err (Twice place) else Ok x
 
--- the row of a record by itself, and then by what earlier rows say: the row that it is behind them, or its fault
+-- the row of a record by its form and its place, and then by its numbers and its die; or its fault
 abbrev pub row_at : ℕ → List Row → List (List ℕ) → Result Row PlanFault
 row_at place before fields = and_then (placed place before (written_of fields)) (row_of place before)
 
--- the row of a record at its place after these rows, or its refusal
+-- the same, and no earlier row is about the same
 abbrev pub judge_at : ℕ → List Row → List (List ℕ) → Result Row PlanFault
 judge_at place before fields = and_then (row_at place before fields) (once place before)
 

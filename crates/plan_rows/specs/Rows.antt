@@ -21,7 +21,7 @@ abbrev pub each_of : {A : Type 0} → (Row → Option A) → List Row → List A
 each_of f [] = []
 each_of f (r ∷ rows) = one (f r) ++ each_of f rows
 
--- what a row says of a kind, if it is of this kind
+-- the lot's own row, where a row is that
 abbrev pub as_lot : Row → Option LotRow
 as_lot (row.Lot l) = Some l
 as_lot (row.Clock s) = None
@@ -41,6 +41,7 @@ as_clock (row.Fault f) = None
 as_clock (row.Stop s) = None
 as_clock (row.Bin b) = None
 
+-- the row of a signal and its net
 abbrev pub as_bind : Row → Option BindRow
 as_bind (row.Lot l) = None
 as_bind (row.Clock s) = None
@@ -50,6 +51,7 @@ as_bind (row.Fault f) = None
 as_bind (row.Stop s) = None
 as_bind (row.Bin b) = None
 
+-- the row of a die, with its site and its netlist's file
 abbrev pub as_die : Row → Option DieRow
 as_die (row.Lot l) = None
 as_die (row.Clock s) = None
@@ -59,6 +61,7 @@ as_die (row.Fault f) = None
 as_die (row.Stop s) = None
 as_die (row.Bin b) = None
 
+-- the row of a stuck net of a die
 abbrev pub as_fault : Row → Option FaultRow
 as_fault (row.Lot l) = None
 as_fault (row.Clock s) = None
@@ -68,6 +71,7 @@ as_fault (row.Fault f) = Some f
 as_fault (row.Stop s) = None
 as_fault (row.Bin b) = None
 
+-- the row that stops a try of a die
 abbrev pub as_stop : Row → Option StopRow
 as_stop (row.Lot l) = None
 as_stop (row.Clock s) = None
@@ -77,6 +81,7 @@ as_stop (row.Fault f) = None
 as_stop (row.Stop s) = Some s
 as_stop (row.Bin b) = None
 
+-- the row of an ending's bin
 abbrev pub as_bin : Row → Option BinRow
 as_bin (row.Lot l) = None
 as_bin (row.Clock s) = None
@@ -86,16 +91,19 @@ as_bin (row.Fault f) = None
 as_bin (row.Stop s) = None
 as_bin (row.Bin b) = Some b
 
--- the dies of a plan, in order; of a site; the faults of a die; the stops of a die
+-- the dies of a plan, in order
 abbrev pub dies_of : List Row → List DieRow
 dies_of rows = each_of as_die rows
 
+-- the dies of a site, in order
 abbrev pub dies_at : ℕ → List Row → List DieRow
 dies_at site rows = filter (λ d. d.site == site) (dies_of rows)
 
+-- the stuck nets of a die, in order
 abbrev pub faults_at : ℕ → ℕ → List Row → List FaultRow
 faults_at site die rows = filter (λ f. (f.site == site) && (f.die == die)) (each_of as_fault rows)
 
+-- the stops of a die, in order
 abbrev pub stops_at : ℕ → ℕ → List Row → List StopRow
 stops_at site die rows = filter (λ s. (s.site == site) && (s.die == die)) (each_of as_stop rows)
 

@@ -10,7 +10,7 @@ ghost use Rattle.plan_rows.specs.declared.fault.PlanFault.TheVariants.{NoMemory}
 
 use crate::fault::PlanFault;
 use crate::kinds::{
-    LAST_BATCH, LAST_SITE, MOST_TRIES, are_tries, bin_row, bind_row, lot_row, small_tries, text,
+    LAST_BATCH, LAST_SITE, MOST_TRIES, are_tries, bin_row, bind_row, lot_row, small_tries,
 };
 use crate::row::{DieRow, FaultRow, Row, StopRow};
 use crate::subject::subject_of;
@@ -19,6 +19,7 @@ use crate::written::{Written, WrittenFault, written_of};
 use csv::ByteRecord;
 use indexmap::IndexSet;
 use std::alloc::{AllocError, Global};
+use tester_types::Items;
 
 /// Rows in order, with what a later row is judged by: the tally of the lot and its dies, and what each row is about.
 #[derive(Drop)]
@@ -94,8 +95,8 @@ impl Book {
         if site > LAST_SITE || !self.tally.has_room() {
             return Err(PlanFault::OutOfRange(place));
         }
-        let name = text(alloc, name)?;
-        let file = text(alloc, file)?;
+        let name = Items::from_slice(alloc, name)?;
+        let file = Items::from_slice(alloc, file)?;
         Ok(Row::Die(DieRow {
             site: site as u8,
             name,
@@ -140,7 +141,7 @@ impl Book {
         let Some(die) = self.number_at(fault.site, fault.name) else {
             return Err(PlanFault::UnknownName(place));
         };
-        let net = text(alloc, fault.net)?;
+        let net = Items::from_slice(alloc, fault.net)?;
         Ok(Row::Fault(FaultRow {
             site: fault.site as u8,
             die,
@@ -157,7 +158,7 @@ impl Book {
     {
         match *written {
             Written::Lot { batch, tries, keep } => lot_row(place, batch, tries, keep),
-            Written::Clock { signal } => Ok(Row::Clock(text(alloc, signal)?)),
+            Written::Clock { signal } => Ok(Row::Clock(Items::from_slice(alloc, signal)?)),
             Written::Bind { signal, net } => bind_row(alloc, signal, net),
             Written::Die { site, name, file } => self.die_row(alloc, place, site, name, file),
             Written::Fault(fault) => self.fault_row(alloc, place, &fault),

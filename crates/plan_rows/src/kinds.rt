@@ -1,6 +1,6 @@
 //! Rows that no earlier die decides, each by the ranges of its numbers.
 
-ghost use Rattle.std.specs.Prelude.{◌≡◌, ℕ, true, [], IfOk, Some, None, if◌then◌else◌};
+ghost use Rattle.std.specs.Prelude.{◌≡◌, ℕ, true, [], Some, None, if◌then◌else◌};
 ghost use Rattle.plan_rows.specs.Judging.{row_of, tries_fit, ending_fits};
 ghost use Rattle.plan_rows.specs.Forms.{a_lot, a_bind, a_bin};
 ghost use Rattle.plan_rows.specs.Views.{ending_seen, net_seen};
@@ -9,8 +9,8 @@ ghost use Rattle.plan_rows.specs.Inside.{IsAnswer};
 use crate::fault::PlanFault;
 use crate::row::{BinRow, BindRow, Ending, LotRow, Row};
 use crate::written::Ended;
-use std::alloc::{AllocError, Global};
-use tester_types::{Items, Text};
+use std::alloc::Global;
+use tester_types::Items;
 
 /// The greatest number of a site.
 pub(crate) const LAST_SITE: u64 = 63;
@@ -33,13 +33,6 @@ const LAST_EXECUTIVE: u64 = 63;
 /// The greatest number of a bin.
 const LAST_BIN: u64 = 99;
 
-/// A text of its own.
-pub(crate) fn text(alloc: Global, bytes: &[u8]) -> Result<Text, AllocError>
-    ensures { IfOk result (λ t. t ≡ bytes.now) }
-{
-    Ok(Items::from_slice(alloc, bytes)?)
-}
-
 /// The lot's own row, or that a number is out of its range.
 pub(crate) fn lot_row(place: u32, batch: u64, tries: u64, keep: u64) -> Result<Row, PlanFault>
     ensures { result ≡ row_of place [] (a_lot batch tries keep) }
@@ -58,9 +51,9 @@ pub(crate) fn lot_row(place: u32, batch: u64, tries: u64, keep: u64) -> Result<R
 pub(crate) fn bind_row(alloc: Global, signal: &[u8], net: Option<&[u8]>) -> Result<Row, PlanFault>
     ensures { (place : ℕ) → IsAnswer result (row_of place [] (a_bind signal.now (net_seen net.entry))) }
 {
-    let signal = text(alloc, signal)?;
+    let signal = Items::from_slice(alloc, signal)?;
     let net = match net {
-        Some(net) => Some(text(alloc, net)?),
+        Some(net) => Some(Items::from_slice(alloc, net)?),
         None => None,
     };
     Ok(Row::Bind(BindRow { signal, net }))

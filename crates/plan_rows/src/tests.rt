@@ -5,6 +5,7 @@ use crate::{
 };
 use std::alloc::{AllocError, Global};
 use std::test::Fail;
+use tester_types::Items;
 
 /// What a text is read as: how many rows, or the kind and the row of its fault.
 #[derive(Clone, Copy, Debug, PartialEq, Eq)]
@@ -267,5 +268,42 @@ fn dies_and_their_kept_fails_are_limited(rt: HostRuntime) -> Result<(), Fail> {
         (many.as_slice(), Answer::OutOfRange(4098)),
     ];
     assert_eq!(rt; first_wrong(rt.alloc(), b"", &cases)?, None);
+    Ok(())
+}
+
+/// Whether a fault is printed so.
+fn is_printed(alloc: Global, fault: &PlanFault, line: &str) -> Result<bool, Fail> {
+    let printed = fault.to_string(alloc)?;
+    Ok(printed.as_str() == line)
+}
+
+#[test]
+fn a_fault_is_printed_with_its_row(rt: HostRuntime) -> Result<(), Fail> {
+    let cases = [
+        (PlanFault::NoMemory, "out of memory"),
+        (
+            PlanFault::Shape(1),
+            "row 1 of the plan has no form of a row",
+        ),
+        (
+            PlanFault::UnknownName(2),
+            "row 2 of the plan names what isn't there",
+        ),
+        (
+            PlanFault::Twice(3),
+            "row 3 of the plan says again what was said",
+        ),
+        (
+            PlanFault::OutOfRange(4),
+            "row 4 of the plan has a number out of its range",
+        ),
+        (
+            PlanFault::Unbound(Items::from_slice(rt.alloc(), b"a")?),
+            "a signal has no net that fits it",
+        ),
+    ];
+    for (fault, line) in &cases {
+        assert!(rt; is_printed(rt.alloc(), fault, line)?);
+    }
     Ok(())
 }
