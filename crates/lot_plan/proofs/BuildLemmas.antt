@@ -84,11 +84,3 @@ built-more circuits bindings tries site dies made i g x count put within is befo
           ∙ get_or_at dies x [] no_die d (count ∙ sym same) in
           built-here circuits bindings tries site d i g x (get_or made d no_die) same within is at here
     ]
-
--- what was built of the items of its file
-pub built-of : (circuits : List Circuit) (bindings : List Binding) (tries : ℕ) (g : DieRows) (c : Circuit) (b : Binding)
-    (x : BoundDie) →
-    c ≡ circuit_no circuits g.file → b ≡ binding_no bindings g.file → IsBuilt c b tries g x →
-    IsBuilt (circuit_no circuits g.file) (binding_no bindings g.file) tries g x
-built-of circuits bindings tries g c b x net bind built =
-    subst (λ y. IsBuilt (circuit_no circuits g.file) y tries g x) bind (subst (λ y. IsBuilt y b tries g x) net built)

@@ -34,7 +34,7 @@ bind_row rows name = find (λ b. bytes_eq name b.signal) (each_of as_bind rows)
 abbrev pub net_name : List Row → List ℕ → Option (List ℕ)
 net_name rows name = option_map_or (λ b. b.net) (bind_row rows name) (Some name)
 
--- the clock is the clock whatever its direction
+-- what a signal does with its net, by its direction; the clock is the clock whatever its direction
 abbrev pub role_of : Bool → Direction → Role
 role_of true d = role.Clock
 role_of false direction.In = role.Input

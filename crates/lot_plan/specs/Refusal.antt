@@ -28,7 +28,7 @@ is_signal signals name = list_any (has_name name) signals
 abbrev pub is_net : Circuit → List ℕ → Bool
 is_net c name = nat_lt (number c.net.names name) (length c.net.names)
 
--- an ending is that of an executive that isn't there
+-- the fault of a bin row with this ending: its executive isn't there
 abbrev pub ending_refusal : ℕ → ℕ → Ending → Option PlanFault
 ending_refusal execs number ending.Pass = None
 ending_refusal execs number (ending.Fail exec) = unless (nat_lt exec execs) (OutOfRange number)

@@ -19,13 +19,13 @@ use crate::bound_die::BoundDie;
 use crate::groups::{SiteGroup, groups_of};
 use crate::names::{files_of, signal_names};
 use crate::pins::{clock_number, pins_of};
-use crate::rows::{dies_of, lot_of};
+use crate::rows::{each_of, lot_of};
 use crate::{building, refusal};
 use bench_net::Netlist;
 use die_sim::Binding;
 use indexmap::IndexSet;
 use page_code::CodeSignal;
-use plan_rows::{PlanFault, Row};
+use plan_rows::{DieRow, PlanFault, Row};
 use std::alloc::Global;
 use std::sync::Arc;
 use tester_types::{Items, NoMemory};
@@ -43,7 +43,7 @@ fn groups_by_sites(alloc: Global, rows: &[Row], sites: u8) -> Result<Vec<SiteGro
     requires sites { sites ≡ sites_of rows.now }
     ensures { IfOk result (λ groups. AreGroups rows.now groups.items) }
 {
-    let dies = dies_of(alloc, rows)?;
+    let dies = each_of::<DieRow>(alloc, rows)?;
     let files = files_of(alloc, &dies)?;
     Ok(groups_of(alloc, rows, &dies, sites, &files)?)
 }

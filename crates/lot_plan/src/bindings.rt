@@ -15,7 +15,7 @@ use die_sim::{Bind, BindList, Binding};
 use plan_rows::PlanFault;
 use std::alloc::Global;
 use std::sync::Arc;
-use tester_types::{Items, NoMemory, Text};
+use tester_types::{Items, NoMemory};
 
 /// The number of a net, or how many there are where none has the name.
 pub(crate) fn net_number(net: &Netlist, name: &[u8]) -> u32
@@ -95,13 +95,6 @@ fn bind_to(net: &Netlist, driven: &[bool], pin: &Pin<'_>) -> Option<Bind>
     }
 }
 
-/// The text of these bytes.
-pub(crate) fn text_of(alloc: Global, bytes: &[u8]) -> Result<Text, NoMemory>
-    ensures { IfOk result (λ text. text ≡ bytes.now) }
-{
-    Ok(Items::from_slice(alloc, bytes)?)
-}
-
 /// The bind, or else the refusal of the signal of this name.
 fn bind_or(alloc: Global, bind: Option<Bind>, name: &[u8]) -> Result<Bind, PlanFault>
     ensures found { IfOk result (λ b. bind ≡ Some b) }
@@ -109,7 +102,7 @@ fn bind_or(alloc: Global, bind: Option<Bind>, name: &[u8]) -> Result<Bind, PlanF
 {
     match bind {
         Some(bind) => Ok(bind),
-        None => Err(PlanFault::Unbound(text_of(alloc, name)?)),
+        None => Err(PlanFault::Unbound(Items::from_slice(alloc, name)?)),
     }
 }
 

@@ -12,7 +12,7 @@ ghost use Rattle.lot_plan.specs.Stored.{IsStored};
 use crate::binding::made_of;
 use crate::bound_die::BoundDie;
 use crate::pins::signals_of;
-use crate::rows::{bins_of, first_of, lot_of};
+use crate::rows::{copies_of, first_of, lot_of};
 use bench_net::Netlist;
 use die_sim::{Binding, DieImage};
 use page_code::{Code, CodeSignalList};
@@ -210,7 +210,7 @@ pub(crate) fn bound(
 fn bin_list(alloc: Global, rows: &[Row]) -> Result<Items<BinRow>, NoMemory>
     ensures { IfOk result (λ bins. bins ≡ each_of as_bin rows.now) }
 {
-    Ok(Items::from_vec(bins_of(alloc, rows)?))
+    Ok(Items::from_vec(copies_of::<BinRow>(alloc, rows)?))
 }
 
 /// The batch of the first stop of the try of this number.

@@ -3,7 +3,7 @@ ghost use Rattle.std.specs.Prelude.{◌≡◌, ◌<◌, ℕ, map, length, slice_
 ghost use Rattle.std.specs.Arc.{arc_value};
 ghost use Rattle.die_sim.specs.Die.{IsSound};
 ghost use Rattle.lot_plan.specs.Bound.{numbered, is_active, active_at, loaded};
-ghost use Rattle.lot_plan.specs.Building.{AreImages, IsReady, IsBuilt, IsSiteReady, IsSiteBuilt, AreReady, AreBuilt};
+ghost use Rattle.lot_plan.specs.Building.{AreImages, circuit_no, binding_no, IsReady, IsBuilt, IsSiteReady, IsSiteBuilt, AreReady, AreBuilt};
 ghost use Rattle.lot_plan.specs.Views.{behind};
 
 use crate::bindings::net_number;
@@ -141,6 +141,22 @@ fn bound_die(
     })
 }
 
+/// The die of these rows, by the netlist and the binding of its file.
+fn die_of(
+    alloc: Global,
+    group: &DieGroup<'_>,
+    nets: &[Arc<Netlist>],
+    bindings: &[Arc<Binding>],
+    tries: u8,
+) -> Result<BoundDie, NoMemory>
+    requires { IsReady (map arc_value nets.now) (map arc_value bindings.now) group.now }
+    ensures { IfOk result (λ die. IsBuilt (circuit_no (map arc_value nets.now) group.now.file)
+        (binding_no (map arc_value bindings.now) group.now.file) tries group.now die) }
+{
+    let file = group.file();
+    bound_die(alloc, group, &nets[file], &bindings[file], tries)
+}
+
 /// The dies of a site.
 fn site_dies(
     alloc: Global,
@@ -154,8 +170,7 @@ fn site_dies(
 {
     let mut dies = Vec::new(alloc);
     for group in site {
-        let file = group.file();
-        dies.push(bound_die(alloc, group, &nets[file], &bindings[file], tries)?)?;
+        dies.push(die_of(alloc, group, nets, bindings, tries)?)?;
     }
     Ok(Items::from_vec(dies))
 }

@@ -9,7 +9,7 @@ ghost use Rattle.lot_plan.specs.Groups.{DieRows, with_fault, with_stop, rows_of,
 ghost use Rattle.lot_plan.specs.Views.{behind};
 
 use crate::names::file_number;
-use crate::rows::{faults_of, stops_of};
+use crate::rows::{copies_of, each_of};
 use indexmap::IndexSet;
 use plan_rows::{DieRow, FaultRow, Row, StopRow};
 use std::alloc::{AllocError, Global};
@@ -244,9 +244,9 @@ pub(crate) fn groups_of<'a>(
     ensures { IfOk result (λ made. AreGroups rows.now made.items) }
 {
     let mut made = with_dies(alloc, sites, files, dies)?;
-    let faults = faults_of(alloc, rows)?;
+    let faults = each_of::<FaultRow>(alloc, rows)?;
     add_faults(&mut made, &faults)?;
-    let stops = stops_of(alloc, rows)?;
+    let stops = copies_of::<StopRow>(alloc, rows)?;
     add_stops(&mut made, &stops)?;
     Ok(made)
 }

@@ -8,7 +8,7 @@ ghost use Rattle.lot_plan.specs.Ask.{clock_of, has_name, is_clock_name, role_of,
 ghost use Rattle.lot_plan.specs.Views.{asked_by, behind, row_in};
 
 use crate::pin::{Pin, Role};
-use crate::rows::{binds_of, clock_of};
+use crate::rows::{clock_of, each_of};
 use indexmap::IndexMap;
 use page_code::{Code, CodeSignal, CodeSignalList, Direction};
 use plan_rows::{BindRow, Row};
@@ -136,7 +136,7 @@ pub(crate) fn pins_of<'a>(
     ensures { IfOk result (λ pins. map asked_by pins.items ≡ wishes_of rows.now signals.now) }
 {
     let clock = clock_of(rows);
-    let binds = binds_of(alloc, rows)?;
+    let binds = each_of::<BindRow>(alloc, rows)?;
     let found = by_names(alloc, &binds)?;
     let mut pins = Vec::new(alloc);
     for signal in signals {

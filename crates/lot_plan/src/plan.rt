@@ -9,14 +9,13 @@ ghost use Rattle.plan_rows.specs.declared.fault.PlanFault.{PlanFault};
 ghost use Rattle.plan_rows.specs.declared.fault.PlanFault.TheVariants as fault;
 ghost use Rattle.lot_plan.specs.Refusal.{IsAnswer};
 
-use crate::bindings::text_of;
 use crate::bound_plan::{BoundPlan, bound};
 use crate::names::files_of;
-use crate::rows::{dies_of, sites_of};
+use crate::rows::{each_of, sites_of};
 use bench_net::Netlist;
 use indexmap::IndexSet;
 use page_code::Code;
-use plan_rows::{PlanFault, Row, RowList, read_rows};
+use plan_rows::{DieRow, PlanFault, Row, RowList, read_rows};
 use std::alloc::Global;
 use std::marker::Model;
 use std::sync::Arc;
@@ -123,7 +122,7 @@ fn sites_and_files(alloc: Global, rows: &[Row]) -> Result<(u8, FileList), NoMemo
     ensures sites { IfOk result (λ found. found.0 ≡ sites_of rows.now) }
     ensures files { IfOk result (λ found. found.1 ≡ files_of rows.now) }
 {
-    let dies = dies_of(alloc, rows)?;
+    let dies = each_of::<DieRow>(alloc, rows)?;
     let files = files_of(alloc, &dies)?;
     Ok((sites_of(&dies), file_list(alloc, &files)?))
 }
@@ -134,7 +133,7 @@ fn file_list(alloc: Global, files: &IndexSet<&[u8]>) -> Result<FileList, NoMemor
 {
     let mut list = Vec::new(alloc);
     for file in files.iter() {
-        list.push(text_of(alloc, file)?)?;
+        list.push(Items::from_slice(alloc, file)?)?;
     }
     Ok(Items::from_vec(list))
 }

@@ -1,173 +1,179 @@
 //! The rows of a plan by their kinds.
 ghost use Rattle.std.specs.Prelude.{◌≡◌, ◌+◌, ◌≤◌, All, IfOk, fold, max, slice_get};
 ghost use Rattle.std.specs.Option.{option_copied};
-ghost use Rattle.plan_rows.specs.Rows.{as_lot, as_clock, as_bind, as_die, as_fault, as_stop, as_bin, each_of, dies_of, lot_of};
+ghost use Rattle.plan_rows.specs.Rows.{as_clock, each_of, lot_of};
 ghost use Rattle.lot_plan.specs.Readings.{first_of};
 ghost use Rattle.lot_plan.specs.Views.{behind};
 
 use plan_rows::{BinRow, BindRow, DieRow, FaultRow, LotRow, Row, StopRow};
 use std::alloc::{AllocError, Global};
+use tester_types::Text;
 
-/// The die row that a row is.
-fn as_die(row: &Row) -> Option<&DieRow>
-    ensures { option_copied result ≡ as_die row.now }
-{
-    match row {
-        Row::Die(die) => Some(die),
-        _ => None,
-    }
+/// What rows of one kind say.
+pub(crate) trait Kind: Sized {
+    ghost use Rattle.std.specs.Prelude.{◌≡◌, Option};
+    ghost use Rattle.std.specs.Option.{option_copied};
+    ghost use Rattle.plan_rows.specs.declared.row.Row.{Row};
+
+    ghost said: { Row → Option Self };
+
+    /// What a row says, if it is of this kind.
+    fn of(row: &Row) -> Option<&Self>
+        ensures { option_copied result ≡ said row.now };
 }
 
-/// The fault row that a row is.
-fn as_fault(row: &Row) -> Option<&FaultRow>
-    ensures { option_copied result ≡ as_fault row.now }
-{
-    match row {
-        Row::Fault(fault) => Some(fault),
-        _ => None,
-    }
-}
+impl Kind for LotRow {
+    ghost use Rattle.plan_rows.specs.Rows.{as_lot};
 
-/// The bind row that a row is.
-fn as_bind(row: &Row) -> Option<&BindRow>
-    ensures { option_copied result ≡ as_bind row.now }
-{
-    match row {
-        Row::Bind(bind) => Some(bind),
-        _ => None,
-    }
-}
+    ghost said = { as_lot };
 
-/// The signal of the clock row that a row is.
-fn as_clock(row: &Row) -> Option<&[u8]>
-    ensures { option_copied result ≡ as_clock row.now }
-{
-    match row {
-        Row::Clock(signal) => Some(signal.as_slice()),
-        _ => None,
-    }
-}
-
-/// The stop row that a row is.
-fn as_stop(row: &Row) -> Option<StopRow>
-    ensures { result ≡ as_stop row.now }
-{
-    match row {
-        Row::Stop(stop) => Some(*stop),
-        _ => None,
-    }
-}
-
-/// The bin row that a row is.
-fn as_bin(row: &Row) -> Option<BinRow>
-    ensures { result ≡ as_bin row.now }
-{
-    match row {
-        Row::Bin(bin) => Some(*bin),
-        _ => None,
-    }
-}
-
-/// The lot's own row, where a row is that.
-fn as_lot(row: &Row) -> Option<LotRow>
-    ensures { result ≡ as_lot row.now }
-{
-    match row {
-        Row::Lot(lot) => Some(*lot),
-        _ => None,
-    }
-}
-
-/// The die rows, in order.
-pub(crate) fn dies_of(alloc: Global, rows: &[Row]) -> Result<Vec<&DieRow>, AllocError>
-    ensures { IfOk result (λ dies. behind dies.items ≡ dies_of rows.now) }
-{
-    let mut dies = Vec::new(alloc);
-    for row in rows {
-        if let Some(die) = as_die(row) {
-            dies.push(die)?;
+    fn of(row: &Row) -> Option<&LotRow> {
+        match row {
+            Row::Lot(lot) => Some(lot),
+            _ => None,
         }
     }
-    Ok(dies)
 }
 
-/// The fault rows, in order.
-pub(crate) fn faults_of(alloc: Global, rows: &[Row]) -> Result<Vec<&FaultRow>, AllocError>
-    ensures { IfOk result (λ faults. behind faults.items ≡ each_of as_fault rows.now) }
-{
-    let mut faults = Vec::new(alloc);
-    for row in rows {
-        if let Some(fault) = as_fault(row) {
-            faults.push(fault)?;
+/// The clock's row says its name.
+impl Kind for Text {
+    ghost use Rattle.plan_rows.specs.Rows.{as_clock};
+
+    ghost said = { as_clock };
+
+    fn of(row: &Row) -> Option<&Text> {
+        match row {
+            Row::Clock(signal) => Some(signal),
+            _ => None,
         }
     }
-    Ok(faults)
 }
 
-/// The bind rows, in order.
-pub(crate) fn binds_of(alloc: Global, rows: &[Row]) -> Result<Vec<&BindRow>, AllocError>
-    ensures { IfOk result (λ binds. behind binds.items ≡ each_of as_bind rows.now) }
-{
-    let mut binds = Vec::new(alloc);
-    for row in rows {
-        if let Some(bind) = as_bind(row) {
-            binds.push(bind)?;
+impl Kind for BindRow {
+    ghost use Rattle.plan_rows.specs.Rows.{as_bind};
+
+    ghost said = { as_bind };
+
+    fn of(row: &Row) -> Option<&BindRow> {
+        match row {
+            Row::Bind(bind) => Some(bind),
+            _ => None,
         }
     }
-    Ok(binds)
 }
 
-/// The stop rows, in order.
-pub(crate) fn stops_of(alloc: Global, rows: &[Row]) -> Result<Vec<StopRow>, AllocError>
-    ensures { IfOk result (λ stops. stops.items ≡ each_of as_stop rows.now) }
-{
-    let mut stops = Vec::new(alloc);
-    for row in rows {
-        if let Some(stop) = as_stop(row) {
-            stops.push(stop)?;
+impl Kind for DieRow {
+    ghost use Rattle.plan_rows.specs.Rows.{as_die};
+
+    ghost said = { as_die };
+
+    fn of(row: &Row) -> Option<&DieRow> {
+        match row {
+            Row::Die(die) => Some(die),
+            _ => None,
         }
     }
-    Ok(stops)
 }
 
-/// The bin rows, in order.
-pub(crate) fn bins_of(alloc: Global, rows: &[Row]) -> Result<Vec<BinRow>, AllocError>
-    ensures { IfOk result (λ bins. bins.items ≡ each_of as_bin rows.now) }
-{
-    let mut bins = Vec::new(alloc);
-    for row in rows {
-        if let Some(bin) = as_bin(row) {
-            bins.push(bin)?;
+impl Kind for FaultRow {
+    ghost use Rattle.plan_rows.specs.Rows.{as_fault};
+
+    ghost said = { as_fault };
+
+    fn of(row: &Row) -> Option<&FaultRow> {
+        match row {
+            Row::Fault(fault) => Some(fault),
+            _ => None,
         }
     }
-    Ok(bins)
+}
+
+impl Kind for StopRow {
+    ghost use Rattle.plan_rows.specs.Rows.{as_stop};
+
+    ghost said = { as_stop };
+
+    fn of(row: &Row) -> Option<&StopRow> {
+        match row {
+            Row::Stop(stop) => Some(stop),
+            _ => None,
+        }
+    }
+}
+
+impl Kind for BinRow {
+    ghost use Rattle.plan_rows.specs.Rows.{as_bin};
+
+    ghost said = { as_bin };
+
+    fn of(row: &Row) -> Option<&BinRow> {
+        match row {
+            Row::Bin(bin) => Some(bin),
+            _ => None,
+        }
+    }
+}
+
+/// What the rows of a kind say, in order.
+pub(crate) fn each_of<K: Kind>(alloc: Global, rows: &[Row]) -> Result<Vec<&K>, AllocError>
+    ensures { IfOk result (λ found. behind found.items ≡ each_of K.said rows.now) }
+{
+    let mut found = Vec::new(alloc);
+    for row in rows {
+        if let Some(said) = K::of(row) {
+            found.push(said)?;
+        }
+    }
+    Ok(found)
+}
+
+/// The same, copied.
+pub(crate) fn copies_of<K: Kind + Copy>(alloc: Global, rows: &[Row]) -> Result<Vec<K>, AllocError>
+    ensures { IfOk result (λ found. found.items ≡ each_of K.said rows.now) }
+{
+    let mut found = Vec::new(alloc);
+    for row in rows {
+        if let Some(said) = K::of(row) {
+            found.push(*said)?;
+        }
+    }
+    Ok(found)
+}
+
+/// What the first row of a kind says, if there is one.
+pub(crate) fn first<K: Kind>(rows: &[Row]) -> Option<&K>
+    ensures { option_copied result ≡ slice_get (each_of K.said rows.now) 0 }
+{
+    for row in rows {
+        let said = K::of(row);
+        if said.is_some() {
+            return said;
+        }
+    }
+    None
 }
 
 /// The name of the clock, if there is one.
 pub(crate) fn clock_of(rows: &[Row]) -> Option<&[u8]>
     ensures { option_copied result ≡ slice_get (each_of as_clock rows.now) 0 }
 {
-    for row in rows {
-        if let Some(clock) = as_clock(row) {
-            return Some(clock);
-        }
+    match first::<Text>(rows) {
+        Some(clock) => Some(clock.as_slice()),
+        None => None,
     }
-    None
 }
 
 /// The lot's own row, with zeros where there is none.
 pub(crate) fn lot_of(rows: &[Row]) -> LotRow
     ensures { result ≡ lot_of rows.now }
 {
-    for row in rows {
-        if let Some(lot) = as_lot(row) {
-            return lot;
-        }
-    }
-    LotRow {
-        batch: 0,
-        tries: 0,
-        keep: 0,
+    match first::<LotRow>(rows) {
+        Some(lot) => *lot,
+        None => LotRow {
+            batch: 0,
+            tries: 0,
+            keep: 0,
+        },
     }
 }
 
@@ -195,10 +201,8 @@ pub(crate) fn sites_of(dies: &[&DieRow]) -> u8
 pub(crate) fn first_of(rows: &[Row]) -> Option<(u8, u16)>
     ensures { result ≡ first_of rows.now }
 {
-    for row in rows {
-        if let Some(die) = as_die(row) {
-            return Some((die.site, 0));
-        }
+    match first::<DieRow>(rows) {
+        Some(die) => Some((die.site, 0)),
+        None => None,
     }
-    None
 }

@@ -1,6 +1,6 @@
 //! How signals are bound to nets: each rule by small cases.
 
-use crate::bindings::{bindings_of, text_of};
+use crate::bindings::bindings_of;
 use crate::pins::pins_of;
 use bench_net::Netlist;
 use die_sim::{Bind, Binding};
@@ -9,6 +9,7 @@ use plan_rows::{PlanFault, RowList, read_rows};
 use std::alloc::Global;
 use std::sync::Arc;
 use std::test::*;
+use tester_types::Items;
 
 /// Two inputs, of which B is an output too, and an output Z.
 const NETS: &[u8] = b"INPUT(A)\nINPUT(B)\nOUTPUT(Z)\nOUTPUT(B)\nZ = NOT(A)\n";
@@ -44,7 +45,7 @@ fn signals_of(alloc: Global, names: &[u8], directions: &[u8]) -> Result<Vec<Code
     for (number, name) in names.iter().enumerate() {
         let letter = directions.get(number).ok_or("a direction")?;
         signals.push(CodeSignal {
-            name: text_of(alloc, &[*name])?,
+            name: Items::from_slice(alloc, &[*name])?,
             direction: direction_of(*letter),
         })?;
     }
