@@ -60,7 +60,40 @@ pub record ReadsEarlier (bytes : List ℕ) (signals : List CodeSignal) (tables :
   pub are_rows : items_at (row_at (length signals)) c6 [] r6 ≡ Ok (rows, r7)
   pub exec_count : checked (number_at w16) (λ count. ltb 0 count && leb count 64) r7 ≡ Ok (execs, rest)
 
+-- these parts, where their readers were given the number of the signals
+pub reads_earlier : {bytes r1 r2 r3 r4 r5 r6 r7 rest : List ℕ} {width c2 c4 c6 execs : ℕ} {signals : List CodeSignal}
+    {tables : List Table} {rows : List (List ℕ)}
+    → width ≡ length signals → head_at bytes ≡ Ok (tt, r1) → SignalCount r1 ≡ Ok (c2, r2)
+    → items_at signal_at c2 [] r2 ≡ Ok (signals, r3) → TableCount r3 ≡ Ok (c4, r4)
+    → items_at (table_at width) c4 [] r4 ≡ Ok (tables, r5) → RowCount width r5 ≡ Ok (c6, r6)
+    → items_at (row_at width) c6 [] r6 ≡ Ok (rows, r7) → ExecCount r7 ≡ Ok (execs, rest)
+    → ReadsEarlier bytes signals tables rows execs rest
+reads_earlier {bytes} {r1} {r2} {r3} {r4} {r5} {r6} {r7} {rest} {width} {c2} {c4} {c6} {execs} {signals} {tables} {rows}
+    counted head signal_count are_signals table_count are_tables row_count are_rows exec_count = record {
+      r1 = r1;
+      head = head;
+      c2 = c2;
+      r2 = r2;
+      signal_count = signal_count;
+      r3 = r3;
+      are_signals = are_signals;
+      c4 = c4;
+      r4 = r4;
+      table_count = table_count;
+      r5 = r5;
+      are_tables = subst (λ (n : ℕ). items_at (table_at n) c4 [] r4 ≡ Ok (tables, r5)) counted are_tables;
+      c6 = c6;
+      r6 = r6;
+      row_count = subst (λ (n : ℕ). RowCount n r5 ≡ Ok (c6, r6)) counted row_count;
+      r7 = r7;
+      are_rows = subst (λ (n : ℕ). items_at (row_at n) c6 [] r6 ≡ Ok (rows, r7)) counted are_rows;
+      exec_count = exec_count;
+    }
+
 -- and then the executives
+abbrev Execs : ℕ → List Table → List (List ℕ) → ℕ → List ℕ → Read (List Exec)
+Execs width tables rows count rest = items_at (λ before. exec_at width tables rows) count [] rest
+
 reads_on : (bytes : List ℕ) (signals : List CodeSignal) (tables : List Table) (rows : List (List ℕ)) (count : ℕ) (rest : List ℕ)
     → ReadsEarlier bytes signals tables rows count rest
     → program_at bytes ≡ (items_at (λ before. exec_at (length signals) tables rows) count [] rest >>= λ execs. Ok (record { signals = signals; tables = tables; rows = rows; execs = execs.0 }, execs.1))
@@ -68,17 +101,32 @@ unfolding program_at
 reads_on bytes signals tables rows count rest e =
     rw (e.head, e.signal_count, e.are_signals, e.table_count, e.are_tables, e.row_count, e.are_rows, e.exec_count) refl
 
-pub program_made : (bytes : List ℕ) (signals : List CodeSignal) (tables : List Table) (rows : List (List ℕ)) (count : ℕ) (rest : List ℕ) (execs : List Exec) (after : List ℕ)
-    → ReadsEarlier bytes signals tables rows count rest → items_at (λ before. exec_at (length signals) tables rows) count [] rest ≡ Ok (execs, after)
-    → program_at bytes ≡ Ok (record { signals = signals; tables = tables; rows = rows; execs = execs }, after)
-program_made bytes signals tables rows count rest execs after e last =
-    reads_on bytes signals tables rows count rest e ∙ rw last refl
+-- alike by this number, and by a list that is the tables
+execs_alike : (signals : List CodeSignal) (tables others : List Table) (rows : List (List ℕ)) (width count : ℕ) (rest : List ℕ)
+    → width ≡ length signals → others ≡ tables → Execs width others rows count rest ≡ Execs (length signals) tables rows count rest
+execs_alike signals tables others rows width count rest counted same =
+    ap (λ (n : ℕ). Execs n others rows count rest) counted
+    ∙ ap (λ (ts : List Table). Execs (length signals) ts rows count rest) same
 
-pub program_stops : (err : ReadError) (bytes : List ℕ) (signals : List CodeSignal) (tables : List Table) (rows : List (List ℕ)) (count : ℕ) (rest : List ℕ)
-    → ReadsEarlier bytes signals tables rows count rest → Fails err (items_at (λ before. exec_at (length signals) tables rows) count [] rest) → Fails err (program_at bytes)
-program_stops errors.NoMemory bytes signals tables rows count rest e last = tt
-program_stops (errors.Refused refusal) bytes signals tables rows count rest e last =
-    reads_on bytes signals tables rows count rest e ∙ rw last refl
+pub program_made : (bytes : List ℕ) (signals : List CodeSignal) (tables others : List Table) (rows : List (List ℕ))
+    (width count : ℕ) (rest : List ℕ) (execs : List Exec) (after : List ℕ)
+    → ReadsEarlier bytes signals tables rows count rest → width ≡ length signals → others ≡ tables
+    → Execs width others rows count rest ≡ Ok (execs, after)
+    → program_at bytes ≡ Ok (record { signals = signals; tables = tables; rows = rows; execs = execs }, after)
+program_made bytes signals tables others rows width count rest execs after e counted same last =
+    let here : items_at (λ before. exec_at (length signals) tables rows) count [] rest ≡ Ok (execs, after) =
+    sym (execs_alike signals tables others rows width count rest counted same) ∙ last in
+    reads_on bytes signals tables rows count rest e ∙ rw here refl
+
+pub program_stops : (err : ReadError) (bytes : List ℕ) (signals : List CodeSignal) (tables others : List Table)
+    (rows : List (List ℕ)) (width count : ℕ) (rest : List ℕ)
+    → ReadsEarlier bytes signals tables rows count rest → width ≡ length signals → others ≡ tables
+    → Fails err (Execs width others rows count rest) → Fails err (program_at bytes)
+program_stops errors.NoMemory bytes signals tables others rows width count rest e counted same last = tt
+program_stops (errors.Refused refusal) bytes signals tables others rows width count rest e counted same last =
+    let here : items_at (λ before. exec_at (length signals) tables rows) count [] rest ≡ Err refusal =
+    sym (execs_alike signals tables others rows width count rest counted same) ∙ last in
+    reads_on bytes signals tables rows count rest e ∙ rw here refl
 
 -- the waves of the tables are in order
 pub tables_rising : (bytes : List ℕ) (signals : List CodeSignal) (tables : List Table) (rows : List (List ℕ)) (count : ℕ) (rest : List ℕ) → IsBytes bytes

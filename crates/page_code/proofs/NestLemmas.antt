@@ -289,3 +289,27 @@ nest_whole tables rows is_last before nest Done is last may =
       rest = is.completes (Done ∷ []) (is.depth ∙ eqb-true (open_behind 0 before) 0 inner.1, refl);
       cycles = leb-true (cycle_count (before ++ Done ∷ [])) (2 ^ 48) parts.1;
     }
+
+-- ---- one instruction more of so many, read behind those before it
+
+pub read_goes_on : (tables : List Table) (rows : List (List ℕ)) (place count : ℕ) (before after : List Instr) (nest next : Nest)
+    (bytes rest : List ℕ) (i : Instr)
+    → IsNest before nest → IsNarrow i → instr_with tables rows (eqb (place + 1) count) before bytes ≡ Ok (i, rest)
+    → after ≡ before ++ i ∷ [] → next ≡ record { depth = depth_after nest.depth i; begun = begins i } → place + 1 < count
+    → IsNest after next
+read_goes_on tables rows place count before after nest next bytes rest i is narrow read all one below =
+    let is_last = eqb (place + 1) count in
+    let other : is_last ≡ false = ne_eqb (place + 1) count (λ e. omega (arith, e, below)) in
+    subst (λ (n : Nest). IsNest after n) (sym one)
+    (subst (λ (xs : List Instr). IsNest xs (record { depth = depth_after nest.depth i; begun = begins i })) (sym all)
+    (nest_more tables rows is_last before nest i is narrow other (instr_may tables rows is_last before bytes i rest read)))
+
+pub read_is_whole : (tables : List Table) (rows : List (List ℕ)) (place count : ℕ) (before after : List Instr) (nest : Nest)
+    (bytes rest : List ℕ) (i : Instr)
+    → IsNest before nest → instr_with tables rows (eqb (place + 1) count) before bytes ≡ Ok (i, rest)
+    → after ≡ before ++ i ∷ [] → place + 1 ≡ count → IsWhole after
+read_is_whole tables rows place count before after nest bytes rest i is read all end =
+    let is_last = eqb (place + 1) count in
+    subst IsWhole (sym all)
+    (nest_whole tables rows is_last before nest i is (eq-eqb (place + 1) count end)
+    (instr_may tables rows is_last before bytes i rest read))

@@ -101,6 +101,15 @@ fn refusals_have_their_places(rt: HostRuntime) -> Result<(), Fail> {
     Ok(())
 }
 
+#[test]
+fn a_refusal_is_printed_with_its_place(rt: HostRuntime) -> Result<(), Fail> {
+    let torn = SavedFault::Torn(9).to_string(rt.alloc())?;
+    assert_eq!(rt; torn.as_str(), "the saved program ends at byte 9");
+    let bad = SavedFault::BadCode(7).to_string(rt.alloc())?;
+    assert_eq!(rt; bad.as_str(), "no code at byte 7");
+    Ok(())
+}
+
 /// The refusal of the program of these instructions.
 fn refused(
     alloc: Global,

@@ -1,14 +1,11 @@
-use Rattle.std.proofs.Common.{◌≡◌, ◌+◌, ◌∷◌, [], List, ℕ, Ok, eqb, false, true, ap, subst, sym, ◌∙◌, arith, length}
+use Rattle.std.proofs.Common.{◌≡◌, ◌+◌, ◌∷◌, [], List, ℕ, Ok, eqb, ap, subst, sym, ◌∙◌, arith, length}
 use Rattle.std.proofs.lemmas.Result.{err_from_is_err_and}
-use Rattle.std.proofs.lemmas.Bool.{ne_eqb, eq-eqb}
 use Rattle.std.proofs.lemmas.List.{length-append}
 use Rattle.page_meaning.specs.declared.instr.Instr.{Instr}
-use Rattle.page_code.specs.declared.read_instrs.Nest.{Nest}
 use Rattle.page_code.specs.Fields.{Fails, items_at}
 use Rattle.page_code.specs.Reading.{instr_at, instr_with}
-use Rattle.page_code.specs.Nest.{IsNest, depth_after, begins}
 use Rattle.page_code.proofs.ItemsLemmas.{goes_on, stops, is_done}
-use Rattle.page_code.proofs.NestLemmas.{nest_more, nest_whole, instr_may}
+use Rattle.page_code.proofs.NestLemmas.{read_goes_on, read_is_whole}
 use Rattle.page_meaning.specs.Whole.{IsWhole}
 use Rattle.page_code.proofs.read_instrs.instrs.Goals as goal
 
@@ -37,18 +34,12 @@ loop-place-preserved c =
       accepted = c.instr.ensures.accepted;
       size = ap length read.1 ∙ length-append before (c.in_ok-last.last ∷ []) ∙ omega (arith, c.loop-place.invariant.size);
       whole = λ end some.
-          let last : eqb (c.loop-place.place + 1) c.args.count ≡ true = eq-eqb (c.loop-place.place + 1) c.args.count end in
-          subst IsWhole (sym read.1)
-          (nest_whole c.args.tables.now c.args.rows.now (eqb (c.loop-place.place + 1) c.args.count) before c.loop-place.nest c.in_ok-last.last
-          (c.loop-place.invariant.nest c.loop-place-test.true) last
-          (instr_may c.args.tables.now c.args.rows.now (eqb (c.loop-place.place + 1) c.args.count) before c.loop-place.rest.now c.in_ok-last.last c.in_ok-last.after.now read.0));
-      nest = λ lt.
-          let other : eqb (c.loop-place.place + 1) c.args.count ≡ false = ne_eqb (c.loop-place.place + 1) c.args.count (λ e. omega arith) in
-          let nest = nest_more c.args.tables.now c.args.rows.now (eqb (c.loop-place.place + 1) c.args.count) before c.loop-place.nest c.in_ok-last.last
-          (c.loop-place.invariant.nest c.loop-place-test.true) c.in_ok-last.ensures.narrow other
-          (instr_may c.args.tables.now c.args.rows.now (eqb (c.loop-place.place + 1) c.args.count) before c.loop-place.rest.now c.in_ok-last.last c.in_ok-last.after.now read.0) in
-          subst (λ (n : Nest). IsNest c.instr.new.instrs.items n) (sym c.after-nest.ensures)
-          (subst (λ (xs : List Instr). IsNest xs (record { depth = depth_after c.loop-place.nest.depth c.in_ok-last.last; begun = begins c.in_ok-last.last })) (sym read.1) nest);
+          read_is_whole c.args.tables.now c.args.rows.now c.loop-place.place c.args.count before c.instr.new.instrs.items c.loop-place.nest
+          c.loop-place.rest.now c.in_ok-last.after.now c.in_ok-last.last (c.loop-place.invariant.nest c.loop-place-test.true) read.0 read.1 end;
+      nest = λ below.
+          read_goes_on c.args.tables.now c.args.rows.now c.loop-place.place c.args.count before c.instr.new.instrs.items c.loop-place.nest
+          c.after-nest.result c.loop-place.rest.now c.in_ok-last.after.now c.in_ok-last.last (c.loop-place.invariant.nest c.loop-place-test.true)
+          c.in_ok-last.ensures.narrow read.0 read.1 c.after-nest.ensures below;
     }
 
 pub returns-clause-read : goal.returns-clause-read
