@@ -52,6 +52,24 @@ fn program(alloc: Global, first: u8, second: u8) -> Result<Vec<u8>, AllocError> 
     Ok(bytes)
 }
 
+/// The code of a saved program with three signals.
+fn code_of(alloc: Global, bytes: &[u8]) -> Result<Code, Failure>
+    ensures { IfOk result (λ code. length code.signals ≡ 3) }
+{
+    let code = load(alloc, bytes).ok().ok_or("the bytes are a code")?;
+    if code.signals() != 3 {
+        return Err("there are three signals".into());
+    }
+    Ok(code)
+}
+
+/// The netlist of a text.
+fn netlist(alloc: Global, text: &[u8]) -> Result<Netlist, NetFault>
+    requires { length text.now ≤ 16777216 }
+{
+    read(alloc, text)
+}
+
 /// Whether there is one fault at most, of a net of the netlist.
 fn is_one_fault(net: &Netlist, faults: &[StuckAt]) -> bool
     ensures { result ≡ true → (length faults.now ≤ 1) × ((d : StuckAt) → 0 < length faults.now → (slice_index_or faults.now 0 d).net < length net.now.net.drivers) }
@@ -77,10 +95,7 @@ fn die(alloc: Global, net: Netlist, faults: Vec<StuckAt>) -> Result<DieImage, Ne
     if !is_one_fault(&net, faults.as_slice()) {
         return Err(NetFault::OutOfRange);
     }
-    let nets = BindList::from_slice(
-        alloc,
-        &[Bind::Input(0), Bind::Output(1), Bind::Free],
-    )?;
+    let nets = BindList::from_slice(alloc, &[Bind::Input(0), Bind::Output(1), Bind::Free])?;
     let clock = Some(2);
     Ok(DieImage {
         net: Arc::new(alloc, net)?,
@@ -94,10 +109,7 @@ fn tried(alloc: Global, rows: (u8, u8), image: &DieImage, call: u64) -> Result<T
     requires { length image.now.binds ≡ 3 }
 {
     let bytes = program(alloc, rows.0, rows.1)?;
-    let code = load(alloc, &bytes).ok().ok_or("the bytes are a code")?;
-    if code.signals() != 3 {
-        return Err("there are three signals".into());
-    }
+    let code = code_of(alloc, &bytes)?;
     let mut socket = FailingSocket::new(alloc, call);
     let trial = run_try(alloc, &code, image, 10, &mut socket)?;
     Ok(trial)
@@ -107,7 +119,7 @@ fn tried(alloc: Global, rows: (u8, u8), image: &DieImage, call: u64) -> Result<T
 fn inverter(alloc: Global, faults: &[StuckAt]) -> Result<DieImage, NetFault>
     ensures { IfOk result (λ i. length i.binds ≡ 3) }
 {
-    let net = read(alloc, b"INPUT(a)\nOUTPUT(y)\ny = NOT(a)\n")?;
+    let net = netlist(alloc, b"INPUT(a)\nOUTPUT(y)\ny = NOT(a)\n")?;
     die(alloc, net, Vec::from_slice(alloc, faults)?)
 }
 
@@ -166,7 +178,7 @@ fn a_lost_contact_ends_the_try(rt: HostRuntime) -> Result<(), Failure> {
 
 #[test]
 fn a_flip_flop_captures_what_its_input_was(rt: HostRuntime) -> Result<(), Failure> {
-    let net = read(rt.alloc(), b"INPUT(d)\nOUTPUT(q)\nq = DFF(d)\n")?;
+    let net = netlist(rt.alloc(), b"INPUT(d)\nOUTPUT(q)\nq = DFF(d)\n")?;
     let image = die(rt.alloc(), net, Vec::new(rt.alloc()))?;
     let trial = tried(rt.alloc(), (2, 3), &image, 0)?;
     assert_eq!(rt; trial.cycles, 2);

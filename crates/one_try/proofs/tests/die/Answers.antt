@@ -1,4 +1,4 @@
-use Rattle.std.proofs.Common.{◌≡◌, ℕ, ◌<◌, ◌≤◌, ◌∙◌, List, length, get_or, ap, sym, subst, arith}
+use Rattle.std.proofs.Common.{◌≡◌, ◌<◌, ◌≤◌, ◌∙◌, List, length, get_or, ap, sym, subst, arith}
 use Rattle.std.specs.Arc.{arc_value}
 use Rattle.bench_net.specs.Circuit.{Circuit}
 use Rattle.bench_net.specs.declared.gate.Driver.TheVariants.{Input}
@@ -13,7 +13,7 @@ invariant_of-result c =
     let drivers = c.args.net.net.drivers in
     let circuit : arc_value c.in_ok-new.field-0 ≡ c.args.net = c.in_ok-new.ensures.ok in
     let binding = c.in_ok-new-2.ensures.ok in
-    let binds = ap (λ (b : Binding). b.nets) binding ∙ c.from_vec-nets.ensures ∙ c.in_ok-from_slice.ensures.items in
+    let binds = ap (λ (b : Binding). b.nets) binding ∙ c.in_ok-nets.ensures in
     let faults : c.from_vec.result ≡ c.as_slice.result.now = c.from_vec.ensures ∙ sym c.as_slice.ensures.value in
     let long : 2 ≤ length drivers = omega (arith, c.nets.ensures.count, c.nets.ensures.whole.drivers, c.if-nets-lt2.false) in
     let input : driver_at drivers 0 ≡ Input = is_input _ c.is_input.result c.is_input.ensures c.if-not-is_input.false in
