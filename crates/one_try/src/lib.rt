@@ -1,7 +1,7 @@
 //! One try of one die: its moments are made at a socket, its looks are judged, and what was found is recorded.
 #![tactic(auto)]
 
-ghost use Rattle.std.specs.Prelude.{◌≡◌, ◌<◌, ◌≤◌, All, length, IfOk};
+ghost use Rattle.std.specs.Prelude.{◌≡◌, ◌<◌, ◌≤◌, All, None, length, IfOk};
 ghost use Rattle.tester_types.specs.Outside.{HasRisen};
 ghost use Rattle.die_sim.specs.Socket.{IsLoaded};
 ghost use Rattle.one_try.specs.Trials.{IsTrial, IsContact};
@@ -40,6 +40,7 @@ pub fn run_try<K: Socket>(
     ensures known { IfOk result (λ t. All (λ fail. fail.signal < length code.now.signals) t.kept) }
     ensures contact { IfOk result (λ t. IsContact t.verdict → HasRisen (K.told socket.old).count (K.told socket.new).count) }
     ensures count { (K.told socket.old).count ≤ (K.told socket.new).count }
+    ensures empty { (K.told socket.new).loaded ≡ None }
 {
     match socket.load(image) {
         Ok(()) => {
