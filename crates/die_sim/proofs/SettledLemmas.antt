@@ -52,7 +52,7 @@ pins_within nets Input h = All-from_get_or (λ p. p < nets) [] 0 (λ i l. absurd
 pins_within nets (Dff p) h = All-from_get_or (λ p. p < nets) [] 0 (λ i l. absurd (omega (arith, l)))
 pins_within nets (Gate kind pins) h = h.3
 
--- so each netlist that is read has one at most; a die that is made has one
+-- so each netlist has one settling at most; that it has one is `one_settling_each`
 pub one_settled_netlist : (c : Circuit) → IsWhole c → (fixed : List (Option Level)) (held v w : List Level) → Settled c.net.drivers fixed held v → Settled c.net.drivers fixed held w → v ≡ w
 one_settled_netlist c whole fixed held v w a b =
     one_settled c.net.drivers whole.wired
