@@ -17,6 +17,7 @@ point = 46
 unfoldable pub is_blank : ℕ → Bool
 is_blank b = b == 0x20 || b == 0x09 || b == 0x0A || b == 0x0C || b == 0x0D
 
+-- `0` to `9`
 unfoldable pub is_digit : ℕ → Bool
 is_digit b = nat_le 0x30 b && nat_le b 0x39
 

@@ -16,6 +16,7 @@ pub data Joint : Type 0 where
   of_term : Joint
   of_sum : Joint
 
+-- whether an operator joins factors in a term, or terms in a sum
 abbrev pub joins : Joint → Operator → Bool
 joins of_term Plus = false
 joins of_term Minus = false

@@ -11,6 +11,7 @@ use Rattle.time_expr.specs.declared.expr.Bound.{Bound}
 use Rattle.time_expr.specs.declared.expr.Bound.TheVariants.{Least, Greatest}
 use Rattle.time_expr.specs.declared.token.Number.{Number}
 
+-- what an expression is a sequence of, where blanks are left out
 pub data Lexeme : Type 0 where
   literal : Number → Lexeme
   word : List ℕ → Lexeme

@@ -35,8 +35,7 @@ pub(crate) fn number_expr(value: Fraction, unit: Unit) -> Expr
 pub(crate) fn name_expr(alloc: Global, bytes: &[u8]) -> Result<Expr, AllocError>
     ensures { IfOk result (λ e. tree_of e ≡ name bytes.now) }
 {
-    let bytes = Vec::from_slice(alloc, bytes)?;
-    Ok(Expr::Name(Text::from_vec(bytes)))
+    Ok(Expr::Name(Text::from_slice(alloc, bytes)?))
 }
 
 fn chain_expr(alloc: Global, first: Expr, links: Vec<(Operator, Expr)>) -> Result<Expr, AllocError>

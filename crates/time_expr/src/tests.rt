@@ -223,3 +223,10 @@ fn literals_out_of_range_come_behind_bad_texts(rt: HostRuntime) {
         Some(ExprFault::BadExpr)
     );
 }
+
+#[test]
+fn a_fault_is_printed_in_words(rt: HostRuntime) -> Result<(), ExprFault> {
+    let line = ExprFault::ZeroDivisor.to_string(rt.alloc())?;
+    assert_eq!(rt; line.as_str(), "division by zero");
+    Ok(())
+}
