@@ -1,4 +1,5 @@
 pub mod KeptLemmas
+pub mod LookupLemmas
 pub mod ReadLemmas
 pub mod StandardFacts
 pub mod CycleLemmas

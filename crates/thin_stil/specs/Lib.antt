@@ -2,3 +2,4 @@ pub mod ThinForm
 pub mod ThinBlocks
 pub mod Thin
 pub mod Rows
+pub mod Lookup

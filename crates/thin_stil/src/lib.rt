@@ -2,6 +2,7 @@
 #![tactic(auto)]
 
 mod block;
+mod lookup;
 mod pattern;
 mod reader;
 mod rows;

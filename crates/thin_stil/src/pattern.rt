@@ -1,46 +1,37 @@
 //! The Pattern of a thin text, its burst and its executive.
 
-ghost use Rattle.std.specs.Prelude.{◌≡◌, ◌==◌, ◌&&◌, None, Some, MatchOption, MatchResult, Ok, Err, length, map, option_map};
+ghost use Rattle.std.specs.Prelude.{◌≡◌, ◌==◌, ◌&&◌, [], None, Some, MatchOption, MatchResult, Ok, Err, length, map, option_map};
 ghost use Rattle.std.specs.List.{list_any};
 ghost use Rattle.stil_tree.specs.Trees.{entry_of};
 ghost use Rattle.stil_form.specs.Lexeme.{lexemes, head_of, body_of};
-ghost use Rattle.stil_form.specs.Reading.{Answers, AnswersBy};
+ghost use Rattle.stil_form.specs.Reading.{Answers, AnswersBy, reading};
 ghost use Rattle.thin_stil.specs.ThinForm.{kept, not_thin, only};
-ghost use Rattle.thin_stil.specs.ThinBlocks.{has_wave, given_by, given_said, given_of, vector_of, vectors_in, pattern_in, is_name, is_list_of, has_list_of, burst_of, runs_alone, name_both, runs_with, runs, exec_of};
+ghost use Rattle.thin_stil.specs.ThinBlocks.{given_by, given_said, given_of, vector_of, vectors_in, pattern_in, is_name, is_list_of, has_list_of, burst_of, runs_alone, name_both, runs_with, runs, exec_of};
 
 use crate::block::{
     NOT_THIN, block, is_called, name_behind, names, one_of, plain_block, title_behind, two_of,
 };
-use crate::signals::signal_number;
+use crate::lookup::{Letters, Numbers};
 use crate::thin::{ThinPattern, ThinSignal};
 use std::alloc::Global;
 use stil_form::{
     Form, FormFault, Mark, Part, Source, body, first_part, head, name_of, part_of, read_each,
 };
 use stil_tree::Stmt;
-use tester_types::{Items, Table, Text, Wave};
+use tester_types::{Items, Table, Text};
 
 /// The most vectors of a pattern.
 const MOST_VECTORS: usize = 65_536;
 
-/// Whether the table defines the character for the signal.
-fn has_wave(waves: &[Wave], signal: u16, letter: u8) -> bool
-    ensures { result ≡ has_wave waves.now signal letter }
-{
-    waves
-        .iter()
-        .any(|wave| wave.signal == signal && wave.letter == letter)
-}
-
 /// One character that the table defines for the signal of this name.
-fn given_by(signals: &[ThinSignal], waves: &[Wave], name: &[u8], text: &[u8]) -> Option<(u16, u8)>
-    ensures { result ≡ given_by signals.now waves.now name.now text.now }
+fn given_by(numbers: &Numbers, letters: &Letters, name: &[u8], text: &[u8]) -> Option<(u16, u8)>
+    ensures { result ≡ given_by numbers.now letters.now name.now text.now }
 {
     let [letter] = text else {
         return None;
     };
-    let signal = signal_number(signals, name)?;
-    if has_wave(waves, signal, *letter) {
+    let signal = numbers.number(name)?;
+    if letters.has(signal, *letter) {
         Some((signal, *letter))
     } else {
         None
@@ -48,8 +39,8 @@ fn given_by(signals: &[ThinSignal], waves: &[Wave], name: &[u8], text: &[u8]) ->
 }
 
 /// What `name=Word` assigns.
-fn given_said(signals: &[ThinSignal], waves: &[Wave], head: Source) -> Option<(u16, u8)>
-    ensures { result ≡ given_said signals.now waves.now (lexemes head.entry) }
+fn given_said(numbers: &Numbers, letters: &Letters, head: Source) -> Option<(u16, u8)>
+    ensures { result ≡ given_said numbers.now letters.now (lexemes head.entry) }
 {
     let (called, rest) = first_part(head)?;
     let Some((Part::Sign(Mark::Equals), rest)) = first_part(rest) else {
@@ -57,7 +48,7 @@ fn given_said(signals: &[ThinSignal], waves: &[Wave], head: Source) -> Option<(u
     };
     match first_part(rest) {
         Some((Part::Word(text), rest)) if rest.tokens.is_empty() => {
-            given_by(signals, waves, name_of(&called)?, text)
+            given_by(numbers, letters, name_of(&called)?, text)
         }
         _ => None,
     }
@@ -65,16 +56,16 @@ fn given_said(signals: &[ThinSignal], waves: &[Wave], head: Source) -> Option<(u
 
 /// Statements that assign one character to one signal.
 #[derive(Clone, Copy)]
-struct GivenForm<'a> {
+struct GivenForm<'k, 'a> {
     source: Source<'a>,
-    signals: &'a [ThinSignal],
-    waves: &'a [Wave],
+    numbers: &'k Numbers<'a>,
+    letters: &'k Letters<'a>,
 }
 
-impl Form for GivenForm<'_> {
+impl Form for GivenForm<'_, '_> {
     type Data = (u16, u8);
 
-    ghost judge = { λ form _ e. kept (given_of form.signals.now form.waves.now (head_of (lexemes form.source) e) (body_of e)) };
+    ghost judge = { λ form _ e. kept (given_of form.numbers.now form.letters.now (head_of (lexemes form.source) e) (body_of e)) };
 
     fn judge_one(
         &self,
@@ -86,7 +77,7 @@ impl Form for GivenForm<'_> {
         if body(stmt).is_some() {
             return Err(NOT_THIN);
         }
-        match given_said(self.signals, self.waves, head(self.source, stmt)) {
+        match given_said(self.numbers, self.letters, head(self.source, stmt)) {
             Some(given) => Ok(given),
             None => Err(NOT_THIN),
         }
@@ -95,16 +86,16 @@ impl Form for GivenForm<'_> {
 
 /// Statements that are vectors.
 #[derive(Clone, Copy)]
-struct VectorForm<'a> {
+struct VectorForm<'k, 'a> {
     source: Source<'a>,
-    signals: &'a [ThinSignal],
-    waves: &'a [Wave],
+    numbers: &'k Numbers<'a>,
+    letters: &'k Letters<'a>,
 }
 
-impl Form for VectorForm<'_> {
+impl Form for VectorForm<'_, '_> {
     type Data = Items<(u16, u8)>;
 
-    ghost judge = { λ form. vector_of (lexemes form.source) form.signals.now form.waves.now };
+    ghost judge = { λ form. vector_of (lexemes form.source) form.numbers.now form.letters.now };
 
     fn judge_one(
         &self,
@@ -118,19 +109,37 @@ impl Form for VectorForm<'_> {
         let stmts = plain_block(b"V", self.source, stmt)?;
         let form = GivenForm {
             source: self.source,
-            signals: self.signals,
-            waves: self.waves,
+            numbers: self.numbers,
+            letters: self.letters,
         };
         Ok(Items::from_vec(read_each(alloc, &form, stmts)?))
     }
 }
 
-/// `W` of the table, and then the vectors.
-fn read_vectors(
+/// Vectors that assign characters of these waves to these signals.
+fn read_known<'k, 'a>(
     alloc: Global,
-    source: Source,
-    signals: &[ThinSignal],
-    table: &Table,
+    source: Source<'a>,
+    numbers: &'k Numbers<'a>,
+    letters: &'k Letters<'a>,
+    stmts: &[Stmt],
+) -> Result<Items<Items<(u16, u8)>>, FormFault>
+    ensures { Answers result (reading (vector_of (lexemes source.entry) numbers.now letters.now) [] (map entry_of stmts.now)) }
+{
+    let form = VectorForm {
+        source,
+        numbers,
+        letters,
+    };
+    Ok(Items::from_vec(read_each(alloc, &form, stmts)?))
+}
+
+/// `W` of the table, and then the vectors.
+fn read_vectors<'a>(
+    alloc: Global,
+    source: Source<'a>,
+    signals: &'a [ThinSignal],
+    table: &'a Table,
     stmts: &[Stmt],
 ) -> Result<Items<Items<(u16, u8)>>, FormFault>
     ensures { Answers result (vectors_in (lexemes source.entry) signals.now table.now (map entry_of stmts.now)) }
@@ -141,12 +150,9 @@ fn read_vectors(
     if !names(b"W", table.name.as_slice(), source, first) {
         return Err(NOT_THIN);
     }
-    let form = VectorForm {
-        source,
-        signals,
-        waves: table.waves.as_slice(),
-    };
-    Ok(Items::from_vec(read_each(alloc, &form, rest)?))
+    let numbers = Numbers::new(alloc, signals)?;
+    let letters = Letters::new(alloc, table.waves.as_slice())?;
+    read_known(alloc, source, &numbers, &letters, rest)
 }
 
 /// A Pattern: its name, and its vectors.

@@ -46,7 +46,7 @@ fn place_of(signals: &[ThinSignal], name: &[u8]) -> Option<usize>
         .position(|signal| signal.name.as_slice() == name)
 }
 
-fn short_number(number: usize) -> Option<u16>
+pub fn short_number(number: usize) -> Option<u16>
     ensures { result ≡ short_number number }
 {
     if number < 65_536 {
