@@ -59,6 +59,7 @@ is_called wanted (Some called) = bytes_eq called wanted
 abbrev pub names : List ℕ → List ℕ → List Lexeme → Entry → Bool
 names keyword wanted lexemes e = not (is_some (body_of e)) && is_called wanted (name_behind keyword (head_of lexemes e))
 
+-- the words of the header
 abbrev pub is_stil_1_0 : List Lexeme → Bool
 is_stil_1_0 (stil ∷ major ∷ sign Dot ∷ minor ∷ []) = is_keyword (codes "STIL") stil && is_keyword (codes "1") major && is_keyword (codes "0") minor
 is_stil_1_0 _ = false
@@ -90,6 +91,7 @@ signals_of lexemes e =
 abbrev pub period_by : List ℕ → Option ℕ
 period_by bytes = option_and_then (λ number. if nat_le 1 number && nat_le number 1000000 then Some (number * nanosecond) else None) (nanoseconds bytes)
 
+-- `Period Text`
 abbrev pub period_in : List Lexeme → Option ℕ
 period_in (one ∷ text bytes ∷ []) = if is_keyword (codes "Period") one then period_by bytes else None
 period_in _ = None
@@ -116,6 +118,7 @@ timing_in lexemes signals title outer =
     and_then (table_of lexemes signals called es) (λ table.
     Ok (record { name = title; table = table })))))
 
+-- a Timing by its statement: its name, which may be missing, and its block
 abbrev pub timing_of : List Lexeme → List ThinSignal → Entry → Result ThinTiming FormFault
 timing_of lexemes signals e =
     and_then (kept (title_behind (codes "Timing") (head_of lexemes e))) (λ title.
