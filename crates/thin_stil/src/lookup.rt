@@ -7,12 +7,15 @@ ghost use Rattle.thin_stil.specs.ThinForm.{has_name, short_number, signal_number
 ghost use Rattle.thin_stil.specs.ThinBlocks.{has_wave};
 ghost use Rattle.thin_stil.specs.Lookup.{place_in, has_pair};
 
-use crate::signals::short_number;
+use crate::signals::{short_number, signal_number};
 use crate::thin::ThinSignal;
 use indexmap::{IndexMap, IndexSet};
 use std::alloc::{AllocError, Global};
 use std::marker::Model;
 use tester_types::Wave;
+
+/// The most signals, or waves, that are looked through one after another, which takes less than an index.
+const FEW: usize = 16;
 
 /// Signals with an index of their names.
 #[derive(Drop)]
@@ -47,6 +50,9 @@ impl<'a> Numbers<'a> {
     pub fn number(&self, name: &[u8]) -> Option<u16>
         ensures { result ≡ signal_number self.now name.now }
     {
+        if self.signals.len() <= FEW {
+            return signal_number(self.signals, name);
+        }
         match place_of(&self.places, name) {
             Some(place) => short_number(place),
             None => None,
@@ -123,8 +129,19 @@ impl<'a> Letters<'a> {
     pub fn has(&self, signal: u16, letter: u8) -> bool
         ensures { result ≡ has_wave self.now signal letter }
     {
+        if self.waves.len() <= FEW {
+            return has_wave(self.waves, signal, letter);
+        }
         has_pair(&self.pairs, signal, letter)
     }
+}
+
+fn has_wave(waves: &[Wave], signal: u16, letter: u8) -> bool
+    ensures { result ≡ has_wave waves.now signal letter }
+{
+    waves
+        .iter()
+        .any(|wave| wave.signal == signal && wave.letter == letter)
 }
 
 fn has_pair(pairs: &IndexSet<(u16, u8)>, signal: u16, letter: u8) -> bool
