@@ -9,7 +9,7 @@ use Rattle.plan_rows.specs.Plan.{IsPlan, IsFault as IsPlanFault}
 use Rattle.bench_net.specs.declared.fault.NetFault.{NetFault}
 use Rattle.bench_net.specs.declared.fault.NetFault.TheVariants as nets
 use Rattle.bench_net.specs.Fault.{IsFault as IsNetFault}
-use Rattle.stil_tool.specs.OneDie.{is_one_die}
+use Rattle.stil_tool.specs.OneDie.{is_one_die, net_file}
 use Rattle.die_sim.specs.Socket.{Told}
 use Rattle.lot_plan.specs.Bound.{Bound}
 use Rattle.lot_plan.specs.Refusal.{refusal}
@@ -20,7 +20,7 @@ use Rattle.stil_tool.specs.declared.refusal.Refusal.{Refusal}
 use Rattle.stil_tool.specs.declared.refusal.Refusal.TheVariants as refused
 use Rattle.stil_tool.specs.Offline.{LoadFailed, Ends}
 use Rattle.stil_tool.specs.LotText.{status_of, line_of}
-use Rattle.stil_tool.specs.Lot.{Inputs, AreInputs, bound_of, IsFile, IsUnread, IsPlanRefused, IsNetRefused, IsRefused, IsTried, IsReady, RunWants, LotWants, first_count}
+use Rattle.stil_tool.specs.Lot.{Inputs, AreInputs, bound_of, IsFile, IsTextFile, IsPlanFile, IsNetFile, IsUnread, IsPlanRefused, IsNetRefused, IsRefused, IsTried, IsReady, RunWants, LotWants, first_count}
 use Rattle.stil_tool.specs.Lot.IsPlanRefused.{no_memory as plan_memory, unread as plan_unread, faulty as plan_faulty, not_one as plan_other}
 use Rattle.stil_tool.specs.Lot.IsNetRefused.{no_memory as net_memory, unread as net_unread, faulty as net_faulty}
 use Rattle.stil_tool.specs.Lot.IsRefused.{no_memory, unbound, no_socket}
@@ -71,6 +71,17 @@ bound-is inputs code is =
     let view : ℕ → Bound = λ n. record { rows = inputs.rows; signals = code.signals; execs = n; circuits = inputs.circuit ∷ [] } in
     ap view one
     ∙ ap (λ signals. record { rows = inputs.rows; signals = signals; execs = 1; circuits = inputs.circuit ∷ [] }) is.signals
+
+-- what was read of the three files, one after another, where no load changes what the shelf tells
+pub inputs_are : (told first second : Option Files) (program plan name : List ℕ) (inputs : Inputs) →
+    IsTextFile told program inputs.thin → first ≡ told → IsPlanFile first plan inputs.rows →
+    second ≡ first → name ≡ net_file inputs.rows → IsNetFile second name inputs.circuit → AreInputs told program plan inputs
+inputs_are told first second program plan name inputs text same plan_is same' named net = record {
+  text = text;
+  rows = subst (λ (t : Option Files). IsPlanFile t plan inputs.rows) same plan_is;
+  net = subst (λ (n : List ℕ). IsNetFile told n inputs.circuit) named
+      (subst (λ (t : Option Files). IsNetFile t name inputs.circuit) (same' ∙ same) net);
+}
 
 -- what is refused where the binding is
 pub unbound_refused : (told : Option Files) (before now sockets : ℕ) (program plan : List ℕ) (inputs : Inputs) (b : Bound)

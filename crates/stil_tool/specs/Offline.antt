@@ -21,18 +21,23 @@ AreCycles words file = words ≡ codes "cycles" ∷ file ∷ []
 abbrev pub limit : ℕ
 limit = 16777216
 
+-- what is written where the words are none of the forms
 abbrev pub usage_line : List ℕ
 usage_line = codes "usage: check FILE | cycles FILE | events FILE | save FILE | lot PROGRAM PLAN | drill N\n"
 
+-- what is written where a file couldn't be loaded
 abbrev pub read_fault_line : List ℕ → List ℕ
 read_fault_line name = codes "read fault " ++ printed_name name ++ codes "\n"
 
+-- what is written where a file has too many bytes
 abbrev pub too_long_line : List ℕ → List ℕ
 too_long_line name = codes "too long " ++ printed_name name ++ codes "\n"
 
+-- what is written where a text isn't thin
 abbrev pub refused_thin_line : List ℕ
 refused_thin_line = codes "refused stil LeftOut - - 1\n"
 
+-- what is written where memory ran out
 abbrev pub memory_line : List ℕ
 memory_line = codes "out of memory\n"
 

@@ -14,7 +14,7 @@ use tester_types::{Piece, Sink, Text};
 
 /// Why a lot isn't run.
 #[derive(Debug, Drop)]
-pub(crate) enum Refusal {
+pub enum Refusal {
     NoMemory,
     /// The file of this name couldn't be read.
     ReadFault(Text),

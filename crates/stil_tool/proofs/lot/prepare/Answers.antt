@@ -3,11 +3,11 @@ use Rattle.std.specs.Str.{IsUtf8}
 use Rattle.tester_types.specs.Outside.{Files}
 use Rattle.lot_plan.specs.Refusal.{refusal}
 use Rattle.stil_tool.specs.OneDie.{net_file}
-use Rattle.stil_tool.specs.Lot.{Inputs, AreInputs, IsPlanFile, IsNetFile, IsPlanRefused, IsNetRefused}
+use Rattle.stil_tool.specs.Lot.{Inputs, IsPlanFile, IsPlanRefused, IsNetRefused}
 use Rattle.stil_tool.specs.Lot.IsRefused.{of_text, of_plan, of_net}
 use Rattle.stil_tool.proofs.FileNames.{file_text}
 use Rattle.stil_tool.proofs.OneDieLemmas.{has_die, file-is, one_file}
-use Rattle.stil_tool.proofs.LotLemmas.{wide-plan, wide-net, bound-is, unbound_refused}
+use Rattle.stil_tool.proofs.LotLemmas.{wide-plan, wide-net, bound-is, inputs_are, unbound_refused}
 use Rattle.stil_tool.proofs.lot.prepare.Goals as goal
 
 pub returns-in-Err-clause-refused : goal.returns-in-Err-clause-refused
@@ -52,19 +52,12 @@ bind-requires g c =
 
 pub returns-in-Ok-bind-clause-ready : goal.returns-in-Ok-bind-clause-ready
 returns-in-Ok-bind-clause-ready g c =
-    let told = g.F.Shelf.told c.args.shelf.now in
-    let rows = c.in-Ok-read_plan.plan in
-    let inputs : Inputs = record { thin = c.in-Ok.text; rows = rows; circuit = c.in-Ok-read_net.net } in
+    let inputs : Inputs = record { thin = c.in-Ok.text; rows = c.in-Ok-read_plan.plan; circuit = c.in-Ok-read_net.net } in
     let same = bound-is inputs c.in-Ok-compile.code c.in-Ok-compile.ensures in
     record {
       inputs = inputs;
-      are = record {
-        text = c.in-Ok.ensures.found;
-        rows = subst (λ (t : Option Files). IsPlanFile t c.args.plan.now rows) c.in-Ok.ensures.kept c.in-Ok-read_plan.ensures.found;
-        net = subst (λ (name : List ℕ). IsNetFile told name c.in-Ok-read_net.net) c.net_file.ensures
-            (subst (λ (t : Option Files). IsNetFile t c.net_file.result.now c.in-Ok-read_net.net)
-            (c.in-Ok-read_plan.ensures.kept ∙ c.in-Ok.ensures.kept) c.in-Ok-read_net.ensures.found);
-      };
+      are = inputs_are (g.F.Shelf.told c.args.shelf.now) _ _ _ _ _ inputs c.in-Ok.ensures.found c.in-Ok.ensures.kept
+          c.in-Ok-read_plan.ensures.found c.in-Ok-read_plan.ensures.kept c.net_file.ensures c.in-Ok-read_net.ensures.found;
       compiled = c.in-Ok-compile.ensures;
       is = c.in-Ok-bind.ensures.0 ∙ same;
       accepted = ap refusal (sym same) ∙ c.in-Ok-bind.ensures.1;
@@ -73,14 +66,8 @@ returns-in-Ok-bind-clause-ready g c =
 pub returns-in-Err-bind-clause-refused : goal.returns-in-Err-bind-clause-refused
 returns-in-Err-bind-clause-refused g c = λ sockets.
     let told = g.F.Shelf.told c.args.shelf.now in
-    let rows = c.in-Ok-read_plan.plan in
-    let inputs : Inputs = record { thin = c.in-Ok.text; rows = rows; circuit = c.in-Ok-read_net.net } in
-    let are : AreInputs told c.args.program.now c.args.plan.now inputs = record {
-      text = c.in-Ok.ensures.found;
-      rows = subst (λ (t : Option Files). IsPlanFile t c.args.plan.now rows) c.in-Ok.ensures.kept c.in-Ok-read_plan.ensures.found;
-      net = subst (λ (name : List ℕ). IsNetFile told name c.in-Ok-read_net.net) c.net_file.ensures
-          (subst (λ (t : Option Files). IsNetFile t c.net_file.result.now c.in-Ok-read_net.net)
-          (c.in-Ok-read_plan.ensures.kept ∙ c.in-Ok.ensures.kept) c.in-Ok-read_net.ensures.found);
-    } in
+    let inputs : Inputs = record { thin = c.in-Ok.text; rows = c.in-Ok-read_plan.plan; circuit = c.in-Ok-read_net.net } in
+    let are = inputs_are told _ _ c.args.program.now c.args.plan.now _ inputs c.in-Ok.ensures.found c.in-Ok.ensures.kept
+    c.in-Ok-read_plan.ensures.found c.in-Ok-read_plan.ensures.kept c.net_file.ensures c.in-Ok-read_net.ensures.found in
     unbound_refused told _ _ sockets c.args.program.now c.args.plan.now inputs _ c.in-Err-bind.fault are
     (bound-is inputs c.in-Ok-compile.code c.in-Ok-compile.ensures) c.in-Err-bind.ensures
