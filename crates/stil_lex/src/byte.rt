@@ -12,11 +12,24 @@ pub(crate) fn is_blank(b: u8) -> bool
     b == b' ' || b == b'\t' || b == b'\n' || b == 0x0C || b == b'\r'
 }
 
-#[tactic(auto, unfolding(crate::specs::Bytes::is_word))]
+/// 1 at each byte that a word may hold, else 0.
+#[rattlefmt::skip]
+static WORD_BYTES: [u8; 256] = [
+    0, 0, 0, 0, 0, 0, 0, 0, 0, 0, 0, 0, 0, 0, 0, 0, 0, 0, 0, 0, 0, 0, 0, 0, 0, 0, 0, 0, 0, 0, 0, 0,
+    0, 0, 0, 0, 0, 0, 0, 0, 0, 0, 0, 0, 0, 0, 0, 0, 1, 1, 1, 1, 1, 1, 1, 1, 1, 1, 0, 0, 0, 0, 0, 0,
+    0, 1, 1, 1, 1, 1, 1, 1, 1, 1, 1, 1, 1, 1, 1, 1, 1, 1, 1, 1, 1, 1, 1, 1, 1, 1, 1, 0, 0, 0, 0, 1,
+    0, 1, 1, 1, 1, 1, 1, 1, 1, 1, 1, 1, 1, 1, 1, 1, 1, 1, 1, 1, 1, 1, 1, 1, 1, 1, 1, 0, 0, 0, 0, 0,
+    0, 0, 0, 0, 0, 0, 0, 0, 0, 0, 0, 0, 0, 0, 0, 0, 0, 0, 0, 0, 0, 0, 0, 0, 0, 0, 0, 0, 0, 0, 0, 0,
+    0, 0, 0, 0, 0, 0, 0, 0, 0, 0, 0, 0, 0, 0, 0, 0, 0, 0, 0, 0, 0, 0, 0, 0, 0, 0, 0, 0, 0, 0, 0, 0,
+    0, 0, 0, 0, 0, 0, 0, 0, 0, 0, 0, 0, 0, 0, 0, 0, 0, 0, 0, 0, 0, 0, 0, 0, 0, 0, 0, 0, 0, 0, 0, 0,
+    0, 0, 0, 0, 0, 0, 0, 0, 0, 0, 0, 0, 0, 0, 0, 0, 0, 0, 0, 0, 0, 0, 0, 0, 0, 0, 0, 0, 0, 0, 0, 0,
+];
+
+#[inline(always)]
 pub(crate) fn is_word(b: u8) -> bool
     ensures { result ≡ is_word b }
 {
-    (b'a' <= b && b <= b'z') || (b'A' <= b && b <= b'Z') || (b'0' <= b && b <= b'9') || b == b'_'
+    WORD_BYTES[usize::from(b)] == 1
 }
 
 #[tactic(auto, unfolding(crate::specs::Bytes::is_printing))]
@@ -87,5 +100,8 @@ pub(crate) fn quotable_len(text: &[u8]) -> usize
 pub(crate) fn line_feeds(text: &[u8]) -> usize
     ensures { result ≡ count_by (λ b. b == 10) text.now }
 {
-    text.iter().filter(|b| **b == b'\n').count()
+    match text {
+        [byte] => usize::from(*byte == b'\n'),
+        _ => text.iter().filter(|b| **b == b'\n').count(),
+    }
 }
