@@ -1,4 +1,4 @@
--- A head is cut out of the parts wherever its place and its length point.
+-- A head is cut out of the tokens wherever its place and its length point.
 use Rattle.std.proofs.Common.{◌≡◌, ℕ, ◌-◌, List, length, take, drop, map, min, sym, ap, ◌∙◌, arith}
 use Rattle.std.proofs.lemmas.List.{take_rest, take_min, drop_min}
 use Rattle.stil_tree.specs.declared.stmt.Stmt.{Stmt}

@@ -37,6 +37,7 @@ pub enum Part<'a> {
     Sign(Mark),
 }
 
+#[inline(always)]
 fn mark_from(byte: u8) -> Mark
     ensures { result ≡ mark_of byte }
 {
@@ -58,14 +59,14 @@ fn mark_from(byte: u8) -> Mark
 }
 
 /// The part that a token of these bytes is.
+#[inline(always)]
 pub fn part_of<'a>(bytes: &'a [u8], token: &Token) -> Part<'a>
     ensures { lexeme_of result ≡ lexeme_at bytes.now token.now }
 {
-    let text = token.text(bytes);
     match token.kind {
-        TokenKind::Word => Part::Word(text),
-        TokenKind::Name => Part::Name(text),
-        TokenKind::Text => Part::Text(text),
+        TokenKind::Word => Part::Word(token.text(bytes)),
+        TokenKind::Name => Part::Name(token.text(bytes)),
+        TokenKind::Text => Part::Text(token.text(bytes)),
         TokenKind::Sign(byte) => Part::Sign(mark_from(byte)),
     }
 }

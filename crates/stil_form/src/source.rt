@@ -1,7 +1,7 @@
 //! Texts with their tokens, the heads of statements, and their blocks.
 
-ghost use Rattle.std.specs.Prelude.{◌≡◌, [], ◌∷◌, map, MatchOption, None, Some, option_map};
-ghost use Rattle.stil_tree.specs.Trees.{entry_of, entries};
+ghost use Rattle.std.specs.Prelude.{◌≡◌, [], ◌∷◌, map, MatchOption, None, Some};
+ghost use Rattle.stil_tree.specs.Trees.{entry_of};
 ghost use Rattle.stil_form.specs.Lexeme.{lexeme_of, lexemes, head_of, body_of};
 
 use crate::part::{Part, part_of};
@@ -16,6 +16,7 @@ pub struct Source<'a> {
 }
 
 /// The first part, and what stands behind it.
+#[inline(always)]
 pub fn first_part<'a>(source: Source<'a>) -> Option<(Part<'a>, Source<'a>)>
     ensures { MatchOption result (lexemes source.entry ≡ []) (λ found. lexemes source.entry ≡ lexeme_of found.0 ∷ lexemes found.1) }
 {
@@ -27,6 +28,7 @@ pub fn first_part<'a>(source: Source<'a>) -> Option<(Part<'a>, Source<'a>)>
 }
 
 /// The head of a statement.
+#[inline(always)]
 pub fn head<'a>(source: Source<'a>, stmt: &Stmt) -> Source<'a>
     ensures { lexemes result ≡ head_of (lexemes source.entry) (entry_of stmt.now) }
 {
@@ -39,6 +41,7 @@ pub fn head<'a>(source: Source<'a>, stmt: &Stmt) -> Source<'a>
 }
 
 /// The statements of a statement's block.
+#[inline(always)]
 pub fn body(stmt: &Stmt) -> Option<&[Stmt]>
     ensures { MatchOption result (body_of (entry_of stmt.now) ≡ None) (λ stmts. body_of (entry_of stmt.now) ≡ Some (map entry_of stmts.now)) }
 {
