@@ -1,5 +1,5 @@
 -- A loop that puts a text line by line: what was written, and what is left, are the whole.
-use Rattle.std.proofs.Common.{◌≡◌, ℕ, suc, ◌+◌, ◌*◌, ◌^◌, ◌<◌, List, ◌∷◌, ◌++◌, length, drop, get_or, Option, sym, ap, ◌∙◌, subst, arith, replicate}
+use Rattle.std.proofs.Common.{◌≡◌, ℕ, suc, ◌+◌, ◌*◌, ◌^◌, ◌<◌, List, [], ◌∷◌, ◌++◌, length, drop, get_or, Option, sym, ap, ◌∙◌, subst, arith, replicate}
 use Rattle.std.proofs.Math.Seq.{drop-cons}
 use Rattle.std.proofs.lemmas.Nat.{mul-lt}
 use Rattle.std.specs.List.{flat_map}
@@ -16,10 +16,10 @@ suc-plus : (i : ℕ) → suc i ≡ i + 1
 suc-plus i = omega arith
 
 -- what is left begins with the item at hand
-pub drop-item : {X : Type 0} (items : List X) (i : ℕ) (item : X) → i < length items → item ≡ get_or items i item →
+drop-item : {X : Type 0} (items : List X) (i : ℕ) (d item : X) → i < length items → item ≡ get_or items i d →
     drop i items ≡ item ∷ drop (i + 1) items
-drop-item items i item within is =
-    drop-cons items i item within ∙ ap (λ x. x ∷ drop (suc i) items) (sym is) ∙ ap (λ j. item ∷ drop j items) (suc-plus i)
+drop-item items i d item within is =
+    drop-cons items i d within ∙ ap (λ x. x ∷ drop (suc i) items) (sym is) ∙ ap (λ j. item ∷ drop j items) (suc-plus i)
 
 -- a fault in the line at hand
 pub line_stops : (held before now : Option (List ℕ)) (whole written line rest : List ℕ) →
@@ -29,29 +29,25 @@ line_stops held before now whole written line rest is first front =
 
 -- the text of what is left begins with the line of the vector at hand
 pub rows_text-item : (text : ThinText) (number : ℕ) (row : List ℕ) (vs : List (List (ℕ × ℕ))) (given : List (ℕ × ℕ)) →
-    number < length vs → given ≡ get_or vs number given →
+    number < length vs → given ≡ get_or vs number [] →
     rows_text text number row (drop number vs)
     ≡ row_line number (number * text.table.period) text.table.name (row_after given row)
     ++ rows_text text (number + 1) (row_after given row) (drop (number + 1) vs)
 rows_text-item text number row vs given within is =
-    ap (rows_text text number row) (drop-item vs number given within is)
+    ap (rows_text text number row) (drop-item vs number [] given within is)
 
 -- a product of two numbers of 64 bits fits 128
 pub product_fits : (a b : ℕ) → a < 2 ^ 64 → b < 2 ^ 64 → a * b < 2 ^ 128
 product_fits a b small_a small_b = mul-lt a b (2 ^ 64) (2 ^ 64) small_a small_b
 
 -- the line at hand as the loop has it: the whole is what was written, this line, and what is left behind it
-pub whole-next : (text : ThinText) (number start : ℕ) (row row' name whole written : List ℕ)
-    (vs : List (List (ℕ × ℕ))) (given seen : List (ℕ × ℕ)) →
-    vs ≡ text.vectors → number < length vs → given ≡ get_or vs number given → seen ≡ given → row' ≡ row_after seen row →
+pub whole-next : (text : ThinText) (number start : ℕ) (row row' name whole written : List ℕ) (given : List (ℕ × ℕ)) →
+    number < length text.vectors → given ≡ get_or text.vectors number [] → row' ≡ row_after given row →
     start ≡ number * text.table.period → name ≡ text.table.name →
     whole ≡ written ++ rows_text text number row (drop number text.vectors) →
     whole ≡ written ++ (row_line number start name row' ++ rows_text text (number + 1) row' (drop (number + 1) text.vectors))
-whole-next text number start row row' name whole written vs given seen same within is seen_is row_is start_is name_is all =
-    let within' : number < length text.vectors = subst (λ (xs : List (List (ℕ × ℕ))). number < length xs) same within in
-    let is' : given ≡ get_or text.vectors number given = is ∙ ap (λ xs. get_or xs number given) same in
-    let after : row' ≡ row_after given row = row_is ∙ ap (λ g. row_after g row) seen_is in
-    all ∙ ap (λ t. written ++ t) (rows_text-item text number row text.vectors given within' is')
+whole-next text number start row row' name whole written given within is after start_is name_is all =
+    all ∙ ap (λ t. written ++ t) (rows_text-item text number row text.vectors given within is)
     ∙ ap (λ r. written ++ (row_line number (number * text.table.period) text.table.name r
     ++ rows_text text (number + 1) r (drop (number + 1) text.vectors))) (sym after)
     ∙ ap (λ n. written ++ (row_line number (number * text.table.period) n row'

@@ -87,8 +87,8 @@ fn put_vectors<K: Sink>(sink: &mut K, text: &ThinText, row: &mut [u8]) -> Result
     ensures count { K.faults sink.old ≤ K.faults sink.new }
     ensures cause { OnErr result (HasRisen (K.faults sink.old) (K.faults sink.new)) }
 {
-    for (number, given) in text.vectors.as_slice().iter().enumerate() {
-        assign(row, given.as_slice());
+    for number in 0..text.vectors.len() {
+        assign(row, text.vectors.get(number));
         let start = time_of(number, text.table.period);
         put_cycle(sink, number as u128, start, text.table.name.as_slice(), row)?;
     }

@@ -97,14 +97,14 @@ has_room first vectors at row rows instrs so_far =
 pub goes_on : (first : List ℕ) (vectors : List (List (ℕ × ℕ))) (at : ℕ) (row : List ℕ) (rows : List (List ℕ)) (instrs : List Instr)
     (given : List (ℕ × ℕ)) (now_rows : List (List ℕ)) (now_instrs : List Instr)
     → AreCompiled first vectors at row rows instrs → at < length vectors
-    → given ≡ get_or vectors at given
+    → given ≡ get_or vectors at []
     → now_rows ≡ with_row rows (row_after given row)
     → IsRunAdded now_rows (row_after given row) instrs now_instrs
     → AreCompiled first vectors (at + 1) (row_after given row) now_rows now_instrs
 goes_on first vectors at row rows instrs given now_rows now_instrs so_far inside is rows_are added =
     let next : List ℕ = row_after given row in
     let shape : drop at vectors ≡ given ∷ drop (at + 1) vectors =
-    drop_more vectors at given inside ∙ ap (λ (g : List (ℕ × ℕ)). g ∷ drop (at + 1) vectors) (sym is) in
+    drop_more vectors at [] inside ∙ ap (λ (g : List (ℕ × ℕ)). g ∷ drop (at + 1) vectors) (sym is) in
     let grown : AreRuns now_rows instrs so_far.made =
     subst (λ (rs : List (List ℕ)). AreRuns rs instrs so_far.made) (sym rows_are) (runs_with_row rows next instrs so_far.made so_far.runs) in
     record {

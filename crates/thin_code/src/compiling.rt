@@ -85,7 +85,7 @@ pub fn compile(alloc: Global, text: ThinText) -> Result<Code, NoMemory>
         vectors,
     } = text;
     let count = signals.len();
-    let (rows, instrs) = compile_vectors(alloc, count, vectors.as_slice())?;
+    let (rows, instrs) = compile_vectors(alloc, count, &vectors)?;
     let tables = Items::of_one(alloc, ordered_table(alloc, count, table)?)?;
     let execs = execs_of(alloc, exec, instrs)?;
     let signals = signals_of(alloc, signals.into_vec())?;

@@ -1,14 +1,13 @@
 //! The rows and the instructions of vectors.
 
-ghost use Rattle.std.specs.Prelude.{◌≡◌, ◌<◌, ◌≤◌, ◌++◌, ◌∷◌, [], Some, OnOk, fold, length, replicate, slice_get, IfOk};
+ghost use Rattle.std.specs.Prelude.{◌≡◌, ◌<◌, ◌≤◌, ◌++◌, ◌∷◌, [], OnOk, fold, length, replicate, IfOk};
 ghost use Rattle.page_meaning.specs.declared.instr.Instr.TheVariants.{Run};
 ghost use Rattle.thin_stil.specs.Rows.{rows_from};
 ghost use Rattle.thin_code.specs.Step.{AreRuns, IsRunAdded, with_row};
 
 use page_code::{Instr, RowList};
 use std::alloc::{AllocError, Global};
-use tester_types::Items;
-use thin_stil::assign;
+use thin_stil::{VectorList, assign};
 
 /// Adds the row where it is new, and the instruction that runs it once.
 fn add_run(rows: &mut RowList, instrs: &mut Vec<Instr>, row: Vec<u8>) -> Result<(), AllocError>
@@ -30,7 +29,7 @@ fn add_run(rows: &mut RowList, instrs: &mut Vec<Instr>, row: Vec<u8>) -> Result<
 pub(crate) fn compile_vectors(
     alloc: Global,
     signals: usize,
-    vectors: &[Items<(u16, u8)>],
+    vectors: &VectorList,
 ) -> Result<(RowList, Vec<Instr>), AllocError>
     requires { length vectors.now ≤ 65536 }
     ensures rows { IfOk result (λ made. made.0 ≡ fold with_row [] (rows_from (replicate signals 0) vectors.now)) }
@@ -39,8 +38,8 @@ pub(crate) fn compile_vectors(
     let mut rows = RowList::new(alloc);
     let mut instrs = Vec::new(alloc);
     let mut row = vec![in alloc; 0_u8; signals]?;
-    for given in vectors {
-        assign(row.as_mut_slice(), given.as_slice());
+    for index in 0..vectors.len() {
+        assign(row.as_mut_slice(), vectors.get(index));
         let letters = Vec::from_slice(alloc, row.as_slice())?;
         add_run(&mut rows, &mut instrs, letters)?;
     }

@@ -3,3 +3,4 @@ pub mod LookupLemmas
 pub mod ReadLemmas
 pub mod StandardFacts
 pub mod CycleLemmas
+pub mod VectorLemmas

@@ -1,11 +1,11 @@
 //! Blocks of a thin text by their keywords and names.
 
-ghost use Rattle.std.specs.Prelude.{◌≡◌, true, false, [], None, Some, Ok, Err, MatchOption, MatchResult, is_some, map, option_map};
+ghost use Rattle.std.specs.Prelude.{◌≡◌, true, false, [], None, Some, Ok, Err, MatchOption, MatchResult, map, option_map};
 ghost use Rattle.stil_tree.specs.Trees.{entry_of};
-ghost use Rattle.stil_form.specs.Lexeme.{lexeme_of, lexemes, head_of, body_of};
+ghost use Rattle.stil_form.specs.Lexeme.{lexeme_of, lexemes, body_of};
 ghost use Rattle.stil_form.specs.Words.{is_keyword};
 ghost use Rattle.thin_stil.specs.ThinForm.{kept, not_thin};
-ghost use Rattle.thin_stil.specs.ThinBlocks.{is_plain, plain_block, name_behind, title_behind, names, is_called, is_first, begins_with, block_of, one_of, two_of};
+ghost use Rattle.thin_stil.specs.ThinBlocks.{is_plain, plain_block, name_behind, title_behind, names, is_called, is_first, block_of, one_of, two_of};
 
 use stil_form::{
     FormFault, FormKind, Part, Source, body, first_part, head, is_word, name_of, part_of,

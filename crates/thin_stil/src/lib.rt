@@ -9,8 +9,10 @@ mod rows;
 mod signals;
 mod table;
 mod thin;
+mod vectors;
 mod waves;
 
 pub use reader::read;
 pub use rows::assign;
 pub use thin::{ThinFault, ThinSignal, ThinText};
+pub use vectors::VectorList;

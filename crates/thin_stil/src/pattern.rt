@@ -1,11 +1,10 @@
 //! The Pattern of a thin text, its burst and its executive.
 
-ghost use Rattle.std.specs.Prelude.{◌≡◌, ◌==◌, ◌&&◌, [], None, Some, MatchOption, MatchResult, Ok, Err, length, map, option_map};
-ghost use Rattle.std.specs.List.{list_any};
+ghost use Rattle.std.specs.Prelude.{◌≡◌, ◌==◌, ◌&&◌, [], None, Some, MatchResult, Ok, Err, map};
 ghost use Rattle.stil_tree.specs.Trees.{entry_of};
 ghost use Rattle.stil_form.specs.Lexeme.{lexemes, head_of, body_of};
 ghost use Rattle.stil_form.specs.Reading.{Answers, AnswersBy, reading};
-ghost use Rattle.thin_stil.specs.ThinForm.{kept, not_thin, only};
+ghost use Rattle.thin_stil.specs.ThinForm.{kept, not_thin};
 ghost use Rattle.thin_stil.specs.ThinBlocks.{given_by, given_said, given_of, vector_of, vectors_in, pattern_in, is_name, is_list_of, has_list_of, burst_of, runs_alone, name_both, runs_with, runs, exec_of};
 
 use crate::block::{
@@ -13,10 +12,9 @@ use crate::block::{
 };
 use crate::lookup::{Letters, Numbers};
 use crate::thin::{ThinPattern, ThinSignal};
+use crate::vectors::VectorList;
 use std::alloc::Global;
-use stil_form::{
-    Form, FormFault, Mark, Part, Source, body, first_part, head, name_of, part_of, read_each,
-};
+use stil_form::{FormFault, Mark, Part, Source, body, head, name_of, part_of};
 use stil_tree::Stmt;
 use tester_types::{Items, Table, Text};
 
@@ -42,49 +40,24 @@ fn given_by(numbers: &Numbers, letters: &Letters, name: &[u8], text: &[u8]) -> O
 fn given_said(numbers: &Numbers, letters: &Letters, head: Source) -> Option<(u16, u8)>
     ensures { result ≡ given_said numbers.now letters.now (lexemes head.entry) }
 {
-    let (called, rest) = first_part(head)?;
-    let Some((Part::Sign(Mark::Equals), rest)) = first_part(rest) else {
+    let [called, equals, value] = head.tokens else {
         return None;
     };
-    match first_part(rest) {
-        Some((Part::Word(text), rest)) if rest.tokens.is_empty() => {
-            given_by(numbers, letters, name_of(&called)?, text)
-        }
-        _ => None,
-    }
+    let Part::Sign(Mark::Equals) = part_of(head.bytes, equals) else {
+        return None;
+    };
+    let Part::Word(text) = part_of(head.bytes, value) else {
+        return None;
+    };
+    given_by(
+        numbers,
+        letters,
+        name_of(&part_of(head.bytes, called))?,
+        text,
+    )
 }
 
-/// Statements that assign one character to one signal.
-#[derive(Clone, Copy)]
-struct GivenForm<'k, 'a> {
-    source: Source<'a>,
-    numbers: &'k Numbers<'a>,
-    letters: &'k Letters<'a>,
-}
-
-impl Form for GivenForm<'_, '_> {
-    type Data = (u16, u8);
-
-    ghost judge = { λ form _ e. kept (given_of form.numbers.now form.letters.now (head_of (lexemes form.source) e) (body_of e)) };
-
-    fn judge_one(
-        &self,
-        alloc: Global,
-        before: &[(u16, u8)],
-        stmt: &Stmt,
-    ) -> Result<(u16, u8), FormFault> {
-        let _ = (alloc, before.len());
-        if body(stmt).is_some() {
-            return Err(NOT_THIN);
-        }
-        match given_said(self.numbers, self.letters, head(self.source, stmt)) {
-            Some(given) => Ok(given),
-            None => Err(NOT_THIN),
-        }
-    }
-}
-
-/// Statements that are vectors.
+/// What vectors are read by: their text, the signals, and the characters of these.
 #[derive(Clone, Copy)]
 struct VectorForm<'k, 'a> {
     source: Source<'a>,
@@ -92,28 +65,52 @@ struct VectorForm<'k, 'a> {
     letters: &'k Letters<'a>,
 }
 
-impl Form for VectorForm<'_, '_> {
-    type Data = Items<(u16, u8)>;
-
-    ghost judge = { λ form. vector_of (lexemes form.source) form.numbers.now form.letters.now };
-
-    fn judge_one(
-        &self,
-        alloc: Global,
-        before: &[Items<(u16, u8)>],
-        stmt: &Stmt,
-    ) -> Result<Items<(u16, u8)>, FormFault> {
-        if before.len() >= MOST_VECTORS {
-            return Err(NOT_THIN);
-        }
-        let stmts = plain_block(b"V", self.source, stmt)?;
-        let form = GivenForm {
-            source: self.source,
-            numbers: self.numbers,
-            letters: self.letters,
-        };
-        Ok(Items::from_vec(read_each(alloc, &form, stmts)?))
+/// What one statement of a V assigns.
+fn given_of(form: &VectorForm, stmt: &Stmt) -> Result<(u16, u8), FormFault>
+    ensures { Answers result
+        (kept (given_of form.now.numbers.now form.now.letters.now (head_of (lexemes form.now.source) (entry_of stmt.now)) (body_of (entry_of stmt.now)))) }
+{
+    if body(stmt).is_some() {
+        return Err(NOT_THIN);
     }
+    match given_said(form.numbers, form.letters, head(form.source, stmt)) {
+        Some(given) => Ok(given),
+        None => Err(NOT_THIN),
+    }
+}
+
+/// Adds what the statements of a V assign.
+fn read_given(
+    form: &VectorForm,
+    given: &mut Vec<(u16, u8)>,
+    stmts: &[Stmt],
+) -> Result<(), FormFault>
+    ensures { AnswersBy (λ _. given.new.items) result
+        (reading (λ _ e. kept (given_of form.now.numbers.now form.now.letters.now (head_of (lexemes form.now.source) e) (body_of e)))
+        given.old.items (map entry_of stmts.now)) }
+{
+    for stmt in stmts {
+        given.push(given_of(form, stmt)?)?;
+    }
+    Ok(())
+}
+
+/// What a V assigns, in place of what the list held.
+fn read_vector(
+    form: &VectorForm,
+    before: &VectorList,
+    given: &mut Vec<(u16, u8)>,
+    stmt: &Stmt,
+) -> Result<(), FormFault>
+    ensures { AnswersBy (λ _. given.new.items) result
+        (vector_of (lexemes form.now.source) form.now.numbers.now form.now.letters.now before.now (entry_of stmt.now)) }
+{
+    if before.len() >= MOST_VECTORS {
+        return Err(NOT_THIN);
+    }
+    let stmts = plain_block(b"V", form.source, stmt)?;
+    given.clear();
+    read_given(form, given, stmts)
 }
 
 /// Vectors that assign characters of these waves to these signals.
@@ -123,7 +120,7 @@ fn read_known<'k, 'a>(
     numbers: &'k Numbers<'a>,
     letters: &'k Letters<'a>,
     stmts: &[Stmt],
-) -> Result<Items<Items<(u16, u8)>>, FormFault>
+) -> Result<VectorList, FormFault>
     ensures { Answers result (reading (vector_of (lexemes source.entry) numbers.now letters.now) [] (map entry_of stmts.now)) }
 {
     let form = VectorForm {
@@ -131,7 +128,13 @@ fn read_known<'k, 'a>(
         numbers,
         letters,
     };
-    Ok(Items::from_vec(read_each(alloc, &form, stmts)?))
+    let mut vectors = VectorList::new(alloc);
+    let mut given = Vec::new(alloc);
+    for stmt in stmts {
+        read_vector(&form, &vectors, &mut given, stmt)?;
+        vectors.push(given.as_slice())?;
+    }
+    Ok(vectors)
 }
 
 /// `W` of the table, and then the vectors.
@@ -141,7 +144,7 @@ fn read_vectors<'a>(
     signals: &'a [ThinSignal],
     table: &'a Table,
     stmts: &[Stmt],
-) -> Result<Items<Items<(u16, u8)>>, FormFault>
+) -> Result<VectorList, FormFault>
     ensures { Answers result (vectors_in (lexemes source.entry) signals.now table.now (map entry_of stmts.now)) }
 {
     let [first, rest @ ..] = stmts else {

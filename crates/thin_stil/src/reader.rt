@@ -2,10 +2,10 @@
 
 ghost use Rattle.std.specs.Prelude.{◌≡◌, ◌≤◌, ◌&&◌, ◌==◌, Ok, IfOk, MatchResult, length, map};
 ghost use Rattle.stil_tree.specs.Trees.{entry_of};
-ghost use Rattle.stil_form.specs.Lexeme.{lexemes, lexemes_of, head_of, body_of};
+ghost use Rattle.stil_form.specs.Lexeme.{lexemes, lexemes_of};
 ghost use Rattle.stil_form.specs.Reading.{Answers};
 ghost use Rattle.thin_stil.specs.Thin.{IsThin};
-ghost use Rattle.thin_stil.specs.ThinForm.{kept, not_thin, only};
+ghost use Rattle.thin_stil.specs.ThinForm.{only};
 ghost use Rattle.thin_stil.specs.ThinBlocks.{is_stil_1_0, is_header, blocks_of, thin_of, ThinAnswers};
 ghost use Rattle.thin_stil.specs.declared.thin.ThinText.{ThinText};
 

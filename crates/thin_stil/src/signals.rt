@@ -1,11 +1,10 @@
 //! The signals of a thin text, and how they are named.
 
-ghost use Rattle.std.specs.Prelude.{◌≡◌, ◌<◌, None, Some, MatchOption, position, is_some, length, map};
-ghost use Rattle.std.specs.List.{list_any};
+ghost use Rattle.std.specs.Prelude.{◌≡◌, ◌<◌, None, Some, MatchOption, position, is_some};
 ghost use Rattle.stil_tree.specs.Trees.{entry_of};
 ghost use Rattle.stil_form.specs.Lexeme.{lexemes, head_of, body_of};
-ghost use Rattle.stil_form.specs.Reading.{Answers, AnswersBy};
-ghost use Rattle.thin_stil.specs.ThinForm.{kept, not_thin, has_name, direction_of, signal_of, signal_said, signal_number, short_number, is_declared, new_signal};
+ghost use Rattle.stil_form.specs.Reading.{Answers};
+ghost use Rattle.thin_stil.specs.ThinForm.{kept, has_name, direction_of, signal_of, signal_said, signal_number, short_number, is_declared};
 ghost use Rattle.thin_stil.specs.ThinBlocks.{signals_of};
 
 use crate::block::{NOT_THIN, plain_block};
@@ -32,6 +31,7 @@ fn direction_of(word: &[u8]) -> Option<bool>
 }
 
 /// The number of the signal of this name.
+#[inline(always)]
 pub fn signal_number(signals: &[ThinSignal], name: &[u8]) -> Option<u16>
     ensures { result ≡ signal_number signals.now name.now }
 {

@@ -1,11 +1,11 @@
 //! The Timing of a thin text, with its one table.
 
-ghost use Rattle.std.specs.Prelude.{◌≡◌, ◌*◌, ◌++◌, None, Some, MatchOption, IfOk, OnOk, length, map};
-ghost use Rattle.std.specs.List.{flat_map, enumerate_from};
+ghost use Rattle.std.specs.Prelude.{◌≡◌, ◌*◌, ◌++◌, None, Some, IfOk, OnOk, map};
+ghost use Rattle.std.specs.List.{flat_map};
 ghost use Rattle.stil_tree.specs.Trees.{entry_of};
-ghost use Rattle.stil_form.specs.Lexeme.{lexemes, head_of, body_of};
-ghost use Rattle.stil_form.specs.Reading.{Answers, AnswersBy};
-ghost use Rattle.thin_stil.specs.ThinForm.{kept, not_thin, act_at, events_at, group_waves, all_waves};
+ghost use Rattle.stil_form.specs.Lexeme.{lexemes};
+ghost use Rattle.stil_form.specs.Reading.{Answers};
+ghost use Rattle.thin_stil.specs.ThinForm.{act_at, events_at, group_waves, all_waves};
 ghost use Rattle.thin_stil.specs.ThinBlocks.{period_by, period_in, period_of, table_of, timing_in, timing_of};
 
 use crate::block::{NOT_THIN, block, name_behind, one_of, plain_block, title_behind, two_of};

@@ -1,5 +1,6 @@
 //! What a thin text says, and why a text is none.
 
+use crate::vectors::VectorList;
 use tester_types::{Act, Items, Table, Text};
 
 /// A signal of a thin text.
@@ -42,7 +43,7 @@ pub struct ThinTiming {
 #[derive(Debug, Drop)]
 pub struct ThinPattern {
     pub name: Text,
-    pub vectors: Items<Items<(u16, u8)>>,
+    pub vectors: VectorList,
 }
 
 /// A thin text: one table, one pattern of vectors, one executive.
@@ -54,7 +55,7 @@ pub struct ThinText {
     pub signals: Items<ThinSignal>,
     pub table: Table,
     /// What each V assigns: signals by their numbers, with characters.
-    pub vectors: Items<Items<(u16, u8)>>,
+    pub vectors: VectorList,
 }
 
 /// Why a text was not read as a thin one.

@@ -1,11 +1,10 @@
 //! The waveforms of a thin text.
 
-ghost use Rattle.std.specs.Prelude.{◌≡◌, ◌==◌, ◌&&◌, ◌+◌, ◌*◌, ◌<◌, ◌≤◌, None, Some, MatchOption, IfOk, length, map, option_map, ◌++◌};
+ghost use Rattle.std.specs.Prelude.{◌≡◌, ◌==◌, ◌&&◌, ◌+◌, ◌*◌, ◌<◌, ◌≤◌, None, Some, MatchOption, ◌++◌};
 ghost use Rattle.std.specs.List.{list_all, list_any};
-ghost use Rattle.stil_tree.specs.Trees.{entry_of};
 ghost use Rattle.stil_form.specs.Lexeme.{lexeme_of, lexemes, head_of, body_of};
 ghost use Rattle.stil_form.specs.Reading.{Answers, AnswersBy};
-ghost use Rattle.thin_stil.specs.ThinForm.{kept, not_thin, nanoseconds, act_of, is_slash, with_part, acts_of, last_time, fits_row, row_said, row_with, row_from, row_of, is_character, are_apart, is_given, are_letters, letters_of, group_of, wave_signal, waves_of};
+ghost use Rattle.thin_stil.specs.ThinForm.{kept, nanoseconds, act_of, is_slash, with_part, acts_of, last_time, fits_row, row_said, row_with, row_from, row_of, is_character, are_apart, is_given, are_letters, letters_of, group_of, wave_signal, waves_of};
 
 use crate::block::{NOT_THIN, block};
 use crate::signals::signal_number;

@@ -12,20 +12,18 @@ returns-in_err-put_cycle-clause-puts g c =
     (line_stops (g.K.Sink.told c.args.sink.now) (g.K.Sink.told c.loop-number.sink) (g.K.Sink.told c.put_cycle.new.sink) _
     c.loop-number.invariant.0 _ _
     (whole-next c.args.text.now c.loop-number.number c.time_of-start.result c.loop-number.row c.assign.new.row _ _ c.loop-number.invariant.0
-    c.as_slice-given-items.result.now c.given-item.result c.as_slice.result.now
-    c.as_slice-given-items.ensures c.loop-number-test.true c.given-item.is c.as_slice.ensures c.assign.ensures
-    c.time_of-start.ensures c.as_slice-in-loop-number.ensures c.loop-number.invariant.2)
+    c.get.result.now (omega (arith, c.loop-number-test.true, c.len-number-end.ensures)) c.get.ensures c.assign.ensures
+    c.time_of-start.ensures c.as_slice.ensures c.loop-number.invariant.2)
     c.loop-number.invariant.1 c.in_err-put_cycle.ensures.puts)
 
 pub loop-number-preserved : goal.loop-number-preserved
 loop-number-preserved g c = (
   c.loop-number.invariant.0
-      ++ row_line c.loop-number.number c.time_of-start.result c.as_slice-in-loop-number.result.now c.assign.new.row,
+      ++ row_line c.loop-number.number c.time_of-start.result c.as_slice.result.now c.assign.new.row,
   gained_both _ _ _ _ _ c.loop-number.invariant.1 c.in_ok-put_cycle.ensures.puts,
   whole-next c.args.text.now c.loop-number.number c.time_of-start.result c.loop-number.row c.assign.new.row _ _ c.loop-number.invariant.0
-      c.as_slice-given-items.result.now c.given-item.result c.as_slice.result.now
-      c.as_slice-given-items.ensures c.loop-number-test.true c.given-item.is c.as_slice.ensures c.assign.ensures
-      c.time_of-start.ensures c.as_slice-in-loop-number.ensures c.loop-number.invariant.2
+      c.get.result.now (omega (arith, c.loop-number-test.true, c.len-number-end.ensures)) c.get.ensures c.assign.ensures
+      c.time_of-start.ensures c.as_slice.ensures c.loop-number.invariant.2
       ∙ sym (append_assoc c.loop-number.invariant.0 _ _),
   omega (arith, c.in_ok-put_cycle.ensures.count),
 )

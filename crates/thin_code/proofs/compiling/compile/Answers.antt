@@ -1,4 +1,4 @@
-use Rattle.std.proofs.Common.{ℕ, ◌≤◌, length, map, sym, ap, subst, ◌∙◌, arith}
+use Rattle.std.proofs.Common.{ℕ, ◌≤◌, length, map, refl, sym, ap, subst, ◌∙◌, arith}
 use Rattle.std.specs.List.{All}
 use Rattle.thin_code.specs.Compiled.{signal_of}
 use Rattle.thin_code.specs.Order.{HasPlace}
@@ -10,7 +10,7 @@ pub compile_vectors-requires : goal.compile_vectors-requires
 compile_vectors-requires c =
     let good = said_is_good c.args.text c.requires in
     let few : length c.args.text.vectors ≤ 65536 = good.few_vectors in
-    omega (arith, ap length c.as_slice.ensures)
+    omega (arith, few)
 
 pub ordered_table-requires-clause-few : goal.ordered_table-requires-clause-few
 ordered_table-requires-clause-few c =
@@ -27,16 +27,16 @@ pub execs_of-requires : goal.execs_of-requires
 execs_of-requires c =
     let made = c.in_ok-rows.ensures in
     instrs_whole c.args.text c.in_ok-rows.instrs.items (said_is_good c.args.text c.requires)
-    (runs_seen c.args.text c.len-count.result c.as_slice.result.now c.in_ok-rows.rows c.in_ok-rows.instrs.items
-    c.len-count.ensures c.as_slice.ensures made.rows made.runs)
+    (runs_seen c.args.text c.len-count.result c.args.text.vectors c.in_ok-rows.rows c.in_ok-rows.instrs.items
+    c.len-count.ensures refl made.rows made.runs)
 
 pub new-requires : goal.new-requires
 new-requires c =
     let made = c.in_ok-rows.ensures in
-    let rows = rows_seen c.args.text c.len-count.result c.as_slice.result.now c.in_ok-rows.rows
-    c.len-count.ensures c.as_slice.ensures made.rows in
-    let runs = runs_seen c.args.text c.len-count.result c.as_slice.result.now c.in_ok-rows.rows c.in_ok-rows.instrs.items
-    c.len-count.ensures c.as_slice.ensures made.rows made.runs in
+    let rows = rows_seen c.args.text c.len-count.result c.args.text.vectors c.in_ok-rows.rows
+    c.len-count.ensures refl made.rows in
+    let runs = runs_seen c.args.text c.len-count.result c.args.text.vectors c.in_ok-rows.rows c.in_ok-rows.instrs.items
+    c.len-count.ensures refl made.rows made.runs in
     made_program c.args.text c.in_ok-rows.instrs.items _ (said_is_good c.args.text c.requires) runs
     (made_code c.args.text c.len-count.result c.in_ok-rows.instrs.items _ c.in_ok-ordered_table.field-0 c.len-count.ensures
     (c.in_ok-signals.ensures ∙ ap (map signal_of) c.into_vec.ensures) c.in_ok-tables.ensures c.in_ok-ordered_table.ensures
@@ -45,10 +45,10 @@ new-requires c =
 pub returns : goal.returns
 returns c =
     let made = c.in_ok-rows.ensures in
-    let rows = rows_seen c.args.text c.len-count.result c.as_slice.result.now c.in_ok-rows.rows
-    c.len-count.ensures c.as_slice.ensures made.rows in
-    let runs = runs_seen c.args.text c.len-count.result c.as_slice.result.now c.in_ok-rows.rows c.in_ok-rows.instrs.items
-    c.len-count.ensures c.as_slice.ensures made.rows made.runs in
+    let rows = rows_seen c.args.text c.len-count.result c.args.text.vectors c.in_ok-rows.rows
+    c.len-count.ensures refl made.rows in
+    let runs = runs_seen c.args.text c.len-count.result c.args.text.vectors c.in_ok-rows.rows c.in_ok-rows.instrs.items
+    c.len-count.ensures refl made.rows made.runs in
     made_is c.args.text c.in_ok-rows.instrs.items c.new.result (said_is_good c.args.text c.requires) runs
     (c.new.ensures
     ∙ made_code c.args.text c.len-count.result c.in_ok-rows.instrs.items _ c.in_ok-ordered_table.field-0 c.len-count.ensures
