@@ -7,7 +7,7 @@ use Rattle.stil_tree.specs.declared.stmt.Stmt.TheViews.{out-StmtList, roll-Stmt}
 use Rattle.stil_tree.specs.declared.stmt.Stmt.TheFolds.{fold_out-StmtList, fold-roll-Stmt}
 use Rattle.stil_tree.specs.Trees.{Trees, end, Entry, in_front, trees_from, entries, trees, entry_of, stmt_step, list_step}
 use Rattle.stil_tree.specs.Step.{join}
-use Rattle.stil_tree.specs.Memory.{trees_of}
+use Rattle.stil_tree.specs.Slow.{trees_of}
 
 -- a statement in front is the first
 pub entries-in_front : (first count : ℕ) (body : Option Trees) (more : Trees) → entries (in_front first count body more) ≡ record { first = first; count = count; body = body } ∷ entries more

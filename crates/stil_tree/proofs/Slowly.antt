@@ -10,8 +10,7 @@ use Rattle.stil_tree.specs.Marks.{semicolon, open_brace, close_brace, is_sign, i
 use Rattle.stil_tree.specs.Trees.{Trees, end, plain, block, in_front, trees, entry_of}
 use Rattle.stil_tree.specs.Grammar.{most_levels, AreHead, ParsesAt, ParsesAt.nothing, ParsesAt.skipped, ParsesAt.ended, ParsesAt.nested}
 use Rattle.stil_tree.specs.Step.{join}
-use Rattle.stil_tree.specs.Memory.{trees_of}
-use Rattle.stil_tree.specs.Slow.{IsFirst, before, plain_before, block_end}
+use Rattle.stil_tree.specs.Slow.{IsFirst, trees_of, before, plain_before, block_end}
 use Rattle.stil_tree.proofs.Lists.{entry_of-block, trees_of-push, join-in_front}
 use Rattle.stil_tree.proofs.Runs.{join-end, join_assoc}
 use Rattle.stil_tree.proofs.Steps.{is_kind-other}

@@ -2,7 +2,6 @@
 use Rattle.std.specs.Prelude.{◌≡◌, ◌⊎◌, ◌≤◌, ℕ, zero, suc, List, [], ◌∷◌, length, map, reverse, take, drop, None, Result, Ok, Err}
 use Rattle.stil_tree.specs.declared.builder.Open.{Open}
 use Rattle.stil_tree.specs.declared.builder.Builder.{Builder}
-use Rattle.stil_tree.specs.declared.stmt.Stmt.{Stmt}
 use Rattle.stil_tree.specs.declared.fault.TreeFault.{TreeFault}
 use Rattle.stil_tree.specs.declared.fault.TreeFault.TheVariants.{NoMemory}
 use Rattle.stil_tree.specs.Trees.{Trees, Entry, trees_from, entry_of}
@@ -44,10 +43,6 @@ state_of b = going (frames_of b) (level_of b) b.first
 abbrev pub ended_entry : ℕ → ℕ → List Entry
 ended_entry first zero = []
 ended_entry first (suc n) = record { first = first; count = suc n; body = None } ∷ []
-
--- the trees of statements in memory
-abbrev pub trees_of : List Stmt → Trees
-trees_of stmts = trees_from (map entry_of stmts)
 
 -- a step answers the wanted state, or its fault, or that memory ran out
 abbrev pub Gives : {X : Type 0} → Result X TreeFault → State → State → Type 0

@@ -1,11 +1,15 @@
 -- What the plain slow reader says of one statement at the front of tokens. No public clause cites this file.
-use Rattle.std.specs.Prelude.{ℕ, zero, suc, ◌+◌, ◌-◌, ◌==◌, ◌≤◌, ◌<◌, if◌then◌else◌, Bool, false, ◌&&◌, ◌||◌, List, [], ◌∷◌, length, take, drop, slice_get, Option, Some, None}
+use Rattle.std.specs.Prelude.{ℕ, map, zero, suc, ◌+◌, ◌-◌, ◌==◌, ◌≤◌, ◌<◌, if◌then◌else◌, Bool, false, ◌&&◌, ◌||◌, List, [], ◌∷◌, length, take, drop, slice_get, Option, Some, None}
 use Rattle.stil_lex.specs.declared.token.Token.{Token}
 use Rattle.stil_tree.specs.declared.stmt.Stmt.{Stmt}
-use Rattle.stil_tree.specs.Trees.{Trees, plain, in_front, entry_of}
+use Rattle.stil_tree.specs.Trees.{Trees, plain, in_front, trees_from, entry_of}
 use Rattle.stil_tree.specs.Marks.{semicolon, open_brace, close_brace, is_sign}
 use Rattle.stil_tree.specs.Blocks.{open_braces}
 use Rattle.stil_tree.specs.Grammar.{ParsesAt}
+
+-- the trees of statements in memory
+abbrev pub trees_of : List Stmt → Trees
+trees_of stmts = trees_from (map entry_of stmts)
 
 -- an entry in front of others, where there is one
 abbrev pub before : Option Stmt → Trees → Trees

@@ -8,9 +8,8 @@ ghost use Rattle.stil_tree.specs.Marks.{is_mark, is_sign};
 ghost use Rattle.stil_tree.specs.Trees.{Trees, trees};
 ghost use Rattle.stil_tree.specs.Blocks.{open_braces, BeginsAt, IsBlock};
 ghost use Rattle.stil_tree.specs.Step.{join};
-ghost use Rattle.stil_tree.specs.Memory.{trees_of};
 ghost use Rattle.stil_tree.specs.Grammar.{ParsesAt, Parses};
-ghost use Rattle.stil_tree.specs.Slow.{IsFirst, before, plain_before, block_end, ends_at};
+ghost use Rattle.stil_tree.specs.Slow.{IsFirst, trees_of, before, plain_before, block_end, ends_at};
 
 use crate::block::{keyword_at, name_at};
 use crate::builder::is_sign;

@@ -100,6 +100,7 @@ pub record IsCall (bound : Bound) (text : List ℕ) : Type 0 where
   pub spelled : text ≡ bound_text bound ++ (blanks ++ open_paren ∷ [])
   pub are_blank : list_all is_blank blanks ≡ true
 
+-- `(` alone, or behind `min` or `max`
 abbrev pub IsOpening : Option Bound → List ℕ → Type 0
 IsOpening None text = text ≡ open_paren ∷ []
 IsOpening (Some bound) text = IsCall bound text

@@ -29,6 +29,7 @@ pub record Sum : Type 0 where
   pub terms : Option Unfinished
   pub factors : Option Unfinished
 
+-- a sum of which nothing is read
 abbrev pub nothing : Sum
 nothing = record { terms = None; factors = None }
 
@@ -78,6 +79,7 @@ separated_in (no_operand bound) around fs t =
 separated_in (some_operands others) around fs t =
     before (record { around = around; purpose = some_operands (also others t) } ∷ fs) nothing
 
+-- a comma, which is refused outside all parentheses
 abbrev pub separated : List Frame → Tree → State
 separated [] t = refused
 separated (f ∷ fs) t = separated_in f.purpose f.around fs t
@@ -88,6 +90,7 @@ closed_in grouping around fs t = behind fs around t
 closed_in (no_operand bound) around fs t = refused
 closed_in (some_operands others) around fs t = behind fs around (also others t)
 
+-- a closing parenthesis, which is refused outside all parentheses
 abbrev pub closed : List Frame → Tree → State
 closed [] t = refused
 closed (f ∷ fs) t = closed_in f.purpose f.around fs t
@@ -110,11 +113,13 @@ next_step fs s t (opening bound) = refused
 next_step fs s t comma = separated fs (total s t)
 next_step fs s t closing = closed fs (total s t)
 
+-- the state behind one lexeme more
 abbrev pub step : State → Lexeme → State
 step (before fs s) l = first_step fs s l
 step (behind fs s t) l = next_step fs s t l
 step refused l = refused
 
+-- the state behind lexemes
 abbrev pub run : State → List Lexeme → State
 run state [] = state
 run state (l ∷ ls) = run (step state l) ls

@@ -108,6 +108,7 @@ pub record GoesOn (p : Progress) (state : State) (text : List ℕ) : Type 0 wher
       → outcome_from state in_range (lexed 0 text) ≡ outcome_from (state_of p.reader) (in_range && p.in_range)
       (lexed 0 (drop p.len text))
 
+-- a step of the reader goes on, or answers why not: want of memory, or that no text that goes on so is an expression
 abbrev pub ReadsOn : Result Progress ExprFault → State → List ℕ → Type 0
 ReadsOn (Ok p) state text = GoesOn p state text
 ReadsOn (Err e) state text =

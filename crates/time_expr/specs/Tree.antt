@@ -8,6 +8,7 @@ use Rattle.time_expr.specs.declared.expr.Expr.{Expr}
 use Rattle.time_expr.specs.declared.expr.Expr.TheOpen.{Expr-F}
 use Rattle.time_expr.specs.declared.expr.Expr.TheFolds.{fold-Expr}
 
+-- an expression
 pub data Tree : Type 0 where
   -- a number with its unit
   number : Ratio → Unit → Tree

@@ -1,5 +1,5 @@
 use Rattle.std.proofs.Common.{◌+◌, ◌-◌, ◌*◌, length}
-use Rattle.stil_tree.specs.Memory.{trees_of}
+use Rattle.stil_tree.specs.Slow.{trees_of}
 use Rattle.stil_tree.proofs.Slowly.{IsRead}
 use Rattle.stil_tree.proofs.slow.+slow.Given as goal
 
