@@ -9,8 +9,8 @@ use std::rt::{Env, Files};
 use std::sync::Wait;
 use std::thread::Threads;
 use std::{env, fs, io};
-use stil_tool::{Status, tester};
-use tester_types::{Failed, OpenGate, Shelf, ShelfFault, SilentDesk, Sink, put_all};
+use stil_tool::{Status, no_memory, tester};
+use tester_types::{Failed, OpenGate, Shelf, ShelfFault, SilentDesk, Sink};
 
 /// Files by their paths. It tells nothing of what they hold, and counts the loads that fail.
 #[derive(Drop)]
@@ -98,14 +98,6 @@ fn words<R: Env + AllocGlobal>(rt: &R) -> io::Result<Vec<String>> {
 
 /// How many sockets with simulated dies there are, one for each site.
 const SITES: usize = 16;
-
-/// Says that there was no memory for the sockets.
-fn no_memory<K: Sink>(sink: &mut K) -> Status {
-    match put_all(sink, b"out of memory\n") {
-        Ok(()) => Status::OutOfMemory,
-        Err(_) => Status::WriteFault,
-    }
-}
 
 /// Runs the command that the command line names. No desk says anything yet, and the gate is open.
 pub fn run<R: Files + Env + Print + AllocGlobal + Threads + Wait + Sync>(rt: &R) -> Status {

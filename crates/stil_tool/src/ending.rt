@@ -21,7 +21,7 @@ pub(crate) fn ended<K: Sink>(out: &mut K, line: &[Piece], status: Status) -> Sta
 }
 
 /// Says that there was no memory.
-pub(crate) fn no_memory<K: Sink>(out: &mut K) -> Status
+pub fn no_memory<K: Sink>(out: &mut K) -> Status
     ensures ends { Ends (K.told out.old) (K.faults out.old) OutOfMemory memory_line result (K.told out.new) (K.faults out.new) }
     ensures puts { K.faults out.old ≤ K.faults out.new }
 {

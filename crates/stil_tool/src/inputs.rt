@@ -1,7 +1,6 @@
 //! The three files of a lot of one die: the program's text, the plan, and the netlist.
 
-ghost use Rattle.std.specs.Prelude.{◌≡◌, ◌≤◌, ◌∷◌, [], IfOk, IfErr, length};
-ghost use Rattle.std.specs.Str.{IsUtf8};
+ghost use Rattle.std.specs.Prelude.{◌≡◌, ◌≤◌, ◌∷◌, [], IfOk, IfErr};
 ghost use Rattle.stil_tool.specs.Lot.{IsFile, IsUnread, IsTextFile, IsPlanFile, IsNetFile, IsTextRefused, IsPlanRefused, IsNetRefused};
 ghost use Rattle.stil_tool.specs.declared.refusal.Refusal.TheVariants.{NoMemory};
 

@@ -12,6 +12,7 @@ mod status;
 mod top_call;
 
 pub use commands::{LIMIT, offline};
+pub use ending::no_memory;
 pub use refusal::Refusal;
 pub use status::Status;
 pub use top_call::tester;

@@ -7,7 +7,7 @@ ghost use Rattle.plan_rows.specs.Rows.{files_of};
 ghost use Rattle.lot_plan.specs.Refusal.{IsAnswer};
 ghost use Rattle.stil_tool.specs.Offline.{Answers};
 ghost use Rattle.stil_tool.specs.OneDie.{is_one_die, net_file};
-ghost use Rattle.stil_tool.specs.Lot.{IsReady, IsRefused, IsTried, RunWants, LotWants, first_count, record_of};
+ghost use Rattle.stil_tool.specs.Lot.{IsReady, IsRefused, RunWants, LotWants, first_count, record_of};
 
 use crate::ending::no_memory;
 use crate::inputs::{read_net, read_plan, read_program};
