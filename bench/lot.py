@@ -1,13 +1,13 @@
 #!/usr/bin/env python3
-"""Measures a lot of one die: 60,000 vectors on 200 flip-flops in a row, from text to datalog. The time of reading is that of a
-lot whose plan is refused, the time of compiling is what a lot takes longer whose netlist lacks a signal, and the rest is
-that of the run. Each is the least of five runs. The processor time of the program itself and that of the kernel, which hands
-out fresh memory page by page, are printed apart, since the second hangs on the machine.
+"""Measures a lot of one die: 60,000 vectors on 200 flip-flops in a row, from text to datalog. The time of reading is what a lot
+whose plan is refused takes longer than one whose text is missing, the time of compiling is what a lot takes longer whose netlist
+lacks a signal, and the rest is that of the run. Each is the least processor time of twenty runs, the program's own and the
+kernel's together.
 
-Usage: bench/lot.py [PROGRAM]"""
+Usage: bench/lot.py [PROGRAM]; without a program it is ./stil, which asks for large pages of memory."""
 import os, subprocess, sys, tempfile
 
-program = sys.argv[1] if len(sys.argv) > 1 else os.path.join(os.path.dirname(__file__), "../crates/stil/out/stil")
+program = sys.argv[1] if len(sys.argv) > 1 else os.path.join(os.path.dirname(__file__), "../stil")
 program = os.path.abspath(program)
 vectors, stages = 60_000, 200
 
@@ -38,11 +38,11 @@ def once(*words):
     child = subprocess.Popen([program, *words], stdout=subprocess.PIPE)
     printed = child.stdout.read().decode()
     _, _, usage = os.wait4(child.pid, 0)
-    return usage.ru_utime, usage.ru_stime, usage.ru_maxrss / 1024, printed
+    return usage.ru_utime + usage.ru_stime, usage.ru_maxrss / 1024, printed
 
 
 def measured(*words):
-    return min((once(*words) for _ in range(5)), key=lambda run: run[0] + run[1])
+    return min((once(*words) for _ in range(20)), key=lambda run: run[0])
 
 
 with tempfile.TemporaryDirectory() as folder:
@@ -58,12 +58,14 @@ with tempfile.TemporaryDirectory() as folder:
         with open(name, "w") as file:
             file.writelines(lines)
     size = os.path.getsize("p.stil")
-    read, read_kernel, read_memory, _ = measured("lot", "p.stil", "refused.csv")
-    compiled, compiled_kernel, _, _ = measured("lot", "p.stil", "unbound.csv")
-    ran, ran_kernel, memory, printed = measured("lot", "p.stil", "lot.csv")
+    started, _, _ = measured("lot", "missing.stil", "refused.csv")
+    read, read_memory, _ = measured("lot", "p.stil", "refused.csv")
+    compiled, _, _ = measured("lot", "p.stil", "unbound.csv")
+    ran, memory, printed = measured("lot", "p.stil", "lot.csv")
     print(printed, end="")
-    print(f"reading {read:.3f} s ({size / read / 1e6:.0f} MB/s) and {read_kernel:.3f} s of the kernel, {read_memory:.0f} MiB")
-    print(f"compiling {compiled - read:.3f} s and {compiled_kernel - read_kernel:.3f} s of the kernel")
+    reading = read - started
+    print(f"reading {reading:.4f} s ({size / reading / 1e6:.0f} MB/s), {read_memory:.0f} MiB")
+    print(f"compiling {compiled - read:.4f} s")
     run = ran - compiled
-    print(f"running {run:.3f} s and {ran_kernel - compiled_kernel:.3f} s of the kernel, peak memory {memory:.0f} MiB")
+    print(f"running {run:.4f} s, peak memory {memory:.0f} MiB")
     print(f"{vectors * stages / run / 1e6:.1f} million flip-flops clocked a second")
