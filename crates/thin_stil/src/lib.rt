@@ -16,3 +16,6 @@ pub use reader::read;
 pub use rows::assign;
 pub use thin::{ThinFault, ThinSignal, ThinText};
 pub use vectors::VectorList;
+
+#[cfg(test)]
+mod tests;
