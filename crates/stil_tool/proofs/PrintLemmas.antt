@@ -1,6 +1,6 @@
 -- A loop that puts a text line by line: what was written, and what is left, are the whole.
-use Rattle.std.proofs.Common.{◌≡◌, ℕ, suc, ◌+◌, ◌*◌, ◌^◌, ◌<◌, List, [], ◌∷◌, ◌++◌, length, drop, get_or, Option, sym, ap, ◌∙◌, subst, arith, replicate}
-use Rattle.std.proofs.Math.Seq.{drop-cons}
+use Rattle.std.proofs.Common.{◌≡◌, ℕ, ◌+◌, ◌*◌, ◌^◌, ◌<◌, List, [], ◌∷◌, ◌++◌, length, drop, get_or, Option, sym, ap, ◌∙◌, subst, replicate}
+use Rattle.std.proofs.lemmas.List.{drop_more}
 use Rattle.std.proofs.lemmas.Nat.{mul-lt}
 use Rattle.std.specs.List.{flat_map}
 use Rattle.tester_types.specs.Outside.{gained, GainsFront}
@@ -11,15 +11,6 @@ use Rattle.thin_stil.specs.Rows.{row_after}
 use Rattle.stil_tool.specs.Rows.{rows_text, row_line}
 use Rattle.thin_stil.specs.Thin.{cycles_of}
 use Rattle.stil_tool.proofs.RowsLemmas.{rows-are-cycles}
-
-suc-plus : (i : ℕ) → suc i ≡ i + 1
-suc-plus i = omega arith
-
--- what is left begins with the item at hand
-drop-item : {X : Type 0} (items : List X) (i : ℕ) (d item : X) → i < length items → item ≡ get_or items i d →
-    drop i items ≡ item ∷ drop (i + 1) items
-drop-item items i d item within is =
-    drop-cons items i d within ∙ ap (λ x. x ∷ drop (suc i) items) (sym is) ∙ ap (λ j. item ∷ drop j items) (suc-plus i)
 
 -- a fault in the line at hand
 pub line_stops : (held before now : Option (List ℕ)) (whole written line rest : List ℕ) →
@@ -34,7 +25,7 @@ pub rows_text-item : (text : ThinText) (number : ℕ) (row : List ℕ) (vs : Lis
     ≡ row_line number (number * text.table.period) text.table.name (row_after given row)
     ++ rows_text text (number + 1) (row_after given row) (drop (number + 1) vs)
 rows_text-item text number row vs given within is =
-    ap (rows_text text number row) (drop-item vs number [] given within is)
+    ap (rows_text text number row) (drop_more vs number [] within ∙ ap (λ g. g ∷ drop (number + 1) vs) (sym is))
 
 -- a product of two numbers of 64 bits fits 128
 pub product_fits : (a b : ℕ) → a < 2 ^ 64 → b < 2 ^ 64 → a * b < 2 ^ 128
