@@ -1,7 +1,7 @@
 -- A body has as many statements as its list.
 use Rattle.std.proofs.Common.{◌≡◌, ℕ, ◌+◌, List, [], ◌∷◌, length, refl, arith}
-use Rattle.stil_ast.specs.Written.{Written, statement_count}
-use Rattle.stil_ast.specs.Bodies.{written_front, written_of}
+use Rattle.stil_ast.specs.Data.Written.{Written, statement_count}
+use Rattle.stil_ast.specs.Data.Bodies.{written_front, written_of}
 use Rattle.stil_ast.specs.declared.body.PatAction.{PatAction}
 use Rattle.stil_ast.specs.declared.body.PatAction.TheVariants.{Step, Loop, Shift}
 use Rattle.stil_ast.specs.declared.body.PatStmt.{PatStmt}

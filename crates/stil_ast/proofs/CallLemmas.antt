@@ -1,10 +1,10 @@
 -- Runs of the same statements with other calls, and of statements followed by others.
 use Rattle.std.proofs.Common.{◌≡◌, ℕ, zero, suc, Bool, true, Option, Some, None, refl, ap, sym, ◌∙◌, slice_get}
 use Rattle.std.proofs.lemmas.Bool.{and_parts}
-use Rattle.stil_ast.specs.Statements.{Statements, finish, place, wave, vector, condition, loop, expand, call, shift, stop}
-use Rattle.stil_ast.specs.Shift.{taking, passes}
-use Rattle.stil_ast.specs.Running.{Setting, Ran, Here, behind, then_run, times, back_at, pass_at, at_place, at_table, after, make, in_macro, from_macro, in_call, from_call, in_shift, from_shift, run_list, calls}
-use Rattle.stil_ast.specs.Laws.{followed_by, takes_nothing, bodies_pass, calls_within}
+use Rattle.stil_ast.specs.Meaning.Statements.{Statements, finish, place, wave, vector, condition, loop, expand, call, shift, stop}
+use Rattle.stil_ast.specs.Meaning.Shift.{taking, passes}
+use Rattle.stil_ast.specs.Meaning.Running.{Setting, Ran, Here, behind, then_run, times, back_at, pass_at, at_place, at_table, after, make, in_macro, from_macro, in_call, from_call, in_shift, from_shift, run_list, calls}
+use Rattle.stil_ast.specs.Meaning.Laws.{followed_by, takes_nothing, bodies_pass, calls_within}
 use Rattle.stil_ast.proofs.RunLemmas.{then_run-assoc, then_run-same, times-same}
 
 -- bodies that pass a test run alike, so the statements do

@@ -4,8 +4,8 @@ use Rattle.std.proofs.lemmas.List.{get_or-map}
 use Rattle.std.proofs.lemmas.List.FromFn.{get_or-enumerate_from, length-enumerate_from}
 use Rattle.std.proofs.lemmas.List.Sums.{sum_by_more}
 use Rattle.std.specs.List.{enumerate_from}
-use Rattle.stil_ast.specs.State.{Vector}
-use Rattle.stil_ast.specs.Cycles.{Dated, starts_at, dated}
+use Rattle.stil_ast.specs.Meaning.State.{Vector}
+use Rattle.stil_ast.specs.Meaning.Cycles.{Dated, starts_at, dated}
 
 abbrev dated_as : (Vector → ℕ) → List Vector → ℕ → Vector → Dated
 dated_as period vectors number vector =

@@ -2,15 +2,15 @@
 use Rattle.std.proofs.Common.{◌≡◌, ℕ, zero, suc, Bool, true, ◌&&◌, List, [], ◌∷◌, Option, Some, None, refl, ap, sym, subst, ◌∙◌, length, slice_get}
 use Rattle.std.specs.List.{list_all}
 use Rattle.std.proofs.lemmas.Bool.{and_parts}
-use Rattle.stil_ast.specs.State.{State}
-use Rattle.stil_ast.specs.Statements.{Place, Statements, finish, place, wave, vector, condition, loop, expand, call, shift, stop}
-use Rattle.stil_ast.specs.Arguments.{Argument, arguments}
-use Rattle.stil_ast.specs.Dealing.{deal, takers, mark_of}
-use Rattle.stil_ast.specs.Shift.{taking, passes, columns}
-use Rattle.stil_ast.specs.Running.{Setting, Ran, Here, still, behind, then_run, times, at_place, at_table, pass_at, after, make, in_macro, from_macro, in_call, from_call, in_shift, from_shift, run_list, run_all, calls, outside}
-use Rattle.stil_ast.specs.Flat.{Flat, done, cycle, saved, flat_run}
-use Rattle.stil_ast.specs.Flattening.{Spot, Piece, then_piece, pieces, with_args, pass_piece, gifts_piece, cycle_piece, repeat_piece, macro_piece, call_piece, shift_piece, flat_list, flat_calls, flat_of}
-use Rattle.stil_ast.specs.Laws.{is_steady, steady_loops, with_state}
+use Rattle.stil_ast.specs.Meaning.State.{State}
+use Rattle.stil_ast.specs.Meaning.Statements.{Place, Statements, finish, place, wave, vector, condition, loop, expand, call, shift, stop}
+use Rattle.stil_ast.specs.Meaning.Arguments.{Argument, arguments}
+use Rattle.stil_ast.specs.Meaning.Dealing.{deal, takers, mark_of}
+use Rattle.stil_ast.specs.Meaning.Shift.{taking, passes, columns}
+use Rattle.stil_ast.specs.Meaning.Running.{Setting, Ran, Here, still, behind, then_run, times, at_place, at_table, pass_at, after, make, in_macro, from_macro, in_call, from_call, in_shift, from_shift, run_list, run_all, calls, outside}
+use Rattle.stil_ast.specs.Meaning.Flat.{Flat, done, cycle, saved, flat_run}
+use Rattle.stil_ast.specs.Meaning.Flattening.{Spot, Piece, then_piece, pieces, with_args, pass_piece, gifts_piece, cycle_piece, repeat_piece, macro_piece, call_piece, shift_piece, flat_list, flat_calls, flat_of}
+use Rattle.stil_ast.specs.Meaning.Laws.{is_steady, steady_loops, with_state}
 use Rattle.stil_ast.proofs.FlatSteps.{flat_run-joined, gifts_front-run, then_run-still, steady-same}
 
 -- the place of a run in the text

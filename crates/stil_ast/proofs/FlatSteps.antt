@@ -2,14 +2,14 @@
 use Rattle.std.proofs.Common.{◌≡◌, ℕ, true, List, [], ◌∷◌, Option, Some, refl, ap, sym, ◌∙◌, append-nil, length, map, slice_get}
 use Rattle.std.specs.List.{list_all}
 use Rattle.std.proofs.lemmas.Bool.{and_parts}
-use Rattle.stil_ast.specs.State.{State}
-use Rattle.stil_ast.specs.Statements.{Item, letter, hash, percent, Assign, Statements, finish, place, wave, vector, condition, loop, expand, call, shift, stop}
-use Rattle.stil_ast.specs.Arguments.{Entry, given, padding, Argument, arguments}
-use Rattle.stil_ast.specs.Dealing.{Gift, deal_item, deal_pairs, spread, deal, received}
-use Rattle.stil_ast.specs.Running.{Setting, Made, Ran, still, behind, then_run, times}
-use Rattle.stil_ast.specs.Flat.{Flat, done, table, character, back, cycle, repeat, save, saved, flat_run}
-use Rattle.stil_ast.specs.Flattening.{joined, entry_front, gifts_front, Spot, Piece, with_args, macro_piece, flat_list}
-use Rattle.stil_ast.specs.Laws.{is_not_hash, no_hashes, is_steady}
+use Rattle.stil_ast.specs.Meaning.State.{State}
+use Rattle.stil_ast.specs.Meaning.Statements.{Item, letter, hash, percent, Assign, Statements, finish, place, wave, vector, condition, loop, expand, call, shift, stop}
+use Rattle.stil_ast.specs.Meaning.Arguments.{Entry, given, padding, Argument, arguments}
+use Rattle.stil_ast.specs.Meaning.Dealing.{Gift, deal_item, deal_pairs, spread, deal, received}
+use Rattle.stil_ast.specs.Meaning.Running.{Setting, Made, Ran, still, behind, then_run, times}
+use Rattle.stil_ast.specs.Meaning.Flat.{Flat, done, table, character, back, cycle, repeat, save, saved, flat_run}
+use Rattle.stil_ast.specs.Meaning.Flattening.{joined, entry_front, gifts_front, Spot, Piece, with_args, macro_piece, flat_list}
+use Rattle.stil_ast.specs.Meaning.Laws.{is_not_hash, no_hashes, is_steady}
 use Rattle.stil_ast.proofs.RunLemmas.{then_run-assoc}
 
 -- one flat tree after another runs one after another

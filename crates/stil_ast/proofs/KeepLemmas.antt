@@ -1,13 +1,13 @@
 -- A signal that statements don't assign keeps its character.
 use Rattle.std.proofs.Common.{◌≡◌, ◌≢◌, ℕ, zero, suc, ◌==◌, ◌||◌, Bool, true, false, not, List, [], ◌∷◌, ◌++◌, Option, Some, None, refl, sym, ◌∙◌, get_or, get_or-set_other, eq-eqb}
 use Rattle.std.proofs.lemmas.Bool.{and_parts}
-use Rattle.stil_ast.specs.State.{State}
-use Rattle.stil_ast.specs.Statements.{Item, letter, hash, percent, Assign, Place, Statements, finish, place, wave, vector, condition, loop, expand, call, shift, stop}
-use Rattle.stil_ast.specs.Arguments.{Entry, Argument, next_entry}
-use Rattle.stil_ast.specs.Dealing.{Gift, gift_of, deal_item, deal_pairs, spread, deal, letter_of, with_letter, received, has_signal}
-use Rattle.stil_ast.specs.Shift.{taking, passes}
-use Rattle.stil_ast.specs.Running.{Setting, Made, Ran, Here, then_run, times, pass_at, at_place, at_table, after, make, in_shift, from_shift, run_list, run_all, calls}
-use Rattle.stil_ast.specs.Laws.{all_leave, leaves, EachShows, Keeps}
+use Rattle.stil_ast.specs.Meaning.State.{State}
+use Rattle.stil_ast.specs.Meaning.Statements.{Item, letter, hash, percent, Assign, Place, Statements, finish, place, wave, vector, condition, loop, expand, call, shift, stop}
+use Rattle.stil_ast.specs.Meaning.Arguments.{Entry, Argument, next_entry}
+use Rattle.stil_ast.specs.Meaning.Dealing.{Gift, gift_of, deal_item, deal_pairs, spread, deal, letter_of, with_letter, received, has_signal}
+use Rattle.stil_ast.specs.Meaning.Shift.{taking, passes}
+use Rattle.stil_ast.specs.Meaning.Running.{Setting, Made, Ran, Here, then_run, times, pass_at, at_place, at_table, after, make, in_shift, from_shift, run_list, run_all, calls}
+use Rattle.stil_ast.specs.Meaning.Laws.{all_leave, leaves, EachShows, Keeps}
 
 -- no gift goes to a signal
 abbrev NoneTo : ℕ → List Gift → Type 0

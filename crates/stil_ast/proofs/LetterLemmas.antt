@@ -2,10 +2,10 @@
 use Rattle.std.proofs.Common.{◌≡◌, ℕ, true, List, [], ◌∷◌, ◌++◌, refl, ap, sym, ◌∙◌}
 use Rattle.std.specs.List.{list_all}
 use Rattle.std.proofs.lemmas.Bool.{and_parts}
-use Rattle.stil_ast.specs.Statements.{Item, letter, hash, percent, Assign}
-use Rattle.stil_ast.specs.Arguments.{Argument, given}
-use Rattle.stil_ast.specs.Dealing.{Dealt, behind_gifts, then_deal, gift_of, spread, deal_pairs, deal, hashed, takers, mark_of, is_character}
-use Rattle.stil_ast.specs.Laws.{all_characters}
+use Rattle.stil_ast.specs.Meaning.Statements.{Item, letter, hash, percent, Assign}
+use Rattle.stil_ast.specs.Meaning.Arguments.{Argument, given}
+use Rattle.stil_ast.specs.Meaning.Dealing.{Dealt, behind_gifts, then_deal, gift_of, spread, deal_pairs, deal, hashed, takers, mark_of, is_character}
+use Rattle.stil_ast.specs.Meaning.Laws.{all_characters}
 use Rattle.std.specs.Prelude.{Some}
 
 -- the same gifts, with other arguments

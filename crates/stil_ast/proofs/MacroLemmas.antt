@@ -1,13 +1,13 @@
 -- A body that takes no data runs alike with all arguments.
 use Rattle.std.proofs.Common.{◌≡◌, ℕ, zero, suc, true, List, [], ◌∷◌, Option, Some, refl, ap, sym, ◌∙◌, slice_get, length}
 use Rattle.std.proofs.lemmas.Bool.{and_parts}
-use Rattle.stil_ast.specs.State.{State}
-use Rattle.stil_ast.specs.Statements.{Assign, Statements, finish, place, wave, vector, condition, loop, expand, call, shift, stop}
-use Rattle.stil_ast.specs.Arguments.{Argument, arguments}
-use Rattle.stil_ast.specs.Dealing.{Dealt, takers, mark_of}
-use Rattle.stil_ast.specs.Shift.{taking, passes}
-use Rattle.stil_ast.specs.Running.{Setting, Ran, Here, behind, then_run, times, back_at, pass_at, at_place, at_table, after_deal, after, make, in_macro, from_macro, in_call, from_call, in_shift, from_shift, run_list, run_all, calls}
-use Rattle.stil_ast.specs.Laws.{followed_by, all_characters, takes_nothing, bodies_pass, calls_within}
+use Rattle.stil_ast.specs.Meaning.State.{State}
+use Rattle.stil_ast.specs.Meaning.Statements.{Assign, Statements, finish, place, wave, vector, condition, loop, expand, call, shift, stop}
+use Rattle.stil_ast.specs.Meaning.Arguments.{Argument, arguments}
+use Rattle.stil_ast.specs.Meaning.Dealing.{Dealt, takers, mark_of}
+use Rattle.stil_ast.specs.Meaning.Shift.{taking, passes}
+use Rattle.stil_ast.specs.Meaning.Running.{Setting, Ran, Here, behind, then_run, times, back_at, pass_at, at_place, at_table, after_deal, after, make, in_macro, from_macro, in_call, from_call, in_shift, from_shift, run_list, run_all, calls}
+use Rattle.stil_ast.specs.Meaning.Laws.{followed_by, all_characters, takes_nothing, bodies_pass, calls_within}
 use Rattle.stil_ast.proofs.CallLemmas.{run_list-same, calls-deeper, run_list-followed_by}
 use Rattle.stil_ast.proofs.LetterLemmas.{deal-characters, takers-characters, mark_of-none}
 

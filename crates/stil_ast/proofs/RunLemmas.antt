@@ -1,7 +1,7 @@
 -- Runs one after another, and the same run so often.
 use Rattle.std.proofs.Common.{◌≡◌, ℕ, zero, suc, ◌+◌, List, refl, ap, sym, ◌∙◌, append_assoc, zero-add, suc-add}
-use Rattle.stil_ast.specs.Statements.{Place, Statements, loop}
-use Rattle.stil_ast.specs.Running.{Setting, Made, Ran, Here, behind, then_run, times, pass_at, run_list, run_all, calls}
+use Rattle.stil_ast.specs.Meaning.Statements.{Place, Statements, loop}
+use Rattle.stil_ast.specs.Meaning.Running.{Setting, Made, Ran, Here, behind, then_run, times, pass_at, run_list, run_all, calls}
 
 -- a run with these vectors
 abbrev pub with_made : {P : Type 0} → P → List Made → Ran P

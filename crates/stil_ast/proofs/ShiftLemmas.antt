@@ -1,12 +1,12 @@
 -- A Shift shifts each character of its data once, in order.
 use Rattle.std.proofs.Common.{◌≡◌, ℕ, ◌-◌, ◌<◌, Bool, true, false, List, [], ◌∷◌, ◌++◌, Option, Some, None, refl, ap, ◌∙◌, arith, append-nil, length, map, max, replicate, get_or, set, get_or-set_same, length-set, slice_index_or}
 use Rattle.std.proofs.lemmas.List.{length-map}
-use Rattle.stil_ast.specs.Statements.{Assign, Place, hash, Statements, finish, vector}
-use Rattle.stil_ast.specs.Arguments.{Entry, given, padding, Argument, argument_of, no_argument, first_of, one_taken}
-use Rattle.stil_ast.specs.Dealing.{gift_of, received}
-use Rattle.stil_ast.specs.Shift.{column}
-use Rattle.stil_ast.specs.Running.{Setting, Ran, Here, times, pass_at, run_list, run_all, calls}
-use Rattle.stil_ast.specs.Laws.{shift_of, shown_at}
+use Rattle.stil_ast.specs.Meaning.Statements.{Assign, Place, hash, Statements, finish, vector}
+use Rattle.stil_ast.specs.Meaning.Arguments.{Entry, given, padding, Argument, argument_of, no_argument, first_of, one_taken}
+use Rattle.stil_ast.specs.Meaning.Dealing.{gift_of, received}
+use Rattle.stil_ast.specs.Meaning.Shift.{column}
+use Rattle.stil_ast.specs.Meaning.Running.{Setting, Ran, Here, times, pass_at, run_list, run_all, calls}
+use Rattle.stil_ast.specs.Meaning.Laws.{shift_of, shown_at}
 
 none_missing : (n : ℕ) → n - n ≡ 0
 none_missing n = omega arith

@@ -1,12 +1,12 @@
 -- Runs of statements that call nothing: W sets the table; V assigns characters, and then makes one vector of the state.
 use Rattle.std.proofs.Common.{◌≡◌, ℕ, Bool, true, false, List, [], ◌∷◌, Some, refl, ap, sym, ◌∙◌}
-use Rattle.stil_ast.specs.State.{State}
-use Rattle.stil_ast.specs.Statements.{Item, letter, hash, percent, Assign, Statements, finish, place, wave, vector, condition, loop, expand, call, shift, stop}
-use Rattle.stil_ast.specs.Arguments.{Argument}
-use Rattle.stil_ast.specs.Dealing.{deal_item, deal_pairs, spread, deal}
-use Rattle.stil_ast.specs.Running.{Here, then_run, make, run_list, calls, outside}
-use Rattle.stil_ast.specs.Laws.{followed_by}
-use Rattle.stil_ast.specs.Run.{Run, run, in_front, made, assigned, alone, shown}
+use Rattle.stil_ast.specs.Meaning.State.{State}
+use Rattle.stil_ast.specs.Meaning.Statements.{Item, letter, hash, percent, Assign, Statements, finish, place, wave, vector, condition, loop, expand, call, shift, stop}
+use Rattle.stil_ast.specs.Meaning.Arguments.{Argument}
+use Rattle.stil_ast.specs.Meaning.Dealing.{deal_item, deal_pairs, spread, deal}
+use Rattle.stil_ast.specs.Meaning.Running.{Here, then_run, make, run_list, calls, outside}
+use Rattle.stil_ast.specs.Meaning.Laws.{followed_by}
+use Rattle.stil_ast.specs.Meaning.Run.{Run, run, in_front, made, assigned, alone, shown}
 
 -- without arguments nothing is taken from them
 deal_item-args : (item : Item) (signal : ℕ) → (deal_item item signal []).args ≡ []

@@ -64,30 +64,30 @@ pub struct PatBody {
 }
 
 impl Model for PatBody {
-    ghost use Rattle.stil_ast.specs.Written.{Written, written_size};
+    ghost use Rattle.stil_ast.specs.Data.Written.{Written, written_size};
 
     ghost Value = { Written };
 
-    ghost use Rattle.stil_ast.specs.WrittenCode.{written_code};
+    ghost use Rattle.stil_ast.specs.Data.WrittenCode.{written_code};
     ghost use Rattle.stil_ast.specs.contracts.body.Step as step;
 
     ghost coded = { written_code step.the_row.coded };
 
-    ghost use Rattle.stil_ast.specs.Bodies.{written_of};
+    ghost use Rattle.stil_ast.specs.Data.Bodies.{written_of};
 
     ghost view = { λ b. written_of b.stmts.items };
 
     ghost size = { written_size };
 
-    ghost use Rattle.stil_ast.specs.BodiesFall.{most_le-written_size};
+    ghost use Rattle.stil_ast.specs.Data.BodiesFall.{most_le-written_size};
 
     ghost size_decreases = { λ b h. most_le-written_size b.stmts.items };
 }
 
 impl PatBody {
     ghost use Rattle.std.specs.Prelude.{◌≡◌};
-    ghost use Rattle.stil_ast.specs.Bodies.{written_of};
-    ghost use Rattle.stil_ast.specs.Written.{statement_count};
+    ghost use Rattle.stil_ast.specs.Data.Bodies.{written_of};
+    ghost use Rattle.stil_ast.specs.Data.Written.{statement_count};
 
     /// The body of these statements.
     pub fn from_vec(stmts: Vec<PatStmt>) -> PatBody

@@ -29,8 +29,8 @@ pub struct VecText {
 
 impl Model for VecText {
     ghost use Rattle.std.specs.Prelude.{List};
-    ghost use Rattle.stil_ast.specs.Statements.{Item};
-    ghost use Rattle.stil_ast.specs.Data.{items_of};
+    ghost use Rattle.stil_ast.specs.Meaning.Statements.{Item};
+    ghost use Rattle.stil_ast.specs.Data.Items.{items_of};
 
     ghost Value = { List Item };
 
@@ -38,7 +38,7 @@ impl Model for VecText {
 }
 
 ghost use Rattle.std.specs.Prelude.{◌≡◌};
-ghost use Rattle.stil_ast.specs.Data.{items_of};
+ghost use Rattle.stil_ast.specs.Data.Items.{items_of};
 
 impl VecText {
     /// The data of these runs.

@@ -1,7 +1,7 @@
 //! Why a STIL text is refused.
 
 ghost use Rattle.std.specs.Prelude.{◌≡◌};
-ghost use Rattle.stil_ast.specs.KindName.{kind_name};
+ghost use Rattle.stil_ast.specs.Data.KindName.{kind_name};
 ghost use Rattle.stil_ast.specs.declared.fault.StilRefusal.TheVariants.{NoMemory};
 
 use std::alloc::{AllocError, AllocFailed};
@@ -82,7 +82,7 @@ impl StilKind {
 
 impl fmt::Display for StilKind {
     ghost use Rattle.std.specs.Prelude.{Some};
-    ghost use Rattle.stil_ast.specs.KindName.{kind_name};
+    ghost use Rattle.stil_ast.specs.Data.KindName.{kind_name};
 
     ghost output = { λ kind. Some (kind_name kind) };
 
@@ -112,7 +112,7 @@ pub enum StilRefusal {
 
 impl fmt::Display for StilRefusal {
     ghost use Rattle.std.specs.Prelude.{Some};
-    ghost use Rattle.stil_ast.specs.RefusalText.{refusal_text};
+    ghost use Rattle.stil_ast.specs.Data.RefusalText.{refusal_text};
 
     ghost output = { λ refusal. Some (refusal_text refusal) };
 

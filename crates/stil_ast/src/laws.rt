@@ -1,6 +1,6 @@
 //! Laws of the language: what its definitions say, as a test engineer expects it.
 
-ghost use Rattle.stil_ast.specs.Laws.{LoopSplits, MacroIsItsBody, CallGivesBack, ShiftIsInOrder, SignalKeepsCharacter, CyclesFollow, FlatTreeAgrees};
+ghost use Rattle.stil_ast.specs.Meaning.Laws.{LoopSplits, MacroIsItsBody, CallGivesBack, ShiftIsInOrder, SignalKeepsCharacter, CyclesFollow, FlatTreeAgrees};
 
 /// A Loop of m + n runs is a Loop of m and then one of n.
 pub fn loop_splits()

@@ -1,9 +1,9 @@
 -- The rows that are printed one after another are the lines of the dated cycles: `rows-are-cycles`.
 use Rattle.std.proofs.Common.{◌≡◌, ℕ, zero, suc, ◌+◌, ◌*◌, List, [], ◌∷◌, ◌++◌, length, map, replicate, None, Some, sym, refl, ap, ◌∙◌, arith}
 use Rattle.std.specs.List.{flat_map}
-use Rattle.stil_ast.specs.State.{State}
-use Rattle.stil_ast.specs.Running.{outside}
-use Rattle.stil_ast.specs.Run.{Run, run, assigned}
+use Rattle.stil_ast.specs.Meaning.State.{State}
+use Rattle.stil_ast.specs.Meaning.Running.{outside}
+use Rattle.stil_ast.specs.Meaning.Run.{Run, run, assigned}
 use Rattle.stil_ast.proofs.ThinLaws.{run-vector}
 use Rattle.thin_stil.specs.declared.thin.ThinText.{ThinText}
 use Rattle.thin_stil.specs.Thin.{vectors_of, assigns_of, cycles_of}

@@ -2,7 +2,7 @@
 use Rattle.std.specs.Prelude.{ℕ, ◌*◌, List, ◌++◌, Option, None, Some, map, length, codes, decimal}
 use Rattle.std.specs.List.{flat_map}
 use Rattle.tester_types.specs.Printing.{printed_name, printed_title}
-use Rattle.stil_ast.specs.Cycles.{Dated}
+use Rattle.stil_ast.specs.Meaning.Cycles.{Dated}
 use Rattle.thin_stil.specs.declared.thin.ThinText.{ThinText}
 use Rattle.thin_stil.specs.Thin.{cycles_of}
 

@@ -11,7 +11,7 @@ use Rattle.page_meaning.specs.declared.instr.Instr.{Instr}
 use Rattle.page_meaning.specs.declared.instr.Instr.TheVariants.{Done}
 use Rattle.page_meaning.specs.Meaning.{top}
 use Rattle.page_meaning.specs.Whole.{IsWhole}
-use Rattle.stil_ast.specs.State.{State, Vector}
+use Rattle.stil_ast.specs.Meaning.State.{State, Vector}
 use Rattle.thin_stil.specs.declared.thin.ThinText.{ThinText}
 use Rattle.thin_stil.specs.Thin as thin_text
 use Rattle.thin_stil.specs.Rows.{rows_from}

@@ -11,10 +11,10 @@ use Rattle.page_meaning.specs.declared.instr.Instr.TheVariants.{Run, Loop, End, 
 use Rattle.page_meaning.specs.Meaning.{bodies, on_top, top, cycle_count}
 use Rattle.page_meaning.specs.Whole.{IsRest, IsWhole}
 use Rattle.page_meaning.proofs.CountLemmas.{cycle_count-length}
-use Rattle.stil_ast.specs.State.{State, Vector}
-use Rattle.stil_ast.specs.Dealing.{deal, received, with_letter}
-use Rattle.stil_ast.specs.Running.{outside}
-use Rattle.stil_ast.specs.Run as runs
+use Rattle.stil_ast.specs.Meaning.State.{State, Vector}
+use Rattle.stil_ast.specs.Meaning.Dealing.{deal, received, with_letter}
+use Rattle.stil_ast.specs.Meaning.Running.{outside}
+use Rattle.stil_ast.specs.Meaning.Run as runs
 use Rattle.stil_ast.proofs.ThinLaws.{run-vector}
 use Rattle.thin_stil.specs.Thin.{vectors_of, assigns_of}
 use Rattle.thin_stil.proofs.CycleLemmas.{dated_from, IsPlain}

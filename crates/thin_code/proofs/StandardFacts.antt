@@ -9,7 +9,7 @@ use Rattle.tester_types.specs.declared.wave.Wave.{Wave}
 use Rattle.tester_types.specs.declared.wave.Table.{Table}
 use Rattle.page_meaning.specs.declared.instr.Instr.TheVariants.{Run, Done}
 use Rattle.page_meaning.specs.Meaning.{bodies}
-use Rattle.stil_ast.specs.Cycles.{Dated}
+use Rattle.stil_ast.specs.Meaning.Cycles.{Dated}
 use Rattle.thin_stil.specs.declared.thin.ThinText.{ThinText}
 use Rattle.page_code.specs.declared.parts.Direction.TheVariants.{In, Out}
 use Rattle.page_code.specs.Program.{Program}

@@ -3,7 +3,7 @@ use Rattle.std.specs.Prelude.{◌≡◌, ℕ, ◌==◌, Bool, true, false, List,
 use Rattle.std.specs.List.{enumerate_from}
 use Rattle.tester_types.specs.declared.wave.Table.{Table}
 use Rattle.tester_types.specs.declared.cycle.Cycle.{Cycle}
-use Rattle.stil_ast.specs.Cycles.{Dated}
+use Rattle.stil_ast.specs.Meaning.Cycles.{Dated}
 use Rattle.edge_gen.specs.Signals.{wave_of}
 use Rattle.page_code.specs.declared.parts.Direction.{Direction}
 use Rattle.page_code.specs.declared.parts.Direction.TheVariants.{In, Out}

@@ -4,12 +4,12 @@ use Rattle.std.specs.List.{enumerate_from, AllByRecursion}
 use Rattle.std.proofs.lemmas.List.{map-set}
 use Rattle.std.proofs.lemmas.List.Sums.{sum_by-append}
 use Rattle.std.proofs.Math.Seq.{take-append_seam}
-use Rattle.stil_ast.specs.State.{State, Vector}
-use Rattle.stil_ast.specs.Dealing.{deal, received, with_letter}
-use Rattle.stil_ast.specs.Running.{outside}
-use Rattle.stil_ast.specs.Run.{Run, run, assigned}
+use Rattle.stil_ast.specs.Meaning.State.{State, Vector}
+use Rattle.stil_ast.specs.Meaning.Dealing.{deal, received, with_letter}
+use Rattle.stil_ast.specs.Meaning.Running.{outside}
+use Rattle.stil_ast.specs.Meaning.Run.{Run, run, assigned}
 use Rattle.stil_ast.proofs.ThinLaws.{run-vector}
-use Rattle.stil_ast.specs.Cycles.{Dated, starts_at}
+use Rattle.stil_ast.specs.Meaning.Cycles.{Dated, starts_at}
 use Rattle.thin_stil.specs.declared.thin.ThinText.{ThinText}
 use Rattle.thin_stil.specs.Thin.{vectors_of, assigns_of, cycles_of}
 use Rattle.thin_stil.specs.Rows.{row_after, rows_from}

@@ -11,7 +11,7 @@ use Rattle.stil_form.specs.declared.part.Mark.TheVariants.{Dot, Equals, Slash, O
 use Rattle.stil_form.specs.Lexeme.{Lexeme, word, text, sign}
 use Rattle.thin_stil.specs.declared.thin.ThinText.{ThinText}
 use Rattle.thin_stil.specs.ThinBlocks.{thin_of}
-use Rattle.stil_ast.specs.Cycles.{Dated}
+use Rattle.stil_ast.specs.Meaning.Cycles.{Dated}
 use Rattle.thin_stil.specs.Thin.{cycles_of}
 
 -- the tokens of a thin text of two signals and three vectors

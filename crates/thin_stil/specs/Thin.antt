@@ -1,9 +1,9 @@
 -- The thin profile of STIL: one table, one pattern of vectors, one executive.
 use Rattle.std.specs.Prelude.{◌≡◌, ℕ, List, [], ◌∷◌, length, Ok}
-use Rattle.stil_ast.specs.Statements.{letter, Assign, Statements, finish, wave, vector}
-use Rattle.stil_ast.specs.State.{start_of}
-use Rattle.stil_ast.specs.Run.{run}
-use Rattle.stil_ast.specs.Cycles.{Dated, dated}
+use Rattle.stil_ast.specs.Meaning.Statements.{letter, Assign, Statements, finish, wave, vector}
+use Rattle.stil_ast.specs.Meaning.State.{start_of}
+use Rattle.stil_ast.specs.Meaning.Run.{run}
+use Rattle.stil_ast.specs.Meaning.Cycles.{Dated, dated}
 use Rattle.stil_lex.specs.declared.token.Token.{Token}
 use Rattle.stil_lex.specs.Tokens.{Reads}
 use Rattle.stil_tree.specs.Trees.{Trees, Entry, entries}

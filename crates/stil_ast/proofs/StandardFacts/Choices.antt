@@ -1,11 +1,11 @@
 -- Chosen variables, inherited tables, and bursts in bursts.
 use Rattle.std.proofs.Common.{◌≡◌, ℕ, ◌*◌, ◌^◌, Bool, false, List, [], ◌∷◌, Option, Some, None, Ok, refl, codes, pos, take_while, if◌then◌else◌, map}
-use Rattle.stil_ast.specs.Texts.{is_digit, number_of}
-use Rattle.stil_ast.specs.Times.{Times}
-use Rattle.stil_ast.specs.Variables.{picked, value_of, variables_fault}
-use Rattle.stil_ast.specs.BurstFaults.{exec_names_fault}
-use Rattle.stil_ast.specs.Bursts.{Played, played}
-use Rattle.stil_ast.specs.Written.{no_more, single}
+use Rattle.stil_ast.specs.Data.Texts.{is_digit, number_of}
+use Rattle.stil_ast.specs.Meaning.Times.{Times}
+use Rattle.stil_ast.specs.Meaning.Variables.{picked, value_of, variables_fault}
+use Rattle.stil_ast.specs.Faults.BurstFaults.{exec_names_fault}
+use Rattle.stil_ast.specs.Meaning.Bursts.{Played, played}
+use Rattle.stil_ast.specs.Data.Written.{no_more, single}
 use Rattle.stil_ast.proofs.StandardFacts.Texts.{signal, by_name, driven, looked_at, table, assign, text_of}
 use Rattle.stil_ast.proofs.StandardFacts.Lines.{lines, cycle, items, fault, refused}
 use Rattle.stil_ast.specs.declared.name.Named.{Named}

@@ -1,10 +1,10 @@
 -- Cycles and faults of whole texts, in few words.
 use Rattle.std.proofs.Common.{ℕ, ◌*◌, ◌^◌, List, [], ◌∷◌, Option, Some, None, map, flat_map, codes}
-use Rattle.stil_ast.specs.Statements.{Item, letter}
-use Rattle.stil_ast.specs.Written.{Written, no_more, single}
-use Rattle.stil_ast.specs.Cycles.{Dated}
-use Rattle.stil_ast.specs.Executive.{cycles}
-use Rattle.stil_ast.specs.BlockFaults.{blocks_fault}
+use Rattle.stil_ast.specs.Meaning.Statements.{Item, letter}
+use Rattle.stil_ast.specs.Data.Written.{Written, no_more, single}
+use Rattle.stil_ast.specs.Meaning.Cycles.{Dated}
+use Rattle.stil_ast.specs.Meaning.Executive.{cycles}
+use Rattle.stil_ast.specs.Faults.TextFaults.{blocks_fault}
 use Rattle.stil_ast.proofs.StandardFacts.Texts.{nanoseconds, signal, by_name, driven, looked_at, table, assign, text_of}
 use Rattle.stil_ast.specs.declared.signal.Direction.TheVariants.{In, Out}
 use Rattle.stil_ast.specs.declared.body.Step.TheVariants.{Wave, Vector as V}

@@ -1,8 +1,8 @@
 -- Whole texts of one pattern, and their first faults.
 use Rattle.std.proofs.Common.{◌≡◌, ℕ, List, [], ◌∷◌, refl, codes}
-use Rattle.stil_ast.specs.Statements.{Item, hash}
-use Rattle.stil_ast.specs.Written.{Written, no_more, single, looped, shifted}
-use Rattle.stil_ast.specs.PatternFaults.{check_calls}
+use Rattle.stil_ast.specs.Meaning.Statements.{Item, hash}
+use Rattle.stil_ast.specs.Data.Written.{Written, no_more, single, looped, shifted}
+use Rattle.stil_ast.specs.Faults.PatternFaults.{check_calls}
 use Rattle.stil_ast.proofs.StandardFacts.Texts.{signal, group, by_name, by_text, driven, looked_at, table, assign, text_of}
 use Rattle.stil_ast.proofs.StandardFacts.Lines.{fault, refused, items, use_table, first_text, three_vectors}
 use Rattle.stil_ast.specs.declared.signal.Direction.TheVariants.{In, Out}

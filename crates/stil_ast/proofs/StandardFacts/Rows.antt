@@ -1,11 +1,11 @@
 -- Whole texts of one pattern, and their cycles.
 use Rattle.std.proofs.Common.{◌≡◌, List, [], ◌∷◌, None, refl, codes}
-use Rattle.stil_ast.specs.Statements.{hash}
-use Rattle.stil_ast.specs.Data.{items_of}
-use Rattle.stil_ast.specs.Written.{Written, no_more, single, looped, shifted}
-use Rattle.stil_ast.specs.PatternFaults.{check_calls}
-use Rattle.stil_ast.specs.Running.{calls}
-use Rattle.stil_ast.specs.Flattening.{flat_calls}
+use Rattle.stil_ast.specs.Meaning.Statements.{hash}
+use Rattle.stil_ast.specs.Data.Items.{items_of}
+use Rattle.stil_ast.specs.Data.Written.{Written, no_more, single, looped, shifted}
+use Rattle.stil_ast.specs.Faults.PatternFaults.{check_calls}
+use Rattle.stil_ast.specs.Meaning.Running.{calls}
+use Rattle.stil_ast.specs.Meaning.Flattening.{flat_calls}
 use Rattle.stil_ast.proofs.StandardFacts.Texts.{signal, group, by_name, by_text, driven, looked_at, table, assign, text_of}
 use Rattle.stil_ast.proofs.StandardFacts.Lines.{lines, fault, cycle, items, use_table, first_text, three_vectors}
 use Rattle.stil_ast.specs.declared.signal.Direction.TheVariants.{In, Out}

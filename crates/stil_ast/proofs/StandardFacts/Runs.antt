@@ -1,10 +1,10 @@
 -- What statements do.
 use Rattle.std.proofs.Common.{◌≡◌, ℕ, List, [], ◌∷◌, true, false, Option, Some, refl, map, codes}
-use Rattle.stil_ast.specs.State.{Vector, start_of}
-use Rattle.stil_ast.specs.Statements.{Item, letter, hash, percent, Assign, Statements, finish, wave, vector, condition, loop, expand, call, shift, stop}
-use Rattle.stil_ast.specs.Flat.{measure}
-use Rattle.stil_ast.specs.Flattening.{flat_calls, flat_of}
-use Rattle.stil_ast.specs.Running.{Setting, Made, run_all, calls, outside}
+use Rattle.stil_ast.specs.Meaning.State.{Vector, start_of}
+use Rattle.stil_ast.specs.Meaning.Statements.{Item, letter, hash, percent, Assign, Statements, finish, wave, vector, condition, loop, expand, call, shift, stop}
+use Rattle.stil_ast.specs.Meaning.Flat.{measure}
+use Rattle.stil_ast.specs.Meaning.Flattening.{flat_calls, flat_of}
+use Rattle.stil_ast.specs.Meaning.Running.{Setting, Made, run_all, calls, outside}
 
 -- the vectors of statements over so many signals, from the start
 abbrev vectors : Setting → ℕ → Statements → List Vector

@@ -1,9 +1,9 @@
 -- Blocks of small texts, in few words.
 use Rattle.std.proofs.Common.{ℕ, ◌*◌, ◌^◌, List, [], ◌∷◌, Some, None, Ok, pos, take_while, codes}
-use Rattle.stil_ast.specs.Texts.{is_digit, number_of}
-use Rattle.stil_ast.specs.Times.{Times}
-use Rattle.stil_ast.specs.Statements.{Item}
-use Rattle.stil_ast.specs.Written.{Written}
+use Rattle.stil_ast.specs.Data.Texts.{is_digit, number_of}
+use Rattle.stil_ast.specs.Meaning.Times.{Times}
+use Rattle.stil_ast.specs.Meaning.Statements.{Item}
+use Rattle.stil_ast.specs.Data.Written.{Written}
 use Rattle.stil_ast.specs.declared.name.SigRef.{SigRef}
 use Rattle.stil_ast.specs.declared.name.SigRef.TheVariants.{Name, Group}
 use Rattle.stil_ast.specs.declared.signal.Direction.{Direction}

@@ -1,5 +1,5 @@
 use Rattle.std.proofs.Common.{ap, sym, ◌∙◌}
-use Rattle.stil_ast.specs.Written.{statement_count}
+use Rattle.stil_ast.specs.Data.Written.{statement_count}
 use Rattle.stil_ast.proofs.BodyLemmas.{count-written_of}
 use Rattle.stil_ast.proofs.body.PatBody.len.Goals as goal
 

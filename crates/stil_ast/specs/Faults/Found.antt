@@ -1,0 +1,28 @@
+-- How the first fault of several rules is found.
+use Rattle.std.specs.Prelude.{ℕ, Bool, true, false, List, [], ◌∷◌, Option, Some, None}
+use Rattle.stil_ast.specs.Meaning.Statements.{Place}
+use Rattle.stil_ast.specs.declared.fault.StilFault.{StilFault}
+use Rattle.stil_ast.specs.declared.fault.StilKind.{StilKind}
+
+-- a fault of this kind at this place
+abbrev pub fault_at : Place → StilKind → StilFault
+fault_at p kind = record { kind = kind; block = p.block; name = p.name; line = p.line }
+
+-- the same top-level statement at another line
+abbrev pub on_line : Place → ℕ → Place
+on_line p line = record { block = p.block; name = p.name; line = line }
+
+-- one rule: a fault where the test fails, else what follows
+abbrev pub unless : Bool → StilFault → Option StilFault → Option StilFault
+unless true fault rest = rest
+unless false fault rest = Some fault
+
+-- the first of two
+abbrev pub or_else : Option StilFault → Option StilFault → Option StilFault
+or_else None second = second
+or_else (Some fault) second = Some fault
+
+-- the first in a list
+abbrev pub first_in : {A : Type 0} → (A → Option StilFault) → List A → Option StilFault
+first_in rule [] = None
+first_in rule (x ∷ xs) = or_else (rule x) (first_in rule xs)

@@ -1,0 +1,192 @@
+-- Waveform tables: what each signal does for each character (IEEE 1450-1999, clause 18).
+use Rattle.std.specs.Prelude.{ℕ, zero, suc, Bool, ◌==◌, ◌&&◌, ℤ, nat_abs, List, [], ◌∷◌, ◌++◌, Option, Some, None, Result, Ok, Err, length, map, flat_map, filter_map, find, reverse, position, slice_get, sum_by, count_by, is_some, if◌then◌else◌}
+use Rattle.std.specs.List.{list_any, enumerate_from, position_or_len}
+use Rattle.stil_ast.specs.Meaning.Statements.{Place}
+use Rattle.stil_ast.specs.Data.Texts.{same, upwards}
+use Rattle.stil_ast.specs.Meaning.Signals.{Names}
+use Rattle.stil_ast.specs.Meaning.Members.{members}
+use Rattle.stil_ast.specs.Meaning.Times.{Met, Times, time_at}
+use Rattle.stil_ast.specs.declared.name.Quoted.{Quoted}
+use Rattle.stil_ast.specs.declared.name.Named.{Named}
+use Rattle.stil_ast.specs.declared.timing.EventDecl.{EventDecl}
+use Rattle.stil_ast.specs.declared.timing.WaveDecl.{WaveDecl}
+use Rattle.stil_ast.specs.declared.timing.SignalWaves.{SignalWaves}
+use Rattle.stil_ast.specs.declared.timing.TableDecl.{TableDecl}
+use Rattle.stil_ast.specs.declared.timing.TimingBlock.{TimingBlock}
+use Rattle.stil_ast.specs.declared.fault.StilFault.{StilFault}
+use Rattle.tester_types.specs.declared.wave.Act.{Act}
+use Rattle.tester_types.specs.declared.wave.Event.{Event}
+use Rattle.tester_types.specs.declared.wave.Wave.{Wave}
+use Rattle.tester_types.specs.declared.wave.Table.{Table}
+
+-- the tables of all Timing blocks of one name, in text order
+abbrev pub tables_named : List TimingBlock → List ℕ → List TableDecl
+tables_named timings name =
+    flat_map (λ (t : TimingBlock). if same t.name name then t.tables else []) timings
+
+-- the number of the table of this name
+abbrev pub table_of : List TableDecl → List ℕ → Option ℕ
+table_of tables name = position (λ t. same t.name name) tables
+
+-- a waveform: the number of the table in whose text it stands, its number there, the signals and the characters that
+-- it is for, and its events
+pub record Waveform : Type 0 where
+  pub table : ℕ
+  pub number : ℕ
+  pub signals : List ℕ
+  pub letters : List ℕ
+  pub events : List EventDecl
+
+-- a table's own waveforms in text order, not numbered yet
+abbrev pub unnumbered : Names → ℕ → TableDecl → List Waveform
+unnumbered names table t =
+    flat_map (λ (s : SignalWaves). map (λ (w : WaveDecl). record { table = table; number = 0; signals = members names s.reference; letters = w.letters; events = w.events }) s.waves) t.waveforms
+
+-- a waveform with its number
+abbrev pub numbered : ℕ × Waveform → Waveform
+numbered p =
+    record { table = p.1.table; number = p.0; signals = p.1.signals; letters = p.1.letters; events = p.1.events }
+
+-- a table's own waveforms in text order
+abbrev pub own_waveforms : Names → ℕ → TableDecl → List Waveform
+own_waveforms names table t = map numbered (enumerate_from 0 (unnumbered names table t))
+
+-- the waveforms of a table that is found
+abbrev pub of_found : (ℕ → List Waveform) → Option ℕ → List Waveform
+of_found inner None = []
+of_found inner (Some table) = inner table
+
+-- A table's waveforms: those of the tables that it inherits are put in first, so deep; then its own.
+abbrev pub in_front_of_own : Names → (ℕ → List Waveform) → List TableDecl → ℕ → Option TableDecl
+    → List Waveform
+in_front_of_own names inner tables table None = []
+in_front_of_own names inner tables table (Some t) =
+    flat_map (λ (i : Named). of_found inner (table_of tables i.name)) t.inherits ++ own_waveforms names table t
+
+-- the waveforms of a table, with inheritance followed so deep
+abbrev pub waveforms_within : Names → List TableDecl → ℕ → ℕ → List Waveform
+waveforms_within names tables zero table = []
+waveforms_within names tables (suc depth) table =
+    in_front_of_own names (waveforms_within names tables depth) tables table (slice_get tables table)
+
+-- A chain of tables that doesn't come back to itself is no longer than there are tables.
+abbrev pub waveforms : Names → List TableDecl → ℕ → List Waveform
+waveforms names tables table = waveforms_within names tables (length tables) table
+
+-- whether a waveform is for this signal and character
+abbrev pub defines : ℕ → ℕ → Waveform → Bool
+defines signal letter w = list_any (λ s. s == signal) w.signals && list_any (λ c. c == letter) w.letters
+
+-- the waveform of a signal and a character: the last one counts
+abbrev pub waveform_of : List Waveform → ℕ → ℕ → Option Waveform
+waveform_of all signal letter = find (defines signal letter) (reverse all)
+
+-- the act of an event for a character: one act is for all characters, else there is one for each
+abbrev pub act_of : List ℕ → ℕ → List Act → Option Act
+act_of letters letter [] = None
+act_of letters letter (act ∷ []) = Some act
+act_of letters letter (act ∷ more ∷ acts) =
+    slice_get (act ∷ more ∷ acts) (position_or_len (λ c. c == letter) letters)
+
+-- an event with its time, where its text has one
+abbrev pub timed_act : Result ℤ StilFault → Option Act → Option Event
+timed_act (Ok time) (Some act) = Some (record { time = nat_abs time; act = act })
+timed_act _ _ = None
+
+-- an event for a character
+abbrev pub event_of : {V : Type 0} → Times V → (List ℕ → Result V Met) → Place → List ℕ → ℕ → EventDecl
+    → Option Event
+event_of times vars p letters letter e =
+    timed_act (time_at times vars p e.time) (act_of letters letter e.acts)
+
+-- the events of a waveform for one of its characters, in written order
+abbrev pub events_of : {V : Type 0} → Times V → (List ℕ → Result V Met) → Place → ℕ → Waveform → List Event
+events_of times vars p letter w = filter_map (event_of times vars p w.letters letter) w.events
+
+-- the last one that is there
+abbrev pub later : Option Quoted → Option Quoted → Option Quoted
+later first None = first
+later first (Some last) = Some last
+
+-- the last period that is there
+abbrev pub last_of : List (Option Quoted) → Option Quoted
+last_of [] = None
+last_of (q ∷ qs) = later q (last_of qs)
+
+-- the period of a table that is found
+abbrev pub of_number : (ℕ → Option Quoted) → Option ℕ → Option Quoted
+of_number inner None = None
+of_number inner (Some table) = inner table
+
+-- the period of a table: its own, else that of the last inherited table that has one
+abbrev pub period_or : Option Quoted → Option Quoted → Option Quoted
+period_or (Some own) inherited = Some own
+period_or None inherited = inherited
+
+-- a table's period, where `inner` gives that of another
+abbrev pub period_of_found : (ℕ → Option Quoted) → List TableDecl → Option TableDecl → Option Quoted
+period_of_found inner tables None = None
+period_of_found inner tables (Some t) =
+    period_or t.period (last_of (map (λ (i : Named). of_number inner (table_of tables i.name)) t.inherits))
+
+-- the period of a table, with inheritance followed so deep
+abbrev pub period_within : List TableDecl → ℕ → ℕ → Option Quoted
+period_within tables zero table = None
+period_within tables (suc depth) table =
+    period_of_found (period_within tables depth) tables (slice_get tables table)
+
+-- the period of a table
+abbrev pub period_text : List TableDecl → ℕ → Option Quoted
+period_text tables table = period_within tables (length tables) table
+
+-- waveform characters, letters and digits, in the order of their codes
+abbrev pub characters : List ℕ
+characters = upwards 48 10 ++ (upwards 65 26 ++ upwards 97 26)
+
+-- a waveform as a wave
+abbrev pub wave_with : {V : Type 0} → Times V → (List ℕ → Result V Met) → Place → ℕ → ℕ
+    → Option Waveform → Option Wave
+wave_with times vars p signal letter None = None
+wave_with times vars p signal letter (Some w) =
+    Some (record { signal = signal; letter = letter; events = events_of times vars p letter w })
+
+-- what a signal does in a cycle in which it has this character
+abbrev pub wave_of : {V : Type 0} → Times V → (List ℕ → Result V Met) → Place → List Waveform → ℕ → ℕ
+    → Option Wave
+wave_of times vars p all signal letter =
+    wave_with times vars p signal letter (waveform_of all signal letter)
+
+-- all waves of a table, by signal and then by character
+abbrev pub waves_of : {V : Type 0} → Times V → (List ℕ → Result V Met) → Place → List Waveform → ℕ
+    → List Wave
+waves_of times vars p all signals =
+    flat_map (λ signal. filter_map (λ letter. wave_of times vars p all signal letter) characters) (upwards 0 signals)
+
+-- a time, or 0 where its text has none
+abbrev pub time_or_zero : Result ℤ StilFault → ℕ
+time_or_zero (Ok time) = nat_abs time
+time_or_zero (Err fault) = 0
+
+-- the period that a text gives
+abbrev pub period_of : {V : Type 0} → Times V → (List ℕ → Result V Met) → Place → Option Quoted → ℕ
+period_of times vars p None = 0
+period_of times vars p (Some q) = time_or_zero (time_at times vars p q)
+
+-- a table with its period and its waves
+abbrev pub made_table : {V : Type 0} → Times V → (List ℕ → Result V Met) → Names → Place
+    → List TableDecl → ℕ × TableDecl → Table
+made_table times vars names p tables t = record {
+  name = t.1.name;
+  period = period_of times vars p (period_text tables t.0);
+  waves = waves_of times vars p (waveforms names tables t.0) (length names.signals);
+}
+
+-- all tables, by their numbers
+abbrev pub made_tables : {V : Type 0} → Times V → (List ℕ → Result V Met) → Names → Place
+    → List TableDecl → List Table
+made_tables times vars names p tables = map (made_table times vars names p tables) (enumerate_from 0 tables)
+
+-- how many signals and characters a table has a waveform for
+abbrev pub wave_count : List Waveform → ℕ → ℕ
+wave_count all signals =
+    sum_by (λ signal. count_by (λ letter. is_some (waveform_of all signal letter)) characters) (upwards 0 signals)
