@@ -6,7 +6,7 @@ use Rattle.bench_net.specs.declared.gate.Driver.TheVariants as driver
 use Rattle.bench_net.specs.declared.gate.GateKind.TheVariants as gate
 use Rattle.die_sim.specs.declared.image.Bind.TheVariants as bind
 use Rattle.page_code.specs.declared.parts.CodeSignal.{CodeSignal}
-use Rattle.page_code.specs.declared.parts.Direction.TheVariants as direction
+use Rattle.tester_types.specs.declared.signal.Direction.TheVariants as direction
 use Rattle.plan_rows.specs.declared.fault.PlanFault.TheVariants as refused
 use Rattle.plan_rows.specs.declared.row.Row.{Row}
 use Rattle.plan_rows.specs.declared.row.Row.TheVariants as row

@@ -4,8 +4,8 @@ use Rattle.std.specs.List.{find, position}
 use Rattle.std.specs.Option.{option_map_or, option_and_then}
 use Rattle.std.specs.Str.{bytes_eq}
 use Rattle.page_code.specs.declared.parts.CodeSignal.{CodeSignal}
-use Rattle.page_code.specs.declared.parts.Direction.{Direction}
-use Rattle.page_code.specs.declared.parts.Direction.TheVariants as direction
+use Rattle.tester_types.specs.declared.signal.Direction.{Direction}
+use Rattle.tester_types.specs.declared.signal.Direction.TheVariants as direction
 use Rattle.plan_rows.specs.declared.row.Row.{Row}
 use Rattle.plan_rows.specs.declared.row.BindRow.{BindRow}
 use Rattle.plan_rows.specs.Rows.{each_of, as_clock, as_bind}

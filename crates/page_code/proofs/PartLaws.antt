@@ -13,8 +13,8 @@ use Rattle.tester_types.specs.declared.wave.Look.TheVariants as look
 use Rattle.tester_types.specs.declared.wave.Event.{Event}
 use Rattle.tester_types.specs.declared.wave.Wave.{Wave}
 use Rattle.tester_types.specs.declared.wave.Table.{Table}
-use Rattle.page_code.specs.declared.parts.Direction.{Direction}
-use Rattle.page_code.specs.declared.parts.Direction.TheVariants.{In, Out, InOut, Supply, Pseudo}
+use Rattle.tester_types.specs.declared.signal.Direction.{Direction}
+use Rattle.tester_types.specs.declared.signal.Direction.TheVariants.{In, Out, InOut, Supply, Pseudo}
 use Rattle.page_code.specs.declared.parts.CodeSignal.{CodeSignal}
 use Rattle.page_code.specs.declared.parts.CodeChain.{CodeChain}
 use Rattle.page_code.specs.Letters.{direction_code, direction_of, act_code, acts, act_of, is_printable, is_character, is_place}

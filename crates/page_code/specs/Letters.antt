@@ -5,8 +5,8 @@ use Rattle.tester_types.specs.declared.wave.Act.{Act}
 use Rattle.tester_types.specs.declared.wave.Act.TheVariants.{Push, Look}
 use Rattle.tester_types.specs.declared.wave.Push.TheVariants as push
 use Rattle.tester_types.specs.declared.wave.Look.TheVariants as look
-use Rattle.page_code.specs.declared.parts.Direction.{Direction}
-use Rattle.page_code.specs.declared.parts.Direction.TheVariants.{In, Out, InOut, Supply, Pseudo}
+use Rattle.tester_types.specs.declared.signal.Direction.{Direction}
+use Rattle.tester_types.specs.declared.signal.Direction.TheVariants.{In, Out, InOut, Supply, Pseudo}
 
 -- a direction's number
 abbrev pub direction_code : Direction → ℕ

@@ -7,11 +7,11 @@ ghost use Rattle.page_code.specs.Conditions.{IsProgram};
 ghost use Rattle.page_code.specs.Cycles.{exec_of, pages_of, page_count};
 
 use crate::exec::{CodeExec, CodeExecList};
-use crate::parts::{CodeChainList, CodeSignal, CodeSignalList, Direction};
+use crate::parts::{CodeChainList, CodeSignal, CodeSignalList};
 use crate::rows::RowList;
 use page_meaning::Instr;
 use std::marker::Model;
-use tester_types::{Table, TableList};
+use tester_types::{Direction, Table, TableList};
 
 /// How many instructions a page holds.
 const PAGE: usize = 256;

@@ -26,9 +26,10 @@ pub use fault::SavedFault;
 pub use laws::{no_spelling_begins_another, one_spelling};
 pub use loading::load;
 pub use page_meaning::{Entry, Instr};
-pub use parts::{CodeChain, CodeChainList, CodeSignal, CodeSignalList, Direction, InstrList};
+pub use parts::{CodeChain, CodeChainList, CodeSignal, CodeSignalList, InstrList};
 pub use rows::RowList;
 pub use saving::{save, saved_len};
+pub use tester_types::Direction;
 pub use walker::Walk;
 
 #[cfg(test)]

@@ -1,17 +1,7 @@
 //! The parts of a code: its signals, chains and instructions.
 
 use page_meaning::Instr;
-use tester_types::{Items, Text, TextList};
-
-/// The direction of a signal (IEEE 1450, Signals).
-#[derive(Clone, Copy, Debug, PartialEq, Eq)]
-pub enum Direction {
-    In,
-    Out,
-    InOut,
-    Supply,
-    Pseudo,
-}
+use tester_types::{Direction, Items, Text, TextList};
 
 /// A signal.
 #[derive(Debug, Drop)]

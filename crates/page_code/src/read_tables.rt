@@ -14,9 +14,11 @@ use crate::fields::{
     are_printable, bad, byte, byte_to, character, name, number16_below, number32, number64,
     raw_text,
 };
-use crate::parts::{CodeSignal, CodeSignalList, Direction};
+use crate::parts::{CodeSignal, CodeSignalList};
 use std::alloc::Global;
-use tester_types::{Act, Event, EventList, Look, Push, Table, TableList, Text, Wave, WaveList};
+use tester_types::{
+    Act, Direction, Event, EventList, Look, Push, Table, TableList, Text, Wave, WaveList,
+};
 
 /// The direction of a number.
 fn direction_of_byte(byte: u8) -> Option<Direction>

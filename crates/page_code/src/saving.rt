@@ -10,13 +10,15 @@ ghost use Rattle.page_code.specs.Spelling.{number};
 
 use crate::code::Code;
 use crate::exec::CodeExec;
-use crate::parts::{CodeChain, CodeSignal, Direction};
+use crate::parts::{CodeChain, CodeSignal};
 use crate::rows::RowList;
 use crate::spelled::{
     Byte, Bytes, Count8, Count16, Count32, Each, Number16, Number32, Number64, Spelled, Then,
 };
 use page_meaning::Instr;
-use tester_types::{Act, Event, Look, Push, Sink, SinkFault, Table, Text, Wave, put_all};
+use tester_types::{
+    Act, Direction, Event, Look, Push, Sink, SinkFault, Table, Text, Wave, put_all,
+};
 
 /// A direction's number.
 fn direction_byte(direction: Direction) -> u8

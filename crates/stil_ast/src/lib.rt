@@ -29,8 +29,9 @@ pub use scan::{
     CellDecl, CellDeclList, CellsDecl, ChainDecl, ChainDeclList, ScanBlock, ScanBlockList,
 };
 pub use signal::{
-    Direction, GroupBlock, GroupBlockList, GroupDecl, GroupDeclList, SignalDecl, SignalDeclList,
+    GroupBlock, GroupBlockList, GroupDecl, GroupDeclList, SignalDecl, SignalDeclList,
 };
+pub use tester_types::Direction;
 pub use timing::{
     ActList, EventDecl, EventDeclList, SignalWaves, SignalWavesList, TableDecl, TableDeclList,
     TimingBlock, TimingBlockList, WaveDecl, WaveDeclList,

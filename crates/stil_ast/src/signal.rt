@@ -1,17 +1,7 @@
 //! Signals and groups (IEEE 1450-1999, clauses 14 and 15).
 
 use crate::name::{IndexRange, Quoted};
-use tester_types::{Items, Text};
-
-/// What a signal is for.
-#[derive(Clone, Copy, Debug, PartialEq, Eq)]
-pub enum Direction {
-    In,
-    Out,
-    InOut,
-    Supply,
-    Pseudo,
-}
+use tester_types::{Direction, Items, Text};
 
 /// `name dir;`, or `name[first..last] dir;`, which declares one signal for each index.
 #[derive(Debug, Drop)]

@@ -1,7 +1,8 @@
 -- Texts that are gained one after another, and the fronts of them that a fault leaves.
-use Rattle.std.proofs.Common.{◌≡◌, ℕ, suc, ◌+◌, ◌-◌, ◌<◌, ◌≤◌, List, [], ◌∷◌, ◌++◌, length, min, take, drop, Option, Some, None, Result, Ok, Err, sym, subst, get_or, refl, ap, ◌∙◌, arith, append_assoc}
+use Rattle.std.proofs.Common.{◌≡◌, ℕ, ◌+◌, ◌-◌, ◌<◌, ◌≤◌, List, [], ◌∷◌, ◌++◌, length, min, take, drop, Option, Some, None, Result, Ok, Err, sym, subst, get_or, refl, ap, ◌∙◌, arith, append_assoc}
 use Rattle.std.proofs.lemmas.List.{take_rest, take-append-drop, take-append-le, take_min, append-nil}
-use Rattle.std.proofs.Math.Seq.{take-add, take-append-add, drop-cons}
+use Rattle.std.proofs.Math.Seq.{take-add, take-append-add}
+use Rattle.text_bytes.proofs.ListLemmas.{drop-item}
 use Rattle.std.proofs.lemmas.Grind.{flat_map-append}
 use Rattle.std.specs.List.{flat_map}
 use Rattle.tester_types.specs.declared.outside.SinkFault.{SinkFault}
@@ -73,18 +74,13 @@ pub third_ends : (held before between now : Option (List ℕ)) (a b c : List ℕ
 third_ends held before between now a b c r first second last =
     puts_last held between now (a ++ b) c r (gained_both held before between a b first second) last
 
-suc-plus : (i : ℕ) → suc i ≡ i + 1
-suc-plus i = omega arith
-
 -- a text among many: those before it, it, and those behind it
 flat_map-split : {X : Type 0} (text : X → List ℕ) (items : List X) (i : ℕ) (item : X) → i < length items →
     item ≡ get_or items i item →
     flat_map text items ≡ flat_map text (take i items) ++ (text item ++ flat_map text (drop (i + 1) items))
 flat_map-split text items i item within is =
-    let rest : drop i items ≡ item ∷ drop (i + 1) items =
-    drop-cons items i item within ∙ ap (λ x. x ∷ drop (suc i) items) (sym is) ∙ ap (λ j. item ∷ drop j items) (suc-plus i) in
     ap (flat_map text) (sym (take-append-drop i items)) ∙ flat_map-append text (take i items) (drop i items)
-    ∙ ap (λ xs. flat_map text (take i items) ++ flat_map text xs) rest
+    ∙ ap (λ xs. flat_map text (take i items) ++ flat_map text xs) (drop-item items i item within is)
 
 -- a fault in one of many texts
 pub each_stops : {X : Type 0} (text : X → List ℕ) (held before now : Option (List ℕ)) (items : List X) (i : ℕ) (item : X) →

@@ -2,3 +2,4 @@ pub mod Outside
 pub mod Printing
 pub mod Memory
 pub mod Desk
+pub mod Cells

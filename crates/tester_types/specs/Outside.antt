@@ -8,7 +8,7 @@ use Rattle.tester_types.specs.declared.outside.SinkFault.{SinkFault}
 
 -- A count that never falls has risen. A count that is kept in 64 bits says nothing once it is full.
 abbrev pub HasRisen : ℕ → ℕ → Type 0
-HasRisen before now = now < 2 ^ 64 - 1 → before < now
+HasRisen before now = before < 2 ^ 64 - 1 → before < now
 
 -- what a sink holds after it took these bytes too, where it tells what it holds
 abbrev pub gained : Option (List ℕ) → List ℕ → Option (List ℕ)

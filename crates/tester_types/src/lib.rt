@@ -10,6 +10,7 @@ mod mem_sink;
 mod outside;
 mod printing;
 mod record;
+mod signal;
 mod wave;
 
 pub use cycle::{Cycle, LookList, Moment, MomentList, PushList};
@@ -21,6 +22,7 @@ pub use mem_sink::MemSink;
 pub use outside::{Failed, NoMemory, Shelf, ShelfFault, Sink, SinkFault};
 pub use printing::{Piece, Printed, put_all, put_each};
 pub use record::{By, Fail, FailList, Record, RecordList, Trial, TrialList, Verdict};
+pub use signal::Direction;
 pub use wave::{
     Act, Event, EventList, Look, Push, Table, TableList, Text, TextList, Wave, WaveList,
 };

@@ -11,7 +11,7 @@ use Rattle.page_meaning.specs.declared.instr.Instr.TheVariants.{Run, Done}
 use Rattle.page_meaning.specs.Meaning.{bodies}
 use Rattle.stil_ast.specs.Meaning.Cycles.{Dated}
 use Rattle.thin_stil.specs.declared.thin.ThinText.{ThinText}
-use Rattle.page_code.specs.declared.parts.Direction.TheVariants.{In, Out}
+use Rattle.tester_types.specs.declared.signal.Direction.TheVariants.{In, Out}
 use Rattle.page_code.specs.Program.{Program}
 use Rattle.thin_code.specs.Compiled.{read_cycles, IsCodeOf}
 use Rattle.thin_code.specs.Order.{in_order}

@@ -5,8 +5,8 @@ use Rattle.tester_types.specs.declared.wave.Table.{Table}
 use Rattle.tester_types.specs.declared.cycle.Cycle.{Cycle}
 use Rattle.stil_ast.specs.Meaning.Cycles.{Dated}
 use Rattle.edge_gen.specs.Signals.{wave_of}
-use Rattle.page_code.specs.declared.parts.Direction.{Direction}
-use Rattle.page_code.specs.declared.parts.Direction.TheVariants.{In, Out}
+use Rattle.tester_types.specs.declared.signal.Direction.{Direction}
+use Rattle.tester_types.specs.declared.signal.Direction.TheVariants.{In, Out}
 use Rattle.page_code.specs.declared.parts.CodeSignal.{CodeSignal}
 use Rattle.page_code.specs.Program.{Exec, Program}
 use Rattle.page_code.specs.Conditions.{letters_of}

@@ -9,7 +9,7 @@ use Rattle.stil_ast.specs.Data.Written.{no_more, single}
 use Rattle.stil_ast.proofs.StandardFacts.Texts.{signal, by_name, driven, looked_at, table, assign, text_of}
 use Rattle.stil_ast.proofs.StandardFacts.Lines.{lines, cycle, items, fault, refused}
 use Rattle.stil_ast.specs.declared.name.Named.{Named}
-use Rattle.stil_ast.specs.declared.signal.Direction.TheVariants.{In}
+use Rattle.tester_types.specs.declared.signal.Direction.TheVariants.{In}
 use Rattle.stil_ast.specs.declared.variable.Choice.TheVariants.{Max}
 use Rattle.stil_ast.specs.declared.variable.VariableValue.TheVariants.{Same, Chosen}
 use Rattle.stil_ast.specs.declared.variable.VariableDecl.{VariableDecl}

@@ -6,7 +6,7 @@ use Rattle.stil_ast.specs.Meaning.Cycles.{Dated}
 use Rattle.stil_ast.specs.Meaning.Executive.{cycles}
 use Rattle.stil_ast.specs.Faults.TextFaults.{blocks_fault}
 use Rattle.stil_ast.proofs.StandardFacts.Texts.{nanoseconds, signal, by_name, driven, looked_at, table, assign, text_of}
-use Rattle.stil_ast.specs.declared.signal.Direction.TheVariants.{In, Out}
+use Rattle.tester_types.specs.declared.signal.Direction.TheVariants.{In, Out}
 use Rattle.stil_ast.specs.declared.body.Step.TheVariants.{Wave, Vector as V}
 use Rattle.stil_ast.specs.declared.blocks.Blocks.{Blocks}
 use Rattle.stil_ast.specs.declared.fault.StilFault.{StilFault}

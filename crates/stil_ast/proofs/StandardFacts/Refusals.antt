@@ -5,7 +5,7 @@ use Rattle.stil_ast.specs.Data.Written.{Written, no_more, single, looped, shifte
 use Rattle.stil_ast.specs.Faults.PatternFaults.{check_calls}
 use Rattle.stil_ast.proofs.StandardFacts.Texts.{signal, group, by_name, by_text, driven, looked_at, table, assign, text_of}
 use Rattle.stil_ast.proofs.StandardFacts.Lines.{fault, refused, items, use_table, first_text, three_vectors}
-use Rattle.stil_ast.specs.declared.signal.Direction.TheVariants.{In, Out}
+use Rattle.tester_types.specs.declared.signal.Direction.TheVariants.{In, Out}
 use Rattle.stil_ast.specs.declared.signal.GroupDecl.{GroupDecl}
 use Rattle.stil_ast.specs.declared.body.Step.TheVariants.{Vector, Macro, Wave}
 use Rattle.stil_ast.specs.declared.blocks.Blocks.{Blocks}

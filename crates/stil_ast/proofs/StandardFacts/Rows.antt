@@ -8,7 +8,7 @@ use Rattle.stil_ast.specs.Meaning.Running.{calls}
 use Rattle.stil_ast.specs.Meaning.Flattening.{flat_calls}
 use Rattle.stil_ast.proofs.StandardFacts.Texts.{signal, group, by_name, by_text, driven, looked_at, table, assign, text_of}
 use Rattle.stil_ast.proofs.StandardFacts.Lines.{lines, fault, cycle, items, use_table, first_text, three_vectors}
-use Rattle.stil_ast.specs.declared.signal.Direction.TheVariants.{In, Out}
+use Rattle.tester_types.specs.declared.signal.Direction.TheVariants.{In, Out}
 use Rattle.stil_ast.specs.declared.body.Step.TheVariants.{Vector, Condition, Macro, Call, Stop, Wave}
 use Rattle.stil_ast.specs.declared.data.VecItem.TheVariants.{Letter}
 use Rattle.stil_ast.specs.declared.blocks.Blocks.{Blocks}

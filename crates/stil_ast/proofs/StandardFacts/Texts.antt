@@ -6,7 +6,7 @@ use Rattle.stil_ast.specs.Meaning.Statements.{Item}
 use Rattle.stil_ast.specs.Data.Written.{Written}
 use Rattle.stil_ast.specs.declared.name.SigRef.{SigRef}
 use Rattle.stil_ast.specs.declared.name.SigRef.TheVariants.{Name, Group}
-use Rattle.stil_ast.specs.declared.signal.Direction.{Direction}
+use Rattle.tester_types.specs.declared.signal.Direction.{Direction}
 use Rattle.stil_ast.specs.declared.signal.SignalDecl.{SignalDecl}
 use Rattle.stil_ast.specs.declared.signal.GroupDecl.{GroupDecl}
 use Rattle.stil_ast.specs.declared.timing.SignalWaves.{SignalWaves}

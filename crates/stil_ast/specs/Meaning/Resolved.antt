@@ -8,8 +8,8 @@ use Rattle.stil_ast.specs.Faults.Found.{on_line}
 use Rattle.stil_ast.specs.Meaning.Signals.{Names, Signal}
 use Rattle.stil_ast.specs.Meaning.Members.{members}
 use Rattle.stil_ast.specs.Meaning.Running.{Setting}
-use Rattle.stil_ast.specs.declared.signal.Direction.{Direction}
-use Rattle.stil_ast.specs.declared.signal.Direction.TheVariants.{Out}
+use Rattle.tester_types.specs.declared.signal.Direction.{Direction}
+use Rattle.tester_types.specs.declared.signal.Direction.TheVariants.{Out}
 use Rattle.stil_ast.specs.declared.body.Assignment.{Assignment}
 use Rattle.stil_ast.specs.declared.body.Step.{Step}
 use Rattle.stil_ast.specs.declared.body.Step.TheVariants.{Wave, Vector, Condition, Macro, Call, BreakPoint, IddqTestPoint, Stop}

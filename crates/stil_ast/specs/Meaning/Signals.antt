@@ -3,7 +3,7 @@ use Rattle.std.specs.Prelude.{ℕ, List, [], ◌∷◌, Option, Some, None, map,
 use Rattle.stil_ast.specs.Meaning.Statements.{Place}
 use Rattle.stil_ast.specs.Data.Texts.{indices, indexed}
 use Rattle.stil_ast.specs.declared.name.IndexRange.{IndexRange}
-use Rattle.stil_ast.specs.declared.signal.Direction.{Direction}
+use Rattle.tester_types.specs.declared.signal.Direction.{Direction}
 use Rattle.stil_ast.specs.declared.signal.SignalDecl.{SignalDecl}
 use Rattle.stil_ast.specs.declared.signal.GroupDecl.{GroupDecl}
 use Rattle.stil_ast.specs.declared.signal.GroupBlock.{GroupBlock}
