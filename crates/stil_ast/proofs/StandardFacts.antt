@@ -5,3 +5,5 @@ pub mod Runs
 pub mod Rows
 pub mod Refusals
 pub mod Choices
+pub mod ScanText
+pub mod Forms
