@@ -1,17 +1,21 @@
--- What the tests on forms say of lists: names that differ are distinct, and cells are counted without spreading them.
-use Rattle.std.proofs.Common.{◌≡◌, ℕ, zero, suc, ◌+◌, ◌-◌, Bool, true, false, not, List, [], ◌∷◌, Option, Some, None, refl, sym, ap, ◌∙◌, length, reverse, nat_le, if◌then◌else◌}
+-- What forms say of lists: names that differ are distinct, cells are counted without spreading them, and signals are
+-- named without where they were declared.
+use Rattle.std.proofs.Common.{◌≡◌, ℕ, zero, suc, ◌+◌, ◌-◌, Bool, true, false, not, List, [], ◌∷◌, Option, Some, None, refl, sym, ap, ◌∙◌, length, reverse, nat_le, if◌then◌else◌, ◌++◌, map, flat_map}
 use Rattle.std.specs.Prelude.{sum_by}
 use Rattle.std.specs.List.{list_any, AllByRecursion, IsDistinct}
-use Rattle.std.proofs.lemmas.List.{length-map, length-reverse}
+use Rattle.std.proofs.lemmas.List.{length-map, length-reverse, map-append}
+use Rattle.std.proofs.lemmas.Simd.{map-map}
 use Rattle.std.proofs.lemmas.List.Sums.{sum_by-cons}
 use Rattle.std.proofs.lemmas.List.Concat.{length-flat_map}
 use Rattle.std.proofs.lemmas.Bool.{and_parts, or_parts, not-true}
-use Rattle.stil_ast.specs.Data.Texts.{upwards, indices, indexed}
+use Rattle.stil_ast.specs.Data.Texts.{upwards, indices, indexed, names_with}
 use Rattle.stil_ast.specs.Data.Forms.{all_differ}
 use Rattle.stil_ast.specs.Data.BlockForms.{range_size, cell_size, cell_count}
+use Rattle.stil_ast.specs.Meaning.Signals.{Signal, declared_as, declared, signal_texts}
 use Rattle.stil_ast.specs.Meaning.Chains.{cells_with, cells_of}
 use Rattle.stil_ast.specs.declared.name.IndexRange.{IndexRange}
 use Rattle.stil_ast.specs.declared.name.NameRef.{NameRef}
+use Rattle.stil_ast.specs.declared.signal.SignalDecl.{SignalDecl}
 use Rattle.stil_ast.specs.declared.scan.CellsDecl.{CellsDecl}
 
 -- no item of a list passes
@@ -60,3 +64,17 @@ counted_cells (c ∷ cells) =
 -- how many cells a chain has
 pub length-cells_of : (c : CellsDecl) → length (cells_of (Some c)) ≡ cell_count c.cells
 length-cells_of c = length-flat_map (λ (r : NameRef). cells_with r.name r.range) c.cells ∙ counted_cells c.cells
+
+texts_of_one : (d : SignalDecl) (range : Option IndexRange)
+    → map (λ (s : Signal). s.text) (declared_as d range) ≡ names_with d.name range
+texts_of_one d None = refl
+texts_of_one d (Some range) = map-map _ _ (indices range)
+
+-- the texts of all signals, without where they were declared
+pub signal_texts-are : (declarations : List SignalDecl)
+    → map (λ (s : Signal). s.text) (flat_map declared declarations) ≡ signal_texts declarations
+signal_texts-are [] = refl
+signal_texts-are (d ∷ declarations) =
+    map-append (λ (s : Signal). s.text) (declared d) (flat_map declared declarations)
+    ∙ ap (λ texts. texts ++ map (λ (s : Signal). s.text) (flat_map declared declarations)) (texts_of_one d d.range)
+    ∙ ap (λ texts. names_with d.name d.range ++ texts) (signal_texts-are declarations)

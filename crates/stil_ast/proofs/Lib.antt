@@ -11,3 +11,4 @@ pub mod BodyLemmas
 pub mod FlatSteps
 pub mod FlatLemmas
 pub mod FormLemmas
+pub mod ItemLemmas

@@ -7,3 +7,4 @@ pub mod Refusals
 pub mod Choices
 pub mod ScanText
 pub mod Forms
+pub mod Fronts
