@@ -8,3 +8,6 @@ pub mod Choices
 pub mod ScanText
 pub mod Forms
 pub mod Fronts
+pub mod Shifts
+pub mod Limits
+pub mod Places

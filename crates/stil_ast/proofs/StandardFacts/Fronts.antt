@@ -1,12 +1,11 @@
 -- The first fault of a text over all passes, how many cycles are printed, and data kept as runs.
-use Rattle.std.proofs.Common.{◌≡◌, ℕ, List, [], ◌∷◌, Some, None, refl, map, codes}
+use Rattle.std.proofs.Common.{◌≡◌, ℕ, [], ◌∷◌, Some, None, refl, codes}
 use Rattle.std.specs.Fmt.{digits}
 use Rattle.stil_ast.specs.Data.Items.{run_length, lone_item}
 use Rattle.stil_ast.specs.Faults.FrontFaults.{refused_by, read_as, fault_of_front, too_many_beyond, too_many_at}
 use Rattle.stil_ast.specs.Meaning.Signals.{signal_texts}
 use Rattle.stil_ast.proofs.StandardFacts.Texts.{nanoseconds, signal}
 use Rattle.stil_ast.proofs.StandardFacts.Lines.{refused, use_table, first_text, three_vectors}
-use Rattle.stil_ast.specs.declared.name.IndexRange.{IndexRange}
 use Rattle.stil_ast.specs.declared.signal.Direction.TheVariants.{In}
 use Rattle.stil_ast.specs.declared.signal.SignalDecl.{SignalDecl}
 use Rattle.stil_ast.specs.declared.data.VecItem.TheVariants.{Letter, Take}

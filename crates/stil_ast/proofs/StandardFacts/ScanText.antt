@@ -1,13 +1,12 @@
 -- A scan test of the circuit s27 with one chain of three cells: its blocks, cycles and marks.
-use Rattle.std.proofs.Common.{◌≡◌, ℕ, List, [], ◌∷◌, Some, None, refl, map, codes}
+use Rattle.std.proofs.Common.{◌≡◌, ℕ, List, [], ◌∷◌, Some, None, refl, codes}
 use Rattle.stil_ast.specs.Data.Written.{no_more, single, shifted}
 use Rattle.stil_ast.specs.Meaning.Statements.{hash}
 use Rattle.stil_ast.specs.Meaning.Running.{calls}
 use Rattle.stil_ast.specs.Meaning.Flattening.{flat_calls}
-use Rattle.stil_ast.specs.Meaning.Cycles.{Dated}
 use Rattle.stil_ast.specs.Faults.PatternFaults.{check_calls}
 use Rattle.stil_ast.proofs.StandardFacts.Texts.{signal, group, by_name, by_text, driven, looked_at, table, assign}
-use Rattle.stil_ast.proofs.StandardFacts.Lines.{lines, cycle, items, fault, all_cycles}
+use Rattle.stil_ast.proofs.StandardFacts.Lines.{lines, cycle, marks, items, fault}
 use Rattle.stil_ast.specs.declared.name.Named.{Named}
 use Rattle.stil_ast.specs.declared.name.NameRef.{NameRef}
 use Rattle.stil_ast.specs.declared.signal.Direction.TheVariants.{In, Out}
@@ -111,10 +110,6 @@ scan_text = record {
   bursts = record { name = codes "_burst_"; items = record { word = Entry; name = codes "_pattern_"; line = 40 } ∷ [] } ∷ [];
   executives = record { name = []; categories = []; selector = None; timing = None; burst = named 41 (codes "_burst_"); line = 41 } ∷ [];
 }
-
--- the marks of all cycles
-abbrev pub marks : Blocks → List ℕ
-marks blocks = map (λ (d : Dated). d.vector.mark) (all_cycles blocks)
 
 -- three characters are shifted in, the outputs are strobed once, and the captured ones are shifted out
 pub seven_cycles : lines scan_text
