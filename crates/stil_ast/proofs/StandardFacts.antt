@@ -5,3 +5,4 @@ pub mod Runs
 pub mod Rows
 pub mod Refusals
 pub mod Choices
+pub mod Inherited

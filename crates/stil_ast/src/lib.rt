@@ -26,7 +26,8 @@ pub use laws::{
 };
 pub use name::{IndexRange, NameRef, Named, NamedList, Quoted, SigRef, WordList};
 pub use scan::{
-    CellDecl, CellDeclList, CellsDecl, ChainDecl, ChainDeclList, ScanBlock, ScanBlockList,
+    CellDecl, CellDeclList, CellsDecl, ChainDecl, ChainDeclList, ChainStmt, ChainStmtList,
+    ScanBlock, ScanBlockList,
 };
 pub use signal::{
     Direction, GroupBlock, GroupBlockList, GroupDecl, GroupDeclList, SignalDecl, SignalDeclList,

@@ -17,6 +17,11 @@ abbrev pub unless : Bool → StilFault → Option StilFault → Option StilFault
 unless true fault rest = rest
 unless false fault rest = Some fault
 
+-- the same where a test must fail
+abbrev pub refuse_if : Bool → StilFault → Option StilFault → Option StilFault
+refuse_if true fault rest = Some fault
+refuse_if false fault rest = rest
+
 -- the first of two
 abbrev pub or_else : Option StilFault → Option StilFault → Option StilFault
 or_else None second = second

@@ -1,13 +1,13 @@
 -- The first fault of an executive's tables (IEEE 1450-1999, clause 18).
-use Rattle.std.specs.Prelude.{ℕ, zero, suc, ◌+◌, ◌^◌, ◌==◌, ◌&&◌, ◌||◌, Bool, false, not, ℤ, pos, int_le, int_lt, List, [], ◌∷◌, Option, Some, None, Result, Ok, Err, length, nat_le, slice_get, if◌then◌else◌}
+use Rattle.std.specs.Prelude.{ℕ, ◌+◌, ◌^◌, ◌==◌, ◌&&◌, ◌||◌, Bool, false, not, ℤ, pos, int_le, int_lt, List, [], ◌∷◌, Option, Some, None, Result, Ok, Err, length, nat_le, if◌then◌else◌}
 use Rattle.std.specs.List.{list_any, enumerate_from}
 use Rattle.stil_ast.specs.Meaning.Statements.{Place}
-use Rattle.stil_ast.specs.Faults.Found.{fault_at, on_line, unless, or_else, first_in}
+use Rattle.stil_ast.specs.Faults.Found.{fault_at, on_line, unless, refuse_if, or_else, first_in}
 use Rattle.stil_ast.specs.Meaning.Signals.{Names}
 use Rattle.stil_ast.specs.Meaning.Members.{reference_kind}
 use Rattle.stil_ast.specs.Faults.SignalFaults.{kind_fault}
 use Rattle.stil_ast.specs.Meaning.Times.{Met, Times, time_at}
-use Rattle.stil_ast.specs.Meaning.Tables.{table_of, Waveform, own_waveforms, waveforms, waveform_of, period_text, wave_count}
+use Rattle.stil_ast.specs.Meaning.Tables.{table_of, leads_into_cycle, Waveform, own_waveforms, waveforms, waveform_of, period_text, wave_count}
 use Rattle.stil_ast.specs.declared.name.Quoted.{Quoted}
 use Rattle.stil_ast.specs.declared.name.Named.{Named}
 use Rattle.stil_ast.specs.declared.name.SigRef.{SigRef}
@@ -28,31 +28,14 @@ pub record Timed (V : Type 0) : Type 0 where
   pub place : Place
   pub tables : List TableDecl
 
--- a test of a table that must be there
-abbrev pub is_table : Option ℕ → (ℕ → Bool) → Bool
-is_table None test = false
-is_table (Some table) test = test table
-
--- the tables that a table inherits
-abbrev pub inherits_of : Option TableDecl → List Named
-inherits_of None = []
-inherits_of (Some t) = t.inherits
-
--- whether the tables that a table inherits lead to a table, within so many steps
-abbrev pub leads : List TableDecl → ℕ → ℕ → ℕ → Bool
-leads tables zero from table = false
-leads tables (suc steps) from table =
-    list_any (λ (i : Named). is_table (table_of tables i.name) (λ k. k == table || leads tables steps k table)) (inherits_of (slice_get tables from))
-
--- a table that is inherited: unknown, or leading back
-abbrev pub inherit_found : Place → List TableDecl → ℕ → Option ℕ → Option StilFault
-inherit_found p tables table None = Some (fault_at p UnknownName)
-inherit_found p tables table (Some k) =
-    unless (not (k == table || leads tables (length tables) k table)) (fault_at p Cyclic) None
+-- a table that is inherited: unknown, or leading into a cycle, whether or not the heir is part of it
+abbrev pub inherit_found : Place → List TableDecl → Option ℕ → Option StilFault
+inherit_found p tables None = Some (fault_at p UnknownName)
+inherit_found p tables (Some k) = refuse_if (leads_into_cycle tables k) (fault_at p Cyclic) None
 
 -- an InheritWaveformTable statement
-abbrev pub inherit_fault : Place → List TableDecl → ℕ → Named → Option StilFault
-inherit_fault p tables table i = inherit_found (on_line p i.line) tables table (table_of tables i.name)
+abbrev pub inherit_fault : Place → List TableDecl → Named → Option StilFault
+inherit_fault p tables i = inherit_found (on_line p i.line) tables (table_of tables i.name)
 
 -- a fault, or what a time is judged by
 abbrev pub with_time : Result ℤ StilFault → (ℤ → Option StilFault) → Option StilFault
@@ -124,7 +107,7 @@ waves_in t table = wave_count (waveforms t.names t.tables table) (length t.names
 -- a table, where so many waves come before it
 abbrev pub table_fault : {V : Type 0} → Timed V → ℕ → ℕ → TableDecl → Option StilFault
 table_fault t before table d =
-    or_else (first_in (inherit_fault t.place t.tables table) d.inherits)
+    or_else (first_in (inherit_fault t.place t.tables) d.inherits)
     (with_period t d.line (period_text t.tables table) (λ period.
     or_else (first_in (signal_fault t period) d.waveforms)
     (or_else (inherited_fault t period table)
