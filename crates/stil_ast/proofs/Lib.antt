@@ -10,3 +10,4 @@ pub mod ShiftLemmas
 pub mod BodyLemmas
 pub mod FlatSteps
 pub mod FlatLemmas
+mod InheritLemmas

@@ -1,6 +1,6 @@
 //! Laws of the language: what its definitions say, as a test engineer expects it.
 
-ghost use Rattle.stil_ast.specs.Meaning.Laws.{LoopSplits, MacroIsItsBody, CallGivesBack, ShiftIsInOrder, SignalKeepsCharacter, CyclesFollow, FlatTreeAgrees};
+ghost use Rattle.stil_ast.specs.Meaning.Laws.{LoopSplits, MacroIsItsBody, CallGivesBack, ShiftIsInOrder, SignalKeepsCharacter, CyclesFollow, FlatTreeAgrees, LineageFollows};
 
 /// A Loop of m + n runs is a Loop of m and then one of n.
 pub fn loop_splits()
@@ -35,4 +35,9 @@ pub fn cycles_follow()
 /// The flat tree of a pattern has the pattern's run, where no `#` and no Shift stands in a Loop.
 pub fn flat_tree_agrees()
     ensures { FlatTreeAgrees }
+{}
+
+/// A table that leads into no cycle is made of the tables that it inherits, each behind its own, and then of itself.
+pub fn lineage_follows()
+    ensures { LineageFollows }
 {}

@@ -1,13 +1,13 @@
 -- References with a fault, inherited tables, and the faults of scan chains.
-use Rattle.std.proofs.Common.{◌≡◌, ℕ, List, [], ◌∷◌, true, Option, Some, None, refl, codes, map, replicate}
+use Rattle.std.proofs.Common.{◌≡◌, ℕ, List, [], ◌∷◌, Option, Some, None, refl, codes, map, replicate}
 use Rattle.std.specs.Fmt.{digits}
 use Rattle.stil_ast.specs.Meaning.Signals.{Names, names_of}
 use Rattle.stil_ast.specs.Meaning.Members.{members}
-use Rattle.stil_ast.specs.Meaning.Tables.{lineage, period_text, leads_into_cycle}
-use Rattle.stil_ast.specs.Meaning.Chains.{chains_of, chains_fault, Chain}
-use Rattle.stil_ast.specs.Data.Written.{no_more, single}
-use Rattle.stil_ast.proofs.StandardFacts.Texts.{signal, by_name, by_text, driven, looked_at, table, assign, text_of}
-use Rattle.stil_ast.proofs.StandardFacts.Lines.{items, fault, refused}
+use Rattle.stil_ast.specs.Meaning.Tables.{lineage, period_text}
+use Rattle.stil_ast.specs.Meaning.Chains.{chains_of, chains_fault}
+use Rattle.stil_ast.specs.Data.Written.{no_more}
+use Rattle.stil_ast.proofs.StandardFacts.Texts.{signal, by_text, looked_at, table, text_of}
+use Rattle.stil_ast.proofs.StandardFacts.Lines.{fault, refused}
 use Rattle.stil_ast.specs.declared.name.Named.{Named}
 use Rattle.stil_ast.specs.declared.name.SigRef.{SigRef}
 use Rattle.stil_ast.specs.declared.name.SigRef.TheVariants.{Name}

@@ -1,5 +1,5 @@
 -- What a test engineer expects of statements: laws of the definitions.
-use Rattle.std.specs.Prelude.{◌≡◌, ℕ, zero, suc, ◌+◌, ◌<◌, ◌&&◌, not, Bool, true, false, List, [], ◌∷◌, Option, Some, None, length, map, slice_get, slice_index_or}
+use Rattle.std.specs.Prelude.{◌≡◌, ℕ, zero, suc, ◌+◌, ◌<◌, ◌&&◌, not, Bool, true, false, List, [], ◌∷◌, ◌++◌, Option, Some, None, length, flat_map, map, slice_get, slice_index_or}
 use Rattle.std.specs.List.{list_all}
 use Rattle.stil_ast.specs.Meaning.State.{State, Vector}
 use Rattle.stil_ast.specs.Meaning.Statements.{Item, hash, Assign, Statements, finish, place, wave, vector, condition, loop, expand, call, shift, stop}
@@ -7,8 +7,10 @@ use Rattle.stil_ast.specs.Meaning.Arguments.{given, argument_of}
 use Rattle.stil_ast.specs.Meaning.Dealing.{has_signal, is_hash, is_character}
 use Rattle.stil_ast.specs.Meaning.Running.{Setting, Made, Here, Ran, run_all, outside}
 use Rattle.stil_ast.specs.Meaning.Cycles.{Dated, dated}
+use Rattle.stil_ast.specs.Meaning.Tables.{inherited, leads_into_cycle, lineage}
 use Rattle.stil_ast.specs.Meaning.Flat.{flat_run}
 use Rattle.stil_ast.specs.Meaning.Flattening.{flat_of}
+use Rattle.stil_ast.specs.declared.timing.TableDecl.{TableDecl}
 
 -- a Loop of m + n is a Loop of m and then one of n
 abbrev pub LoopSplits : Type 0
@@ -174,3 +176,8 @@ abbrev pub FlatTreeAgrees : Type 0
 FlatTreeAgrees = (t : Setting) (statements : Statements) (s : State) →
     steady_loops statements ≡ true → list_all steady_loops t.macros ≡ true → list_all steady_loops t.procedures ≡ true →
     flat_run (flat_of t statements) (outside s).held s ≡ with_state (run_all t statements (outside s))
+
+-- A table that leads into no cycle is made of the tables that it inherits, each behind its own, and then of itself.
+abbrev pub LineageFollows : Type 0
+LineageFollows = (tables : List TableDecl) (table : ℕ) → leads_into_cycle tables table ≡ false →
+    lineage tables table ≡ flat_map (lineage tables) (inherited tables table) ++ (table ∷ [])
