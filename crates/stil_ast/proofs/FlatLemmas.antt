@@ -3,11 +3,11 @@ use Rattle.std.proofs.Common.{◌≡◌, ℕ, zero, suc, Bool, true, ◌&&◌, L
 use Rattle.std.specs.List.{list_all}
 use Rattle.std.proofs.lemmas.Bool.{and_parts}
 use Rattle.stil_ast.specs.Meaning.State.{State}
-use Rattle.stil_ast.specs.Meaning.Statements.{Place, Statements, finish, place, wave, vector, condition, loop, expand, call, shift, stop}
+use Rattle.stil_ast.specs.Meaning.Statements.{Origin, Statements, finish, place, wave, vector, condition, loop, expand, call, shift, stop}
 use Rattle.stil_ast.specs.Meaning.Arguments.{Argument, arguments}
 use Rattle.stil_ast.specs.Meaning.Dealing.{deal, takers, mark_of}
 use Rattle.stil_ast.specs.Meaning.Shift.{taking, passes, columns}
-use Rattle.stil_ast.specs.Meaning.Running.{Setting, Ran, Here, still, behind, then_run, times, at_place, at_table, pass_at, after, make, in_macro, from_macro, in_call, from_call, in_shift, from_shift, run_list, run_all, calls, outside}
+use Rattle.stil_ast.specs.Meaning.Running.{Setting, Ran, Here, still, behind, then_run, times, at_place, at_table, pass_at, after, make, in_macro, from_macro, in_call, from_call, in_shift, from_shift, run_list, run, calls, outside}
 use Rattle.stil_ast.specs.Meaning.Flat.{Flat, done, cycle, saved, flat_run}
 use Rattle.stil_ast.specs.Meaning.Flattening.{Spot, Piece, then_piece, pieces, with_args, pass_piece, gifts_piece, cycle_piece, repeat_piece, macro_piece, call_piece, shift_piece, flat_list, flat_calls, flat_of}
 use Rattle.stil_ast.specs.Meaning.Laws.{is_steady, steady_loops, with_state}
@@ -70,7 +70,7 @@ times_agree f g base spot agree steady (suc n) h held e =
     }
 
 -- passes of a Shift
-pieces_agree : (p : Place) (f : Spot → Piece) (g : Here → Ran Here) (base : State)
+pieces_agree : (p : Origin) (f : Spot → Piece) (g : Here → Ran Here) (base : State)
     → ((h : Here) → h.held ≡ base → Agrees (f (spot_of h)) (g h) base h.state) → (n : ℕ) (h : Here)
     → h.held ≡ base
     → Agrees (pieces n (pass_piece p f) (spot_of h)) (times n (pass_at p g) h) base h.state
@@ -157,6 +157,6 @@ module _ (t : Setting) (macros_fit : list_all steady_loops t.macros ≡ true) (p
 pub flat_tree_agrees : (t : Setting) (statements : Statements) (s : State)
     → steady_loops statements ≡ true → list_all steady_loops t.macros ≡ true
     → list_all steady_loops t.procedures ≡ true
-    → flat_run (flat_of t statements) (outside s).held s ≡ with_state (run_all t statements (outside s))
+    → flat_run (flat_of t statements) (outside s).held s ≡ with_state (run t statements (outside s))
 flat_tree_agrees t statements s fit macros_fit procedures_fit =
     (list_agrees t macros_fit procedures_fit (flat_calls t 64) (calls t 64) (calls_agree t macros_fit procedures_fit 64) statements fit (outside s)).runs

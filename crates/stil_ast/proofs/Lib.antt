@@ -1,4 +1,3 @@
-pub mod ThinLaws
 pub mod StandardFacts
 pub mod RunLemmas
 pub mod CallLemmas

@@ -5,7 +5,7 @@ use Rattle.stil_ast.specs.Meaning.State.{State, Vector}
 use Rattle.stil_ast.specs.Meaning.Statements.{Item, hash, Assign, Statements, finish, place, wave, vector, condition, loop, expand, call, shift, stop}
 use Rattle.stil_ast.specs.Meaning.Arguments.{given, argument_of}
 use Rattle.stil_ast.specs.Meaning.Dealing.{has_signal, is_hash, is_character}
-use Rattle.stil_ast.specs.Meaning.Running.{Setting, Made, Here, Ran, run_all, outside}
+use Rattle.stil_ast.specs.Meaning.Running.{Setting, Made, Here, Ran, run, outside}
 use Rattle.stil_ast.specs.Meaning.Cycles.{Dated, dated}
 use Rattle.stil_ast.specs.Meaning.Tables.{inherited, leads_into_cycle, lineage}
 use Rattle.stil_ast.specs.Meaning.Flat.{flat_run}
@@ -15,7 +15,7 @@ use Rattle.stil_ast.specs.declared.timing.TableDecl.{TableDecl}
 -- a Loop of m + n is a Loop of m and then one of n
 abbrev pub LoopSplits : Type 0
 LoopSplits = (t : Setting) (m n : ℕ) (body rest : Statements) (h : Here) →
-    run_all t (loop (m + n) body rest) h ≡ run_all t (loop m body (loop n body rest)) h
+    run t (loop (m + n) body rest) h ≡ run t (loop m body (loop n body rest)) h
 
 -- statements, and then others
 abbrev pub followed_by : Statements → Statements → Statements
@@ -71,12 +71,12 @@ calls_within t (suc depth) (Some body) = bodies_pass t (calls_within t depth) bo
 abbrev pub MacroIsItsBody : Type 0
 MacroIsItsBody = (t : Setting) (m : ℕ) (body rest : Statements) (h : Here) →
     slice_get t.macros m ≡ Some body → takes_nothing body ≡ true → bodies_pass t (calls_within t 63) body ≡ true →
-    run_all t (expand m [] rest) h ≡ run_all t (followed_by body rest) h
+    run t (expand m [] rest) h ≡ run t (followed_by body rest) h
 
 -- after a Call all is as it was for the caller
 abbrev pub CallGivesBack : Type 0
 CallGivesBack =
-    (t : Setting) (p : ℕ) (assigns : List Assign) (h : Here) → (run_all t (call p assigns finish) h).here ≡ h
+    (t : Setting) (p : ℕ) (assigns : List Assign) (h : Here) → (run t (call p assigns finish) h).here ≡ h
 
 -- the Shift of a signal: `Shift { V { signal=#; } }`
 abbrev pub shift_of : ℕ → Statements
@@ -90,7 +90,7 @@ shown_at signal made = map (λ (m : Made). slice_index_or m.vector.letters signa
 abbrev pub ShiftIsInOrder : Type 0
 ShiftIsInOrder = (t : Setting) (signal : ℕ) (characters : List ℕ) (h : Here) →
     signal < length h.state.letters → signal < length h.args → (argument_of h.args signal).left ≡ map given characters →
-    shown_at signal (run_all t (shift_of signal) h).made ≡ map (λ c. Some c) characters
+    shown_at signal (run t (shift_of signal) h).made ≡ map (λ c. Some c) characters
 
 -- whether statements assign nothing to a signal, and run no other bodies
 abbrev pub all_leave : ℕ → List Assign → Bool
@@ -124,7 +124,7 @@ pub record Keeps (signal : ℕ) (c : Option ℕ) (r : Ran Here) : Type 0 where
 abbrev pub SignalKeepsCharacter : Type 0
 SignalKeepsCharacter =
     (t : Setting) (signal : ℕ) (statements : Statements) (h : Here) → leaves signal statements ≡ true →
-    Keeps signal (slice_index_or h.state.letters signal None) (run_all t statements h)
+    Keeps signal (slice_index_or h.state.letters signal None) (run t statements h)
 
 -- cycle k + 1 starts where cycle k ends
 abbrev pub CyclesFollow : Type 0
@@ -175,7 +175,7 @@ with_state r = record { made = r.made; here = r.here.state }
 abbrev pub FlatTreeAgrees : Type 0
 FlatTreeAgrees = (t : Setting) (statements : Statements) (s : State) →
     steady_loops statements ≡ true → list_all steady_loops t.macros ≡ true → list_all steady_loops t.procedures ≡ true →
-    flat_run (flat_of t statements) (outside s).held s ≡ with_state (run_all t statements (outside s))
+    flat_run (flat_of t statements) (outside s).held s ≡ with_state (run t statements (outside s))
 
 -- A table that leads into no cycle is made of the tables that it inherits, each behind its own, and then of itself.
 abbrev pub LineageFollows : Type 0
