@@ -10,3 +10,6 @@ pub mod BodyLemmas
 pub mod FlatSteps
 pub mod FlatLemmas
 mod InheritLemmas
+mod CheckedLemmas
+mod SteadyLemmas
+mod TreeLemmas

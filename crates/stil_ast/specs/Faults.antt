@@ -9,3 +9,4 @@ pub mod PatternFaults
 pub mod ExecutiveFaults
 pub mod CodeFaults
 pub mod TextFaults
+pub mod CheckedLaws

@@ -171,10 +171,23 @@ steady_loops (stop rest) = true
 abbrev pub with_state : Ran Here → Ran State
 with_state r = record { made = r.made; here = r.here.state }
 
+-- whether no `#` and no Shift stands in a Loop of statements, and each body that they name passes a test
+abbrev pub runs_steady : Setting → (Option Statements → Bool) → Statements → Bool
+runs_steady t test statements = steady_loops statements && bodies_pass t test statements
+
+-- the same of a body that runs, and of those that run in it, so deep
+unfoldable pub steady_within : Setting → ℕ → Option Statements → Bool
+steady_within t zero body = true
+steady_within t (suc depth) None = true
+steady_within t (suc depth) (Some body) = runs_steady t (steady_within t depth) body
+
+-- the same of a pattern's own statements and of all bodies that run in it
+abbrev pub is_steady_pattern : Setting → Statements → Bool
+is_steady_pattern t statements = runs_steady t (steady_within t 64) statements
+
 -- the flat tree of a pattern has the pattern's run: its vectors with their places, and the state that it leaves
 abbrev pub FlatTreeAgrees : Type 0
-FlatTreeAgrees = (t : Setting) (statements : Statements) (s : State) →
-    steady_loops statements ≡ true → list_all steady_loops t.macros ≡ true → list_all steady_loops t.procedures ≡ true →
+FlatTreeAgrees = (t : Setting) (statements : Statements) (s : State) → is_steady_pattern t statements ≡ true →
     flat_run (flat_of t statements) (outside s).held s ≡ with_state (run t statements (outside s))
 
 -- A table that leads into no cycle is made of the tables that it inherits, each behind its own, and then of itself.
