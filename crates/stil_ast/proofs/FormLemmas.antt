@@ -62,7 +62,7 @@ counted_cells (c ∷ cells) =
     ∙ sym (sum_by-cons (λ (r : NameRef). cell_size r.range) c cells)
 
 -- how many cells a chain has
-pub length-cells_of : (c : CellsDecl) → length (cells_of (Some c)) ≡ cell_count c.cells
+pub length-cells_of : (c : CellsDecl) → length (cells_of c) ≡ cell_count c.cells
 length-cells_of c = length-flat_map (λ (r : NameRef). cells_with r.name r.range) c.cells ∙ counted_cells c.cells
 
 texts_of_one : (d : SignalDecl) (range : Option IndexRange)

@@ -1,4 +1,3 @@
-pub mod ThinLaws
 pub mod StandardFacts
 pub mod RunLemmas
 pub mod CallLemmas
@@ -12,3 +11,7 @@ pub mod FlatSteps
 pub mod FlatLemmas
 pub mod FormLemmas
 pub mod ItemLemmas
+mod InheritLemmas
+mod CheckedLemmas
+mod SteadyLemmas
+mod TreeLemmas

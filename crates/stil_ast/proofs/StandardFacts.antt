@@ -11,3 +11,4 @@ pub mod Fronts
 pub mod Shifts
 pub mod Limits
 pub mod Places
+pub mod Inherited

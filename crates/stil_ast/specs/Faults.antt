@@ -10,3 +10,4 @@ pub mod ExecutiveFaults
 pub mod CodeFaults
 pub mod TextFaults
 pub mod FrontFaults
+pub mod CheckedLaws

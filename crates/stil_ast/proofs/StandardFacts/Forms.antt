@@ -14,6 +14,8 @@ use Rattle.stil_ast.specs.declared.timing.EventDecl.{EventDecl}
 use Rattle.stil_ast.specs.declared.timing.TableDecl.{TableDecl}
 use Rattle.stil_ast.specs.declared.timing.WaveDecl.{WaveDecl}
 use Rattle.stil_ast.specs.declared.scan.CellsDecl.{CellsDecl}
+use Rattle.stil_ast.specs.declared.scan.ChainStmt.TheVariants as stmt
+use Rattle.stil_ast.specs.declared.scan.ChainStmt.{ChainStmt}
 use Rattle.stil_ast.specs.declared.scan.ChainDecl.{ChainDecl}
 use Rattle.stil_ast.specs.declared.executive.BurstWord.{BurstWord}
 use Rattle.stil_ast.specs.declared.executive.BurstWord.TheVariants.{SignalGroups, MacroDefs}
@@ -132,8 +134,17 @@ most_cells = refl
 pub too_many_cells : is_cells_decl (cells_to 1048575) ≡ false
 too_many_cells = refl
 
-pub too_long_chain : is_chain_decl (record { name = codes "c"; length = Some (2 ^ 20 + 1); scan_in = None; scan_out = None; cells = None; line = 4 }) ≡ false
+abbrev chain : List ChainStmt → ChainDecl
+chain stmts = record { name = codes "c"; stmts = stmts; line = 4 }
+
+pub too_long_chain : is_chain_decl (chain (stmt.Length (2 ^ 20 + 1) ∷ [])) ≡ false
 too_long_chain = refl
+
+pub length_twice : is_chain_decl (chain (stmt.Length 3 ∷ stmt.Cells (cells_to 1) ∷ stmt.Length 3 ∷ [])) ≡ false
+length_twice = refl
+
+pub length_and_cells : is_chain_decl (chain (stmt.Length 3 ∷ stmt.Cells (cells_to 1) ∷ [])) ≡ true
+length_and_cells = refl
 
 abbrev item : BurstWord → BurstItem
 item word = record { word = word; name = codes "g"; line = 12 }

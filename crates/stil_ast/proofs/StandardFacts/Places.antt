@@ -11,6 +11,7 @@ use Rattle.stil_ast.specs.declared.signal.SignalDecl.{SignalDecl}
 use Rattle.stil_ast.specs.declared.timing.EventDecl.{EventDecl}
 use Rattle.stil_ast.specs.declared.timing.SignalWaves.{SignalWaves}
 use Rattle.stil_ast.specs.declared.timing.TableDecl.{TableDecl}
+use Rattle.stil_ast.specs.declared.scan.ChainStmt.TheVariants as stmt
 use Rattle.stil_ast.specs.declared.scan.ChainDecl.{ChainDecl}
 use Rattle.stil_ast.specs.declared.body.Assignment.{Assignment}
 use Rattle.stil_ast.specs.declared.body.Step.TheVariants.{Vector}
@@ -115,10 +116,8 @@ chain_without_end = refl
 abbrev chain_of : List ℕ → List ℕ → ChainDecl
 chain_of input cell = record {
   name = codes "c";
-  length = None;
-  scan_in = Some (record { name = input; line = 5 });
-  scan_out = Some (record { name = codes "y"; line = 6 });
-  cells = Some (record { cells = record { name = cell; range = None } ∷ []; line = 7 });
+  stmts = stmt.In (record { name = input; line = 5 }) ∷ stmt.Out (record { name = codes "y"; line = 6 })
+      ∷ stmt.Cells (record { cells = record { name = cell; range = None } ∷ []; line = 7 }) ∷ [];
   line = 4;
 }
 

@@ -1,5 +1,5 @@
 -- A scan test of the circuit s27 with one chain of three cells: its blocks, cycles and marks.
-use Rattle.std.proofs.Common.{◌≡◌, ℕ, List, [], ◌∷◌, Some, None, refl, codes}
+use Rattle.std.proofs.Common.{◌≡◌, ℕ, List, [], ◌∷◌, None, refl, codes}
 use Rattle.stil_ast.specs.Data.Written.{no_more, single, shifted}
 use Rattle.stil_ast.specs.Meaning.Statements.{hash}
 use Rattle.stil_ast.specs.Meaning.Running.{calls}
@@ -13,6 +13,7 @@ use Rattle.stil_ast.specs.declared.signal.Direction.TheVariants.{In, Out}
 use Rattle.stil_ast.specs.declared.timing.EventDecl.{EventDecl}
 use Rattle.stil_ast.specs.declared.timing.SignalWaves.{SignalWaves}
 use Rattle.stil_ast.specs.declared.timing.TableDecl.{TableDecl}
+use Rattle.stil_ast.specs.declared.scan.ChainStmt.TheVariants as stmt
 use Rattle.stil_ast.specs.declared.scan.ChainDecl.{ChainDecl}
 use Rattle.stil_ast.specs.declared.executive.BurstWord.TheVariants.{Entry}
 use Rattle.stil_ast.specs.declared.body.Step.TheVariants.{Wave, Vector, Condition, Call}
@@ -72,10 +73,8 @@ scan_tables = table default (codes "100ns")
 abbrev pub scan_chains : List ChainDecl
 scan_chains = record {
   name = codes "c1";
-  length = Some 3;
-  scan_in = Some (named 15 (codes "SI"));
-  scan_out = Some (named 15 (codes "SO"));
-  cells = Some (record { cells = cell (codes "f5") ∷ cell (codes "f6") ∷ cell (codes "f7") ∷ []; line = 16 });
+  stmts = stmt.Length 3 ∷ stmt.In (named 15 (codes "SI")) ∷ stmt.Out (named 15 (codes "SO"))
+      ∷ stmt.Cells (record { cells = cell (codes "f5") ∷ cell (codes "f6") ∷ cell (codes "f7") ∷ []; line = 16 }) ∷ [];
   line = 14;
 } ∷ []
 

@@ -11,6 +11,7 @@ use Rattle.stil_ast.specs.declared.signal.SignalDecl.{SignalDecl}
 use Rattle.stil_ast.specs.declared.signal.GroupDecl.{GroupDecl}
 use Rattle.stil_ast.specs.declared.timing.SignalWaves.{SignalWaves}
 use Rattle.stil_ast.specs.declared.timing.TableDecl.{TableDecl}
+use Rattle.stil_ast.specs.declared.scan.ChainStmt.TheVariants as stmt
 use Rattle.stil_ast.specs.declared.scan.ChainDecl.{ChainDecl}
 use Rattle.stil_ast.specs.declared.executive.BurstWord.TheVariants.{Entry}
 use Rattle.stil_ast.specs.declared.body.Assignment.{Assignment}
@@ -102,14 +103,8 @@ text_of signals groups tables macros procedures body = record {
 
 -- a chain that ends at this signal
 abbrev pub chain_at : ℕ → List ℕ → List ℕ → ChainDecl
-chain_at line name out = record {
-  name = name;
-  length = None;
-  scan_in = None;
-  scan_out = Some (record { name = out; line = line });
-  cells = None;
-  line = line;
-}
+chain_at line name out =
+    record { name = name; stmts = stmt.Out (record { name = out; line = line }) ∷ []; line = line }
 
 -- the same text with unnamed ScanStructures of these chains
 abbrev pub with_chains : List ChainDecl → Blocks → Blocks

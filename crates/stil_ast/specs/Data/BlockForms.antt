@@ -23,6 +23,8 @@ use Rattle.stil_ast.specs.declared.timing.SignalWaves.{SignalWaves}
 use Rattle.stil_ast.specs.declared.timing.TableDecl.{TableDecl}
 use Rattle.stil_ast.specs.declared.timing.TimingBlock.{TimingBlock}
 use Rattle.stil_ast.specs.declared.scan.CellsDecl.{CellsDecl}
+use Rattle.stil_ast.specs.declared.scan.ChainStmt.{ChainStmt}
+use Rattle.stil_ast.specs.declared.scan.ChainStmt.TheVariants.{Length, In, Out, Cells}
 use Rattle.stil_ast.specs.declared.scan.ChainDecl.{ChainDecl}
 use Rattle.stil_ast.specs.declared.scan.ScanBlock.{ScanBlock}
 use Rattle.stil_ast.specs.declared.executive.BurstWord.{BurstWord}
@@ -119,11 +121,24 @@ cell_count cells = sum_by (λ (c : NameRef). cell_size c.range) cells
 abbrev pub is_cells_decl : CellsDecl → Bool
 is_cells_decl c = list_all is_name_ref c.cells && nat_le (cell_count c.cells) (2 ^ 20) && is_line c.line
 
--- a chain, of length at most 2^20
+-- a statement of a chain; its length is at most 2^20
+abbrev pub is_chain_stmt : ChainStmt → Bool
+is_chain_stmt (Length n) = nat_le n (2 ^ 20)
+is_chain_stmt (In n) = is_named n
+is_chain_stmt (Out n) = is_named n
+is_chain_stmt (Cells c) = is_cells_decl c
+
+-- the four kinds of such statements
+abbrev pub chain_kind : ChainStmt → ℕ
+chain_kind (Length n) = 0
+chain_kind (In n) = 1
+chain_kind (Out n) = 2
+chain_kind (Cells c) = 3
+
+-- a chain, with each kind of statement at most once
 abbrev pub is_chain_decl : ChainDecl → Bool
 is_chain_decl d =
-    is_name d.name && is_absent_or (λ n. nat_le n (2 ^ 20)) d.length && is_absent_or is_named d.scan_in
-    && is_absent_or is_named d.scan_out && is_absent_or is_cells_decl d.cells && is_line d.line
+    is_name d.name && list_all is_chain_stmt d.stmts && all_differ nat_eq (map chain_kind d.stmts) && is_line d.line
 
 -- a ScanStructures block
 abbrev pub is_scan_block : ScanBlock → Bool

@@ -36,7 +36,7 @@ cycle_count blocks e = length (exec_vectors blocks e)
 abbrev pub too_many_with : ℕ → Blocks → ℕ × ExecDecl → Option StilFault
 too_many_with most blocks e =
     unless (nat_le (sum_by (cycle_count blocks) (take (e.0 + 1) blocks.executives)) most)
-    (fault_at (exec_place e.1 e.1.line) TooManyCycles) None
+    (fault_at (exec_place e.1.name e.1.line) TooManyCycles) None
 
 -- the first executive up to which they are more than this
 abbrev pub too_many_beyond : ℕ → Blocks → Option StilFault
