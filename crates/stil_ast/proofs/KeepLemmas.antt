@@ -2,11 +2,11 @@
 use Rattle.std.proofs.Common.{◌≡◌, ◌≢◌, ℕ, zero, suc, ◌==◌, ◌||◌, Bool, true, false, not, List, [], ◌∷◌, ◌++◌, Option, Some, None, refl, sym, ◌∙◌, get_or, get_or-set_other, eq-eqb}
 use Rattle.std.proofs.lemmas.Bool.{and_parts}
 use Rattle.stil_ast.specs.Meaning.State.{State}
-use Rattle.stil_ast.specs.Meaning.Statements.{Item, letter, hash, percent, Assign, Place, Statements, finish, place, wave, vector, condition, loop, expand, call, shift, stop}
+use Rattle.stil_ast.specs.Meaning.Statements.{Item, letter, hash, percent, Assign, Origin, Statements, finish, place, wave, vector, condition, loop, expand, call, shift, stop}
 use Rattle.stil_ast.specs.Meaning.Arguments.{Entry, Argument, next_entry}
 use Rattle.stil_ast.specs.Meaning.Dealing.{Gift, gift_of, deal_item, deal_pairs, spread, deal, letter_of, with_letter, received, has_signal}
 use Rattle.stil_ast.specs.Meaning.Shift.{taking, passes}
-use Rattle.stil_ast.specs.Meaning.Running.{Setting, Made, Ran, Here, then_run, times, pass_at, at_place, at_table, after, make, in_shift, from_shift, run_list, run_all, calls}
+use Rattle.stil_ast.specs.Meaning.Running.{Setting, Made, Ran, Here, then_run, times, pass_at, at_place, at_table, after, make, in_shift, from_shift, run_list, run, calls}
 use Rattle.stil_ast.specs.Meaning.Laws.{all_leave, leaves, EachShows, Keeps}
 
 -- no gift goes to a signal
@@ -92,7 +92,7 @@ times-keeps signal c f keep zero h e = record { vectors = tt; state = e }
 times-keeps signal c f keep (suc n) h e =
     then_run-keeps signal c (f h) (times n f) (keep h e) (times-keeps signal c f keep n)
 
-pass_at-keeps : (signal : ℕ) (c : Option ℕ) (p : Place) (f : Here → Ran Here) → KeepsIt signal c f
+pass_at-keeps : (signal : ℕ) (c : Option ℕ) (p : Origin) (f : Here → Ran Here) → KeepsIt signal c f
     → KeepsIt signal c (pass_at p f)
 pass_at-keeps signal c p f keep h e = record { vectors = (keep h e).vectors; state = (keep h e).state }
 
@@ -126,6 +126,6 @@ run_list-keeps t f signal c (stop rest) e h same = record { vectors = tt; state 
 
 pub signal_keeps : (t : Setting) (signal : ℕ) (statements : Statements) (h : Here)
     → leaves signal statements ≡ true
-    → Keeps signal (get_or h.state.letters signal None) (run_all t statements h)
+    → Keeps signal (get_or h.state.letters signal None) (run t statements h)
 signal_keeps t signal statements h e =
     run_list-keeps t (calls t 64) signal (get_or h.state.letters signal None) statements e h refl

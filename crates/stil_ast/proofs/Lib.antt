@@ -1,4 +1,3 @@
-pub mod ThinLaws
 pub mod StandardFacts
 pub mod RunLemmas
 pub mod CallLemmas
@@ -10,3 +9,9 @@ pub mod ShiftLemmas
 pub mod BodyLemmas
 pub mod FlatSteps
 pub mod FlatLemmas
+pub mod FormLemmas
+pub mod ItemLemmas
+mod InheritLemmas
+mod CheckedLemmas
+mod SteadyLemmas
+mod TreeLemmas

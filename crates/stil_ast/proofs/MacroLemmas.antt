@@ -6,7 +6,7 @@ use Rattle.stil_ast.specs.Meaning.Statements.{Assign, Statements, finish, place,
 use Rattle.stil_ast.specs.Meaning.Arguments.{Argument, arguments}
 use Rattle.stil_ast.specs.Meaning.Dealing.{Dealt, takers, mark_of}
 use Rattle.stil_ast.specs.Meaning.Shift.{taking, passes}
-use Rattle.stil_ast.specs.Meaning.Running.{Setting, Ran, Here, behind, then_run, times, back_at, pass_at, at_place, at_table, after_deal, after, make, in_macro, from_macro, in_call, from_call, in_shift, from_shift, run_list, run_all, calls}
+use Rattle.stil_ast.specs.Meaning.Running.{Setting, Ran, Here, behind, then_run, times, back_at, pass_at, at_place, at_table, after_deal, after, make, in_macro, from_macro, in_call, from_call, in_shift, from_shift, run_list, run, calls}
 use Rattle.stil_ast.specs.Meaning.Laws.{followed_by, all_characters, takes_nothing, bodies_pass, calls_within}
 use Rattle.stil_ast.proofs.CallLemmas.{run_list-same, calls-deeper, run_list-followed_by}
 use Rattle.stil_ast.proofs.LetterLemmas.{deal-characters, takers-characters, mark_of-none}
@@ -116,7 +116,7 @@ from_macro-args h args r same held = ap (put_held r h.args) (sym held) ∙ sym s
 pub macro_is_its_body : (t : Setting) (m : ℕ) (body rest : Statements) (h : Here)
     → slice_get t.macros m ≡ Some body → takes_nothing body ≡ true
     → bodies_pass t (calls_within t 63) body ≡ true
-    → run_all t (expand m [] rest) h ≡ run_all t (followed_by body rest) h
+    → run t (expand m [] rest) h ≡ run t (followed_by body rest) h
 unfolding calls
 macro_is_its_body t m body rest h found nothing within =
     let args = arguments (length t.outs) [] in

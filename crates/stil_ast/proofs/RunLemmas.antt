@@ -1,7 +1,7 @@
 -- Runs one after another, and the same run so often.
 use Rattle.std.proofs.Common.{◌≡◌, ℕ, zero, suc, ◌+◌, List, refl, ap, sym, ◌∙◌, append_assoc, zero-add, suc-add}
-use Rattle.stil_ast.specs.Meaning.Statements.{Place, Statements, loop}
-use Rattle.stil_ast.specs.Meaning.Running.{Setting, Made, Ran, Here, behind, then_run, times, pass_at, run_list, run_all, calls}
+use Rattle.stil_ast.specs.Meaning.Statements.{Origin, Statements, loop}
+use Rattle.stil_ast.specs.Meaning.Running.{Setting, Made, Ran, Here, behind, then_run, times, pass_at, run_list, run, calls}
 
 -- a run with these vectors
 abbrev pub with_made : {P : Type 0} → P → List Made → Ran P
@@ -30,18 +30,18 @@ times-add (suc m) n f p =
     ∙ (ap (behind (f p).made) (times-add m n f (f p).here) ∙ sym (then_run-assoc (f p) (times m f) (times n f)))
 
 -- passes end where they began
-times-place : (p : Place) (f : Here → Ran Here) (n : ℕ) (h : Here) → h.place ≡ p
+times-place : (p : Origin) (f : Here → Ran Here) (n : ℕ) (h : Here) → h.place ≡ p
     → (times n (pass_at p f) h).here.place ≡ p
 times-place p f zero h e = e
 times-place p f (suc n) h e = times-place p f n (pass_at p f h).here refl
 
 -- a Loop of m + n
 pub loop_splits : (t : Setting) (m n : ℕ) (body rest : Statements) (h : Here)
-    → run_all t (loop (m + n) body rest) h ≡ run_all t (loop m body (loop n body rest)) h
+    → run t (loop (m + n) body rest) h ≡ run t (loop m body (loop n body rest)) h
 loop_splits t m n body rest h =
-    let pass = λ (p : Place). pass_at p (run_list t (calls t 64) body) in
+    let pass = λ (p : Origin). pass_at p (run_list t (calls t 64) body) in
     let then_rest = run_list t (calls t 64) rest in
     let first = times m (pass h.place) h in
     ap (λ (r : Ran Here). then_run r then_rest) (times-add m n (pass h.place) h)
     ∙ (then_run-assoc first (times n (pass h.place)) then_rest
-    ∙ ap (λ (p : Place). behind first.made (then_run (times n (pass p) first.here) then_rest)) (sym (times-place h.place (run_list t (calls t 64) body) m h refl)))
+    ∙ ap (λ (p : Origin). behind first.made (then_run (times n (pass p) first.here) then_rest)) (sym (times-place h.place (run_list t (calls t 64) body) m h refl)))

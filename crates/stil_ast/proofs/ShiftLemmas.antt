@@ -1,11 +1,11 @@
 -- A Shift shifts each character of its data once, in order.
 use Rattle.std.proofs.Common.{◌≡◌, ℕ, ◌-◌, ◌<◌, Bool, true, false, List, [], ◌∷◌, ◌++◌, Option, Some, None, refl, ap, ◌∙◌, arith, append-nil, length, map, max, replicate, get_or, set, get_or-set_same, length-set, slice_index_or}
 use Rattle.std.proofs.lemmas.List.{length-map}
-use Rattle.stil_ast.specs.Meaning.Statements.{Assign, Place, hash, Statements, finish, vector}
+use Rattle.stil_ast.specs.Meaning.Statements.{Assign, Origin, hash, Statements, finish, vector}
 use Rattle.stil_ast.specs.Meaning.Arguments.{Entry, given, padding, Argument, argument_of, no_argument, first_of, one_taken}
 use Rattle.stil_ast.specs.Meaning.Dealing.{gift_of, received}
 use Rattle.stil_ast.specs.Meaning.Shift.{column}
-use Rattle.stil_ast.specs.Meaning.Running.{Setting, Ran, Here, times, pass_at, run_list, run_all, calls}
+use Rattle.stil_ast.specs.Meaning.Running.{Setting, Ran, Here, times, pass_at, run_list, run, calls}
 use Rattle.stil_ast.specs.Meaning.Laws.{shift_of, shown_at}
 
 none_missing : (n : ℕ) → n - n ≡ 0
@@ -21,7 +21,7 @@ abbrev takes_one : ℕ → List Assign
 takes_one signal = record { signals = signal ∷ []; items = hash ∷ [] } ∷ []
 
 -- the place behind the V of such a Shift, where this is left of the signal's argument
-abbrev taken_from : Place → ℕ → Here → List Entry → Here
+abbrev taken_from : Origin → ℕ → Here → List Entry → Here
 taken_from p signal h left = record {
   state = received h.held (gift_of signal (first_of left) ++ [] ++ []) h.state;
   held = h.held;
@@ -30,7 +30,7 @@ taken_from p signal h left = record {
 }
 
 -- one pass after another
-passes-in_order : (t : Setting) (f : Option Statements → Here → Ran Here) (p : Place) (signal : ℕ) (characters : List ℕ) (h : Here)
+passes-in_order : (t : Setting) (f : Option Statements → Here → Ran Here) (p : Origin) (signal : ℕ) (characters : List ℕ) (h : Here)
     → signal < length h.state.letters → signal < length h.args
     → (argument_of h.args signal).left ≡ map given characters
     → shown_at signal (times (length characters) (pass_at p (run_list t f (vector (takes_one signal) finish))) h).made
@@ -62,7 +62,7 @@ at_most_zero n = omega arith
 pub shift_is_in_order : (t : Setting) (signal : ℕ) (characters : List ℕ) (h : Here)
     → signal < length h.state.letters → signal < length h.args
     → (argument_of h.args signal).left ≡ map given characters
-    → shown_at signal (run_all t (shift_of signal) h).made ≡ map (λ c. Some c) characters
+    → shown_at signal (run t (shift_of signal) h).made ≡ map (λ c. Some c) characters
 shift_is_in_order t signal characters h wide enough e =
     let left = (argument_of h.args signal).left in
     let body = pass_at h.place (run_list t (calls t 64) (vector (takes_one signal) finish)) in

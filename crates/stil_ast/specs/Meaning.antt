@@ -1,13 +1,12 @@
 -- What a text stands for. Statements with numbers in place of names, and what they do: State to Cycles; the flat tree
 -- of a pattern: Flat, Flattening. What names stand for: Signals to Bursts. From what is written to executives and
--- their cycles: Resolved, Executive. What follows from all this: Laws.
+-- their cycles: Resolved, ExecutiveData, Executive. What follows from all this: Laws.
 pub mod State
 pub mod Statements
 pub mod Arguments
 pub mod Dealing
 pub mod Shift
 pub mod Running
-pub mod Run
 pub mod Cycles
 pub mod Flat
 pub mod Flattening
@@ -20,5 +19,6 @@ pub mod Tables
 pub mod Chains
 pub mod Bursts
 pub mod Resolved
+pub mod ExecutiveData
 pub mod Executive
 pub mod Laws

@@ -1,6 +1,7 @@
 //! Laws of the language: what its definitions say, as a test engineer expects it.
 
-ghost use Rattle.stil_ast.specs.Meaning.Laws.{LoopSplits, MacroIsItsBody, CallGivesBack, ShiftIsInOrder, SignalKeepsCharacter, CyclesFollow, FlatTreeAgrees};
+ghost use Rattle.stil_ast.specs.Faults.CheckedLaws.{CheckedIsSteady, CheckedTreeAgrees, TreesAgree};
+ghost use Rattle.stil_ast.specs.Meaning.Laws.{LoopSplits, MacroIsItsBody, CallGivesBack, ShiftIsInOrder, SignalKeepsCharacter, CyclesFollow, FlatTreeAgrees, LineageFollows};
 
 /// A Loop of m + n runs is a Loop of m and then one of n.
 pub fn loop_splits()
@@ -32,7 +33,28 @@ pub fn cycles_follow()
     ensures { CyclesFollow }
 {}
 
-/// The flat tree of a pattern has the pattern's run, where no `#` and no Shift stands in a Loop.
+/// The flat tree of a pattern has the pattern's run, where no `#` and no Shift stands in a Loop of it or of a body that
+/// runs in it.
 pub fn flat_tree_agrees()
     ensures { FlatTreeAgrees }
+{}
+
+/// A table that leads into no cycle is made of the tables that it inherits, each behind its own, and then of itself.
+pub fn lineage_follows()
+    ensures { LineageFollows }
+{}
+
+/// In a pattern that is checked without a fault no `#` and no Shift stands in a Loop, nor in the bodies that run in it.
+pub fn checked_is_steady()
+    ensures { CheckedIsSteady }
+{}
+
+/// The flat tree of a pattern that is checked without a fault has the pattern's run.
+pub fn checked_tree_agrees()
+    ensures { CheckedTreeAgrees }
+{}
+
+/// The flat trees of an executive whose patterns are checked without a fault have its run, one after another.
+pub fn trees_agree()
+    ensures { TreesAgree }
 {}

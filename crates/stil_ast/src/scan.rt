@@ -17,14 +17,27 @@ pub struct CellsDecl {
     pub line: u32,
 }
 
+/// A statement of a chain.
+#[derive(Debug, Drop)]
+pub enum ChainStmt {
+    /// `ScanLength n;`, in cells.
+    Length(u32),
+    /// `ScanIn name;`: the signal at the first cell.
+    In(Named),
+    /// `ScanOut name;`: the signal at the last cell.
+    Out(Named),
+    /// `ScanCells cell cell ..;`.
+    Cells(CellsDecl),
+}
+
+/// Such statements in text order, each kind at most once.
+pub type ChainStmtList = Items<ChainStmt>;
+
 /// `ScanChain name { .. }`.
 #[derive(Debug, Drop)]
 pub struct ChainDecl {
     pub name: Text,
-    pub length: Option<u32>,
-    pub scan_in: Option<Named>,
-    pub scan_out: Option<Named>,
-    pub cells: Option<CellsDecl>,
+    pub stmts: ChainStmtList,
     /// The statement's line, from 1.
     pub line: u32,
 }

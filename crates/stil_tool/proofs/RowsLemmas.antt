@@ -1,12 +1,11 @@
 -- The rows that are printed one after another are the lines of the dated cycles: `rows-are-cycles`.
 use Rattle.std.proofs.Common.{◌≡◌, ℕ, zero, suc, ◌+◌, ◌*◌, List, [], ◌∷◌, ◌++◌, length, map, replicate, None, Some, sym, refl, ap, ◌∙◌, arith}
 use Rattle.std.specs.List.{flat_map}
-use Rattle.stil_ast.specs.Meaning.State.{State}
+use Rattle.stil_ast.specs.Meaning.State.{State, Vector}
 use Rattle.stil_ast.specs.Meaning.Running.{outside}
-use Rattle.stil_ast.specs.Meaning.Run.{Run, run, assigned}
-use Rattle.stil_ast.proofs.ThinLaws.{run-vector}
 use Rattle.thin_stil.specs.declared.thin.ThinText.{ThinText}
-use Rattle.thin_stil.specs.Thin.{vectors_of, assigns_of, cycles_of}
+use Rattle.thin_stil.specs.Thin.{vectors_of, assigns_of, vectors_from, cycles_of}
+use Rattle.thin_stil.proofs.RunLaws.{assigned, vectors_from-vector}
 use Rattle.stil_tool.specs.CyclesText.{cycle_line, shown}
 use Rattle.thin_stil.proofs.CycleLemmas.{dated_from, row-after, cycles-are-dated, vectors_in}
 use Rattle.stil_tool.specs.Rows.{row_line, rows_text}
@@ -14,7 +13,7 @@ use Rattle.stil_tool.specs.Rows.{row_line, rows_text}
 -- the lines of vectors by rows are those of their dated cycles
 rows-from : (text : ThinText) (number : ℕ) (s : State) (vs : List (List (ℕ × ℕ))) →
     rows_text text number (map shown s.letters) vs
-    ≡ flat_map (cycle_line text.table.name) (dated_from text.table.period number (number * text.table.period) (run (vectors_of vs) s).vectors)
+    ≡ flat_map (cycle_line text.table.name) (dated_from text.table.period number (number * text.table.period) (vectors_from (vectors_of vs) s))
 rows-from text number s [] = refl
 rows-from text number s (given ∷ rest) =
     let next : State = assigned (assigns_of given) s in
@@ -24,9 +23,9 @@ rows-from text number s (given ∷ rest) =
     ∙ ap (λ tail. row_line number (number * text.table.period) text.table.name (map shown next.letters) ++ tail)
     (rows-from text (number + 1) next rest
     ∙ ap (λ start. flat_map (cycle_line text.table.name)
-    (dated_from text.table.period (number + 1) start (run (vectors_of rest) next).vectors)) later)
-    ∙ ap (λ (r : Run). flat_map (cycle_line text.table.name) (dated_from text.table.period number (number * text.table.period) r.vectors))
-    (sym (run-vector (assigns_of given) (vectors_of rest) s))
+    (dated_from text.table.period (number + 1) start (vectors_from (vectors_of rest) next))) later)
+    ∙ ap (λ (all : List Vector). flat_map (cycle_line text.table.name) (dated_from text.table.period number (number * text.table.period) all))
+    (sym (vectors_from-vector (assigns_of given) (vectors_of rest) s))
 
 shown-none : (n : ℕ) → replicate n 45 ≡ map shown (replicate n None)
 shown-none zero = refl

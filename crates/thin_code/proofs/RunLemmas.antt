@@ -14,9 +14,8 @@ use Rattle.page_meaning.proofs.CountLemmas.{cycle_count-length}
 use Rattle.stil_ast.specs.Meaning.State.{State, Vector}
 use Rattle.stil_ast.specs.Meaning.Dealing.{deal, received, with_letter}
 use Rattle.stil_ast.specs.Meaning.Running.{outside}
-use Rattle.stil_ast.specs.Meaning.Run as runs
-use Rattle.stil_ast.proofs.ThinLaws.{run-vector}
-use Rattle.thin_stil.specs.Thin.{vectors_of, assigns_of}
+use Rattle.thin_stil.specs.Thin.{vectors_of, assigns_of, vectors_from}
+use Rattle.thin_stil.proofs.RunLaws.{assigned, vectors_from-vector}
 use Rattle.thin_stil.proofs.CycleLemmas.{dated_from, IsPlain}
 use Rattle.page_code.specs.Conditions.{IsInstr, waves_of, letters_of, has_waves}
 use Rattle.page_code.specs.Cycles.{timed, period_of}
@@ -167,12 +166,12 @@ AreClear v = AllByRecursion IsClear v.letters
 -- those of each vector are
 pub all_clear : (s : State) (vs : List (List (ℕ × ℕ))) → AllByRecursion (AllByRecursion IsUsed) vs
     → AllByRecursion IsClear s.letters
-    → AllByRecursion AreClear (runs.run (vectors_of vs) s).vectors
+    → AllByRecursion AreClear (vectors_from (vectors_of vs) s)
 all_clear s [] all clear = tt
 all_clear s (given ∷ rest) all clear =
-    let next : State = runs.assigned (assigns_of given) s in
+    let next : State = assigned (assigns_of given) s in
     let here : AllByRecursion IsClear next.letters = assigned_clear given (outside s).held s all.0 clear in
-    subst (λ (r : runs.Run). AllByRecursion AreClear r.vectors) (sym (run-vector (assigns_of given) (vectors_of rest) s))
+    subst (λ (all : List Vector). AllByRecursion AreClear all) (sym (vectors_from-vector (assigns_of given) (vectors_of rest) s))
     (here, all_clear next rest all.1 here)
 
 -- none is read back as none

@@ -7,11 +7,10 @@ use Rattle.std.proofs.Math.Seq.{take-append_seam}
 use Rattle.stil_ast.specs.Meaning.State.{State, Vector}
 use Rattle.stil_ast.specs.Meaning.Dealing.{deal, received, with_letter}
 use Rattle.stil_ast.specs.Meaning.Running.{outside}
-use Rattle.stil_ast.specs.Meaning.Run.{Run, run, assigned}
-use Rattle.stil_ast.proofs.ThinLaws.{run-vector}
 use Rattle.stil_ast.specs.Meaning.Cycles.{Dated, starts_at}
 use Rattle.thin_stil.specs.declared.thin.ThinText.{ThinText}
-use Rattle.thin_stil.specs.Thin.{vectors_of, assigns_of, cycles_of}
+use Rattle.thin_stil.specs.Thin.{vectors_of, assigns_of, vectors_from, cycles_of}
+use Rattle.thin_stil.proofs.RunLaws.{assigned, vectors_from-vector}
 use Rattle.thin_stil.specs.Rows.{row_after, rows_from}
 
 -- dated cycles by recursion: from a number and a start on
@@ -60,7 +59,7 @@ row-after show is (g ∷ rest) held s =
 
 -- the vectors of a thin text
 abbrev pub vectors_in : ThinText → List Vector
-vectors_in text = (run (vectors_of text.vectors) (record { table = Some 0; letters = replicate (length text.signals) None })).vectors
+vectors_in text = vectors_from (vectors_of text.vectors) (record { table = Some 0; letters = replicate (length text.signals) None })
 
 -- the dated cycles of a thin text are its vectors, one period after another
 pub cycles-are-dated : (text : ThinText) → cycles_of text ≡ dated_from text.table.period 0 0 (vectors_in text)
@@ -68,13 +67,13 @@ cycles-are-dated text = behind-is text.table.period [] (vectors_in text)
 
 -- the rows show the letters of the vectors
 pub rows-show : (show : Option ℕ → ℕ) → ((c : ℕ) → show (Some c) ≡ c) → (s : State) (vs : List (List (ℕ × ℕ))) →
-    rows_from (map show s.letters) vs ≡ map (λ v. map show v.letters) (run (vectors_of vs) s).vectors
+    rows_from (map show s.letters) vs ≡ map (λ v. map show v.letters) (vectors_from (vectors_of vs) s)
 rows-show show is s [] = refl
 rows-show show is s (given ∷ rest) =
     let next : State = assigned (assigns_of given) s in
     ap (λ row. row ∷ rows_from row rest) (row-after show is given (outside s).held s)
     ∙ ap (λ rows. map show next.letters ∷ rows) (rows-show show is next rest)
-    ∙ ap (λ (r : Run). map (λ (v : Vector). map show v.letters) r.vectors) (sym (run-vector (assigns_of given) (vectors_of rest) s))
+    ∙ ap (λ (all : List Vector). map (λ (v : Vector). map show v.letters) all) (sym (vectors_from-vector (assigns_of given) (vectors_of rest) s))
 
 -- a vector of this table without a mark
 pub record IsPlain (wanted : Option ℕ) (v : Vector) : Type 0 where
@@ -87,12 +86,12 @@ assigned-table [] held s = refl
 assigned-table (g ∷ rest) held s = assigned-table rest held (with_letter g.0 (Some g.1) s)
 
 -- each vector has the table of the state, and no mark
-pub all-plain : (s : State) (vs : List (List (ℕ × ℕ))) → AllByRecursion (IsPlain s.table) (run (vectors_of vs) s).vectors
+pub all-plain : (s : State) (vs : List (List (ℕ × ℕ))) → AllByRecursion (IsPlain s.table) (vectors_from (vectors_of vs) s)
 all-plain s [] = tt
 all-plain s (given ∷ rest) =
     let next : State = assigned (assigns_of given) s in
     let same : next.table ≡ s.table = assigned-table given (outside s).held s in
-    subst (λ (r : Run). AllByRecursion (IsPlain s.table) r.vectors) (sym (run-vector (assigns_of given) (vectors_of rest) s)) (
+    subst (λ (all : List Vector). AllByRecursion (IsPlain s.table) all) (sym (vectors_from-vector (assigns_of given) (vectors_of rest) s)) (
       record { table = same; mark = refl },
-      subst (λ (t : Option ℕ). AllByRecursion (IsPlain t) (run (vectors_of rest) next).vectors) same (all-plain next rest),
+      subst (λ (t : Option ℕ). AllByRecursion (IsPlain t) (vectors_from (vectors_of rest) next)) same (all-plain next rest),
     )

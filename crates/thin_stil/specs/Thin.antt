@@ -1,8 +1,8 @@
 -- The thin profile of STIL: one table, one pattern of vectors, one executive.
-use Rattle.std.specs.Prelude.{◌≡◌, ℕ, List, [], ◌∷◌, length, Ok}
+use Rattle.std.specs.Prelude.{◌≡◌, ℕ, List, [], ◌∷◌, length, map, Ok}
 use Rattle.stil_ast.specs.Meaning.Statements.{letter, Assign, Statements, finish, wave, vector}
-use Rattle.stil_ast.specs.Meaning.State.{start_of}
-use Rattle.stil_ast.specs.Meaning.Run.{run}
+use Rattle.stil_ast.specs.Meaning.State.{State, Vector, start_of}
+use Rattle.stil_ast.specs.Meaning.Running.{Setting, Made, run, outside}
 use Rattle.stil_ast.specs.Meaning.Cycles.{Dated, dated}
 use Rattle.stil_lex.specs.declared.token.Token.{Token}
 use Rattle.stil_lex.specs.Tokens.{Reads}
@@ -30,9 +30,17 @@ vectors_of (given ∷ rest) = vector (assigns_of given) (vectors_of rest)
 abbrev pub pattern_of : List (List (ℕ × ℕ)) → Statements
 pattern_of given = wave 0 (vectors_of given)
 
+-- a thin pattern calls nothing
+abbrev pub no_bodies : Setting
+no_bodies = record { outs = []; scan_outs = []; macros = []; procedures = [] }
+
+-- the vectors that statements without calls make of a state
+abbrev pub vectors_from : Statements → State → List Vector
+vectors_from statements s = map (λ (m : Made). m.vector) (run no_bodies statements (outside s)).made
+
 -- the dated cycles of the one executive
 abbrev pub cycles_of : ThinText → List Dated
-cycles_of text = dated (λ v. text.table.period) (run (pattern_of text.vectors) (start_of (length text.signals))).vectors
+cycles_of text = dated (λ v. text.table.period) (vectors_from (pattern_of text.vectors) (start_of (length text.signals)))
 
 -- the bytes are those of this thin text: its tokens are joined into statements, and these have the thin forms
 pub record IsThin (bytes : List ℕ) (thin : ThinText) : Type 0 where

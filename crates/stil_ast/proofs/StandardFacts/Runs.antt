@@ -4,12 +4,12 @@ use Rattle.stil_ast.specs.Meaning.State.{Vector, start_of}
 use Rattle.stil_ast.specs.Meaning.Statements.{Item, letter, hash, percent, Assign, Statements, finish, wave, vector, condition, loop, expand, call, shift, stop}
 use Rattle.stil_ast.specs.Meaning.Flat.{measure}
 use Rattle.stil_ast.specs.Meaning.Flattening.{flat_calls, flat_of}
-use Rattle.stil_ast.specs.Meaning.Running.{Setting, Made, run_all, calls, outside}
+use Rattle.stil_ast.specs.Meaning.Running.{Setting, Made, run, calls, outside}
 
 -- the vectors of statements over so many signals, from the start
 abbrev vectors : Setting → ℕ → Statements → List Vector
 vectors t signals statements =
-    map (λ (m : Made). m.vector) (run_all t statements (outside (start_of signals))).made
+    map (λ (m : Made). m.vector) (run t statements (outside (start_of signals))).made
 
 -- characters as items and as letters
 abbrev items : List ℕ → List Item

@@ -1,14 +1,14 @@
 -- How far the statements of an executive are checked, and the rules on assignments (IEEE 1450-1999, clauses 21 to 24).
-use Rattle.std.specs.Prelude.{ℕ, ◌+◌, ◌%◌, ◌^◌, ◌==◌, ◌&&◌, ◌||◌, Bool, true, false, not, List, [], ◌∷◌, ◌++◌, Option, Some, None, length, is_some, nat_le, if◌then◌else◌}
-use Rattle.std.specs.List.{list_any}
-use Rattle.stil_ast.specs.Meaning.Statements.{Item, Assign, Place}
+use Rattle.std.specs.Prelude.{ℕ, ◌+◌, ◌%◌, ◌^◌, ◌==◌, ◌&&◌, ◌||◌, Bool, true, false, List, [], ◌∷◌, ◌++◌, Option, Some, None, length, is_some, nat_le, if◌then◌else◌}
+use Rattle.std.specs.List.{list_all, list_any}
+use Rattle.stil_ast.specs.Meaning.Statements.{Item, Assign, Body}
 use Rattle.stil_ast.specs.Meaning.Arguments.{Argument, next_entry}
 use Rattle.stil_ast.specs.Meaning.Dealing.{deal, spread, takers, has_signal, is_hash, is_character}
-use Rattle.stil_ast.specs.Faults.Found.{fault_at, on_line}
-use Rattle.stil_ast.specs.Meaning.Signals.{Names}
+use Rattle.stil_ast.specs.Faults.Found.{fault_in}
 use Rattle.stil_ast.specs.Meaning.Members.{reference_kind}
-use Rattle.stil_ast.specs.Meaning.Resolved.{resolved_assign}
+use Rattle.stil_ast.specs.Meaning.Resolved.{Scope, origin, resolved_assign}
 use Rattle.stil_ast.specs.declared.body.Assignment.{Assignment}
+use Rattle.stil_ast.specs.declared.blocks.BodyDef.{BodyDef}
 use Rattle.stil_ast.specs.declared.fault.StilFault.{StilFault}
 use Rattle.stil_ast.specs.declared.fault.StilKind.{StilKind}
 use Rattle.stil_ast.specs.declared.fault.StilKind.TheVariants.{TooLarge, ShiftForm, Width, NoData}
@@ -35,28 +35,41 @@ abbrev pub rule : Bool → StilFault → (Walked → Checked) → Walked → Che
 rule true fault next w = next w
 rule false fault next w = refused fault
 
--- the same for a fault that may be there
-abbrev pub rule_kind : Option StilKind → Place → (Walked → Checked) → Walked → Checked
-rule_kind None p next w = next w
-rule_kind (Some kind) p next w = refused (fault_at p kind)
+-- the same where a test must fail
+abbrev pub bar_if : Bool → StilFault → (Walked → Checked) → Walked → Checked
+bar_if true fault next w = refused fault
+bar_if false fault next w = next w
 
--- where a statement stands: its top-level statement; whether in a macro's or procedure's body, in a Loop of the same
--- body, in a Shift, and there without a pass; how many loops and calls are round it, and the bodies inside which it
--- runs (a macro's with true, a procedure's with false)
+-- the same for a fault that may be there
+abbrev pub rule_kind : Option StilKind → (StilKind → StilFault) → (Walked → Checked) → Walked → Checked
+rule_kind None fault next w = next w
+rule_kind (Some kind) fault next w = refused (fault kind)
+
+-- what a Macro or Call names: a macro or a procedure, its number, and its body where there is one
+pub record Callee : Type 0 where
+  pub kind : Body
+  pub number : ℕ
+  pub found : Option BodyDef
+
+-- where a statement stands: in a body of which kind; whether in a Loop of this body, in a Shift, and there without a
+-- pass; how many loops and calls are round it, and the bodies inside which it runs
 pub record Standing : Type 0 where
-  pub place : Place
-  pub in_body : Bool
+  pub body : Body
   pub in_loop : Bool
   pub in_shift : Bool
   pub without_pass : Bool
   pub loops : ℕ
   pub calls : ℕ
-  pub running : List (Bool × ℕ)
+  pub running : List Callee
 
--- A `#` doesn't stand in a Loop of the same body, and at most once for a signal in a Shift.
-abbrev pub hashes_fit : Standing → Assign → List ℕ → Bool
-hashes_fit s a before =
-    not (s.in_loop && list_any is_hash a.items) && not (s.in_shift && list_any (has_signal before) (takers (a ∷ [])))
+-- a fault on a line of the body
+abbrev pub fault_on : Scope → Standing → ℕ → StilKind → StilFault
+fault_on scope s line kind = fault_in scope.titles (origin s.body line) kind
+
+-- a `#` in a Loop of the same body, or one for a signal that has one in this Shift
+abbrev pub hash_misplaced : Standing → Assign → List ℕ → Bool
+hash_misplaced s a before =
+    (s.in_loop && list_any is_hash a.items) || (s.in_shift && list_any (has_signal before) (takers (a ∷ [])))
 
 -- as many items as signals, or one `#` or `%` for all
 abbrev pub width_fits : Assign → Bool
@@ -77,46 +90,54 @@ data_there s a args = s.without_pass || all_there a.signals (spread a.signals a.
 abbrev pub may_walk : ℕ → Bool
 may_walk count = nat_le count (2 ^ 26)
 
+-- the signals that got a `#` are kept inside a Shift alone
+abbrev pub hashes_after : Standing → Assign → List ℕ → List ℕ
+hashes_after s a before = if s.in_shift then before ++ takers (a ∷ []) else before
+
 -- how far an assignment brings the check
-abbrev pub walked_assign : Assign → Walked → Walked
-walked_assign a w = record {
+abbrev pub walked_assign : Standing → Assign → Walked → Walked
+walked_assign s a w = record {
   args = (deal (a ∷ []) w.args).args;
-  hashes = w.hashes ++ takers (a ∷ []);
+  hashes = hashes_after s a w.hashes;
   count = w.count + length a.signals;
 }
 
 -- an assignment of V or C: its reference, the limit, the form of `#`, the width, the data
-abbrev pub check_assign : Names → Standing → Assignment → Walked → Checked
-check_assign names s d w =
-    rule_kind (reference_kind names d.reference) (on_line s.place d.line)
-    (rule (may_walk (w.count + length (resolved_assign names d).signals)) (fault_at (on_line s.place d.line) TooLarge)
-    (rule (hashes_fit s (resolved_assign names d) w.hashes) (fault_at (on_line s.place d.line) ShiftForm)
-    (rule (width_fits (resolved_assign names d)) (fault_at (on_line s.place d.line) Width)
-    (rule (data_there s (resolved_assign names d) w.args) (fault_at (on_line s.place d.line) NoData)
-    (λ w. fine (walked_assign (resolved_assign names d) w)))))) w
+abbrev pub check_assign : Scope → Standing → Assignment → Walked → Checked
+check_assign scope s d w =
+    rule_kind (reference_kind scope.names d.reference) (fault_on scope s d.line)
+    (rule (may_walk (w.count + length (resolved_assign scope.names d).signals)) (fault_on scope s d.line TooLarge)
+    (bar_if (hash_misplaced s (resolved_assign scope.names d) w.hashes) (fault_on scope s d.line ShiftForm)
+    (rule (width_fits (resolved_assign scope.names d)) (fault_on scope s d.line Width)
+    (rule (data_there s (resolved_assign scope.names d) w.args) (fault_on scope s d.line NoData)
+    (λ w. fine (walked_assign s (resolved_assign scope.names d) w)))))) w
 
 -- assignments in text order
-abbrev pub check_assigns : Names → Standing → List Assignment → Walked → Checked
-check_assigns names s [] w = fine w
-check_assigns names s (d ∷ assigns) w =
-    then_check (check_assign names s d w) (check_assigns names s assigns)
+abbrev pub check_assigns : Scope → Standing → List Assignment → Walked → Checked
+check_assigns scope s [] w = fine w
+check_assigns scope s (d ∷ assigns) w =
+    then_check (check_assign scope s d w) (check_assigns scope s assigns)
 
 -- an argument has a whole number of characters for each signal
 abbrev pub argument_fits : Assign → Bool
 argument_fits a =
     if length a.signals == 0 then length a.items == 0 else length a.items % length a.signals == 0
 
+-- how far an argument brings the check
+abbrev pub walked_argument : Assign → Walked → Walked
+walked_argument a w = record { args = w.args; hashes = w.hashes; count = w.count + length a.signals }
+
 -- an argument: its reference, the limit, that it has neither `#` nor `%`, the width
-abbrev pub check_argument : Names → Standing → Assignment → Walked → Checked
-check_argument names s d w =
-    rule_kind (reference_kind names d.reference) (on_line s.place d.line)
-    (rule (may_walk (w.count + length (resolved_assign names d).signals)) (fault_at (on_line s.place d.line) TooLarge)
-    (rule (not (list_any (λ item. not (is_character item)) d.items)) (fault_at (on_line s.place d.line) ShiftForm)
-    (rule (argument_fits (resolved_assign names d)) (fault_at (on_line s.place d.line) Width)
-    (λ w. fine (record { args = w.args; hashes = w.hashes; count = w.count + length (resolved_assign names d).signals }))))) w
+abbrev pub check_argument : Scope → Standing → Assignment → Walked → Checked
+check_argument scope s d w =
+    rule_kind (reference_kind scope.names d.reference) (fault_on scope s d.line)
+    (rule (may_walk (w.count + length (resolved_assign scope.names d).signals)) (fault_on scope s d.line TooLarge)
+    (rule (list_all is_character d.items) (fault_on scope s d.line ShiftForm)
+    (rule (argument_fits (resolved_assign scope.names d)) (fault_on scope s d.line Width)
+    (λ w. fine (walked_argument (resolved_assign scope.names d) w))))) w
 
 -- arguments in text order
-abbrev pub check_arguments : Names → Standing → List Assignment → Walked → Checked
-check_arguments names s [] w = fine w
-check_arguments names s (d ∷ assigns) w =
-    then_check (check_argument names s d w) (check_arguments names s assigns)
+abbrev pub check_arguments : Scope → Standing → List Assignment → Walked → Checked
+check_arguments scope s [] w = fine w
+check_arguments scope s (d ∷ assigns) w =
+    then_check (check_argument scope s d w) (check_arguments scope s assigns)

@@ -1,77 +1,66 @@
 -- The first fault of executives as they are compiled: the measure, the number of cycles, vectors, rows.
-use Rattle.std.specs.Prelude.{ℕ, ◌+◌, ◌*◌, ◌^◌, ◌==◌, ◌&&◌, Bool, true, false, List, [], ◌∷◌, ◌++◌, Option, Some, None, length, nat_le, sum_by, is_some, if◌then◌else◌}
+use Rattle.std.specs.Prelude.{ℕ, ◌+◌, ◌*◌, ◌^◌, ◌==◌, ◌&&◌, Bool, true, false, List, [], ◌∷◌, ◌++◌, Option, Some, None, length, nat_le, slice_get, sum_by}
 use Rattle.std.specs.List.{list_any}
-use Rattle.std.specs.Cmp.Lexicographic.{pointwise}
+use Rattle.stil_ast.specs.Meaning.State.{State, start_of}
+use Rattle.stil_ast.specs.Meaning.Statements.{Titles}
 use Rattle.stil_ast.specs.Meaning.Running.{Made}
-use Rattle.stil_ast.specs.Meaning.Flat.{measure}
-use Rattle.stil_ast.specs.Faults.Found.{fault_at, unless, or_else, first_in}
-use Rattle.stil_ast.specs.Meaning.Signals.{Names, names_of}
-use Rattle.stil_ast.specs.Meaning.Tables.{waveforms, waveform_of}
+use Rattle.stil_ast.specs.Faults.Found.{fault_at, fault_in, unless, or_else, first_in}
+use Rattle.stil_ast.specs.Meaning.Signals.{names_of}
+use Rattle.stil_ast.specs.Meaning.Times.{Times}
 use Rattle.stil_ast.specs.Faults.BurstFaults.{exec_place}
-use Rattle.stil_ast.specs.Meaning.Executive.{exec_tables, exec_run, exec_flats}
-use Rattle.stil_ast.specs.declared.timing.TableDecl.{TableDecl}
-use Rattle.stil_ast.specs.declared.executive.ExecDecl.{ExecDecl}
+use Rattle.stil_ast.specs.Meaning.ExecutiveData.{Tree, Executive, tree_run, vectors_of, measure_of, rows_of}
+use Rattle.stil_ast.specs.Meaning.Executive.{executives_of}
 use Rattle.stil_ast.specs.declared.blocks.Blocks.{Blocks}
 use Rattle.stil_ast.specs.declared.fault.StilFault.{StilFault}
 use Rattle.stil_ast.specs.declared.fault.StilKind.TheVariants.{NoTable, NoWave, TooLarge, TooManyCycles}
+use Rattle.tester_types.specs.declared.wave.Wave.{Wave}
+use Rattle.tester_types.specs.declared.wave.Table.{Table}
 
--- the measure of an executive
-abbrev pub exec_measure : Blocks → ExecDecl → ℕ
-exec_measure blocks e = sum_by measure (exec_flats blocks e)
+-- whether a table defines a signal's character
+abbrev pub is_defined : Option Table → ℕ → ℕ → Bool
+is_defined None signal letter = false
+is_defined (Some t) signal letter = list_any (λ (w : Wave). w.signal == signal && w.letter == letter) t.waves
 
--- whether each signal's character, if it has one, has a waveform; `defined` says so for a signal and a character
-abbrev pub has_wave : (ℕ → ℕ → Bool) → ℕ → Option ℕ → Bool
-has_wave defined signal None = true
-has_wave defined signal (Some c) = defined signal c
+-- whether a table defines a signal's character, if it has one
+abbrev pub has_wave : Option Table → ℕ → Option ℕ → Bool
+has_wave table signal None = true
+has_wave table signal (Some c) = is_defined table signal c
 
 -- the same for the signals from this number on
-abbrev pub have_waves : (ℕ → ℕ → Bool) → ℕ → List (Option ℕ) → Bool
-have_waves defined signal [] = true
-have_waves defined signal (c ∷ letters) =
-    has_wave defined signal c && have_waves defined (signal + 1) letters
-
--- whether a table has a waveform for a signal and a character
-abbrev pub is_defined : Names → List TableDecl → ℕ → ℕ → ℕ → Bool
-is_defined names tables table signal letter =
-    is_some (waveform_of (waveforms names tables table) signal letter)
+abbrev pub have_waves : Option Table → ℕ → List (Option ℕ) → Bool
+have_waves table signal [] = true
+have_waves table signal (c ∷ letters) = has_wave table signal c && have_waves table (signal + 1) letters
 
 -- a vector without a table, or with a character that its table doesn't define
-abbrev pub made_fault : Names → List TableDecl → Made → Option ℕ → Option StilFault
-made_fault names tables m None = Some (fault_at m.place NoTable)
-made_fault names tables m (Some table) =
-    unless (have_waves (is_defined names tables table) 0 m.vector.letters) (fault_at m.place NoWave) None
+abbrev pub made_fault : List Table → Titles → Made → Option ℕ → Option StilFault
+made_fault tables titles m None = Some (fault_in titles m.place NoTable)
+made_fault tables titles m (Some table) =
+    unless (have_waves (slice_get tables table) 0 m.vector.letters) (fault_in titles m.place NoWave) None
 
 -- the fault of a vector
-abbrev pub vector_fault : Names → List TableDecl → Made → Option StilFault
-vector_fault names tables m = made_fault names tables m m.vector.table
+abbrev pub vector_fault : List Table → Titles → Made → Option StilFault
+vector_fault tables titles m = made_fault tables titles m m.vector.table
 
--- whether two characters are equal
-abbrev pub same_letter : Option ℕ → Option ℕ → Bool
-same_letter None None = true
-same_letter (Some c) (Some d) = c == d
-same_letter _ _ = false
+-- the first faulty vector of flat trees one after another
+abbrev pub trees_fault : List Table → List Tree → State → Option StilFault
+trees_fault tables [] s = None
+trees_fault tables (t ∷ trees) s =
+    or_else (first_in (vector_fault tables t.titles) (tree_run t s).made) (trees_fault tables trees (tree_run t s).here)
 
--- the distinct lists of characters, in the order of their first vectors
-abbrev pub rows_behind : List (List (Option ℕ)) → List Made → List (List (Option ℕ))
-rows_behind rows [] = rows
-rows_behind rows (m ∷ made) =
-    rows_behind (if list_any (pointwise same_letter m.vector.letters) rows then rows else rows ++ m.vector.letters ∷ []) made
+-- one executive over so many signals, behind others
+abbrev pub compile_fault : ℕ → List Executive → Executive → Option StilFault
+compile_fault signals before e =
+    unless (nat_le (sum_by measure_of (before ++ (e ∷ []))) (2 ^ 22)) (fault_at (exec_place e.name e.line) TooLarge)
+    (unless (nat_le (length (vectors_of signals e)) (2 ^ 48)) (fault_at (exec_place e.name e.line) TooManyCycles)
+    (or_else (trees_fault e.tables e.trees (start_of signals))
+    (unless (nat_le (length (rows_of signals (before ++ (e ∷ []))) * signals) (2 ^ 28)) (fault_at (exec_place e.name e.line) TooLarge) None)))
 
--- one executive, behind others of this measure and with these rows
-abbrev pub compile_fault : Blocks → ExecDecl → ℕ → List (List (Option ℕ)) → Option StilFault
-compile_fault blocks e before rows =
-    unless (nat_le (before + exec_measure blocks e) (2 ^ 22)) (fault_at (exec_place e e.line) TooLarge)
-    (unless (nat_le (length (exec_run blocks e).made) (2 ^ 48)) (fault_at (exec_place e e.line) TooManyCycles)
-    (or_else (first_in (vector_fault (names_of blocks) (exec_tables blocks e)) (exec_run blocks e).made)
-    (unless (nat_le (length (rows_behind rows (exec_run blocks e).made) * length (names_of blocks).signals) (2 ^ 28)) (fault_at (exec_place e e.line) TooLarge) None)))
-
--- executives in text order
-abbrev pub compile_faults : Blocks → List ExecDecl → ℕ → List (List (Option ℕ)) → Option StilFault
-compile_faults blocks [] before rows = None
-compile_faults blocks (e ∷ rest) before rows =
-    or_else (compile_fault blocks e before rows)
-    (compile_faults blocks rest (before + exec_measure blocks e) (rows_behind rows (exec_run blocks e).made))
+-- executives in order, behind others
+abbrev pub compile_faults : ℕ → List Executive → List Executive → Option StilFault
+compile_faults signals before [] = None
+compile_faults signals before (e ∷ rest) =
+    or_else (compile_fault signals before e) (compile_faults signals (before ++ (e ∷ [])) rest)
 
 -- the first fault of the sixth pass
-abbrev pub sixth_fault : Blocks → Option StilFault
-sixth_fault blocks = compile_faults blocks blocks.executives 0 []
+abbrev pub sixth_fault : {V : Type 0} → Times V → Blocks → Option StilFault
+sixth_fault times blocks = compile_faults (length (names_of blocks).signals) [] (executives_of times blocks)

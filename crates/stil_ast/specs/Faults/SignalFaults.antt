@@ -1,8 +1,8 @@
 -- The first fault of signals and groups (IEEE 1450-1999, clauses 14 and 15).
-use Rattle.std.specs.Prelude.{ℕ, zero, suc, Bool, false, not, ◌||◌, List, [], ◌∷◌, ◌++◌, Option, Some, None, length, nat_le, nat_lt, filter_map}
+use Rattle.std.specs.Prelude.{ℕ, zero, suc, Bool, false, ◌||◌, List, [], ◌∷◌, ◌++◌, Option, Some, None, length, nat_le, nat_lt, filter_map}
 use Rattle.std.specs.List.{list_any}
 use Rattle.stil_ast.specs.Data.Texts.{same}
-use Rattle.stil_ast.specs.Faults.Found.{fault_at, unless, or_else, first_in}
+use Rattle.stil_ast.specs.Faults.Found.{fault_at, unless, refuse_if, or_else, first_in}
 use Rattle.stil_ast.specs.Meaning.Signals.{Signal, Group, Names, names_of}
 use Rattle.stil_ast.specs.Meaning.GroupText.{Term, terms_of}
 use Rattle.stil_ast.specs.Meaning.Members.{signal_of, group_of, text_kind}
@@ -17,7 +17,7 @@ use Rattle.stil_ast.specs.declared.fault.StilKind.TheVariants.{Twice, OutOfRange
 abbrev pub signals_fault : List Signal → List Signal → Option StilFault
 signals_fault before [] = None
 signals_fault before (s ∷ signals) =
-    unless (not (list_any (λ b. same b.text s.text) before)) (fault_at s.place Twice)
+    refuse_if (list_any (λ b. same b.text s.text) before) (fault_at s.place Twice)
     (unless (nat_le (length s.text) 1024) (fault_at s.place OutOfRange)
     (unless (nat_lt (length before) 1024) (fault_at s.place OutOfRange)
     (signals_fault (before ++ s ∷ []) signals)))
@@ -26,7 +26,7 @@ signals_fault before (s ∷ signals) =
 abbrev pub groups_fault : List Group → List Group → Option StilFault
 groups_fault before [] = None
 groups_fault before (g ∷ groups) =
-    unless (not (list_any (λ b. same b.name g.name) before)) (fault_at g.place Twice)
+    refuse_if (list_any (λ b. same b.name g.name) before) (fault_at g.place Twice)
     (unless (nat_lt (length before) 4096) (fault_at g.place OutOfRange)
     (groups_fault (before ++ g ∷ []) groups))
 
@@ -59,7 +59,7 @@ kind_fault p (Some kind) = Some (fault_at p kind)
 abbrev pub group_fault : Names → Group → Option StilFault
 group_fault names g =
     or_else (kind_fault g.text_place (text_kind names g.text))
-    (unless (not (needs names (length names.groups) g.text g.name)) (fault_at g.text_place Cyclic) None)
+    (refuse_if (needs names (length names.groups) g.text g.name) (fault_at g.text_place Cyclic) None)
 
 -- the first fault of the fourth pass: signals; groups; then the texts of groups
 abbrev pub names_fault : Names → Option StilFault

@@ -1,13 +1,14 @@
 -- The first fault of an executive's tables (IEEE 1450-1999, clause 18).
-use Rattle.std.specs.Prelude.{ℕ, zero, suc, ◌+◌, ◌^◌, ◌==◌, ◌&&◌, ◌||◌, Bool, false, not, ℤ, pos, int_le, int_lt, List, [], ◌∷◌, Option, Some, None, Result, Ok, Err, length, nat_le, slice_get, if◌then◌else◌}
+use Rattle.std.specs.Prelude.{ℕ, suc, ◌+◌, ◌^◌, ◌==◌, ◌&&◌, Bool, false, not, ℤ, pos, int_le, int_lt, List, [], ◌∷◌, Option, Some, None, Result, Ok, Err, length, nat_le, sum_by, if◌then◌else◌}
 use Rattle.std.specs.List.{list_any, enumerate_from}
 use Rattle.stil_ast.specs.Meaning.Statements.{Place}
-use Rattle.stil_ast.specs.Faults.Found.{fault_at, on_line, unless, or_else, first_in}
+use Rattle.stil_ast.specs.Data.Texts.{upwards}
+use Rattle.stil_ast.specs.Faults.Found.{fault_at, on_line, unless, refuse_if, or_else, first_in}
 use Rattle.stil_ast.specs.Meaning.Signals.{Names}
 use Rattle.stil_ast.specs.Meaning.Members.{reference_kind}
 use Rattle.stil_ast.specs.Faults.SignalFaults.{kind_fault}
 use Rattle.stil_ast.specs.Meaning.Times.{Met, Times, time_at}
-use Rattle.stil_ast.specs.Meaning.Tables.{table_of, Waveform, own_waveforms, waveforms, waveform_of, period_text, wave_count}
+use Rattle.stil_ast.specs.Meaning.Tables.{table_of, leads_into_cycle, Waveform, own_waveforms, waveforms, waveform_of, period_text, wave_count}
 use Rattle.stil_ast.specs.declared.name.Quoted.{Quoted}
 use Rattle.stil_ast.specs.declared.name.Named.{Named}
 use Rattle.stil_ast.specs.declared.name.SigRef.{SigRef}
@@ -28,31 +29,14 @@ pub record Timed (V : Type 0) : Type 0 where
   pub place : Place
   pub tables : List TableDecl
 
--- a test of a table that must be there
-abbrev pub is_table : Option ℕ → (ℕ → Bool) → Bool
-is_table None test = false
-is_table (Some table) test = test table
-
--- the tables that a table inherits
-abbrev pub inherits_of : Option TableDecl → List Named
-inherits_of None = []
-inherits_of (Some t) = t.inherits
-
--- whether the tables that a table inherits lead to a table, within so many steps
-abbrev pub leads : List TableDecl → ℕ → ℕ → ℕ → Bool
-leads tables zero from table = false
-leads tables (suc steps) from table =
-    list_any (λ (i : Named). is_table (table_of tables i.name) (λ k. k == table || leads tables steps k table)) (inherits_of (slice_get tables from))
-
--- a table that is inherited: unknown, or leading back
-abbrev pub inherit_found : Place → List TableDecl → ℕ → Option ℕ → Option StilFault
-inherit_found p tables table None = Some (fault_at p UnknownName)
-inherit_found p tables table (Some k) =
-    unless (not (k == table || leads tables (length tables) k table)) (fault_at p Cyclic) None
+-- a table that is inherited: unknown, or leading into a cycle, whether or not the heir is part of it
+abbrev pub inherit_found : Place → List TableDecl → Option ℕ → Option StilFault
+inherit_found p tables None = Some (fault_at p UnknownName)
+inherit_found p tables (Some k) = refuse_if (leads_into_cycle tables k) (fault_at p Cyclic) None
 
 -- an InheritWaveformTable statement
-abbrev pub inherit_fault : Place → List TableDecl → ℕ → Named → Option StilFault
-inherit_fault p tables table i = inherit_found (on_line p i.line) tables table (table_of tables i.name)
+abbrev pub inherit_fault : Place → List TableDecl → Named → Option StilFault
+inherit_fault p tables i = inherit_found (on_line p i.line) tables (table_of tables i.name)
 
 -- a fault, or what a time is judged by
 abbrev pub with_time : Result ℤ StilFault → (ℤ → Option StilFault) → Option StilFault
@@ -117,26 +101,20 @@ inherited_fault t period table =
     first_in (λ (other : ℕ × TableDecl). first_in (late_waveform t period table (waveforms t.names t.tables table)) (own_waveforms t.names other.0 other.1))
     (enumerate_from 0 t.tables)
 
--- how many waves a table has
-abbrev pub waves_in : {V : Type 0} → Timed V → ℕ → ℕ
-waves_in t table = wave_count (waveforms t.names t.tables table) (length t.names.signals)
+-- how many waves the first tables of an executive have, so many of them
+abbrev pub waves_of_first : Names → List TableDecl → ℕ → ℕ
+waves_of_first names tables count =
+    sum_by (λ table. wave_count (waveforms names tables table) (length names.signals)) (upwards 0 count)
 
--- a table, where so many waves come before it
-abbrev pub table_fault : {V : Type 0} → Timed V → ℕ → ℕ → TableDecl → Option StilFault
-table_fault t before table d =
-    or_else (first_in (inherit_fault t.place t.tables table) d.inherits)
-    (with_period t d.line (period_text t.tables table) (λ period.
-    or_else (first_in (signal_fault t period) d.waveforms)
-    (or_else (inherited_fault t period table)
-    (unless (nat_le (before + waves_in t table) (2 ^ 20)) (fault_at (on_line t.place d.line) TooLarge) None))))
+-- a table by its number, where the executives before have so many waves
+abbrev pub table_fault : {V : Type 0} → Timed V → ℕ → ℕ × TableDecl → Option StilFault
+table_fault t before d =
+    or_else (first_in (inherit_fault t.place t.tables) d.1.inherits)
+    (with_period t d.1.line (period_text t.tables d.0) (λ period.
+    or_else (first_in (signal_fault t period) d.1.waveforms)
+    (or_else (inherited_fault t period d.0)
+    (unless (nat_le (before + waves_of_first t.names t.tables (suc d.0)) (2 ^ 20)) (fault_at (on_line t.place d.1.line) TooLarge) None))))
 
--- the first fault of tables in text order
-abbrev pub tables_fault : {V : Type 0} → Timed V → ℕ → List (ℕ × TableDecl) → Option StilFault
-tables_fault t before [] = None
-tables_fault t before (d ∷ rest) =
-    or_else (table_fault t before d.0 d.1) (tables_fault t (before + waves_in t d.0) rest)
-
--- how many waves there are behind an executive's tables
-abbrev pub waves_behind : {V : Type 0} → Timed V → ℕ → List (ℕ × TableDecl) → ℕ
-waves_behind t before [] = before
-waves_behind t before (d ∷ rest) = waves_behind t (before + waves_in t d.0) rest
+-- the first fault of an executive's tables, in text order
+abbrev pub tables_fault : {V : Type 0} → Timed V → ℕ → Option StilFault
+tables_fault t before = first_in (table_fault t before) (enumerate_from 0 t.tables)

@@ -11,4 +11,4 @@ use Rattle.stil_ast.specs.declared.fault.StilFault.{StilFault}
 -- each pass is asked where those before it have no fault
 abbrev pub blocks_fault : {V : Type 0} → Times V → Blocks → Option StilFault
 blocks_fault times blocks =
-    or_else (fourth_fault blocks) (or_else (fifth_fault times blocks) (sixth_fault blocks))
+    or_else (fourth_fault blocks) (or_else (fifth_fault times blocks) (sixth_fault times blocks))

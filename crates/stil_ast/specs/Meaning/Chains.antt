@@ -1,15 +1,16 @@
 -- Scan chains (IEEE 1450-1999, clause 20).
-use Rattle.std.specs.Prelude.{ℕ, not, ◌==◌, List, [], ◌∷◌, ◌++◌, Option, Some, None, length, map, flat_map, filter, is_some, nat_le, codes, unwrap_or, if◌then◌else◌}
+use Rattle.std.specs.Prelude.{ℕ, ◌==◌, List, [], ◌∷◌, ◌++◌, Option, Some, None, length, map, flat_map, filter, is_some, nat_le, codes, unwrap_or, if◌then◌else◌}
 use Rattle.std.specs.List.{list_all, list_any}
 use Rattle.stil_ast.specs.Meaning.Statements.{Place}
 use Rattle.stil_ast.specs.Data.Texts.{same, indices, indexed, upwards}
-use Rattle.stil_ast.specs.Faults.Found.{fault_at, unless, or_else}
+use Rattle.stil_ast.specs.Faults.Found.{fault_at, unless, refuse_if, or_else, first_in}
 use Rattle.stil_ast.specs.Meaning.Signals.{Names}
 use Rattle.stil_ast.specs.Meaning.Members.{signal_of}
 use Rattle.stil_ast.specs.declared.name.IndexRange.{IndexRange}
 use Rattle.stil_ast.specs.declared.name.NameRef.{NameRef}
-use Rattle.stil_ast.specs.declared.name.Named.{Named}
 use Rattle.stil_ast.specs.declared.scan.CellsDecl.{CellsDecl}
+use Rattle.stil_ast.specs.declared.scan.ChainStmt.{ChainStmt}
+use Rattle.stil_ast.specs.declared.scan.ChainStmt.TheVariants.{Length, In, Out, Cells}
 use Rattle.stil_ast.specs.declared.scan.ChainDecl.{ChainDecl}
 use Rattle.stil_ast.specs.declared.scan.ScanBlock.{ScanBlock}
 use Rattle.stil_ast.specs.declared.fault.StilFault.{StilFault}
@@ -31,21 +32,44 @@ abbrev pub cells_with : List ℕ → Option IndexRange → List (List ℕ)
 cells_with name None = name ∷ []
 cells_with name (Some range) = map (indexed name) (indices range)
 
--- the texts of all cells
-abbrev pub cells_of : Option CellsDecl → List (List ℕ)
-cells_of None = []
-cells_of (Some c) = flat_map (λ (r : NameRef). cells_with r.name r.range) c.cells
+-- the texts of all cells of a ScanCells statement
+abbrev pub cells_of : CellsDecl → List (List ℕ)
+cells_of c = flat_map (λ (r : NameRef). cells_with r.name r.range) c.cells
+
+-- the ScanLength of a chain
+abbrev pub length_in : List ChainStmt → Option ℕ
+length_in [] = None
+length_in (Length n ∷ stmts) = Some n
+length_in (In name ∷ stmts) = length_in stmts
+length_in (Out name ∷ stmts) = length_in stmts
+length_in (Cells c ∷ stmts) = length_in stmts
+
+-- the name that a chain's ScanOut gives
+abbrev pub out_in : List ChainStmt → Option (List ℕ)
+out_in [] = None
+out_in (Length n ∷ stmts) = out_in stmts
+out_in (In name ∷ stmts) = out_in stmts
+out_in (Out name ∷ stmts) = Some name.name
+out_in (Cells c ∷ stmts) = out_in stmts
+
+-- the texts of a chain's cells
+abbrev pub cells_in : List ChainStmt → List (List ℕ)
+cells_in [] = []
+cells_in (Length n ∷ stmts) = cells_in stmts
+cells_in (In name ∷ stmts) = cells_in stmts
+cells_in (Out name ∷ stmts) = cells_in stmts
+cells_in (Cells c ∷ stmts) = cells_of c
 
 -- the signal of a ScanOut; it is named by its text
-abbrev pub scan_out_of : Names → Option Named → Option ℕ
+abbrev pub scan_out_of : Names → Option (List ℕ) → Option ℕ
 scan_out_of names None = None
-scan_out_of names (Some n) = signal_of names n.name
+scan_out_of names (Some name) = signal_of names name
 
 -- a chain without ScanOut is dropped; without ScanLength its length is the number of its cells
 abbrev pub chain_with : ChainDecl → Option ℕ → List Chain
 chain_with d None = []
 chain_with d (Some out) =
-    record { name = d.name; scan_out = out; length = unwrap_or d.length (length (cells_of d.cells)); cells = cells_of d.cells } ∷ []
+    record { name = d.name; scan_out = out; length = unwrap_or (length_in d.stmts) (length (cells_in d.stmts)); cells = cells_in d.stmts } ∷ []
 
 -- of two chains with one ScanOut the first counts
 abbrev pub distinct_chains : List Chain → List Chain → List Chain
@@ -56,7 +80,7 @@ distinct_chains before (c ∷ chains) =
 -- the chains of declarations
 abbrev pub chains_of : Names → List ChainDecl → List Chain
 chains_of names chains =
-    distinct_chains [] (flat_map (λ (d : ChainDecl). chain_with d (scan_out_of names d.scan_out)) chains)
+    distinct_chains [] (flat_map (λ (d : ChainDecl). chain_with d (scan_out_of names (out_in d.stmts))) chains)
 
 -- the signals at which chains end, in declared order
 abbrev pub scan_outs : Names → List Chain → List ℕ
@@ -67,29 +91,21 @@ scan_outs names chains =
 abbrev pub scan_place : List ℕ → ℕ → Place
 scan_place name line = record { block = codes "ScanStructures"; name = name; line = line }
 
--- a ScanIn or ScanOut that names no signal's text
-abbrev pub end_fault : Names → List ℕ → Option Named → Option StilFault
-end_fault names block None = None
-end_fault names block (Some n) =
+-- a statement of a chain: a ScanIn or ScanOut that names no signal's text, a cell with a text of more than 1024 bytes
+abbrev pub chain_stmt_fault : Names → List ℕ → ChainStmt → Option StilFault
+chain_stmt_fault names block (Length n) = None
+chain_stmt_fault names block (In n) =
     unless (is_some (signal_of names n.name)) (fault_at (scan_place block n.line) UnknownName) None
+chain_stmt_fault names block (Out n) =
+    unless (is_some (signal_of names n.name)) (fault_at (scan_place block n.line) UnknownName) None
+chain_stmt_fault names block (Cells c) =
+    unless (list_all (λ text. nat_le (length text) 1024) (cells_of c)) (fault_at (scan_place block c.line) OutOfRange) None
 
--- of two faults the one on the smaller line
-abbrev pub earlier : Option StilFault → Option StilFault → Option StilFault
-earlier None second = second
-earlier (Some first) None = Some first
-earlier (Some first) (Some second) = if nat_le first.line second.line then Some first else Some second
-
--- a cell with a text of more than 1024 bytes
-abbrev pub cells_fault : List ℕ → Option CellsDecl → Option StilFault
-cells_fault block None = None
-cells_fault block (Some c) =
-    unless (list_all (λ text. nat_le (length text) 1024) (cells_of (Some c))) (fault_at (scan_place block c.line) OutOfRange) None
-
--- a chain, behind others: twice, an unknown end, a cell that is too long
+-- a chain, behind others: its name twice, then its statements in text order
 abbrev pub chain_fault : Names → List ℕ → List ChainDecl → ChainDecl → Option StilFault
 chain_fault names block before d =
-    unless (not (list_any (λ b. same b.name d.name) before)) (fault_at (scan_place block d.line) Twice)
-    (or_else (earlier (end_fault names block d.scan_in) (end_fault names block d.scan_out)) (cells_fault block d.cells))
+    refuse_if (list_any (λ b. same b.name d.name) before) (fault_at (scan_place block d.line) Twice)
+    (first_in (chain_stmt_fault names block) d.stmts)
 
 -- the first fault of chains in text order, behind those before
 abbrev pub chains_fault : Names → List ℕ → List ChainDecl → List ChainDecl → Option StilFault

@@ -1,10 +1,10 @@
 -- The cycles of an executive (IEEE 1450-1999, clauses 16 to 18 and 23).
-use Rattle.std.specs.Prelude.{ℕ, Bool, true, false, List, [], ◌∷◌, Option, Some, None, Result, map, length, slice_get, codes}
+use Rattle.std.specs.Prelude.{ℕ, Bool, true, false, List, [], ◌∷◌, Result, map, length, codes}
 use Rattle.stil_ast.specs.Meaning.State.{Vector, start_of}
-use Rattle.stil_ast.specs.Meaning.Statements.{Place, Statements}
+use Rattle.stil_ast.specs.Meaning.Statements.{Place, of_pattern, Titles, Statements}
 use Rattle.stil_ast.specs.Meaning.Cycles.{Dated, dated}
-use Rattle.stil_ast.specs.Meaning.Running.{Setting, Ran, Here, Made, still, then_run, run_all, outside, stops}
-use Rattle.stil_ast.specs.Meaning.Flat.{Flat}
+use Rattle.stil_ast.specs.Meaning.Running.{Setting, Ran, Here, Made, still, then_run, run, outside, stops}
+use Rattle.stil_ast.specs.Meaning.ExecutiveData.{vector_period, Tree, Executive}
 use Rattle.stil_ast.specs.Meaning.Flattening.{flat_of}
 use Rattle.stil_ast.specs.Data.Texts.{name_or_none}
 use Rattle.stil_ast.specs.Meaning.Signals.{names_of}
@@ -13,7 +13,7 @@ use Rattle.stil_ast.specs.Meaning.Variables.{picked, value_of}
 use Rattle.stil_ast.specs.Meaning.Tables.{tables_named, made_tables}
 use Rattle.stil_ast.specs.Meaning.Chains.{Chain, chains_named, chains_of, scan_outs}
 use Rattle.stil_ast.specs.Meaning.Bursts.{Played, played, exec_scans}
-use Rattle.stil_ast.specs.Meaning.Resolved.{Scope, bodies_named, resolved, setting_of, pattern_place}
+use Rattle.stil_ast.specs.Meaning.Resolved.{Scope, bodies_named, resolved, setting_of}
 use Rattle.stil_ast.specs.declared.timing.TableDecl.{TableDecl}
 use Rattle.stil_ast.specs.declared.executive.ExecDecl.{ExecDecl}
 use Rattle.stil_ast.specs.declared.blocks.Blocks.{Blocks}
@@ -40,6 +40,10 @@ table_list times blocks e =
 abbrev pub chain_list : Blocks → ExecDecl → List Chain
 chain_list blocks e = chains_of (names_of blocks) (chains_named blocks.scans (exec_scans blocks e))
 
+-- the names of the blocks in which the bodies of a pattern stand as it is run
+abbrev pub titles_of : Played → Titles
+titles_of p = record { pattern = p.pattern.name; macros = p.macros; procedures = p.procedures }
+
 -- what the names in a pattern mean as it is run
 abbrev pub scope_of : Blocks → ExecDecl → Played → Scope
 scope_of blocks e p = record {
@@ -47,20 +51,21 @@ scope_of blocks e p = record {
   tables = map (λ (t : TableDecl). t.name) (exec_tables blocks e);
   macros = bodies_named blocks.macros p.macros;
   procedures = bodies_named blocks.procedures p.procedures;
-  macros_block = p.macros;
-  procedures_block = p.procedures;
+  titles = titles_of p;
 }
 
--- a pattern's statements, and what they stand on
+-- a pattern's statements, what they stand on, and the names of the blocks in which they stand
 pub record Part : Type 0 where
   pub setting : Setting
   pub statements : Statements
+  pub titles : Titles
 
 -- a pattern as it is run
 abbrev pub part_of : Blocks → ExecDecl → Played → Part
 part_of blocks e p = record {
   setting = setting_of (scope_of blocks e p) (scan_outs (names_of blocks) (chain_list blocks e));
-  statements = resolved (scope_of blocks e p) (pattern_place p.pattern.name) p.pattern.body;
+  statements = resolved (scope_of blocks e p) of_pattern p.pattern.body;
+  titles = titles_of p;
 }
 
 -- nothing runs behind a pattern with a Stop
@@ -80,7 +85,7 @@ parts blocks e = up_to_stop (map (part_of blocks e) (played blocks e))
 -- a pattern begins with the state that the one before it left
 abbrev pub run_parts : List Part → Here → Ran Here
 run_parts [] h = still h
-run_parts (p ∷ parts) h = then_run (run_all p.setting p.statements (outside h.state)) (run_parts parts)
+run_parts (p ∷ parts) h = then_run (run p.setting p.statements (outside h.state)) (run_parts parts)
 
 -- the run of an executive, from the start
 abbrev pub exec_run : Blocks → ExecDecl → Ran Here
@@ -90,24 +95,24 @@ exec_run blocks e = run_parts (parts blocks e) (outside (start_of (length (names
 abbrev pub exec_vectors : Blocks → ExecDecl → List Vector
 exec_vectors blocks e = map (λ (m : Made). m.vector) (exec_run blocks e).made
 
--- the flat trees of its patterns
-abbrev pub exec_flats : Blocks → ExecDecl → List Flat
-exec_flats blocks e = map (λ (p : Part). flat_of p.setting p.statements) (parts blocks e)
-
--- the period of a vector's table
-abbrev pub period_at : Option Table → ℕ
-period_at None = 0
-period_at (Some t) = t.period
-
--- the table of a number
-abbrev pub table_at : List Table → Option ℕ → Option Table
-table_at tables None = None
-table_at tables (Some table) = slice_get tables table
-
--- the period of a vector
-abbrev pub vector_period : List Table → Vector → ℕ
-vector_period tables v = period_at (table_at tables v.table)
-
 -- The cycles of an executive: each starts at the sum of the periods of those before it.
 abbrev pub cycles : {V : Type 0} → Times V → Blocks → ExecDecl → List Dated
 cycles times blocks e = dated (vector_period (table_list times blocks e)) (exec_vectors blocks e)
+
+-- a pattern's flat tree, with the names of its blocks
+abbrev pub tree_of : Part → Tree
+tree_of p = record { titles = p.titles; flat = flat_of p.setting p.statements }
+
+-- an executive as plain data
+abbrev pub executive_of : {V : Type 0} → Times V → Blocks → ExecDecl → Executive
+executive_of times blocks e = record {
+  name = e.name;
+  line = e.line;
+  tables = table_list times blocks e;
+  chains = chain_list blocks e;
+  trees = map tree_of (parts blocks e);
+}
+
+-- the executives of a text, in text order
+abbrev pub executives_of : {V : Type 0} → Times V → Blocks → List Executive
+executives_of times blocks = map (executive_of times blocks) blocks.executives

@@ -1,7 +1,7 @@
 -- Flat trees: what a pattern is once names, calls, arguments and shifts are resolved.
 use Rattle.std.specs.Prelude.{ℕ, ◌+◌, ◌*◌, Bool, true, false, [], ◌∷◌, Some, None, slice_index_or}
 use Rattle.stil_ast.specs.Meaning.State.{State}
-use Rattle.stil_ast.specs.Meaning.Statements.{Place}
+use Rattle.stil_ast.specs.Meaning.Statements.{Origin}
 use Rattle.stil_ast.specs.Meaning.Dealing.{with_letter}
 use Rattle.stil_ast.specs.Meaning.Running.{Ran, still, behind, then_run, times}
 
@@ -15,7 +15,7 @@ pub data Flat : Type 0 where
   -- a signal has again what it had when the innermost save round it began
   back : ℕ → Flat → Flat
   -- a vector with its mark, and where its V stands
-  cycle : ℕ → Place → Flat → Flat
+  cycle : ℕ → Origin → Flat → Flat
   repeat : ℕ → Flat → Flat → Flat
   -- a procedure's body, after which the state is put back; or the passes of a Shift, after which it isn't
   save : Bool → Flat → Flat → Flat

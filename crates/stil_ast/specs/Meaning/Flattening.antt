@@ -1,6 +1,6 @@
 -- The flat tree of statements.
 use Rattle.std.specs.Prelude.{ℕ, zero, suc, List, [], ◌∷◌, true, false, Option, Some, None, length, slice_get}
-use Rattle.stil_ast.specs.Meaning.Statements.{Assign, Place, Statements, finish, place, wave, vector, condition, loop, expand, call, shift, stop}
+use Rattle.stil_ast.specs.Meaning.Statements.{Assign, of_pattern, Origin, Statements, finish, place, wave, vector, condition, loop, expand, call, shift, stop}
 use Rattle.stil_ast.specs.Meaning.Arguments.{Entry, given, padding, Argument, arguments}
 use Rattle.stil_ast.specs.Meaning.Dealing.{Gift, Dealt, deal, takers, mark_of}
 use Rattle.stil_ast.specs.Meaning.Shift.{taking, passes, columns}
@@ -30,7 +30,7 @@ gifts_front (g ∷ gifts) rest = entry_front g.entry g.signal (gifts_front gifts
 -- a place in the text: what is left of the arguments, and where the statement stands
 pub record Spot : Type 0 where
   pub args : List Argument
-  pub place : Place
+  pub place : Origin
 
 -- a tree, and the place behind what it stands for
 pub record Piece : Type 0 where
@@ -59,7 +59,7 @@ abbrev pub with_args : Spot → List Argument → Spot
 with_args spot args = record { args = args; place = spot.place }
 
 -- a piece, behind which this place holds
-abbrev pub placed_at : Place → Piece → Piece
+abbrev pub placed_at : Origin → Piece → Piece
 placed_at p piece = record { flat = piece.flat; spot = record { args = piece.spot.args; place = p } }
 
 -- assignments
@@ -78,7 +78,7 @@ abbrev pub repeat_piece : ℕ → Spot → Piece → Piece
 repeat_piece count spot body = record { flat = repeat count body.flat done; spot = spot }
 
 -- one pass of a Shift, behind which the place is again that of the Shift
-abbrev pub pass_piece : Place → (Spot → Piece) → Spot → Piece
+abbrev pub pass_piece : Origin → (Spot → Piece) → Spot → Piece
 pass_piece p f spot = placed_at p (f spot)
 
 -- a macro's body stands in place; a procedure's body and the passes of a Shift stand in a save
@@ -121,4 +121,4 @@ flat_calls t (suc depth) (Some body) spot = flat_list t (flat_calls t depth) bod
 -- the flat tree of a pattern's own statements
 abbrev pub flat_of : Setting → Statements → Flat
 flat_of t statements =
-    (flat_list t (flat_calls t 64) statements (record { args = []; place = record { block = []; name = []; line = 0 } })).flat
+    (flat_list t (flat_calls t 64) statements (record { args = []; place = record { body = of_pattern; line = 0 } })).flat

@@ -1,19 +1,21 @@
 -- What a test engineer expects of statements: laws of the definitions.
-use Rattle.std.specs.Prelude.{◌≡◌, ℕ, zero, suc, ◌+◌, ◌<◌, ◌&&◌, not, Bool, true, false, List, [], ◌∷◌, Option, Some, None, length, map, slice_get, slice_index_or}
+use Rattle.std.specs.Prelude.{◌≡◌, ℕ, zero, suc, ◌+◌, ◌<◌, ◌&&◌, not, Bool, true, false, List, [], ◌∷◌, ◌++◌, Option, Some, None, length, flat_map, map, slice_get, slice_index_or}
 use Rattle.std.specs.List.{list_all}
 use Rattle.stil_ast.specs.Meaning.State.{State, Vector}
 use Rattle.stil_ast.specs.Meaning.Statements.{Item, hash, Assign, Statements, finish, place, wave, vector, condition, loop, expand, call, shift, stop}
 use Rattle.stil_ast.specs.Meaning.Arguments.{given, argument_of}
 use Rattle.stil_ast.specs.Meaning.Dealing.{has_signal, is_hash, is_character}
-use Rattle.stil_ast.specs.Meaning.Running.{Setting, Made, Here, Ran, run_all, outside}
+use Rattle.stil_ast.specs.Meaning.Running.{Setting, Made, Here, Ran, run, outside}
 use Rattle.stil_ast.specs.Meaning.Cycles.{Dated, dated}
+use Rattle.stil_ast.specs.Meaning.Tables.{inherited, leads_into_cycle, lineage}
 use Rattle.stil_ast.specs.Meaning.Flat.{flat_run}
 use Rattle.stil_ast.specs.Meaning.Flattening.{flat_of}
+use Rattle.stil_ast.specs.declared.timing.TableDecl.{TableDecl}
 
 -- a Loop of m + n is a Loop of m and then one of n
 abbrev pub LoopSplits : Type 0
 LoopSplits = (t : Setting) (m n : ℕ) (body rest : Statements) (h : Here) →
-    run_all t (loop (m + n) body rest) h ≡ run_all t (loop m body (loop n body rest)) h
+    run t (loop (m + n) body rest) h ≡ run t (loop m body (loop n body rest)) h
 
 -- statements, and then others
 abbrev pub followed_by : Statements → Statements → Statements
@@ -69,12 +71,12 @@ calls_within t (suc depth) (Some body) = bodies_pass t (calls_within t depth) bo
 abbrev pub MacroIsItsBody : Type 0
 MacroIsItsBody = (t : Setting) (m : ℕ) (body rest : Statements) (h : Here) →
     slice_get t.macros m ≡ Some body → takes_nothing body ≡ true → bodies_pass t (calls_within t 63) body ≡ true →
-    run_all t (expand m [] rest) h ≡ run_all t (followed_by body rest) h
+    run t (expand m [] rest) h ≡ run t (followed_by body rest) h
 
 -- after a Call all is as it was for the caller
 abbrev pub CallGivesBack : Type 0
 CallGivesBack =
-    (t : Setting) (p : ℕ) (assigns : List Assign) (h : Here) → (run_all t (call p assigns finish) h).here ≡ h
+    (t : Setting) (p : ℕ) (assigns : List Assign) (h : Here) → (run t (call p assigns finish) h).here ≡ h
 
 -- the Shift of a signal: `Shift { V { signal=#; } }`
 abbrev pub shift_of : ℕ → Statements
@@ -88,7 +90,7 @@ shown_at signal made = map (λ (m : Made). slice_index_or m.vector.letters signa
 abbrev pub ShiftIsInOrder : Type 0
 ShiftIsInOrder = (t : Setting) (signal : ℕ) (characters : List ℕ) (h : Here) →
     signal < length h.state.letters → signal < length h.args → (argument_of h.args signal).left ≡ map given characters →
-    shown_at signal (run_all t (shift_of signal) h).made ≡ map (λ c. Some c) characters
+    shown_at signal (run t (shift_of signal) h).made ≡ map (λ c. Some c) characters
 
 -- whether statements assign nothing to a signal, and run no other bodies
 abbrev pub all_leave : ℕ → List Assign → Bool
@@ -122,7 +124,7 @@ pub record Keeps (signal : ℕ) (c : Option ℕ) (r : Ran Here) : Type 0 where
 abbrev pub SignalKeepsCharacter : Type 0
 SignalKeepsCharacter =
     (t : Setting) (signal : ℕ) (statements : Statements) (h : Here) → leaves signal statements ≡ true →
-    Keeps signal (slice_index_or h.state.letters signal None) (run_all t statements h)
+    Keeps signal (slice_index_or h.state.letters signal None) (run t statements h)
 
 -- cycle k + 1 starts where cycle k ends
 abbrev pub CyclesFollow : Type 0
@@ -169,8 +171,26 @@ steady_loops (stop rest) = true
 abbrev pub with_state : Ran Here → Ran State
 with_state r = record { made = r.made; here = r.here.state }
 
+-- whether no `#` and no Shift stands in a Loop of statements, and each body that they name passes a test
+abbrev pub runs_steady : Setting → (Option Statements → Bool) → Statements → Bool
+runs_steady t test statements = steady_loops statements && bodies_pass t test statements
+
+-- the same of a body that runs, and of those that run in it, so deep
+unfoldable pub steady_within : Setting → ℕ → Option Statements → Bool
+steady_within t zero body = true
+steady_within t (suc depth) None = true
+steady_within t (suc depth) (Some body) = runs_steady t (steady_within t depth) body
+
+-- the same of a pattern's own statements and of all bodies that run in it
+abbrev pub is_steady_pattern : Setting → Statements → Bool
+is_steady_pattern t statements = runs_steady t (steady_within t 64) statements
+
 -- the flat tree of a pattern has the pattern's run: its vectors with their places, and the state that it leaves
 abbrev pub FlatTreeAgrees : Type 0
-FlatTreeAgrees = (t : Setting) (statements : Statements) (s : State) →
-    steady_loops statements ≡ true → list_all steady_loops t.macros ≡ true → list_all steady_loops t.procedures ≡ true →
-    flat_run (flat_of t statements) (outside s).held s ≡ with_state (run_all t statements (outside s))
+FlatTreeAgrees = (t : Setting) (statements : Statements) (s : State) → is_steady_pattern t statements ≡ true →
+    flat_run (flat_of t statements) (outside s).held s ≡ with_state (run t statements (outside s))
+
+-- A table that leads into no cycle is made of the tables that it inherits, each behind its own, and then of itself.
+abbrev pub LineageFollows : Type 0
+LineageFollows = (tables : List TableDecl) (table : ℕ) → leads_into_cycle tables table ≡ false →
+    lineage tables table ≡ flat_map (lineage tables) (inherited tables table) ++ (table ∷ [])

@@ -73,11 +73,6 @@ text_members names zero text = []
 text_members names (suc depth) text =
     combined_text (item_members names (text_members names depth)) (terms_of text)
 
--- A chain of groups that doesn't come back to itself is no longer than there are groups.
-abbrev pub members : Names → SigRef → List ℕ
-members names (Name r) = item_members names (text_members names (length names.groups)) r
-members names (GroupRef q) = text_members names (suc (length names.groups)) q.text
-
 -- whether an item names something
 abbrev pub is_known_with : Names → List ℕ → Option IndexRange → Bool
 is_known_with names name None =
@@ -103,3 +98,18 @@ text_kind names text = kind_of_terms names (terms_of text)
 abbrev pub reference_kind : Names → SigRef → Option StilKind
 reference_kind names (Name r) = if is_known names r then None else Some UnknownName
 reference_kind names (GroupRef q) = text_kind names q.text
+
+-- the signals of a reference, whether or not all of it is known. A chain of groups that doesn't come back to itself is
+-- no longer than there are groups.
+abbrev pub followed : Names → SigRef → List ℕ
+followed names (Name r) = item_members names (text_members names (length names.groups)) r
+followed names (GroupRef q) = text_members names (suc (length names.groups)) q.text
+
+-- a reference with a fault stands for no signals
+abbrev pub none_where : Option StilKind → List ℕ → List ℕ
+none_where None signals = signals
+none_where (Some kind) signals = []
+
+-- the signals of a reference
+abbrev pub members : Names → SigRef → List ℕ
+members names r = none_where (reference_kind names r) (followed names r)

@@ -1,10 +1,9 @@
 -- Statements with their names looked up (IEEE 1450-1999, clause 6, name resolution, and clauses 22 to 24).
-use Rattle.std.specs.Prelude.{ℕ, Bool, true, false, List, [], map, flat_map, codes, if◌then◌else◌}
+use Rattle.std.specs.Prelude.{ℕ, Bool, true, false, List, [], map, flat_map, if◌then◌else◌}
 use Rattle.std.specs.List.{position_or_len}
-use Rattle.stil_ast.specs.Meaning.Statements.{Assign, Place, Statements, finish, place, wave, vector, condition, loop, expand, call, shift, stop}
+use Rattle.stil_ast.specs.Meaning.Statements.{Assign, Body, of_macro, of_procedure, Origin, Titles, Statements, finish, place, wave, vector, condition, loop, expand, call, shift, stop}
 use Rattle.stil_ast.specs.Data.Written.{Written, no_more, single, looped, shifted}
 use Rattle.stil_ast.specs.Data.Texts.{same}
-use Rattle.stil_ast.specs.Faults.Found.{on_line}
 use Rattle.stil_ast.specs.Meaning.Signals.{Names, Signal}
 use Rattle.stil_ast.specs.Meaning.Members.{members}
 use Rattle.stil_ast.specs.Meaning.Running.{Setting}
@@ -17,14 +16,13 @@ use Rattle.stil_ast.specs.declared.blocks.BodyDef.{BodyDef}
 use Rattle.stil_ast.specs.declared.blocks.DefBlock.{DefBlock}
 
 -- what the names in a pattern are looked up in: signals and groups, the names of tables, the bodies of macros and of
--- procedures, and the names of their blocks
+-- procedures; and the names of the blocks in which all this stands
 pub record Scope : Type 0 where
   pub names : Names
   pub tables : List (List ℕ)
   pub macros : List BodyDef
   pub procedures : List BodyDef
-  pub macros_block : List ℕ
-  pub procedures_block : List ℕ
+  pub titles : Titles
 
 -- the bodies of all MacroDefs or Procedures blocks of one name, in text order
 abbrev pub bodies_named : List DefBlock → List ℕ → List BodyDef
@@ -59,27 +57,19 @@ resolved_step scope BreakPoint rest = rest
 resolved_step scope IddqTestPoint rest = rest
 resolved_step scope Stop rest = stop rest
 
--- the statements of a body in this top-level statement
-abbrev pub resolved : Scope → Place → Written → Statements
-resolved scope p no_more = finish
-resolved scope p (single line plain rest) =
-    place (on_line p line) (resolved_step scope plain (resolved scope p rest))
-resolved scope p (looped line times body rest) =
-    place (on_line p line) (loop times (resolved scope p body) (resolved scope p rest))
-resolved scope p (shifted line body rest) =
-    place (on_line p line) (shift (resolved scope p body) (resolved scope p rest))
+-- where a statement stands
+abbrev pub origin : Body → ℕ → Origin
+origin b line = record { body = b; line = line }
 
--- where bodies and patterns stand
-abbrev pub macros_place : Scope → Place
-macros_place scope = record { block = codes "MacroDefs"; name = scope.macros_block; line = 0 }
-
--- where the bodies of procedures stand
-abbrev pub procedures_place : Scope → Place
-procedures_place scope = record { block = codes "Procedures"; name = scope.procedures_block; line = 0 }
-
--- where the statements of a pattern stand
-abbrev pub pattern_place : List ℕ → Place
-pattern_place name = record { block = codes "Pattern"; name = name; line = 0 }
+-- the statements of a body of this kind
+abbrev pub resolved : Scope → Body → Written → Statements
+resolved scope b no_more = finish
+resolved scope b (single line plain rest) =
+    place (origin b line) (resolved_step scope plain (resolved scope b rest))
+resolved scope b (looped line times body rest) =
+    place (origin b line) (loop times (resolved scope b body) (resolved scope b rest))
+resolved scope b (shifted line body rest) =
+    place (origin b line) (shift (resolved scope b body) (resolved scope b rest))
 
 -- whether a direction is Out
 abbrev pub is_out : Direction → Bool
@@ -95,6 +85,6 @@ abbrev pub setting_of : Scope → List ℕ → Setting
 setting_of scope scan_outs = record {
   outs = outs_of scope.names;
   scan_outs = scan_outs;
-  macros = map (λ (d : BodyDef). resolved scope (macros_place scope) d.body) scope.macros;
-  procedures = map (λ (d : BodyDef). resolved scope (procedures_place scope) d.body) scope.procedures;
+  macros = map (λ (d : BodyDef). resolved scope of_macro d.body) scope.macros;
+  procedures = map (λ (d : BodyDef). resolved scope of_procedure d.body) scope.procedures;
 }

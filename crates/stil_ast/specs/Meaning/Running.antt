@@ -1,7 +1,7 @@
 -- What statements do, by one equation a kind (IEEE 1450-1999, clauses 22 to 24). It unrolls each pass and call.
 use Rattle.std.specs.Prelude.{ℕ, zero, suc, Bool, true, false, List, [], ◌∷◌, ◌++◌, Option, Some, None, length, slice_get}
 use Rattle.stil_ast.specs.Meaning.State.{State, Vector}
-use Rattle.stil_ast.specs.Meaning.Statements.{Assign, Place, Statements, finish, place, wave, vector, condition, loop, expand, call, shift, stop}
+use Rattle.stil_ast.specs.Meaning.Statements.{Assign, of_pattern, Origin, Statements, finish, place, wave, vector, condition, loop, expand, call, shift, stop}
 use Rattle.stil_ast.specs.Meaning.Arguments.{Argument, arguments}
 use Rattle.stil_ast.specs.Meaning.Dealing.{Dealt, deal, received, takers, mark_of}
 use Rattle.stil_ast.specs.Meaning.Shift.{taking, passes, columns}
@@ -17,7 +17,7 @@ pub record Setting : Type 0 where
 -- a vector, and where the V stands that made it
 pub record Made : Type 0 where
   pub vector : Vector
-  pub place : Place
+  pub place : Origin
 
 -- the vectors that were made in order, and where this leads
 pub record Ran (P : Type 0) : Type 0 where
@@ -47,18 +47,18 @@ pub record Here : Type 0 where
   pub state : State
   pub held : State
   pub args : List Argument
-  pub place : Place
+  pub place : Origin
 
 -- the same with another place in the text
-abbrev pub at_place : Place → Here → Here
+abbrev pub at_place : Origin → Here → Here
 at_place p h = record { state = h.state; held = h.held; args = h.args; place = p }
 
 -- behind a run this place holds again
-abbrev pub back_at : Place → Ran Here → Ran Here
+abbrev pub back_at : Origin → Ran Here → Ran Here
 back_at p r = record { made = r.made; here = at_place p r.here }
 
 -- one pass of a body, behind which the place is again that of its Loop or Shift
-abbrev pub pass_at : Place → (Here → Ran Here) → Here → Ran Here
+abbrev pub pass_at : Origin → (Here → Ran Here) → Here → Ran Here
 pass_at p f h = back_at p (f h)
 
 -- W: the table from here on
@@ -139,8 +139,8 @@ calls t (suc depth) None h = still h
 calls t (suc depth) (Some body) h = run_list t (calls t depth) body h
 
 -- a run: calls go 64 deep
-abbrev pub run_all : Setting → Statements → Here → Ran Here
-run_all t statements h = run_list t (calls t 64) statements h
+abbrev pub run : Setting → Statements → Here → Ran Here
+run t statements h = run_list t (calls t 64) statements h
 
 -- outside of macros and procedures nothing is held and there are no arguments
 abbrev pub outside : State → Here
@@ -148,7 +148,7 @@ outside s = record {
   state = s;
   held = record { table = None; letters = [] };
   args = [];
-  place = record { block = []; name = []; line = 0 };
+  place = record { body = of_pattern; line = 0 };
 }
 
 -- whether an executive ends in these statements

@@ -1,5 +1,5 @@
 -- Waveform tables: what each signal does for each character (IEEE 1450-1999, clause 18).
-use Rattle.std.specs.Prelude.{ℕ, zero, suc, Bool, ◌==◌, ◌&&◌, ℤ, nat_abs, List, [], ◌∷◌, ◌++◌, Option, Some, None, Result, Ok, Err, length, map, flat_map, filter_map, find, reverse, position, slice_get, sum_by, count_by, is_some, if◌then◌else◌}
+use Rattle.std.specs.Prelude.{ℕ, zero, suc, Bool, true, ◌==◌, ◌&&◌, ℤ, nat_abs, List, [], ◌∷◌, ◌++◌, Option, Some, None, Result, Ok, Err, length, map, flat_map, filter_map, find, reverse, position, slice_get, sum_by, count_by, is_some, if◌then◌else◌}
 use Rattle.std.specs.List.{list_any, enumerate_from, position_or_len}
 use Rattle.stil_ast.specs.Meaning.Statements.{Place}
 use Rattle.stil_ast.specs.Data.Texts.{same, upwards}
@@ -51,27 +51,43 @@ numbered p =
 abbrev pub own_waveforms : Names → ℕ → TableDecl → List Waveform
 own_waveforms names table t = map numbered (enumerate_from 0 (unnumbered names table t))
 
--- the waveforms of a table that is found
-abbrev pub of_found : (ℕ → List Waveform) → Option ℕ → List Waveform
-of_found inner None = []
-of_found inner (Some table) = inner table
+-- the tables that a table inherits, in text order
+abbrev pub inherited_by : List TableDecl → Option TableDecl → List ℕ
+inherited_by tables None = []
+inherited_by tables (Some t) = filter_map (λ (i : Named). table_of tables i.name) t.inherits
 
--- A table's waveforms: those of the tables that it inherits are put in first, so deep; then its own.
-abbrev pub in_front_of_own : Names → (ℕ → List Waveform) → List TableDecl → ℕ → Option TableDecl
-    → List Waveform
-in_front_of_own names inner tables table None = []
-in_front_of_own names inner tables table (Some t) =
-    flat_map (λ (i : Named). of_found inner (table_of tables i.name)) t.inherits ++ own_waveforms names table t
+-- the same for a table's number
+abbrev pub inherited : List TableDecl → ℕ → List ℕ
+inherited tables table = inherited_by tables (slice_get tables table)
 
--- the waveforms of a table, with inheritance followed so deep
-abbrev pub waveforms_within : Names → List TableDecl → ℕ → ℕ → List Waveform
-waveforms_within names tables zero table = []
-waveforms_within names tables (suc depth) table =
-    in_front_of_own names (waveforms_within names tables depth) tables table (slice_get tables table)
+-- whether one can go from a table to one that it inherits, and on from there, so often
+abbrev pub goes_on : List TableDecl → ℕ → ℕ → Bool
+goes_on tables zero table = true
+goes_on tables (suc steps) table = list_any (goes_on tables steps) (inherited tables table)
 
--- A chain of tables that doesn't come back to itself is no longer than there are tables.
+-- A table leads into a cycle where one can go on as often as there are tables.
+abbrev pub leads_into_cycle : List TableDecl → ℕ → Bool
+leads_into_cycle tables table = goes_on tables (length tables) table
+
+-- a table behind those that are put in first, so deep
+abbrev pub put_in : List TableDecl → ℕ → ℕ → List ℕ
+put_in tables zero table = table ∷ []
+put_in tables (suc depth) table = flat_map (put_in tables depth) (inherited tables table) ++ (table ∷ [])
+
+-- The tables of which a table is made, in the order in which they are put in: those that it inherits in text order,
+-- each behind its own, and then itself. Where no cycle is met none is deeper than there are tables.
+abbrev pub lineage : List TableDecl → ℕ → List ℕ
+lineage tables table = put_in tables (length tables) table
+
+-- the own waveforms of a table that may be missing
+abbrev pub own_of : Names → ℕ → Option TableDecl → List Waveform
+own_of names table None = []
+own_of names table (Some t) = own_waveforms names table t
+
+-- A table's waveforms: those of the tables that it inherits are put in first, then its own.
 abbrev pub waveforms : Names → List TableDecl → ℕ → List Waveform
-waveforms names tables table = waveforms_within names tables (length tables) table
+waveforms names tables table =
+    flat_map (λ (k : ℕ). own_of names k (slice_get tables k)) (lineage tables table)
 
 -- whether a waveform is for this signal and character
 abbrev pub defines : ℕ → ℕ → Waveform → Bool
@@ -113,31 +129,14 @@ abbrev pub last_of : List (Option Quoted) → Option Quoted
 last_of [] = None
 last_of (q ∷ qs) = later q (last_of qs)
 
--- the period of a table that is found
-abbrev pub of_number : (ℕ → Option Quoted) → Option ℕ → Option Quoted
-of_number inner None = None
-of_number inner (Some table) = inner table
+-- the own period of a table that may be missing
+abbrev pub own_period : Option TableDecl → Option Quoted
+own_period None = None
+own_period (Some t) = t.period
 
--- the period of a table: its own, else that of the last inherited table that has one
-abbrev pub period_or : Option Quoted → Option Quoted → Option Quoted
-period_or (Some own) inherited = Some own
-period_or None inherited = inherited
-
--- a table's period, where `inner` gives that of another
-abbrev pub period_of_found : (ℕ → Option Quoted) → List TableDecl → Option TableDecl → Option Quoted
-period_of_found inner tables None = None
-period_of_found inner tables (Some t) =
-    period_or t.period (last_of (map (λ (i : Named). of_number inner (table_of tables i.name)) t.inherits))
-
--- the period of a table, with inheritance followed so deep
-abbrev pub period_within : List TableDecl → ℕ → ℕ → Option Quoted
-period_within tables zero table = None
-period_within tables (suc depth) table =
-    period_of_found (period_within tables depth) tables (slice_get tables table)
-
--- the period of a table
+-- A table's period: its own, else that of the last of the tables that are put in.
 abbrev pub period_text : List TableDecl → ℕ → Option Quoted
-period_text tables table = period_within tables (length tables) table
+period_text tables table = last_of (map (λ (k : ℕ). own_period (slice_get tables k)) (lineage tables table))
 
 -- waveform characters, letters and digits, in the order of their codes
 abbrev pub characters : List ℕ

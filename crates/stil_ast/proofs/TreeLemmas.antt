@@ -1,0 +1,56 @@
+-- The flat trees of an executive have its run one after another; trees that are as good give the same.
+use Rattle.std.proofs.Common.{◌≡◌, ℕ, Bool, true, false, List, [], ◌∷◌, refl, ap, ◌∙◌, map}
+use Rattle.stil_ast.specs.Meaning.State.{State}
+use Rattle.stil_ast.specs.Meaning.Statements.{of_pattern}
+use Rattle.stil_ast.specs.Meaning.Running.{Ran, Here, behind, then_run, run, outside, stops}
+use Rattle.stil_ast.specs.Meaning.Bursts.{Played}
+use Rattle.stil_ast.specs.Meaning.Chains.{scan_outs}
+use Rattle.stil_ast.specs.Meaning.Signals.{names_of}
+use Rattle.stil_ast.specs.Meaning.Resolved.{resolved}
+use Rattle.stil_ast.specs.Meaning.ExecutiveData.{tree_run, trees_run}
+use Rattle.stil_ast.specs.Meaning.Executive.{Part, scope_of, part_of, cut_behind, tree_of, run_parts, chain_list}
+use Rattle.stil_ast.specs.Meaning.Laws.{with_state}
+use Rattle.stil_ast.specs.Faults.AssignmentFaults.{Walked, Checked, fine, refused}
+use Rattle.stil_ast.specs.Faults.PatternFaults.{check_pattern}
+use Rattle.stil_ast.specs.Faults.ExecutiveFaults.{behind_pattern, check_patterns}
+use Rattle.stil_ast.specs.Faults.CheckedLaws.{parts_of}
+use Rattle.stil_ast.specs.declared.executive.ExecDecl.{ExecDecl}
+use Rattle.stil_ast.specs.declared.blocks.Blocks.{Blocks}
+use Rattle.stil_ast.proofs.SteadyLemmas.{checked_tree_agrees}
+
+-- parts of which each one's tree has its run
+abbrev TreesFit : List Part → Type 0
+TreesFit parts = (h : Here) → trees_run (map tree_of parts) h.state ≡ with_state (run_parts parts h)
+
+-- a pattern in front of others
+trees_front : (p : Part) (parts : List Part)
+    → ((s : State) → tree_run (tree_of p) s ≡ with_state (run p.setting p.statements (outside s)))
+    → TreesFit parts → TreesFit (p ∷ parts)
+trees_front p parts first later h =
+    let r = run p.setting p.statements (outside h.state) in
+    ap (λ (x : Ran State). then_run x (trees_run (map tree_of parts))) (first h.state)
+    ∙ ap (behind r.made) (later r.here)
+
+-- the same up to a Stop
+trees_cut : (b : Bool) (p : Part) (parts : List Part) (c : Checked) (next : ℕ → Checked) (w : Walked)
+    → behind_pattern b c next ≡ fine w
+    → ((v : Walked) → c ≡ fine v → (s : State) → tree_run (tree_of p) s ≡ with_state (run p.setting p.statements (outside s)))
+    → ((v : Walked) → next v.count ≡ fine w → TreesFit parts)
+    → TreesFit (cut_behind b p parts)
+trees_cut b p parts (refused fault) next w e first later = cc
+trees_cut true p parts (fine v) next w e first later = trees_front p [] (first v refl) (λ h. refl)
+trees_cut false p parts (fine v) next w e first later = trees_front p parts (first v refl) (later v e)
+
+pub trees_agree : (blocks : Blocks) (e : ExecDecl) (patterns : List Played) (count : ℕ) (w : Walked) (h : Here)
+    → check_patterns blocks e patterns count ≡ fine w
+    → trees_run (map tree_of (parts_of blocks e patterns)) h.state
+    ≡ with_state (run_parts (parts_of blocks e patterns) h)
+trees_agree blocks e [] count w h checked = refl
+trees_agree blocks e (p ∷ patterns) count w h checked =
+    let scope = scope_of blocks e p in
+    let outs = scan_outs (names_of blocks) (chain_list blocks e) in
+    trees_cut (stops (resolved scope of_pattern p.pattern.body)) (part_of blocks e p) (parts_of blocks e patterns)
+    (check_pattern scope p.pattern.body count) (check_patterns blocks e patterns) w checked
+    (λ v found s. checked_tree_agrees scope outs p.pattern.body count v s found)
+    (λ v found now. trees_agree blocks e patterns v.count w now found)
+    h
