@@ -6,7 +6,7 @@ use Rattle.stil_ast.specs.Faults.FrontFaults.{refused_by, read_as, fault_of_fron
 use Rattle.stil_ast.specs.Meaning.Signals.{signal_texts}
 use Rattle.stil_ast.proofs.StandardFacts.Texts.{nanoseconds, signal}
 use Rattle.stil_ast.proofs.StandardFacts.Lines.{refused, use_table, first_text, three_vectors}
-use Rattle.stil_ast.specs.declared.signal.Direction.TheVariants.{In}
+use Rattle.tester_types.specs.declared.signal.Direction.TheVariants.{In}
 use Rattle.stil_ast.specs.declared.signal.SignalDecl.{SignalDecl}
 use Rattle.stil_ast.specs.declared.data.VecItem.TheVariants.{Letter, Take}
 use Rattle.stil_ast.specs.declared.data.ItemRun.{ItemRun}

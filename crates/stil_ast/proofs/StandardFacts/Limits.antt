@@ -6,7 +6,7 @@ use Rattle.stil_ast.specs.Data.Written.{Written, no_more, single, looped}
 use Rattle.stil_ast.specs.Faults.PatternFaults.{check_calls}
 use Rattle.stil_ast.proofs.StandardFacts.Texts.{signal, by_name, driven, table, text_of}
 use Rattle.stil_ast.proofs.StandardFacts.Lines.{fault, refused}
-use Rattle.stil_ast.specs.declared.signal.Direction.TheVariants.{In}
+use Rattle.tester_types.specs.declared.signal.Direction.TheVariants.{In}
 use Rattle.stil_ast.specs.declared.body.Step.TheVariants.{Macro}
 use Rattle.stil_ast.specs.declared.blocks.BodyDef.{BodyDef}
 use Rattle.stil_ast.specs.declared.blocks.Blocks.{Blocks}

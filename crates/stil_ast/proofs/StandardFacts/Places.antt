@@ -6,7 +6,7 @@ use Rattle.stil_ast.proofs.StandardFacts.Texts.{signal, by_name, driven, table, 
 use Rattle.stil_ast.proofs.StandardFacts.Lines.{lines, cycle, items, fault, refused, use_table, first_text}
 use Rattle.stil_ast.specs.declared.name.IndexRange.{IndexRange}
 use Rattle.stil_ast.specs.declared.name.SigRef.TheVariants.{Name}
-use Rattle.stil_ast.specs.declared.signal.Direction.TheVariants.{In}
+use Rattle.tester_types.specs.declared.signal.Direction.TheVariants.{In}
 use Rattle.stil_ast.specs.declared.signal.SignalDecl.{SignalDecl}
 use Rattle.stil_ast.specs.declared.timing.EventDecl.{EventDecl}
 use Rattle.stil_ast.specs.declared.timing.SignalWaves.{SignalWaves}

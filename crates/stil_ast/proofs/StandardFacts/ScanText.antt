@@ -9,7 +9,7 @@ use Rattle.stil_ast.proofs.StandardFacts.Texts.{signal, group, by_name, by_text,
 use Rattle.stil_ast.proofs.StandardFacts.Lines.{lines, cycle, marks, items, fault}
 use Rattle.stil_ast.specs.declared.name.Named.{Named}
 use Rattle.stil_ast.specs.declared.name.NameRef.{NameRef}
-use Rattle.stil_ast.specs.declared.signal.Direction.TheVariants.{In, Out}
+use Rattle.tester_types.specs.declared.signal.Direction.TheVariants.{In, Out}
 use Rattle.stil_ast.specs.declared.timing.EventDecl.{EventDecl}
 use Rattle.stil_ast.specs.declared.timing.SignalWaves.{SignalWaves}
 use Rattle.stil_ast.specs.declared.timing.TableDecl.{TableDecl}

@@ -7,8 +7,8 @@ use Rattle.stil_ast.specs.Data.Written.{Written, no_more, single, shifted}
 use Rattle.stil_ast.specs.Faults.PatternFaults.{check_calls}
 use Rattle.stil_ast.proofs.StandardFacts.Texts.{signal, group, by_text, driven, looked_at, table, assign, text_of, chain_at, with_chains, then_pattern}
 use Rattle.stil_ast.proofs.StandardFacts.Lines.{lines, cycle, marks, items, fault, refused, use_table}
-use Rattle.stil_ast.specs.declared.signal.Direction.{Direction}
-use Rattle.stil_ast.specs.declared.signal.Direction.TheVariants.{In, Out, InOut}
+use Rattle.tester_types.specs.declared.signal.Direction.{Direction}
+use Rattle.tester_types.specs.declared.signal.Direction.TheVariants.{In, Out, InOut}
 use Rattle.stil_ast.specs.declared.body.Assignment.{Assignment}
 use Rattle.stil_ast.specs.declared.body.Step.TheVariants.{Vector, Condition, Macro, Stop}
 use Rattle.stil_ast.specs.declared.blocks.Blocks.{Blocks}
