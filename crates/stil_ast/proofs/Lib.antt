@@ -13,3 +13,4 @@ mod InheritLemmas
 mod CheckedLemmas
 mod SteadyLemmas
 mod TreeLemmas
+mod ArgumentLemmas

@@ -1,7 +1,7 @@
 //! Laws of the language: what its definitions say, as a test engineer expects it.
 
 ghost use Rattle.stil_ast.specs.Faults.CheckedLaws.{CheckedIsSteady, CheckedTreeAgrees, TreesAgree};
-ghost use Rattle.stil_ast.specs.Meaning.Laws.{LoopSplits, MacroIsItsBody, CallGivesBack, ShiftIsInOrder, SignalKeepsCharacter, CyclesFollow, FlatTreeAgrees, LineageFollows};
+ghost use Rattle.stil_ast.specs.Meaning.Laws.{LoopSplits, MacroIsItsBody, CallGivesBack, ShiftIsInOrder, ShiftUsesUp, SignalKeepsCharacter, CyclesFollow, FlatTreeAgrees, LineageFollows};
 
 /// A Loop of m + n runs is a Loop of m and then one of n.
 pub fn loop_splits()
@@ -21,6 +21,11 @@ pub fn call_gives_back()
 /// A Shift of a signal's data shifts each character once, in order.
 pub fn shift_is_in_order()
     ensures { ShiftIsInOrder }
+{}
+
+/// Behind a Shift of W, V and C nothing is left of the data of a signal that takes in it.
+pub fn shift_uses_up()
+    ensures { ShiftUsesUp }
 {}
 
 /// A signal that nothing assigns keeps its character, in each vector and behind the statements.
