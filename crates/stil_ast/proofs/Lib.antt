@@ -14,3 +14,4 @@ mod CheckedLemmas
 mod SteadyLemmas
 mod TreeLemmas
 mod ArgumentLemmas
+pub mod ConsumedLemmas

@@ -1,6 +1,6 @@
 //! Laws of the language: what its definitions say, as a test engineer expects it.
 
-ghost use Rattle.stil_ast.specs.Faults.CheckedLaws.{CheckedIsSteady, CheckedTreeAgrees, TreesAgree};
+ghost use Rattle.stil_ast.specs.Faults.CheckedLaws.{CheckedIsSteady, CheckedTreeAgrees, TreesAgree, MarkIsWalked, ConsumedIsWalked, SameTreesServe, TablesAreNumbered};
 ghost use Rattle.stil_ast.specs.Meaning.Laws.{LoopSplits, MacroIsItsBody, CallGivesBack, ShiftIsInOrder, ShiftUsesUp, SignalKeepsCharacter, CyclesFollow, FlatTreeAgrees, LineageFollows};
 
 /// A Loop of m + n runs is a Loop of m and then one of n.
@@ -62,4 +62,25 @@ pub fn checked_tree_agrees()
 /// The flat trees of an executive whose patterns are checked without a fault have its run, one after another.
 pub fn trees_agree()
     ensures { TreesAgree }
+{}
+
+/// The assignments of a statement that are checked without a fault take at most as many characters of a signal as signals
+/// are walked; so the mark of the statement is at most what was walked.
+pub fn mark_is_walked()
+    ensures { MarkIsWalked }
+{}
+
+/// The statements of a body that are checked without a fault take at most as many characters of a signal as are walked.
+pub fn consumed_is_walked()
+    ensures { ConsumedIsWalked }
+{}
+
+/// Flat trees that are as good, as where overwritten assignments are dropped, give the same vectors, fault and measure.
+pub fn same_trees_serve()
+    ensures { SameTreesServe }
+{}
+
+/// Under its number in the code stands the table of the executive.
+pub fn tables_are_numbered()
+    ensures { TablesAreNumbered }
 {}
