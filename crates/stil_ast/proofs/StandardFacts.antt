@@ -6,3 +6,4 @@ pub mod Rows
 pub mod Refusals
 pub mod Choices
 pub mod Inherited
+pub mod Executives

@@ -4,16 +4,16 @@ use Rattle.std.proofs.lemmas.List.{get_or-append-add}
 use Rattle.std.proofs.Math.ListN.{get_or-append}
 use Rattle.std.proofs.lemmas.List.Sums.{sum_by-cons}
 use Rattle.std.proofs.lemmas.Grind.{flat_map-append}
-use Rattle.stil_ast.specs.Meaning.State.{State}
+use Rattle.stil_ast.specs.Meaning.State.{State, start_of}
 use Rattle.stil_ast.specs.Meaning.Statements.{of_pattern, Titles}
 use Rattle.stil_ast.specs.Meaning.Flat.{measure}
-use Rattle.stil_ast.specs.Meaning.Running.{Ran, Here, behind, then_run, run, outside, stops}
-use Rattle.stil_ast.specs.Meaning.Bursts.{Played}
+use Rattle.stil_ast.specs.Meaning.Running.{Ran, Made, Here, behind, then_run, run, outside, stops}
+use Rattle.stil_ast.specs.Meaning.Bursts.{Played, played}
 use Rattle.stil_ast.specs.Meaning.Chains.{scan_outs}
 use Rattle.stil_ast.specs.Meaning.Signals.{names_of}
 use Rattle.stil_ast.specs.Meaning.Resolved.{resolved}
-use Rattle.stil_ast.specs.Meaning.ExecutiveData.{Tree, Executive, tree_run, trees_run, measure_in, tables_of, code_table, AreSameTrees}
-use Rattle.stil_ast.specs.Meaning.Executive.{Part, scope_of, part_of, cut_behind, tree_of, run_parts, chain_list}
+use Rattle.stil_ast.specs.Meaning.ExecutiveData.{Tree, Executive, tree_run, trees_run, vectors_of, measure_in, tables_of, code_table, AreSameTrees}
+use Rattle.stil_ast.specs.Meaning.Executive.{Part, scope_of, part_of, cut_behind, parts, tree_of, run_parts, exec_vectors, chain_list}
 use Rattle.stil_ast.specs.Meaning.Laws.{with_state}
 use Rattle.stil_ast.specs.Faults.AssignmentFaults.{Walked, Checked, fine, refused}
 use Rattle.stil_ast.specs.Faults.PatternFaults.{check_pattern}
@@ -62,6 +62,15 @@ trees_agree blocks e (p ∷ patterns) count w h checked =
     (λ v found s. checked_tree_agrees scope outs p.pattern.body count v s found)
     (λ v found now. trees_agree blocks e patterns v.count w now found)
     h
+
+pub vectors_agree : (blocks : Blocks) (e : ExecDecl) (count : ℕ) (w : Walked) (x : Executive)
+    → check_patterns blocks e (played blocks e) count ≡ fine w → x.trees ≡ map tree_of (parts blocks e)
+    → vectors_of (length (names_of blocks).signals) x ≡ exec_vectors blocks e
+vectors_agree blocks e count w x checked trees =
+    let begin = start_of (length (names_of blocks).signals) in
+    let vectors = λ (r : Ran State). map (λ (m : Made). m.vector) r.made in
+    ap (λ (all : List Tree). vectors (trees_run all begin)) trees
+    ∙ ap vectors (trees_agree blocks e (played blocks e) count w (outside begin) checked)
 
 pub same_trees_serve : (tables : List Table) (trees more : List Tree) (s : State) → AreSameTrees trees more
     → (trees_run trees s ≡ trees_run more s) × (trees_fault tables trees s ≡ trees_fault tables more s)

@@ -1,6 +1,6 @@
 //! Laws of the language: what its definitions say, as a test engineer expects it.
 
-ghost use Rattle.stil_ast.specs.Faults.CheckedLaws.{CheckedIsSteady, CheckedTreeAgrees, TreesAgree, MarkIsWalked, ConsumedIsWalked, SameTreesServe, TablesAreNumbered};
+ghost use Rattle.stil_ast.specs.Faults.CheckedLaws.{CheckedIsSteady, CheckedTreeAgrees, TreesAgree, VectorsAgree, MarkIsWalked, ConsumedIsWalked, SameTreesServe, TablesAreNumbered};
 ghost use Rattle.stil_ast.specs.Meaning.Laws.{LoopSplits, MacroIsItsBody, CallGivesBack, ShiftIsInOrder, ShiftUsesUp, SignalKeepsCharacter, CyclesFollow, FlatTreeAgrees, LineageFollows};
 
 /// A Loop of m + n runs is a Loop of m and then one of n.
@@ -62,6 +62,11 @@ pub fn checked_tree_agrees()
 /// The flat trees of an executive whose patterns are checked without a fault have its run, one after another.
 pub fn trees_agree()
     ensures { TreesAgree }
+{}
+
+/// Plain data with an executive's flat trees have its vectors, where its patterns are checked without a fault.
+pub fn vectors_agree()
+    ensures { VectorsAgree }
 {}
 
 /// The assignments of a statement that are checked without a fault take at most as many characters of a signal as signals

@@ -9,9 +9,10 @@ use Rattle.stil_ast.specs.Meaning.Running.{Here, run, outside}
 use Rattle.stil_ast.specs.Meaning.Flat.{flat_run}
 use Rattle.stil_ast.specs.Meaning.Flattening.{flat_of}
 use Rattle.stil_ast.specs.Meaning.Resolved.{Scope, resolved, setting_of}
-use Rattle.stil_ast.specs.Meaning.Bursts.{Played}
-use Rattle.stil_ast.specs.Meaning.ExecutiveData.{Tree, Executive, trees_run, measure_in, tables_of, code_table, AreSameTrees}
-use Rattle.stil_ast.specs.Meaning.Executive.{Part, part_of, up_to_stop, tree_of, run_parts}
+use Rattle.stil_ast.specs.Meaning.Signals.{names_of}
+use Rattle.stil_ast.specs.Meaning.Bursts.{Played, played}
+use Rattle.stil_ast.specs.Meaning.ExecutiveData.{Tree, Executive, trees_run, vectors_of, measure_in, tables_of, code_table, AreSameTrees}
+use Rattle.stil_ast.specs.Meaning.Executive.{Part, part_of, up_to_stop, parts, tree_of, run_parts, exec_vectors}
 use Rattle.stil_ast.specs.Meaning.Laws.{is_steady_pattern, with_state}
 use Rattle.stil_ast.specs.Faults.AssignmentFaults.{Walked, fine, Standing, check_assigns}
 use Rattle.stil_ast.specs.Faults.PatternFaults.{check_pattern, check_calls}
@@ -46,6 +47,13 @@ TreesAgree =
     (blocks : Blocks) (e : ExecDecl) (patterns : List Played) (count : ℕ) (w : Walked) (h : Here) →
     check_patterns blocks e patterns count ≡ fine w →
     trees_run (map tree_of (parts_of blocks e patterns)) h.state ≡ with_state (run_parts (parts_of blocks e patterns) h)
+
+-- plain data with these flat trees have the vectors of the executive, where it has no fault
+abbrev pub VectorsAgree : Type 0
+VectorsAgree =
+    (blocks : Blocks) (e : ExecDecl) (count : ℕ) (w : Walked) (x : Executive) →
+    check_patterns blocks e (played blocks e) count ≡ fine w → x.trees ≡ map tree_of (parts blocks e) →
+    vectors_of (length (names_of blocks).signals) x ≡ exec_vectors blocks e
 
 -- no more characters of an argument were taken than statements and signals were walked
 abbrev pub IsConsumedWithin : Walked → Type 0
