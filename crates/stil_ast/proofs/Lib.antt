@@ -15,3 +15,5 @@ mod InheritLemmas
 mod CheckedLemmas
 mod SteadyLemmas
 mod TreeLemmas
+mod ArgumentLemmas
+pub mod ConsumedLemmas

@@ -12,3 +12,4 @@ pub mod Shifts
 pub mod Limits
 pub mod Places
 pub mod Inherited
+pub mod Executives
