@@ -15,3 +15,6 @@ mod InheritLemmas
 mod CheckedLemmas
 mod SteadyLemmas
 mod TreeLemmas
+pub mod GroupItems
+pub mod GroupLexemes
+pub mod GroupLemmas

@@ -11,4 +11,5 @@ pub mod Fronts
 pub mod Shifts
 pub mod Limits
 pub mod Places
+pub mod Groups
 pub mod Inherited

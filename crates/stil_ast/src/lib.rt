@@ -22,8 +22,8 @@ pub use executive::{
 pub use fault::{StilFault, StilKind, StilRefusal};
 pub use laws::{
     call_gives_back, checked_is_steady, checked_tree_agrees, cycles_follow, flat_tree_agrees,
-    lineage_follows, loop_splits, macro_is_its_body, shift_is_in_order, signal_keeps_character,
-    trees_agree,
+    group_texts_are_spelled, lineage_follows, loop_splits, macro_is_its_body, shift_is_in_order,
+    signal_keeps_character, trees_agree,
 };
 pub use name::{IndexRange, NameRef, Named, NamedList, Quoted, SigRef, WordList};
 pub use scan::{
