@@ -17,3 +17,6 @@ mod SteadyLemmas
 mod TreeLemmas
 mod ArgumentLemmas
 pub mod ConsumedLemmas
+pub mod GroupItems
+pub mod GroupLexemes
+pub mod GroupLemmas

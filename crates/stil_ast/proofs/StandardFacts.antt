@@ -11,5 +11,6 @@ pub mod Fronts
 pub mod Shifts
 pub mod Limits
 pub mod Places
+pub mod Groups
 pub mod Inherited
 pub mod Executives

@@ -23,10 +23,9 @@ fault_of_front times (refused_by fault) = Some fault
 fault_of_front times (read_as blocks) = blocks_fault times blocks
 
 -- the first fault of these bytes, or that they have none, where `Answers` relates bytes to what reading answers
-pub record IsFaultOf {V : Type 0} (times : Times V) (Answers : List ℕ → Front → Type 0) (bytes : List ℕ) (fault : Option StilFault) : Type 0 where
-  pub front : Front
-  pub reading : Answers bytes front
-  pub is : fault ≡ fault_of_front times front
+abbrev pub IsFaultOf : {V : Type 0} → Times V → (List ℕ → Front → Type 0) → List ℕ → Option StilFault → Type 0
+IsFaultOf times Answers bytes fault =
+    (front : Front) × Answers bytes front × (fault ≡ fault_of_front times front)
 
 -- how many cycles an executive has
 abbrev pub cycle_count : Blocks → ExecDecl → ℕ
