@@ -1,10 +1,12 @@
 -- How the classes of bytes stand to one another.
-use Rattle.std.proofs.Common.{◌≡◌, ℕ, true, false, ◌||◌, List, [], ◌∷◌, ◌++◌, refl, sym, subst, inl, inr, arith}
-use Rattle.std.specs.Prelude.{◌==◌}
+use Rattle.std.proofs.Common.{◌≡◌, ℕ, zero, suc, ◌<◌, true, false, ◌||◌, List, [], ◌∷◌, ◌++◌, refl, sym, subst, inl, inr, arith}
+use Rattle.std.specs.Prelude.{◌==◌, slice_index}
 use Rattle.std.specs.List.{list_all}
+use Rattle.std.specs.Str.{IsUtf8}
+use Rattle.std.proofs.lemmas.Str.{IsUtf8-from_ascii}
 use Rattle.std.proofs.lemmas.Bool.{eqb-true, or_cases, and_parts}
 use Rattle.std.proofs.lemmas.Bool.Decides.{nat_tests}
-use Rattle.text_bytes.specs.Bytes.{is_blank, is_digit, begins_name, is_word, is_printing, begins_with}
+use Rattle.text_bytes.specs.Bytes.{is_blank, is_digit, begins_name, is_word, is_character, is_printing, begins_with}
 
 -- a blank is one of five bytes
 pub in_blanks : (P : ℕ → Type 0) → P 32 → P 9 → P 10 → P 12 → P 13 → (b : ℕ) → is_blank b ≡ true → P b
@@ -62,3 +64,22 @@ pub blanks_no_word : (blanks rest : List ℕ) → list_all is_blank blanks ≡ t
     → begins_with is_word (blanks ++ rest) ≡ false
 blanks_no_word [] rest each h = h
 blanks_no_word (b ∷ blanks) rest each h = is_word-blank b (and_parts (is_blank b) (list_all is_blank blanks) each).0
+
+-- a waveform character is in ASCII
+pub is_character-ascii : (b : ℕ) → is_character b ≡ true → b < 128
+unfolding is_character
+is_character-ascii b h = grind (arith, nat_tests)
+
+-- what prints is in ASCII
+pub is_printing-ascii : (b : ℕ) → is_printing b ≡ true → b < 128
+unfolding is_printing
+is_printing-ascii b h = grind (arith, nat_tests)
+
+-- bytes that print are a text
+pub IsUtf8-printing : (bytes : List ℕ) → list_all is_printing bytes ≡ true → IsUtf8 bytes
+IsUtf8-printing bytes each = IsUtf8-from_ascii bytes (by bytes each)
+  where
+    by : (bytes : List ℕ) → list_all is_printing bytes ≡ true → (i : ℕ) → slice_index bytes i < 128
+    by [] each i = omega arith
+    by (b ∷ bytes) each zero = is_printing-ascii b (and_parts (is_printing b) (list_all is_printing bytes) each).0
+    by (b ∷ bytes) each (suc i) = by bytes (and_parts (is_printing b) (list_all is_printing bytes) each).1 i

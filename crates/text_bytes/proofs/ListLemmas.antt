@@ -1,6 +1,6 @@
 -- Facts on lists that the standard library's lemmas don't have.
-use Rattle.std.proofs.Common.{◌≡◌, ℕ, suc, ◌+◌, ◌<◌, List, [], ◌∷◌, ◌++◌, false, length, drop, get_or, Option, Some, None, is_some, sym, refl, ap, ◌∙◌, arith}
-use Rattle.std.specs.List.{AllByRecursion}
+use Rattle.std.proofs.Common.{◌≡◌, ℕ, suc, ◌+◌, ◌<◌, Bool, ◌||◌, List, [], ◌∷◌, ◌++◌, false, length, map, drop, get_or, Option, Some, None, is_some, sym, refl, ap, ◌∙◌, arith}
+use Rattle.std.specs.List.{AllByRecursion, list_any}
 use Rattle.std.proofs.Math.Seq.{drop-cons}
 
 -- one more, in both ways of writing it
@@ -27,3 +27,8 @@ all_append Fits (x ∷ xs) ys p q = (p.0, all_append Fits xs ys p.1 q)
 pub none-from : {X : Type 0} (o : Option X) → false ≡ is_some o → o ≡ None
 none-from None h = refl
 none-from (Some x) h = cc
+
+-- of what is seen of items, whether one passes
+pub list_any-map : {X Y : Type 0} (f : X → Y) (p : Y → Bool) (xs : List X) → list_any p (map f xs) ≡ list_any (λ x. p (f x)) xs
+list_any-map f p [] = refl
+list_any-map f p (x ∷ xs) = ap (λ b. p (f x) || b) (list_any-map f p xs)
