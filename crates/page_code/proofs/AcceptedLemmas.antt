@@ -8,7 +8,7 @@ use Rattle.tester_types.specs.declared.wave.Wave.{Wave}
 use Rattle.tester_types.specs.declared.wave.Table.{Table}
 use Rattle.page_code.specs.Conditions.{has_waves, waves_of, letters_of}
 use Rattle.page_code.specs.Accepted.{AreAccepted}
-use Rattle.page_code.proofs.Lists.{all_append}
+use Rattle.text_bytes.proofs.ListLemmas.{all_append}
 
 -- whether a pair is that of this table and this row
 abbrev is_pair : ℕ → ℕ → ℕ × ℕ → Bool

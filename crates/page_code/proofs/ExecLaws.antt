@@ -20,7 +20,8 @@ use Rattle.page_code.specs.Reading.{text_at, signal_at, table_at, row_at, chain_
 use Rattle.page_code.proofs.Lists.{all_each, each_all}
 use Rattle.page_code.proofs.NestLemmas.{IsReadInstr, read_whole, whole_read}
 use Rattle.page_code.proofs.ReaderLaws.{IsBytes, IsBytes-take, IsBytes-drop, IsReader, adapted, done_reader, then_reader, checked_reader, wide16, wide32, wide64, number_reader, piece_reader, piece_again, known_takes, items_reader, bind_ok, ok_is}
-use Rattle.page_code.proofs.PartLaws.{chosen, IsBelow, IsNumber, AreItems, IsTextWith, text_reader, signal_reader, table_reader, row_reader, chain_reader}
+use Rattle.text_bytes.proofs.BoolLemmas.{chosen}
+use Rattle.page_code.proofs.PartLaws.{taken, IsBelow, IsNumber, AreItems, IsTextWith, text_reader, signal_reader, table_reader, row_reader, chain_reader}
 
 -- ---- the 16 bytes of an instruction
 
@@ -54,11 +55,7 @@ second_is [] some = absurd (omega arith)
 second_is (b ∷ []) some = absurd (omega arith)
 second_is (b ∷ c ∷ bytes) some = refl
 
--- ---- a choice
-
-picked : {A : Type 0} (b : Bool) (x y z : A) → cond b x y ≡ z → ((b ≡ true) × (x ≡ z)) ⊎ ((b ≡ false) × (y ≡ z))
-picked true x y z e = inl (refl, e)
-picked false x y z e = inr (refl, e)
+-- ---- an instruction
 
 -- what 16 bytes that stand for an instruction are
 abbrev Stands : List ℕ → Instr → Type 0
@@ -101,19 +98,19 @@ some_is x y e = cc
 instr_is : (raw : List ℕ) (i : Instr) → length raw ≡ 16 → IsBytes raw → instr_of raw ≡ Some i → Stands raw i
 unfolding instr_of
 instr_is raw i size fits e =
-    elim (picked (eqb (get_or raw 0 0) 1 && eqb (get_or raw 1 0) 0) _ _ (Some i) e) [
+    elim (chosen (eqb (get_or raw 0 0) 1 && eqb (get_or raw 1 0) 0) _ _ (Some i) e) [
       | inl run ↦
           (let p = and_parts (eqb (get_or raw 0 0) 1) (eqb (get_or raw 1 0) 0) run.0 in
           subst (Stands raw) (some_is _ i run.1) (run_stands raw size fits (eqb-true (get_or raw 0 0) 1 p.0) (eqb-true (get_or raw 1 0) 0 p.1)))
-      | inr e1 ↦ elim (picked (eqb (get_or raw 0 0) 2 && are_zero (part 1 7 raw)) _ _ (Some i) e1.1) [
+      | inr e1 ↦ elim (chosen (eqb (get_or raw 0 0) 2 && are_zero (part 1 7 raw)) _ _ (Some i) e1.1) [
         | inl loop ↦
             (let p = and_parts (eqb (get_or raw 0 0) 2) (are_zero (part 1 7 raw)) loop.0 in
             subst (Stands raw) (some_is _ i loop.1) (loop_stands raw size fits (eqb-true (get_or raw 0 0) 2 p.0) p.1))
-        | inr e2 ↦ elim (picked (eqb (get_or raw 0 0) 3 && are_zero (part 1 15 raw)) _ _ (Some i) e2.1) [
+        | inr e2 ↦ elim (chosen (eqb (get_or raw 0 0) 3 && are_zero (part 1 15 raw)) _ _ (Some i) e2.1) [
           | inl end ↦
               (let p = and_parts (eqb (get_or raw 0 0) 3) (are_zero (part 1 15 raw)) end.0 in
               subst (Stands raw) (some_is _ i end.1) (zero_stands raw 3 size (eqb-true (get_or raw 0 0) 3 p.0) p.1, tt))
-          | inr e3 ↦ elim (picked (eqb (get_or raw 0 0) 4 && are_zero (part 1 15 raw)) _ _ (Some i) e3.1) [
+          | inr e3 ↦ elim (chosen (eqb (get_or raw 0 0) 4 && are_zero (part 1 15 raw)) _ _ (Some i) e3.1) [
             | inl done ↦
                 (let p = and_parts (eqb (get_or raw 0 0) 4) (are_zero (part 1 15 raw)) done.0 in
                 subst (Stands raw) (some_is _ i done.1) (zero_stands raw 4 size (eqb-true (get_or raw 0 0) 4 p.0) p.1, tt))
@@ -247,7 +244,7 @@ magic_takes : (magic bytes : List ℕ) (u : Unit {0}) (rest : List ℕ) → magi
 magic_takes [] bytes u rest e = ap (λ p. p.1) (ok_is (tt, bytes) (u, rest) e)
 magic_takes (m ∷ magic) [] u rest e = absurd cc
 magic_takes (m ∷ magic) (b ∷ bytes) u rest e =
-    let c = chosen (eqb b m) BadMagic (magic_at magic bytes) (u, rest) e in
+    let c = taken (eqb b m) BadMagic (magic_at magic bytes) (u, rest) e in
     let first : b ≡ m = eqb-true b m c.0 in
     ap (λ (x : ℕ). x ∷ bytes) first ∙ ap (λ (x : List ℕ). m ∷ x) (magic_takes magic bytes u rest c.1)
 
@@ -262,7 +259,7 @@ head_reader = record {
       let a = bind_ok (magic_at (0xD7 ∷ 0x53 ∷ 0x54 ∷ 0x50 ∷ []) bytes) _ (u, rest) e in
       let b = bind_ok (number_at w16 a.0.1) _ (u, rest) a.2 in
       let c = bind_ok (cond (eqb b.0.0 1) (checked (number_at w16) (λ n. eqb n 0) b.0.1) (Err BadVersion)) (λ zeros. Ok (tt, zeros.1)) (u, rest) b.2 in
-      let d = chosen (eqb b.0.0 1) BadVersion (checked (number_at w16) (λ n. eqb n 0) b.0.1) c.0 c.1 in
+      let d = taken (eqb b.0.0 1) BadVersion (checked (number_at w16) (λ n. eqb n 0) b.0.1) c.0 c.1 in
       let magic : bytes ≡ (0xD7 ∷ 0x53 ∷ 0x54 ∷ 0x50 ∷ []) ++ a.0.1 = magic_takes (0xD7 ∷ 0x53 ∷ 0x54 ∷ 0x50 ∷ []) bytes a.0.0 a.0.1 a.1 in
       let after : IsBytes a.0.1 = subst (λ (x : List ℕ). IsBytes (drop 4 x)) magic (IsBytes-drop 4 bytes fits) in
       let version = (number_reader w16 (2 ^ 16) wide16).takes a.0.1 b.0.0 b.0.1 after b.1 in

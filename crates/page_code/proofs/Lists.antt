@@ -1,7 +1,7 @@
 -- Lists whose items are each as they should be.
-use Rattle.std.proofs.Common.{◌≡◌, ℕ, zero, suc, ◌<◌, Bool, List, [], ◌∷◌, ◌++◌, ◌||◌, length, get_or, take, replicate, append_assoc, map, refl, sym, ap, subst, arith}
+use Rattle.std.proofs.Common.{◌≡◌, ℕ, zero, suc, ◌<◌, List, [], ◌∷◌, ◌++◌, length, get_or, take, replicate, append_assoc, sym, subst, arith}
 use Rattle.std.proofs.lemmas.List.{append-nil}
-use Rattle.std.specs.List.{list_any, AllByRecursion}
+use Rattle.std.specs.List.{AllByRecursion}
 use Rattle.page_code.specs.Conditions.{EachBehind, Each}
 
 -- an item is as it should be behind those before it
@@ -28,14 +28,6 @@ all_at Fits (x ∷ xs) (suc i) d each lt = all_at Fits xs i d each.1 (omega arit
 
 pub each_at : {A : Type 0} (Fits : A → Type 0) (items : List A) (i : ℕ) (d : A) → Each Fits items → i < length items → Fits (get_or items i d)
 each_at Fits items i d each lt = all_at Fits items i d (each_all Fits [] items each) lt
-
-pub all_append : {A : Type 0} (Fits : A → Type 0) (xs ys : List A) → AllByRecursion Fits xs → AllByRecursion Fits ys → AllByRecursion Fits (xs ++ ys)
-all_append Fits [] ys p q = q
-all_append Fits (x ∷ xs) ys p q = (p.0, all_append Fits xs ys p.1 q)
-
-pub list_any-map : {A B : Type 0} (test : B → Bool) (f : A → B) (xs : List A) → list_any test (map f xs) ≡ list_any (λ x. test (f x)) xs
-list_any-map test f [] = refl
-list_any-map test f (x ∷ xs) = ap (λ b. test (f x) || b) (list_any-map test f xs)
 
 pub all_replicate : {A : Type 0} (Fits : A → Type 0) (n : ℕ) (x : A) → Fits x → AllByRecursion Fits (replicate n x)
 all_replicate Fits zero x h = tt

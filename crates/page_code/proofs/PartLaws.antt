@@ -17,7 +17,9 @@ use Rattle.tester_types.specs.declared.signal.Direction.{Direction}
 use Rattle.tester_types.specs.declared.signal.Direction.TheVariants.{In, Out, InOut, Supply, Pseudo}
 use Rattle.page_code.specs.declared.parts.CodeSignal.{CodeSignal}
 use Rattle.page_code.specs.declared.parts.CodeChain.{CodeChain}
-use Rattle.page_code.specs.Letters.{direction_code, direction_of, act_code, acts, act_of, is_printable, is_character, is_place}
+use Rattle.page_code.specs.Letters.{direction_code, direction_of, act_code, acts, act_of, is_place}
+use Rattle.text_bytes.specs.Bytes.{is_printable, is_character}
+use Rattle.text_bytes.proofs.ByteLemmas.{is_character-ascii}
 use Rattle.page_code.specs.Conditions.{EachBehind, last_of, IsText, IsName, is_named, IsSignal, latest, IsEvent, is_behind, IsWave, wave_count, IsTable, IsRow, IsChain}
 use Rattle.page_code.specs.Rows.{is_row_of}
 use Rattle.page_code.specs.Fields.{◌>>=◌, byte_at, piece_at, number_at, checked, known, meant, items_at}
@@ -202,13 +204,7 @@ IsPair signals p = (p.0 < signals) × (is_character p.1 ≡ true)
 
 character_small : (c : ℕ) → is_character c ≡ true → c < 256
 character_small c is =
-    elim (or_cases ((leb 48 c && leb c 57) || (leb 65 c && leb c 90)) (leb 97 c && leb c 122) is) [
-      | inl front ↦ elim (or_cases (leb 48 c && leb c 57) (leb 65 c && leb c 90) front) [
-        | inl digit ↦ (let most : c ≤ 57 = leb-true c 57 (and_parts (leb 48 c) (leb c 57) digit).1 in omega arith)
-        | inr upper ↦ (let most : c ≤ 90 = leb-true c 90 (and_parts (leb 65 c) (leb c 90) upper).1 in omega arith)
-      ]
-      | inr lower ↦ (let most : c ≤ 122 = leb-true c 122 (and_parts (leb 97 c) (leb c 122) lower).1 in omega arith)
-    ]
+    omega (arith, is_character-ascii c is)
 
 pair_reader : (signals : ℕ) → signals ≤ 1024 → IsReader (pair_at signals) pair_text (IsPair signals)
 pair_reader signals few =
@@ -304,15 +300,16 @@ table_reader signals few before =
 
 -- ---- rows
 
-pub chosen : {A : Type 0} (b : Bool) (d : Refusal) (x : Result A Refusal) (y : A) → cond b x (Err d) ≡ Ok y → (b ≡ true) × (x ≡ Ok y)
-chosen true d x y e = (refl, e)
-chosen false d x y e = absurd cc
+-- what is not refused was taken
+pub taken : {A : Type 0} (b : Bool) (d : Refusal) (x : Result A Refusal) (y : A) → cond b x (Err d) ≡ Ok y → (b ≡ true) × (x ≡ Ok y)
+taken true d x y e = (refl, e)
+taken false d x y e = absurd cc
 
 letters_reader : (signals : ℕ) → IsReader (letters_at signals) row (λ r. (length r ≡ signals) × (list_all is_place r ≡ true))
 unfolding letters_at
 letters_reader signals = record {
   takes = λ bytes r rest fits e.
-      let c = chosen (list_all is_place (take signals bytes)) _ (piece_at signals bytes) (r, rest) e in
+      let c = taken (list_all is_place (take signals bytes)) _ (piece_at signals bytes) (r, rest) e in
       let t = (plain_reader signals).takes bytes r rest fits c.1 in
       let front : take signals bytes ≡ r = ap (take signals) t.0 ∙ take_at r rest signals t.2 in
       (t.0, t.1, (t.2, subst (λ (x : List ℕ). list_all is_place x ≡ true) front c.0));

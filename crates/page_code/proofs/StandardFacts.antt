@@ -4,6 +4,7 @@ use Rattle.page_meaning.specs.declared.instr.Instr.TheVariants.{Run}
 use Rattle.tester_types.specs.declared.wave.Act.TheVariants.{Look}
 use Rattle.tester_types.specs.declared.wave.Look.TheVariants as look
 use Rattle.page_code.specs.declared.fault.Refusal.TheVariants.{BadMagic, BadVersion, Torn, BadCode}
+use Rattle.text_bytes.specs.Bytes.{is_character}
 use Rattle.page_code.specs.Spelling.{number, instr, text, wave}
 use Rattle.page_code.specs.Fields.{number_at}
 use Rattle.page_code.specs.Reading.{instr_of, head_at, letters_at}
@@ -47,9 +48,9 @@ other_version = refl
 
 -- a character that is no letter or digit is refused at its own place, before those that are missing
 pub wrong_letter : letters_at 4 (48 ∷ 33 ∷ []) ≡ Err (BadCode 1)
-unfolding letters_at
+unfolding letters_at is_character
 wrong_letter = refl
 
 pub short_row : letters_at 4 (48 ∷ 49 ∷ []) ≡ Err Torn
-unfolding letters_at
+unfolding letters_at is_character
 short_row = refl

@@ -15,7 +15,8 @@ use Rattle.page_code.specs.Program.{Exec, Program}
 use Rattle.page_code.specs.Conditions.{IsInstr, IsExec, IsTable, IsProgram}
 use Rattle.page_code.specs.Cycles.{exec_of, pieces, page_count, pages_of_exec}
 use Rattle.page_code.specs.Walk.{IsOf, IsOver, entries_left}
-use Rattle.page_code.proofs.Lists.{behind_at, each_all, each_at, all_append, all_replicate}
+use Rattle.text_bytes.proofs.ListLemmas.{all_append}
+use Rattle.page_code.proofs.Lists.{behind_at, each_all, each_at, all_replicate}
 
 -- ---- what instructions name, their cycles name
 

@@ -3,6 +3,7 @@ use Rattle.std.specs.Prelude.{◌≡◌, ℕ, suc, ◌-◌, ◌*◌, ◌^◌, �
 use Rattle.std.specs.List.{list_all, list_any, AllByRecursion}
 use Rattle.std.specs.Option.{option_map_or}
 use Rattle.std.specs.Cmp.Lexicographic.{pointwise}
+use Rattle.text_bytes.specs.Bytes.{is_printable, is_character}
 use Rattle.tester_types.specs.declared.wave.Event.{Event}
 use Rattle.tester_types.specs.declared.wave.Wave.{Wave}
 use Rattle.tester_types.specs.declared.wave.Table.{Table}
@@ -11,7 +12,7 @@ use Rattle.page_meaning.specs.declared.instr.Instr.TheVariants.{Run, Loop, End, 
 use Rattle.page_meaning.specs.Whole.{IsWhole}
 use Rattle.page_code.specs.declared.parts.CodeSignal.{CodeSignal}
 use Rattle.page_code.specs.declared.parts.CodeChain.{CodeChain}
-use Rattle.page_code.specs.Letters.{is_printable, is_character, is_place}
+use Rattle.page_code.specs.Letters.{is_place}
 use Rattle.page_code.specs.Program.{Exec, Program}
 use Rattle.page_code.specs.Rows.{is_row_of}
 

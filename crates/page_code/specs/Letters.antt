@@ -1,6 +1,7 @@
 -- The numbers that stand for directions and acts, and the bytes that texts and rows may have.
-use Rattle.std.specs.Prelude.{ℕ, Bool, List, [], ◌∷◌, ◌==◌, ◌&&◌, ◌||◌, nat_le, Option}
+use Rattle.std.specs.Prelude.{ℕ, Bool, List, [], ◌∷◌, ◌==◌, ◌||◌, Option}
 use Rattle.std.specs.List.{find}
+use Rattle.text_bytes.specs.Bytes.{is_character}
 use Rattle.tester_types.specs.declared.wave.Act.{Act}
 use Rattle.tester_types.specs.declared.wave.Act.TheVariants.{Push, Look}
 use Rattle.tester_types.specs.declared.wave.Push.TheVariants as push
@@ -45,14 +46,6 @@ acts =
 -- the act of a number
 abbrev pub act_of : ℕ → Option Act
 act_of n = find (λ act. act_code act == n) acts
-
--- a byte that a text may have
-abbrev pub is_printable : ℕ → Bool
-is_printable byte = nat_le 0x20 byte && nat_le byte 0x7E
-
--- an ASCII letter or digit
-abbrev pub is_character : ℕ → Bool
-is_character byte = nat_le 48 byte && nat_le byte 57 || nat_le 65 byte && nat_le byte 90 || nat_le 97 byte && nat_le byte 122
 
 -- what a row has for a signal: a character, or 0 where it has none
 abbrev pub is_place : ℕ → Bool

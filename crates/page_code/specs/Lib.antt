@@ -10,3 +10,4 @@ pub mod Accepted
 pub mod Nest
 pub mod Cycles
 pub mod Walk
+pub mod FaultText

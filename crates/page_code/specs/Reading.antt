@@ -3,6 +3,7 @@ use Rattle.std.specs.Prelude.{ℕ, suc, ◌+◌, ◌-◌, ◌*◌, ◌^◌, Bool
 use Rattle.std.specs.List.{list_all, list_any, take_while}
 use Rattle.std.specs.Option.{option_map_or}
 use Rattle.std.specs.Int.{w16, w32, w64, from_le_bytes}
+use Rattle.text_bytes.specs.Bytes.{is_printable, is_character}
 use Rattle.tester_types.specs.declared.wave.Event.{Event}
 use Rattle.tester_types.specs.declared.wave.Wave.{Wave}
 use Rattle.tester_types.specs.declared.wave.Table.{Table}
@@ -15,7 +16,7 @@ use Rattle.page_code.specs.declared.fault.SavedFault.{SavedFault}
 use Rattle.page_code.specs.declared.fault.SavedFault.TheVariants as saved
 use Rattle.page_code.specs.declared.parts.CodeSignal.{CodeSignal}
 use Rattle.page_code.specs.declared.parts.CodeChain.{CodeChain}
-use Rattle.page_code.specs.Letters.{direction_of, act_of, is_printable, is_character, is_place}
+use Rattle.page_code.specs.Letters.{direction_of, act_of, is_place}
 use Rattle.page_code.specs.Program.{Exec, Program}
 use Rattle.page_code.specs.Rows.{is_row_of}
 use Rattle.page_code.specs.Conditions.{last_of, is_named, latest, is_behind, wave_count, has_waves, waves_of, letters_of}

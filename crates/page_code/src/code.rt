@@ -175,7 +175,7 @@ impl Code {
     }
 
     /// The signals, in declared order.
-    pub(crate) fn signal_list(&self) -> &[CodeSignal]
+    pub fn signal_list(&self) -> &[CodeSignal]
         ensures { result.now ≡ self.now.signals }
     {
         self.signals.as_slice()

@@ -22,6 +22,11 @@ pub enum SavedFault {
 }
 
 impl fmt::Display for SavedFault {
+    ghost use Rattle.std.specs.Prelude.{Some};
+    ghost use Rattle.page_code.specs.FaultText.{fault_text};
+
+    ghost output = { λ fault. Some (fault_text fault) };
+
     fn fmt<W: fmt::Write>(&self, f: &mut fmt::Formatter<W>) -> fmt::Result {
         match *self {
             SavedFault::NoMemory => write!(f, "out of memory"),

@@ -5,13 +5,14 @@ ghost use Rattle.std.specs.List.{list_all};
 ghost use Rattle.std.specs.Int.{w16, w32, w64};
 ghost use Rattle.page_code.specs.declared.fault.Refusal.TheVariants.{BadCode};
 ghost use Rattle.page_code.specs.declared.fault.ReadError.TheVariants.{Refused};
-ghost use Rattle.page_code.specs.Letters.{is_printable, is_character};
+ghost use Rattle.text_bytes.specs.Bytes.{is_character};
 ghost use Rattle.page_code.specs.Fields.{Gives, byte_at, piece_at, number_at, checked};
 ghost use Rattle.page_code.specs.Reading.{raw_text_at, text_at, name_at};
 
 use crate::fault::{ReadError, Refusal};
 use std::alloc::Global;
 use tester_types::Text;
+use text_bytes::{LONGEST_NAME, all_printable, is_character};
 
 /// A condition fails at the first of these bytes.
 pub(crate) fn bad(bytes: &[u8]) -> ReadError
@@ -130,24 +131,10 @@ pub(crate) fn character(bytes: &[u8]) -> Result<(u8, &[u8]), ReadError>
     ensures { Gives (λ x. (x.0, x.1.now)) result (checked byte_at is_character bytes.now) }
 {
     let (letter, rest) = byte(bytes)?;
-    if !is_letter(letter) {
+    if !is_character(letter) {
         return Err(bad(bytes));
     }
     Ok((letter, rest))
-}
-
-/// Whether a byte is an ASCII letter or digit.
-pub(crate) fn is_letter(byte: u8) -> bool
-    ensures { result ≡ is_character byte }
-{
-    matches!(byte, b'0'..=b'9' | b'A'..=b'Z' | b'a'..=b'z')
-}
-
-/// Whether each byte may stand in a text.
-pub(crate) fn are_printable(text: &[u8]) -> bool
-    ensures { result ≡ list_all is_printable text.now }
-{
-    text.iter().all(|byte| *byte >= 0x20 && *byte <= 0x7E)
 }
 
 /// A length and that many bytes, not judged yet.
@@ -155,7 +142,7 @@ pub(crate) fn are_printable(text: &[u8]) -> bool
 pub(crate) fn raw_text(bytes: &[u8]) -> Result<(&[u8], &[u8]), ReadError>
     ensures { Gives (λ x. (x.0.now, x.1.now)) result (raw_text_at bytes.now) }
 {
-    let (length, rest) = number16_to(1024, bytes)?;
+    let (length, rest) = number16_to(LONGEST_NAME as u16, bytes)?;
     piece(length as usize, rest)
 }
 
@@ -165,7 +152,7 @@ pub(crate) fn text(alloc: Global, bytes: &[u8]) -> Result<(Text, &[u8]), ReadErr
     ensures { Gives (λ x. (x.0, x.1.now)) result (text_at (λ text. true) bytes.now) }
 {
     let (raw, rest) = raw_text(bytes)?;
-    if !are_printable(raw) {
+    if !all_printable(raw) {
         return Err(bad(bytes));
     }
     Ok((Text::from_slice(alloc, raw)?, rest))
@@ -177,7 +164,7 @@ pub(crate) fn name(alloc: Global, bytes: &[u8]) -> Result<(Text, &[u8]), ReadErr
     ensures { Gives (λ x. (x.0, x.1.now)) result (name_at bytes.now) }
 {
     let (raw, rest) = raw_text(bytes)?;
-    if !are_printable(raw) || raw.is_empty() {
+    if !all_printable(raw) || raw.is_empty() {
         return Err(bad(bytes));
     }
     Ok((Text::from_slice(alloc, raw)?, rest))

@@ -13,14 +13,13 @@ ghost use Rattle.page_code.specs.Reading.{letters_at, row_at, name_at, chain_at,
 use crate::accepted::Accepted;
 use crate::exec::{CodeExec, CodeExecList};
 use crate::fault::{ReadError, Refusal};
-use crate::fields::{
-    bad, is_letter, name, number16_below, number16_to, number32, number32_to, piece, text,
-};
+use crate::fields::{bad, name, number16_below, number16_to, number32, number32_to, piece, text};
 use crate::parts::{CodeChain, CodeChainList};
 use crate::read_instrs::instrs;
 use crate::rows::RowList;
 use std::alloc::Global;
 use tester_types::{Table, TextList};
+use text_bytes::is_character;
 
 /// How many characters of a row, or places without one, stand at the front.
 fn places(bytes: &[u8]) -> usize
@@ -28,7 +27,7 @@ fn places(bytes: &[u8]) -> usize
 {
     bytes
         .iter()
-        .take_while(|byte| **byte == 0 || is_letter(**byte))
+        .take_while(|byte| **byte == 0 || is_character(**byte))
         .count()
 }
 

@@ -17,9 +17,10 @@ use crate::fault::ReadError;
 use crate::fields::{bad, piece};
 use crate::parts::InstrList;
 use crate::rows::RowList;
-use page_meaning::{Instr, MOST_LOOPS, MOST_TIMES, cycles};
+use page_meaning::{Instr, cycles};
 use std::alloc::{AllocError, Global};
 use tester_types::Table;
+use text_bytes::{DEEPEST_LOOPS, MOST_CYCLES, MOST_PASSES};
 
 /// A number of 16 bits at a place.
 fn part16(bytes: &[u8], place: usize) -> u16
@@ -174,7 +175,7 @@ fn may_stand(
             has_waves_for(tables, rows, accepted, table, row)
         }
         Instr::Loop { times } => Ok(
-            !is_last && times > 0 && times <= MOST_TIMES && nest.depth < MOST_LOOPS,
+            !is_last && times > 0 && times <= MOST_PASSES && nest.depth < DEEPEST_LOOPS,
         ),
         Instr::End => Ok(!is_last && !nest.begun && nest.depth > 0),
         Instr::Done => Ok(is_last && nest.depth == 0),
@@ -187,7 +188,7 @@ fn is_within(instrs: &[Instr], last: Instr) -> bool
     ensures { (before : List Instr) → instrs.now ≡ before ++ last ∷ [] → result ≡ is_bounded before last }
 {
     match last {
-        Instr::Done => cycles(instrs) <= MOST_TIMES,
+        Instr::Done => cycles(instrs) <= MOST_CYCLES,
         _ => true,
     }
 }

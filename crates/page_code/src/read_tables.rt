@@ -4,21 +4,21 @@ ghost use Rattle.std.specs.Prelude.{◌≡◌, ◌+◌, ◌*◌, ◌^◌, ◌<�
 ghost use Rattle.std.specs.List.{list_all, list_any};
 ghost use Rattle.std.specs.Option.{option_map_or};
 ghost use Rattle.std.specs.Int.{w16, w32, w64};
-ghost use Rattle.page_code.specs.Letters.{direction_of, act_of, is_printable};
+ghost use Rattle.page_code.specs.Letters.{direction_of, act_of};
 ghost use Rattle.page_code.specs.Conditions.{last_of, is_named, latest, is_behind, wave_count};
 ghost use Rattle.page_code.specs.Fields.{Gives, byte_at, number_at, known, checked, items_at};
 ghost use Rattle.page_code.specs.Reading.{text_at, signal_at, event_at, pair_at, may_stand, wave_at, table_with, table_at};
 
 use crate::fault::ReadError;
 use crate::fields::{
-    are_printable, bad, byte, byte_to, character, name, number16_below, number32, number64,
-    raw_text,
+    bad, byte, byte_to, character, name, number16_below, number32, number64, raw_text,
 };
 use crate::parts::{CodeSignal, CodeSignalList};
 use std::alloc::Global;
 use tester_types::{
     Act, Direction, Event, EventList, Look, Push, Table, TableList, Text, Wave, WaveList,
 };
+use text_bytes::all_printable;
 
 /// The direction of a number.
 fn direction_of_byte(byte: u8) -> Option<Direction>
@@ -94,7 +94,7 @@ fn fresh_name<'a>(
     ensures { Gives (λ x. (x.0, x.1.now)) result (text_at (λ text. nat_lt 0 (length text) && not (list_any (is_named text) before.now)) bytes.now) }
 {
     let (raw, rest) = raw_text(bytes)?;
-    if !are_printable(raw) || raw.is_empty() || is_taken(raw, before) {
+    if !all_printable(raw) || raw.is_empty() || is_taken(raw, before) {
         return Err(bad(bytes));
     }
     Ok((Text::from_slice(alloc, raw)?, rest))

@@ -9,7 +9,7 @@ use Rattle.page_meaning.specs.declared.instr.Instr.TheVariants.{Run, Loop, End, 
 use Rattle.page_meaning.specs.Meaning.{repeated, top, on_top, closed, bodies, Means, count_top, count_on_top, count_closed, body_counts, cycle_count}
 use Rattle.page_meaning.specs.Whole.{IsRest}
 use Rattle.page_meaning.specs.Count.{HasRoom, capped, capped_on_top, capped_closed, stack}
-use Rattle.page_meaning.proofs.Bodies.{length-bodies}
+use Rattle.page_meaning.proofs.BodyLemmas.{length-bodies}
 
 -- ---- the numbers are lengths
 

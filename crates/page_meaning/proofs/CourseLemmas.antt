@@ -9,7 +9,7 @@ use Rattle.page_meaning.specs.declared.course.Course.{Course}
 use Rattle.page_meaning.specs.Meaning.{repeated, top, below, on_top, closed, bodies, Means}
 use Rattle.page_meaning.specs.Whole.{IsRest}
 use Rattle.page_meaning.specs.Course.{loop_at, opened, bodies_at, to_come, coming, AreOpen, IsOn, IsSameWalk, run_times, loop_times, at_end}
-use Rattle.page_meaning.proofs.Bodies.{length-bodies, two_bodies, one_body, end_in_front, loop_in_front, begun_not_end, inside_code}
+use Rattle.page_meaning.proofs.BodyLemmas.{length-bodies, two_bodies, one_body, end_in_front, loop_in_front, begun_not_end, inside_code}
 
 -- ---- open loops
 

@@ -1,4 +1,5 @@
-pub mod Bodies
+pub mod BodyLemmas
 pub mod CountLemmas
+pub mod NestingLemmas
 pub mod CourseLemmas
 pub mod StandardFacts

@@ -1,11 +1,12 @@
 -- Numbers of cycles as a count keeps them: none above one more than the most that an executive may have.
-use Rattle.std.specs.Prelude.{ℕ, zero, suc, ◌+◌, ◌*◌, ◌^◌, List, [], ◌∷◌, min, slice_index, ◌<◌}
+use Rattle.std.specs.Prelude.{ℕ, zero, suc, ◌+◌, ◌*◌, List, [], ◌∷◌, min, slice_index, ◌<◌}
+use Rattle.text_bytes.specs.Limits.{most_cycles}
 use Rattle.page_meaning.specs.declared.instr.Instr.{Instr}
 use Rattle.page_meaning.specs.declared.instr.Instr.TheVariants.{Run, Loop, End, Done}
 
 -- the number, or one too many
 abbrev pub capped : ℕ → ℕ
-capped n = min n (2 ^ 48 + 1)
+capped n = min n (most_cycles + 1)
 
 -- the numbers of a stack that is so high, the top first
 abbrev pub stack : ℕ → List ℕ → List ℕ

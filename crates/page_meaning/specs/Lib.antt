@@ -1,4 +1,5 @@
 pub mod Meaning
+pub mod Nesting
 pub mod Whole
 pub mod Count
 pub mod Course

@@ -1,12 +1,14 @@
 //! How many cycles instructions run, without unrolling them.
 
-ghost use Rattle.std.specs.Prelude.{◌≡◌, ◌+◌, ◌<◌, ◌≤◌, [], ◌∷◌, List, length, drop, map, min, ◌^◌, false, slice_index_or};
+ghost use Rattle.std.specs.Prelude.{◌≡◌, ◌+◌, ◌<◌, ◌≤◌, [], ◌∷◌, List, length, drop, map, min, false, slice_index_or};
+ghost use Rattle.text_bytes.specs.Limits.{most_cycles};
 ghost use Rattle.page_meaning.specs.Meaning.{cycle_count, body_counts};
 ghost use Rattle.page_meaning.specs.Whole.{IsRest};
 ghost use Rattle.page_meaning.specs.Count.{HasRoom, capped, capped_on_top, capped_closed};
 
-use crate::instr::{Instr, MOST_TIMES};
+use crate::instr::Instr;
 use std::marker::Model;
+use text_bytes::MOST_CYCLES;
 
 /// The numbers of cycles of the bodies that stand one in the other at a place, the innermost last.
 #[derive(Drop)]
@@ -77,7 +79,8 @@ impl Sums {
     /// What the instruction in front makes of them.
     fn put(&mut self, instr: Instr)
         requires { HasRoom instr (length self.old) }
-        ensures { (rest : List Instr) → self.old ≡ map capped (body_counts rest) → self.new ≡ map capped (body_counts (instr ∷ rest)) }
+        ensures { (rest : List Instr) → self.old ≡ map capped (body_counts rest)
+            → self.new ≡ map capped (body_counts (instr ∷ rest)) }
     {
         match instr {
             Instr::Run { times, .. } => self.run(times),
@@ -91,7 +94,7 @@ impl Sums {
 /// How many cycles the instructions of an executive run, or one more than the most where they are more.
 pub fn cycles(code: &[Instr]) -> u64
     requires { IsRest 0 false code.now }
-    ensures { result ≡ min (cycle_count code.now) (2 ^ 48 + 1) }
+    ensures { result ≡ min (cycle_count code.now) (most_cycles + 1) }
 {
     let mut sums = Sums::new();
     let mut at = code.len();
@@ -106,5 +109,5 @@ pub fn cycles(code: &[Instr]) -> u64
 fn at_most(cycles: u64) -> u64
     ensures { result ≡ capped cycles }
 {
-    cycles.min(MOST_TIMES + 1)
+    cycles.min(MOST_CYCLES + 1)
 }

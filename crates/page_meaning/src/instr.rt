@@ -1,11 +1,5 @@
 //! An instruction, and what one cycle runs.
 
-/// The most loops that may be open at once.
-pub const MOST_LOOPS: usize = 64;
-
-/// The most times that a loop runs its body, and the most cycles of an executive.
-pub const MOST_TIMES: u64 = 281474976710656;
-
 /// What one cycle runs: a row of characters under a table of waveforms. The mark is 0, or one more
 /// than the number of cells that a scan chain has shifted out before.
 #[derive(Clone, Copy, Debug, PartialEq, Eq)]

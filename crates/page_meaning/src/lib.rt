@@ -9,5 +9,5 @@ mod laws;
 
 pub use count::cycles;
 pub use course::Course;
-pub use instr::{Entry, Instr, MOST_LOOPS, MOST_TIMES};
-pub use laws::count_is_length;
+pub use instr::{Entry, Instr};
+pub use laws::{count_is_length, meaning_is_nesting};

@@ -5,13 +5,15 @@ use Rattle.csv.specs.declared.reader.Reader.{Reader}
 use Rattle.csv.specs.declared.parser.State.TheVariants as st
 use Rattle.csv.specs.declared.reader.Trim.TheVariants as trim
 use Rattle.csv.proofs.ReadFacts.{rows-end, rows-more}
-use Rattle.plan_rows.specs.Judging.{judge, reading}
+use Rattle.first_fault.specs.Reading.{reading}
+use Rattle.first_fault.proofs.ReadingLemmas.{reading-one, length-reading}
+use Rattle.plan_rows.specs.Judging.{judge}
 use Rattle.plan_rows.specs.Plan.{IsFault}
 use Rattle.plan_rows.specs.Inside.{IsWhole}
 use Rattle.plan_rows.specs.declared.row.Row.{Row}
 use Rattle.plan_rows.specs.declared.fault.PlanFault.{PlanFault}
 use Rattle.plan_rows.proofs.RecordLemmas.{few_records, strip-le}
-use Rattle.plan_rows.proofs.PlanLemmas.{reading-one, length-reading, fault_found}
+use Rattle.plan_rows.proofs.PlanLemmas.{fault_found}
 
 -- these records were read, they are these rows, and the rest is there
 pub record IsGoing (bytes : List ℕ) (rdr : Reader (Bor (List ℕ))) (rows : List Row) : Type 0 where
@@ -22,11 +24,13 @@ pub record IsGoing (bytes : List ℕ) (rdr : Reader (Bor (List ℕ))) (rows : Li
   pub source : source_of (λ (s : Bor (List ℕ)). Some s.now) rdr ≡ Some rest
   pub records : List (List (List ℕ))
   pub reached : Reached default_config st.StartRecord (strip_bom bytes) records rdr.state rest
-  pub read : reading [] records ≡ Ok rows
+  pub read : reading judge [] records ≡ Ok rows
 
 -- before the first record
-pub starts : (bytes : List ℕ) (rdr : Reader (Bor (List ℕ))) (rows : List Row) → rows ≡ [] → rdr.trim ≡ trim.None → rdr.has_headers ≡ false → rdr.headers ≡ None →
-    rdr.config ≡ default_config → source_of (λ (s : Bor (List ℕ)). Some s.now) rdr ≡ Some (strip_bom bytes) → rdr.state ≡ st.StartRecord → IsGoing bytes rdr rows
+pub starts : (bytes : List ℕ) (rdr : Reader (Bor (List ℕ))) (rows : List Row) → rows ≡ [] → rdr.trim ≡ trim.None
+    → rdr.has_headers ≡ false → rdr.headers ≡ None → rdr.config ≡ default_config
+    → source_of (λ (s : Bor (List ℕ)). Some s.now) rdr ≡ Some (strip_bom bytes)
+    → rdr.state ≡ st.StartRecord → IsGoing bytes rdr rows
 unfolding Reached
 starts bytes rdr rows none plain names headers config source state = record {
   plain = plain;
@@ -40,8 +44,9 @@ starts bytes rdr rows none plain names headers config source state = record {
 }
 
 -- a record was read and is one more row
-pub goes_on : (bytes : List ℕ) (old new : Reader (Bor (List ℕ))) (rows made : List Row) (fields : List (List ℕ)) (x : Row) → IsGoing bytes old rows →
-    ReadRecord (λ (s : Bor (List ℕ)). Some s.now) old new true fields → new.first ≡ true → judge rows fields ≡ Ok x → made ≡ rows ++ x ∷ [] → IsGoing bytes new made
+pub goes_on : (bytes : List ℕ) (old new : Reader (Bor (List ℕ))) (rows made : List Row) (fields : List (List ℕ)) (x : Row)
+    → IsGoing bytes old rows → ReadRecord (λ (s : Bor (List ℕ)). Some s.now) old new true fields → new.first ≡ true
+    → judge rows fields ≡ Ok x → made ≡ rows ++ x ∷ [] → IsGoing bytes new made
 goes_on bytes old new rows made fields x g step first judged more =
     let (z, source, reached) = rows-more (λ (s : Bor (List ℕ)). Some s.now) old new fields default_config st.StartRecord (strip_bom bytes) g.rest g.records
     g.config g.source g.reached step in
@@ -53,7 +58,7 @@ goes_on bytes old new rows made fields x g step first judged more =
       source = source;
       records = g.records ++ fields ∷ [];
       reached = reached;
-      read = reading-one g.records rows fields x g.read judged ∙ ap Ok (sym more);
+      read = reading-one judge [] rows g.records fields x g.read judged ∙ ap Ok (sym more);
     }
 
 -- a record was read and is refused
@@ -78,6 +83,6 @@ pub few_rows : (bytes : List ℕ) (rdr : Reader (Bor (List ℕ))) (rows : List R
 few_rows bytes rdr rows g = omega (
   arith,
   few_records default_config st.StartRecord rdr.state (strip_bom bytes) g.rest g.records g.reached,
-  length-reading [] rows g.records g.read,
+  length-reading judge [] rows g.records g.read,
   strip-le bytes,
 )

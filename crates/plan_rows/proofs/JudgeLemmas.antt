@@ -1,24 +1,23 @@
 -- What the row of a judged record keeps.
-use Rattle.std.proofs.Common.{◌≡◌, ℕ, ◌+◌, ◌<◌, Bool, true, false, not, cond, ◌&&◌, ◌==◌, nat_le, List, [], ◌∷◌, length, map, Option, Some, None, Result, Ok, Err, refl, sym, ap, ◌∙◌, subst, arith}
+use Rattle.std.proofs.Common.{◌≡◌, ℕ, ◌+◌, ◌<◌, ◌^◌, Bool, true, false, not, cond, ◌&&◌, ◌==◌, nat_le, List, [], ◌∷◌, length, map, Option, Some, None, Result, Ok, Err, refl, sym, ap, ◌∙◌, subst, arith}
 use Rattle.std.specs.List.{list_any}
 use Rattle.std.specs.Str.{bytes_eq}
-use Rattle.std.proofs.lemmas.Bool.{leb-true, ne_eqb}
+use Rattle.std.proofs.lemmas.Bool.{and_parts, leb-true, ne_eqb}
 use Rattle.std.proofs.lemmas.List.{length-map}
 use Rattle.std.proofs.lemmas.List.Quantifiers.{position-Some}
 use Rattle.plan_rows.specs.Rows.{dies_of, dies_at, IsLot}
 use Rattle.plan_rows.specs.Forms.{Written, a_lot, a_clock, a_bind, a_die, a_fault, a_stop, a_bin, written_of}
-use Rattle.plan_rows.specs.Judging.{and_then, is_lot, stands, is_within, lot_fits, die_fits, tries_fit, ending_fits, names_at, number_at, of_die, within, row_of, subject_of, says_again, placed, once, row_at, judge_at, judge}
-use Rattle.plan_rows.specs.Inside.{Suits, IsNext}
-use Rattle.plan_rows.proofs.TallyLemmas.{list_any-map}
+use Rattle.first_fault.specs.Reading.{and_then}
+use Rattle.plan_rows.specs.Subjects.{subject_of}
+use Rattle.plan_rows.specs.Judging.{is_lot, stands, is_within, lot_fits, die_fits, tries_fit, ending_fits, names_at, number_at, of_die, within, row_of, says_again, placed, once, row_at, judge_at, judge}
+use Rattle.plan_rows.specs.Inside.{Suits, IsNext, key_of}
+use Rattle.plan_rows.proofs.FileLemmas.{SaysFile, written_of-says}
+use Rattle.plan_rows.proofs.SubjectLemmas.{same_subject-keys}
+use Rattle.text_bytes.proofs.ListLemmas.{list_any-map}
 use Rattle.plan_rows.specs.declared.row.Row.{Row}
 use Rattle.plan_rows.specs.declared.row.DieRow.{DieRow}
 use Rattle.plan_rows.specs.declared.fault.PlanFault.{PlanFault}
 use Rattle.plan_rows.specs.declared.fault.PlanFault.TheVariants.{Shape, Twice}
-
--- both of two tests
-pub both : (a b : Bool) → (a && b) ≡ true → (a ≡ true) × (b ≡ true)
-both true b h = (refl, h)
-both false b h = cc
 
 -- two steps that end well
 pub steps : {A B : Type 0} (r : Result A PlanFault) (next : A → Result B PlanFault) (y : B) → and_then r next ≡ Ok y →
@@ -26,13 +25,15 @@ pub steps : {A B : Type 0} (r : Result A PlanFault) (next : A → Result B PlanF
 steps (Ok x) next y h = (x, refl, h)
 steps (Err e) next y h = cc
 
--- a record that has a place stands where it may
-pub stands_where_placed : (place : ℕ) (before : List Row) (o : Option Written) (w : Written) → placed place before o ≡ Ok w → stands before w ≡ true
+-- a record that has a place has a form, and stands where it may
+pub stands_where_placed : (place : ℕ) (before : List Row) (o : Option Written) (w : Written) → placed place before o ≡ Ok w
+    → (o ≡ Some w) × (stands before w ≡ true)
 stands_where_placed place before None w h = cc
 stands_where_placed place before (Some v) w h = by (stands before v) refl h
   where
-    by : (b : Bool) → stands before v ≡ b → cond {A = Result Written PlanFault} b (Ok v) (Err (Shape place)) ≡ Ok w → stands before w ≡ true
-    by true e h = let same : v ≡ w = cc in subst (λ (u : Written). stands before u ≡ true) same e
+    by : (b : Bool) → stands before v ≡ b → cond {A = Result Written PlanFault} b (Ok v) (Err (Shape place)) ≡ Ok w
+        → (Some v ≡ Some w) × (stands before w ≡ true)
+    by true e h = let same : v ≡ w = cc in (ap Some same, subst (λ (u : Written). stands before u ≡ true) same e)
     by false e h = cc
 
 -- a row that is taken says nothing again
@@ -79,10 +80,10 @@ first (x ∷ xs) w own st =
 
 lot_is : (batch tries keep : ℕ) → lot_fits batch tries keep ≡ true → IsLot (record { batch = batch; tries = tries; keep = keep })
 lot_is batch tries keep h =
-    let (front, k) = both (is_within 1 1048576 batch && is_within 1 8 tries) (nat_le keep 1024) h in
-    let (b, t) = both (is_within 1 1048576 batch) (is_within 1 8 tries) front in
-    let (b1, b2) = both (nat_le 1 batch) (nat_le batch 1048576) b in
-    let (t1, t2) = both (nat_le 1 tries) (nat_le tries 8) t in
+    let (front, k) = and_parts (is_within 1 1048576 batch && is_within 1 8 tries) (nat_le keep 1024) h in
+    let (b, t) = and_parts (is_within 1 1048576 batch) (is_within 1 8 tries) front in
+    let (b1, b2) = and_parts (nat_le 1 batch) (nat_le batch 1048576) b in
+    let (t1, t2) = and_parts (nat_le 1 tries) (nat_le tries 8) t in
     record {
       batch_some = leb-true 1 batch b1;
       batch = leb-true batch 1048576 b2;
@@ -92,33 +93,37 @@ lot_is batch tries keep h =
     }
 
 -- a row made of what a record says suits the rows before it
-pub suits : (place : ℕ) (before : List Row) (w : Written) (x : Row) → stands before w ≡ true → row_of place before w ≡ Ok x → Suits before x
-suits place before (a_lot batch tries keep) x st h =
+pub suits : (place : ℕ) (before : List Row) (w : Written) (x : Row) → SaysFile (Some w) → stands before w ≡ true
+    → row_of place before w ≡ Ok x → Suits before x
+suits place before (a_lot batch tries keep) x says st h =
     let (fits, made) = fits_within place (lot_fits batch tries keep) _ x h in
     of_same (Suits before) _ x _ refl made (first before (a_lot batch tries keep) refl st, lot_is batch tries keep fits)
-suits place before (a_clock signal) x st h = of_same (Suits before) _ x _ refl h (not_first before (a_clock signal) refl st)
-suits place before (a_bind signal net) x st h = of_same (Suits before) _ x _ refl h (not_first before (a_bind signal net) refl st)
-suits place before (a_die site name file) x st h =
+suits place before (a_clock signal) x says st h = of_same (Suits before) _ x _ refl h (not_first before (a_clock signal) refl st)
+suits place before (a_bind signal net) x says st h = of_same (Suits before) _ x _ refl h (not_first before (a_bind signal net) refl st)
+suits place before (a_die site name file) x says st h =
     let (fits, made) = fits_within place (nat_le site 63 && die_fits before) _ x h in
-    let (low, room) = both (nat_le site 63) (die_fits before) fits in
-    let (few, kept) = both (nat_le (length (dies_of before) + 1) 4096) _ room in
+    let (low, room) = and_parts (nat_le site 63) (die_fits before) fits in
+    let (few, kept) = and_parts (nat_le (length (dies_of before) + 1) 4096) _ room in
     of_same (Suits before) _ x _ refl made (
       not_first before (a_die site name file) refl st,
       leb-true site 63 low,
       leb-true (length (dies_of before) + 1) 4096 few,
       leb-true _ 1048576 kept,
+      says,
     )
-suits place before (a_fault site name net value tries) x st h =
+suits place before (a_fault site name net value tries) x says st h =
     let (fits, found) = fits_within place (nat_le site 63 && nat_le value 1 && tries_fit tries) _ x h in
     let (n, at, made) = die_there place (number_at before site name) _ x found in
     subst (Suits before) made (not_first before (a_fault site name net value tries) refl st, number_within before site name n at)
-suits place before (a_stop site name number batch) x st h =
-    let (fits, found) = fits_within place (nat_le site 63 && is_within 1 8 number && nat_le batch 281474976710656) _ x h in
+suits place before (a_stop site name number batch) x says st h =
+    let (fits, found) = fits_within place (nat_le site 63 && is_within 1 8 number && nat_le batch (2 ^ 48)) _ x h in
     let (n, at, made) = die_there place (number_at before site name) _ x found in
     subst (Suits before) made (not_first before (a_stop site name number batch) refl st, number_within before site name n at)
-suits place before (a_bin ending number) x st h =
+suits place before (a_bin ending number) x says st h =
     let (fits, made) = fits_within place (ending_fits ending && is_within 1 99 number) _ x h in
-    of_same (Suits before) _ x _ refl made (not_first before (a_bin ending number) refl st)
+    let (least, most) = and_parts (nat_le 1 number) (nat_le number 99) (and_parts (ending_fits ending) (is_within 1 99 number) fits).1 in
+    of_same (Suits before) _ x _ refl made
+    (not_first before (a_bin ending number) refl st, leb-true 1 number least, leb-true number 99 most)
 
 -- the row of a judged record may follow those before it
 pub next_is : (place : ℕ) (before : List Row) (fields : List (List ℕ)) (x : Row) → judge_at place before fields ≡ Ok x → IsNext before x
@@ -126,17 +131,20 @@ next_is place before fields x h =
     let (y, row, again) = steps (row_at place before fields) (once place before) x h in
     let (w, form, made) = steps (placed place before (written_of fields)) (row_of place before) y row in
     let (same, fresh) = fresh_once place before y x again in
+    let (formed, stood) = stands_where_placed place before (written_of fields) w form in
     record {
-      suits = subst (Suits before) same (suits place before w y (stands_where_placed place before (written_of fields) w form) made);
+      suits = subst (Suits before) same (suits place before w y (subst SaysFile formed (written_of-says fields)) stood made);
       fresh = fresh;
     }
 
 -- what keys say of a row's subject
-pub says_by_keys : {X : Type 0} (f : X → List ℕ) (keys : List X) (before : List Row) (x : Row) (subject : List ℕ) (b : Bool) →
-    map f keys ≡ map subject_of before → subject ≡ subject_of x → b ≡ list_any (λ k. bytes_eq subject (f k)) keys → says_again before x ≡ b
-says_by_keys f keys before x subject b seen is found =
-    ap (λ (s : List ℕ). list_any (bytes_eq s) (map subject_of before)) (sym is) ∙ ap (list_any (bytes_eq subject)) (sym seen)
-    ∙ list_any-map f (bytes_eq subject) keys ∙ sym found
+pub says_by_keys : {X : Type 0} (f : X → List ℕ) (keys : List X) (before : List Row) (x : Row) (key : List ℕ) (b : Bool)
+    → map f keys ≡ map key_of before → key ≡ key_of x → b ≡ list_any (λ k. bytes_eq key (f k)) keys
+    → says_again before x ≡ b
+says_by_keys f keys before x key b seen is found =
+    sym (same_subject-keys before (subject_of x))
+    ∙ ap (λ (s : List ℕ). list_any (bytes_eq s) (map key_of before)) (sym is) ∙ ap (list_any (bytes_eq key)) (sym seen)
+    ∙ list_any-map f (bytes_eq key) keys ∙ sym found
 
 -- the fault of a record by itself
 pub fault_alone : (place : ℕ) (before : List Row) (fields : List (List ℕ)) (e : PlanFault) → row_at place before fields ≡ Err e →

@@ -1,12 +1,14 @@
 pub mod FormLemmas
 pub mod TallyLemmas
 pub mod RowLemmas
+pub mod FileLemmas
 pub mod JudgeLemmas
+pub mod SubjectLemmas
 pub mod SaidLemmas
 pub mod NextLemmas
 pub mod RecordLemmas
-pub mod PlanLemmas
 pub mod FirstLemmas
+pub mod PlanLemmas
 pub mod GoingLemmas
 pub mod KeptLemmas
 pub mod StandardFacts

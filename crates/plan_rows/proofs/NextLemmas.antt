@@ -10,14 +10,14 @@ use Rattle.std.proofs.lemmas.Bool.{eqb-true, eqb-false}
 use Rattle.plan_rows.specs.Rows.{one, each_of, dies_of, as_lot, as_die}
 use Rattle.plan_rows.specs.Judging.{says_again}
 use Rattle.plan_rows.specs.Inside.{IsTally, Suits, Notes, with_name, kept_names}
-use Rattle.plan_rows.specs.declared.tally.Tally.{Tally}
+use Rattle.plan_rows.specs.declared.tally.DieTally.{DieTally}
 use Rattle.plan_rows.specs.declared.row.Row.{Row}
 use Rattle.plan_rows.specs.declared.row.Row.TheVariants as row
 use Rattle.plan_rows.specs.declared.row.LotRow.{LotRow}
 use Rattle.plan_rows.specs.declared.row.DieRow.{DieRow}
 use Rattle.plan_rows.proofs.RowLemmas.{each_of-append}
 use Rattle.plan_rows.proofs.SaidLemmas.{fresh_name}
-use Rattle.plan_rows.proofs.TallyLemmas.{list_any-map}
+use Rattle.text_bytes.proofs.ListLemmas.{list_any-map}
 
 -- a row of another kind gives nothing more
 pub each_of-other : {A : Type 0} (f : Row → Option A) (rows : List Row) (x : Row) → f x ≡ None → each_of f (rows ++ x ∷ []) ≡ each_of f rows
@@ -42,12 +42,12 @@ names_more site dies d =
     ∙ map-append (λ (d : DieRow). d.name) (filter (λ (d : DieRow). d.site == site) dies) (filter (λ (d : DieRow). d.site == site) (d ∷ []))
 
 -- a row that is neither the lot's own nor a die's
-other_tally : (old new : Tally) (rows : List Row) (x : Row) → IsTally old rows → new ≡ old → as_lot x ≡ None → as_die x ≡ None →
+other_tally : (old new : DieTally) (rows : List Row) (x : Row) → IsTally old rows → new ≡ old → as_lot x ≡ None → as_die x ≡ None →
     IsTally new (rows ++ x ∷ [])
 other_tally old new rows x t same no_lot no_die =
     let lots : each_of as_lot (rows ++ x ∷ []) ≡ each_of as_lot rows = each_of-other as_lot rows x no_lot in
     let dies : each_of as_die (rows ++ x ∷ []) ≡ each_of as_die rows = each_of-other as_die rows x no_die in
-    subst (λ (k : Tally). IsTally k (rows ++ x ∷ [])) (sym same) (record {
+    subst (λ (k : DieTally). IsTally k (rows ++ x ∷ [])) (sym same) (record {
       lot = t.lot ∙ sym (ap lot_among lots);
       dies = t.dies ∙ sym (ap length dies);
       few = t.few;
@@ -56,10 +56,10 @@ other_tally old new rows x t same no_lot no_die =
     })
 
 -- as many sites as are kept
-kept_sites : (t : Tally) → length (kept_names t) ≡ length t.names.items
+kept_sites : (t : DieTally) → length (kept_names t) ≡ length t.names.items
 kept_sites t = length-map t.names.items _
 
-lot_tally : (old new : Tally) (l : LotRow) → IsTally old [] → Notes old new (row.Lot l) → IsTally new (row.Lot l ∷ [])
+lot_tally : (old new : DieTally) (l : LotRow) → IsTally old [] → Notes old new (row.Lot l) → IsTally new (row.Lot l ∷ [])
 lot_tally old new l t (lot, dies, names) = record {
   lot = lot;
   dies = dies ∙ t.dies;
@@ -93,9 +93,9 @@ new_names kept dies d site low at_site at_die fresh = by (d.site == site) refl
         other_place : (j : ℕ) → j ≢ d.site → get_or (set kept d.site (with_name (get_or kept d.site []) d.name)) j [] ≡ get_or kept j []
         other_place j differ = rw get_or-set_other refl
 
-die_tally : (old new : Tally) (rows : List Row) (d : DieRow) → IsTally old rows → Suits rows (row.Die d) → says_again rows (row.Die d) ≡ false →
+die_tally : (old new : DieTally) (rows : List Row) (d : DieRow) → IsTally old rows → Suits rows (row.Die d) → says_again rows (row.Die d) ≡ false →
     Notes old new (row.Die d) → IsTally new (rows ++ row.Die d ∷ [])
-die_tally old new rows d t (behind, low, few, kept) fresh (lot, dies, names) =
+die_tally old new rows d t (behind, low, few, kept, named) fresh (lot, dies, names) =
     let lots : each_of as_lot (rows ++ row.Die d ∷ []) ≡ each_of as_lot rows = each_of-other as_lot rows (row.Die d) refl in
     let more : each_of as_die (rows ++ row.Die d ∷ []) ≡ each_of as_die rows ++ d ∷ [] = each_of-one as_die rows (row.Die d) d refl in
     let count : length (each_of as_die rows ++ d ∷ []) ≡ length (each_of as_die rows) + 1 = length-append (each_of as_die rows) (d ∷ []) in
@@ -113,7 +113,7 @@ die_tally old new rows d t (behind, low, few, kept) fresh (lot, dies, names) =
     }
 
 -- what is kept, with a row that may follow
-pub noted : (old new : Tally) (rows : List Row) (x : Row) → IsTally old rows → Suits rows x → says_again rows x ≡ false →
+pub noted : (old new : DieTally) (rows : List Row) (x : Row) → IsTally old rows → Suits rows x → says_again rows x ≡ false →
     Notes old new x → IsTally new (rows ++ x ∷ [])
 noted old new [] (row.Lot l) t suits fresh notes = lot_tally old new l t notes
 noted old new (y ∷ rows) (row.Lot l) t (none, fits) fresh notes = absurd (omega arith)

@@ -3,12 +3,15 @@ use Rattle.std.proofs.Common.{◌≡◌, ℕ, ◌+◌, ◌<◌, List, [], ◌∷
 use Rattle.csv.specs.Reading.{Reached, default_config, strip_bom}
 use Rattle.csv.specs.declared.parser.State.{State}
 use Rattle.csv.specs.declared.parser.State.TheVariants as st
-use Rattle.plan_rows.specs.Judging.{and_then, judge, reading, plan_of}
+use Rattle.first_fault.specs.Reading.{and_then, reading}
+use Rattle.first_fault.proofs.ReadingLemmas.{reading-append, length-reading}
+use Rattle.plan_rows.specs.Judging.{judge, plan_of}
 use Rattle.plan_rows.specs.Plan.{HasRecords, IsPlan, IsFault}
 use Rattle.plan_rows.specs.declared.row.Row.{Row}
 use Rattle.plan_rows.specs.declared.fault.PlanFault.{PlanFault}
 use Rattle.plan_rows.specs.declared.fault.PlanFault.TheVariants.{Shape}
 use Rattle.plan_rows.proofs.RecordLemmas.{one_records, some_records, Reached-append}
+use Rattle.plan_rows.proofs.FirstLemmas.{plan_of-some}
 
 -- a text's records are one list
 pub one_list : (bytes : List ℕ) (a b : List (List (List ℕ))) → HasRecords bytes a → HasRecords bytes b → a ≡ b
@@ -29,42 +32,9 @@ pub no_fault_where_read : (bytes : List ℕ) (rows : List Row) (f : PlanFault) �
 no_fault_where_read bytes rows f p q =
     let same : Ok rows ≡ Err f = one_answer bytes p.records q.records (Ok rows) (Err f) p.are p.read q.are q.read in cc
 
--- reading what was met at one record
-read_on : (before read : List Row) (front rest : List (List (List ℕ))) (r : Result Row PlanFault) →
-    ((x : Row) → reading (before ++ x ∷ []) front ≡ Ok read → reading (before ++ x ∷ []) (front ++ rest) ≡ reading read rest) →
-    and_then r (λ x. reading (before ++ x ∷ []) front) ≡ Ok read →
-    and_then r (λ x. reading (before ++ x ∷ []) (front ++ rest)) ≡ reading read rest
-read_on before read front rest (Ok x) later is = later x is
-read_on before read front rest (Err e) later is = cc
-
--- reading a front, and then the rest
-pub reading-append : (before read : List Row) (front rest : List (List (List ℕ))) → reading before front ≡ Ok read →
-    reading before (front ++ rest) ≡ reading read rest
-reading-append before read [] rest is = let same : before ≡ read = cc in ap (λ xs. reading xs rest) same
-reading-append before read (r ∷ front) rest is =
-    read_on before read front rest (judge before r) (λ x. reading-append (before ++ x ∷ []) read front rest) is
-
--- one more record
-pub reading-one : (records : List (List (List ℕ))) (rows : List Row) (fields : List (List ℕ)) (x : Row) → reading [] records ≡ Ok rows →
-    judge rows fields ≡ Ok x → reading [] (records ++ fields ∷ []) ≡ Ok (rows ++ x ∷ [])
-reading-one records rows fields x is judged =
-    reading-append [] rows records (fields ∷ []) is ∙ ap (λ (r : Result Row PlanFault). and_then r (λ y. Ok (rows ++ y ∷ []))) judged
-
--- as many rows as records
-pub length-reading : (before read : List Row) (records : List (List (List ℕ))) → reading before records ≡ Ok read →
-    length read ≡ length before + length records
-length-reading before read [] is = let same : before ≡ read = cc in omega (arith, ap length same)
-length-reading before read (r ∷ records) is = by (judge before r) (λ x. length-reading (before ++ x ∷ []) read records) is
-  where
-    by : (o : Result Row PlanFault) →
-        ((x : Row) → reading (before ++ x ∷ []) records ≡ Ok read → length read ≡ length (before ++ x ∷ []) + length records) →
-        and_then o (λ x. reading (before ++ x ∷ []) records) ≡ Ok read → length read ≡ length before + length (r ∷ records)
-    by (Ok x) later is = omega (arith, later x is, length-append before (x ∷ []))
-    by (Err e) later is = cc
-
 -- a record that is refused, and whatever stands behind it
 pub fault_found : (bytes : List ℕ) (records : List (List (List ℕ))) (rows : List Row) (fields : List (List ℕ)) (e : PlanFault) (s : State) (ys : List ℕ) →
-    Reached default_config st.StartRecord (strip_bom bytes) (records ++ fields ∷ []) s ys → reading [] records ≡ Ok rows →
+    Reached default_config st.StartRecord (strip_bom bytes) (records ++ fields ∷ []) s ys → reading judge [] records ≡ Ok rows →
     judge rows fields ≡ Err e → IsFault bytes e
 fault_found bytes records rows fields e s ys reached is judged =
     let (rest, (s2, zs, more, none)) = some_records (length ys) default_config s ys (omega arith) in
@@ -73,23 +43,18 @@ fault_found bytes records rows fields e s ys reached is judged =
     record {
       records = (records ++ fields ∷ []) ++ rest;
       are = (s2, zs, all, none);
-      read = ap plan_of (append_assoc records (fields ∷ []) rest) ∙ as_read records fields rest
-          ∙ reading-append [] rows records (fields ∷ rest) is
-          ∙ ap (λ (r : Result Row PlanFault). and_then r (λ y. reading (rows ++ y ∷ []) rest)) judged;
+      read = ap plan_of (append_assoc records (fields ∷ []) rest) ∙ plan_of-some records fields rest
+          ∙ reading-append judge [] rows records (fields ∷ rest) is
+          ∙ ap (λ (r : Result Row PlanFault). and_then r (λ y. reading judge (rows ++ y ∷ []) rest)) judged;
     }
-  where
-    as_read : (records : List (List (List ℕ))) (fields : List (List ℕ)) (rest : List (List (List ℕ))) →
-        plan_of (records ++ (fields ∷ rest)) ≡ reading [] (records ++ (fields ∷ rest))
-    as_read [] fields rest = refl
-    as_read (r ∷ records) fields rest = refl
 
 -- all records were read: a plan where there is one, and a fault where there is none
-pub plan_found : (bytes : List ℕ) (records : List (List (List ℕ))) (rows : List Row) → HasRecords bytes records → reading [] records ≡ Ok rows →
+pub plan_found : (bytes : List ℕ) (records : List (List (List ℕ))) (rows : List Row) → HasRecords bytes records → reading judge [] records ≡ Ok rows →
     0 < length rows → IsPlan bytes rows
 plan_found bytes [] rows are is some = let same : [] ≡ rows = cc in absurd (omega (arith, ap (λ (r : List Row). length r) same))
 plan_found bytes (r ∷ records) rows are is some = record { records = r ∷ records; are = are; read = is }
 
-pub empty_found : (bytes : List ℕ) (records : List (List (List ℕ))) (rows : List Row) → HasRecords bytes records → reading [] records ≡ Ok rows →
+pub empty_found : (bytes : List ℕ) (records : List (List (List ℕ))) (rows : List Row) → HasRecords bytes records → reading judge [] records ≡ Ok rows →
     length rows ≡ 0 → IsFault bytes (Shape 1)
 empty_found bytes [] rows are is none = record { records = []; are = are; read = refl }
-empty_found bytes (r ∷ records) rows are is none = absurd (omega (arith, length-reading [] rows (r ∷ records) is))
+empty_found bytes (r ∷ records) rows are is none = absurd (omega (arith, length-reading judge [] rows (r ∷ records) is))

@@ -2,7 +2,8 @@
 use Rattle.std.proofs.Common.{◌≡◌, ℕ, ◌-◌, ◌^◌, List, [], ◌∷◌, Some, None, Ok, Err, true, codes, refl}
 use Rattle.csv.specs.Machine.{next_record}
 use Rattle.csv.specs.Reading.{default_config, records, records_from, strip_bom}
-use Rattle.plan_rows.specs.Words.{number_of, name_of, net_of}
+use Rattle.text_bytes.specs.Bytes.{is_digit, is_printing, is_printable}
+use Rattle.plan_rows.specs.Words.{number_in, name_of, net_of}
 use Rattle.plan_rows.specs.Forms.{a_lot, a_clock, a_bind, a_die, a_fault, a_stop, a_bin, written_of}
 use Rattle.plan_rows.specs.Judging.{plan_of}
 use Rattle.plan_rows.specs.declared.row.Row.TheVariants as row
@@ -10,57 +11,73 @@ use Rattle.plan_rows.specs.declared.row.Ending.TheVariants.{Pass, Fail}
 use Rattle.plan_rows.specs.declared.fault.PlanFault.TheVariants.{Shape, UnknownName, Twice, OutOfRange}
 
 -- numbers: leading zeros, 20 digits, 21 digits, a sign, none
-pub seven : number_of (codes "007") ≡ Some 7
+pub seven : number_in (codes "007") ≡ Some 7
+unfolding is_digit is_printing is_printable
 seven = refl
 
-pub twenty_digits : number_of (codes "00000000000000000007") ≡ Some 7
+pub twenty_digits : number_in (codes "00000000000000000007") ≡ Some 7
+unfolding is_digit is_printing is_printable
 twenty_digits = refl
 
-pub more_digits : number_of (codes "000000000000000000007") ≡ Some (2 ^ 64 - 1)
+pub more_digits : number_in (codes "000000000000000000007") ≡ Some (2 ^ 64 - 1)
+unfolding is_digit is_printing is_printable
 more_digits = refl
 
-pub too_great : number_of (codes "99999999999999999999") ≡ Some (2 ^ 64 - 1)
+pub too_great : number_in (codes "99999999999999999999") ≡ Some (2 ^ 64 - 1)
+unfolding is_digit is_printing is_printable
 too_great = refl
 
-pub no_sign : number_of (codes "-1") ≡ None
+pub no_sign : number_in (codes "-1") ≡ None
+unfolding is_digit is_printing is_printable
 no_sign = refl
 
-pub no_digit : number_of [] ≡ None
+pub no_digit : number_in [] ≡ None
 no_digit = refl
 
 -- names: a net may hold a space, a die's name not
 pub net_with_space : net_of (codes "a b") ≡ Some (codes "a b")
+unfolding is_digit is_printing is_printable
 net_with_space = refl
 
 pub name_with_space : name_of (codes "a b") ≡ None
+unfolding is_digit is_printing is_printable
 name_with_space = refl
 
 -- a record of each kind
 pub lot_record : written_of (codes "lot" ∷ codes "4" ∷ codes "2" ∷ codes "3" ∷ [] ∷ [] ∷ []) ≡ Some (a_lot 4 2 3)
+unfolding is_digit is_printing is_printable
 lot_record = refl
 
 pub clock_record : written_of (codes "clock" ∷ codes "c" ∷ [] ∷ [] ∷ [] ∷ [] ∷ []) ≡ Some (a_clock (codes "c"))
+unfolding is_digit is_printing is_printable
 clock_record = refl
 
 pub free_record : written_of (codes "bind" ∷ codes "s" ∷ codes "-" ∷ [] ∷ [] ∷ [] ∷ []) ≡ Some (a_bind (codes "s") None)
+unfolding is_digit is_printing is_printable
 free_record = refl
 
 pub bind_record : written_of (codes "bind" ∷ codes "s" ∷ codes "n" ∷ [] ∷ [] ∷ [] ∷ []) ≡ Some (a_bind (codes "s") (Some (codes "n")))
+unfolding is_digit is_printing is_printable
 bind_record = refl
 
 pub die_record : written_of (codes "die" ∷ codes "3" ∷ codes "a" ∷ codes "f" ∷ [] ∷ [] ∷ []) ≡ Some (a_die 3 (codes "a") (codes "f"))
+unfolding is_digit is_printing is_printable
 die_record = refl
 
 pub fault_record : written_of (codes "fault" ∷ codes "3" ∷ codes "a" ∷ codes "n" ∷ codes "1" ∷ [] ∷ []) ≡ Some (a_fault 3 (codes "a") (codes "n") 1 None)
+unfolding is_digit is_printing is_printable
 fault_record = refl
 
 pub stop_record : written_of (codes "stop" ∷ codes "3" ∷ codes "a" ∷ codes "2" ∷ codes "7" ∷ [] ∷ []) ≡ Some (a_stop 3 (codes "a") 2 7)
+unfolding is_digit is_printing is_printable
 stop_record = refl
 
 pub fail_record : written_of (codes "bin" ∷ codes "fail" ∷ codes "5" ∷ codes "9" ∷ [] ∷ [] ∷ []) ≡ Some (a_bin (Fail 5) 9)
+unfolding is_digit is_printing is_printable
 fail_record = refl
 
 pub pass_record : written_of (codes "bin" ∷ codes "pass" ∷ [] ∷ codes "9" ∷ [] ∷ [] ∷ []) ≡ Some (a_bin Pass 9)
+unfolding is_digit is_printing is_printable
 pass_record = refl
 
 -- a field that is not used, a kind that is none, five fields
@@ -92,27 +109,34 @@ pub small_plan : plan_of (lot_fields ∷ die_fields ∷ other_die_fields ∷ fau
     ∷ row.Die (record { site = 3; name = codes "a"; file = codes "f" })
     ∷ row.Die (record { site = 3; name = codes "b"; file = codes "f" })
     ∷ row.Fault (record { site = 3; die = 1; net = codes "n"; value = true; tries = None }) ∷ [])
+unfolding is_digit is_printing is_printable
 small_plan = refl
 
 pub no_record : plan_of [] ≡ Err (Shape 1)
 no_record = refl
 
 pub lot_missing : plan_of (die_fields ∷ []) ≡ Err (Shape 1)
+unfolding is_digit is_printing is_printable
 lot_missing = refl
 
 pub second_lot : plan_of (lot_fields ∷ die_fields ∷ lot_fields ∷ []) ≡ Err (Shape 3)
+unfolding is_digit is_printing is_printable
 second_lot = refl
 
 pub die_later : plan_of (lot_fields ∷ fault_fields ∷ other_die_fields ∷ []) ≡ Err (UnknownName 2)
+unfolding is_digit is_printing is_printable
 die_later = refl
 
 pub die_again : plan_of (lot_fields ∷ die_fields ∷ die_fields ∷ []) ≡ Err (Twice 3)
+unfolding is_digit is_printing is_printable
 die_again = refl
 
 pub fault_again : plan_of (lot_fields ∷ other_die_fields ∷ fault_fields ∷ fault_fields ∷ []) ≡ Err (Twice 4)
+unfolding is_digit is_printing is_printable
 fault_again = refl
 
 pub bin_zero : plan_of (lot_fields ∷ (codes "bin" ∷ codes "pass" ∷ [] ∷ codes "0" ∷ [] ∷ [] ∷ []) ∷ []) ≡ Err (OutOfRange 2)
+unfolding is_digit is_printing is_printable
 bin_zero = refl
 
 -- the records of a text: a byte order mark and an empty line are none, an open quote ends with the text

@@ -2,19 +2,17 @@
 use Rattle.std.specs.Prelude.{ℕ, ◌+◌, ◌*◌, ◌&&◌, ◌==◌, nat_le, Bool, true, false, not, List, [], ◌∷◌, ◌++◌, length, map, Option, Some, None, Result, Ok, Err, if◌then◌else◌}
 use Rattle.std.specs.List.{list_any, position}
 use Rattle.std.specs.Str.{bytes_eq}
+use Rattle.first_fault.specs.Reading.{and_then, reading}
+use Rattle.plan_rows.specs.Limits.{last_site, most_dies, most_batch, most_tries, most_keep, most_kept, last_batch, last_executive, last_bin}
 use Rattle.plan_rows.specs.Rows.{dies_of, dies_at, lot_of}
 use Rattle.plan_rows.specs.Forms.{Written, a_lot, a_clock, a_bind, a_die, a_fault, a_stop, a_bin, written_of}
+use Rattle.plan_rows.specs.Subjects.{subject_of, same_subject}
 use Rattle.plan_rows.specs.declared.row.Row.{Row}
 use Rattle.plan_rows.specs.declared.row.Row.TheVariants as row
 use Rattle.plan_rows.specs.declared.row.Ending.{Ending}
 use Rattle.plan_rows.specs.declared.row.Ending.TheVariants.{Pass, Fail, Stopped, Contact}
 use Rattle.plan_rows.specs.declared.fault.PlanFault.{PlanFault}
 use Rattle.plan_rows.specs.declared.fault.PlanFault.TheVariants.{Shape, UnknownName, Twice, OutOfRange}
-
--- one step after another
-abbrev pub and_then : {A B : Type 0} → Result A PlanFault → (A → Result B PlanFault) → Result B PlanFault
-and_then (Ok x) next = next x
-and_then (Err e) next = Err e
 
 -- whether a record is the lot's own
 abbrev pub is_lot : Written → Bool
@@ -36,22 +34,22 @@ is_within low high number = nat_le low number && nat_le number high
 
 -- a lot's numbers within their ranges
 abbrev pub lot_fits : ℕ → ℕ → ℕ → Bool
-lot_fits batch tries keep = is_within 1 1048576 batch && is_within 1 8 tries && nat_le keep 1024
+lot_fits batch tries keep = is_within 1 most_batch batch && is_within 1 most_tries tries && nat_le keep most_keep
 
 -- one more die: at most 4,096 of them, and at most 2^20 kept fails of all their tries
 abbrev pub die_fits : List Row → Bool
-die_fits before = nat_le (length (dies_of before) + 1) 4096
-    && nat_le ((length (dies_of before) + 1) * ((lot_of before).tries * (lot_of before).keep)) 1048576
+die_fits before = nat_le (length (dies_of before) + 1) most_dies
+    && nat_le ((length (dies_of before) + 1) * ((lot_of before).tries * (lot_of before).keep)) most_kept
 
 -- the tries of a fault within their range; all tries where none are written
 abbrev pub tries_fit : Option ℕ → Bool
 tries_fit None = true
-tries_fit (Some tries) = is_within 1 8 tries
+tries_fit (Some tries) = is_within 1 most_tries tries
 
 -- an ending whose executive is within its range
 abbrev pub ending_fits : Ending → Bool
 ending_fits Pass = true
-ending_fits (Fail executive) = nat_le executive 63
+ending_fits (Fail executive) = nat_le executive last_executive
 ending_fits Stopped = true
 ending_fits Contact = true
 
@@ -78,38 +76,22 @@ row_of place before (a_lot batch tries keep) = within place (lot_fits batch trie
     (Ok (row.Lot (record { batch = batch; tries = tries; keep = keep })))
 row_of place before (a_clock signal) = Ok (row.Clock signal)
 row_of place before (a_bind signal net) = Ok (row.Bind (record { signal = signal; net = net }))
-row_of place before (a_die site name file) = within place (nat_le site 63 && die_fits before)
+row_of place before (a_die site name file) = within place (nat_le site last_site && die_fits before)
     (Ok (row.Die (record { site = site; name = name; file = file })))
-row_of place before (a_fault site name net value tries) = within place (nat_le site 63 && nat_le value 1 && tries_fit tries)
+row_of place before (a_fault site name net value tries) =
+    within place (nat_le site last_site && nat_le value 1 && tries_fit tries)
     (of_die place (number_at before site name)
     (λ die. row.Fault (record { site = site; die = die; net = net; value = value == 1; tries = tries })))
-row_of place before (a_stop site name number batch) = within place (nat_le site 63 && is_within 1 8 number && nat_le batch 281474976710656)
+row_of place before (a_stop site name number batch) =
+    within place (nat_le site last_site && is_within 1 most_tries number && nat_le batch last_batch)
     (of_die place (number_at before site name)
     (λ die. row.Stop (record { site = site; die = die; number = number; batch = batch })))
-row_of place before (a_bin ending number) = within place (ending_fits ending && is_within 1 99 number)
+row_of place before (a_bin ending number) = within place (ending_fits ending && is_within 1 last_bin number)
     (Ok (row.Bin (record { ending = ending; bin = number })))
-
--- an ending as a part of a subject
-abbrev pub ending_subject : Ending → List ℕ
-ending_subject Pass = 0 ∷ []
-ending_subject (Fail executive) = 1 ∷ executive ∷ []
-ending_subject Stopped = 2 ∷ []
-ending_subject Contact = 3 ∷ []
-
--- what a row is about, which one row of a plan may be: its kind's number, and then the signal, the site and the die's
--- name, the die and its net, the die and its try, or the ending
-abbrev pub subject_of : Row → List ℕ
-subject_of (row.Lot l) = 0 ∷ []
-subject_of (row.Clock s) = 1 ∷ []
-subject_of (row.Bind b) = 2 ∷ b.signal
-subject_of (row.Die d) = 3 ∷ d.site ∷ d.name
-subject_of (row.Fault f) = 4 ∷ f.site ∷ f.die ∷ f.net
-subject_of (row.Stop s) = 5 ∷ s.site ∷ s.die ∷ s.number ∷ []
-subject_of (row.Bin b) = 6 ∷ ending_subject b.ending
 
 -- an earlier row is about the same
 abbrev pub says_again : List Row → Row → Bool
-says_again before x = list_any (bytes_eq (subject_of x)) (map subject_of before)
+says_again before x = list_any (same_subject (subject_of x)) (map subject_of before)
 
 -- a record that has a form, and stands where it may
 abbrev pub placed : ℕ → List Row → Option Written → Result Written PlanFault
@@ -132,12 +114,7 @@ judge_at place before fields = and_then (row_at place before fields) (once place
 abbrev pub judge : List Row → List (List ℕ) → Result Row PlanFault
 judge before fields = judge_at (length before + 1) before fields
 
--- each record is judged by the rows of those before it
-abbrev pub reading : List Row → List (List (List ℕ)) → Result (List Row) PlanFault
-reading before [] = Ok before
-reading before (r ∷ rs) = and_then (judge before r) (λ x. reading (before ++ x ∷ []) rs)
-
 -- the rows of a plan's records, or the first fault: a plan has a record
 abbrev pub plan_of : List (List (List ℕ)) → Result (List Row) PlanFault
 plan_of [] = Err (Shape 1)
-plan_of (r ∷ rs) = reading [] (r ∷ rs)
+plan_of (r ∷ rs) = reading judge [] (r ∷ rs)

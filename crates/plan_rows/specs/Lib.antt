@@ -1,7 +1,10 @@
-pub mod Rows
+pub mod Limits
 pub mod Words
+pub mod Rows
 pub mod Forms
+pub mod Subjects
 pub mod Judging
 pub mod Plan
+pub mod FaultText
 pub mod Views
 pub mod Inside

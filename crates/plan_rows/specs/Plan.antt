@@ -1,8 +1,9 @@
 -- The plan that a text is, and the fault of a text that is none.
-use Rattle.std.specs.Prelude.{◌≡◌, ◌⊎◌, ℕ, ◌+◌, List, [], ◌∷◌, ◌++◌, length, Ok, Err}
+use Rattle.std.specs.Prelude.{◌≡◌, ◌⊎◌, ℕ, List, [], Ok, Err}
 use Rattle.csv.specs.Reading.{AreRecords, default_config, strip_bom}
 use Rattle.csv.specs.declared.parser.State.TheVariants as st
-use Rattle.plan_rows.specs.Judging.{reading, judge_at, plan_of}
+use Rattle.first_fault.specs.Reading.{IsFirst}
+use Rattle.plan_rows.specs.Judging.{judge, plan_of}
 use Rattle.plan_rows.specs.declared.row.Row.{Row}
 use Rattle.plan_rows.specs.declared.fault.PlanFault.{PlanFault}
 use Rattle.plan_rows.specs.declared.fault.PlanFault.TheVariants.{Shape}
@@ -23,16 +24,6 @@ pub record IsFault (bytes : List ℕ) (fault : PlanFault) : Type 0 where
   pub are : HasRecords bytes records
   pub read : plan_of records ≡ Err fault
 
--- the first record that is refused: those before it are rows, and behind these rows, at its place counted from 1, it has this fault
-pub record IsRefused (records : List (List (List ℕ))) (fault : PlanFault) : Type 0 where
-  pub front : List (List (List ℕ))
-  pub here : List (List ℕ)
-  pub back : List (List (List ℕ))
-  pub rows : List Row
-  pub split : records ≡ front ++ here ∷ back
-  pub front_read : reading [] front ≡ Ok rows
-  pub refused : judge_at (length front + 1) rows here ≡ Err fault
-
--- the fault of records: that of the first that is refused, or that there is none
+-- the fault of records: that of the first that is refused, behind the rows of those before it, or that there is none
 abbrev pub IsFaultOf : List (List (List ℕ)) → PlanFault → Type 0
-IsFaultOf records fault = ((records ≡ []) × (fault ≡ Shape 1)) ⊎ IsRefused records fault
+IsFaultOf records fault = ((records ≡ []) × (fault ≡ Shape 1)) ⊎ IsFirst judge [] records fault

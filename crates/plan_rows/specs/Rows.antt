@@ -1,7 +1,9 @@
 -- The rows of a plan as plain data: the lists that they make, and what accepted rows keep.
-use Rattle.std.specs.Prelude.{◌≡◌, ◌==◌, ◌+◌, ◌*◌, ◌&&◌, max, ℕ, ◌<◌, ◌≤◌, if◌then◌else◌, Option, Some, None, List, [], ◌∷◌, ◌++◌, length, filter, fold, slice_index_or}
+use Rattle.std.specs.Prelude.{◌≡◌, ◌==◌, ◌+◌, ◌*◌, ◌&&◌, max, ℕ, ◌<◌, ◌≤◌, if◌then◌else◌, Option, Some, None, List, [], ◌∷◌, ◌++◌, length, filter, fold, slice_index_or, All, true}
 use Rattle.std.specs.List.{list_any}
 use Rattle.std.specs.Str.{bytes_eq}
+use Rattle.plan_rows.specs.Limits.{last_site, most_dies, most_batch, most_tries, most_keep, most_kept, last_bin}
+use Rattle.plan_rows.specs.Words.{is_name}
 use Rattle.plan_rows.specs.declared.row.Row.{Row}
 use Rattle.plan_rows.specs.declared.row.Row.TheVariants as row
 use Rattle.plan_rows.specs.declared.row.LotRow.{LotRow}
@@ -126,21 +128,32 @@ lot_of rows = slice_index_or (each_of as_lot rows) 0 (record { batch = 0; tries 
 -- a lot's numbers are in their ranges
 pub record IsLot (l : LotRow) : Type 0 where
   pub batch_some : 1 ≤ l.batch
-  pub batch : l.batch ≤ 1048576
+  pub batch : l.batch ≤ most_batch
   pub tries_some : 1 ≤ l.tries
-  pub tries : l.tries ≤ 8
-  pub keep : l.keep ≤ 1024
+  pub tries : l.tries ≤ most_tries
+  pub keep : l.keep ≤ most_keep
 
--- what accepted rows keep: the lot's row is there once, sites and dies are few, a fault and a stop are of a die that an
--- earlier row gave, and no two faults of one die have one net
+-- a site has a die of this number
+abbrev pub HasDie : List Row → ℕ → ℕ → Type 0
+HasDie rows site die = die < length (dies_at site rows)
+
+-- no two faults of a list have one net
+abbrev pub AreApart : List FaultRow → Type 0
+AreApart faults = (k l : ℕ) (f g : FaultRow) → k < length faults → l < length faults
+    → (slice_index_or faults k f).net ≡ (slice_index_or faults l g).net → k ≡ l
+
+-- what accepted rows keep: the lot's row is there once, sites and dies are few, the files of dies have names of 1 to
+-- 255 bytes that show in print, a fault and a stop are of a die that an earlier row gave, bins are 1 to 99, and no two
+-- faults of one die have one net
 pub record AreKept (rows : List Row) : Type 0 where
   pub lots : length (each_of as_lot rows) ≡ 1
   pub lot : IsLot (lot_of rows)
   pub clocks : length (each_of as_clock rows) ≤ 1
-  pub sites : (k : ℕ) (d : DieRow) → k < length (dies_of rows) → (slice_index_or (dies_of rows) k d).site ≤ 63
-  pub dies : length (dies_of rows) ≤ 4096
-  pub few_kept : length (dies_of rows) * ((lot_of rows).tries * (lot_of rows).keep) ≤ 1048576
-  pub faults : (k : ℕ) (f : FaultRow) → k < length (each_of as_fault rows) → (slice_index_or (each_of as_fault rows) k f).die < length (dies_at (slice_index_or (each_of as_fault rows) k f).site rows)
-  pub stops : (k : ℕ) (s : StopRow) → k < length (each_of as_stop rows) → (slice_index_or (each_of as_stop rows) k s).die < length (dies_at (slice_index_or (each_of as_stop rows) k s).site rows)
-  pub one_fault : (site die k l : ℕ) (f g : FaultRow) → k < length (faults_at site die rows) → l < length (faults_at site die rows)
-      → (slice_index_or (faults_at site die rows) k f).net ≡ (slice_index_or (faults_at site die rows) l g).net → k ≡ l
+  pub sites : All (λ d. d.site ≤ last_site) (dies_of rows)
+  pub files : All (λ d. is_name d.file ≡ true) (dies_of rows)
+  pub dies : length (dies_of rows) ≤ most_dies
+  pub few_kept : length (dies_of rows) * ((lot_of rows).tries * (lot_of rows).keep) ≤ most_kept
+  pub faults : All (λ f. HasDie rows f.site f.die) (each_of as_fault rows)
+  pub stops : All (λ s. HasDie rows s.site s.die) (each_of as_stop rows)
+  pub bins : All (λ b. (1 ≤ b.bin) × (b.bin ≤ last_bin)) (each_of as_bin rows)
+  pub one_fault : (site die : ℕ) → AreApart (faults_at site die rows)

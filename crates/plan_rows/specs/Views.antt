@@ -1,7 +1,7 @@
 -- The code's values without where they lie in memory; no public clause cites them.
 use Rattle.std.specs.Prelude.{List, ℕ, Option, option_map, Result, Ok, Err}
 use Rattle.std.specs.Borrow.{Bor}
-use Rattle.plan_rows.specs.Forms.{Six, Written, a_lot, a_clock, a_bind, a_die, a_fault, a_stop, a_bin}
+use Rattle.plan_rows.specs.Forms.{Columns, Written, a_lot, a_clock, a_bind, a_die, a_fault, a_stop, a_bin}
 use Rattle.plan_rows.specs.declared.row.Ending.{Ending}
 use Rattle.plan_rows.specs.declared.row.Ending.TheVariants.{Pass, Fail, Stopped, Contact}
 use Rattle.plan_rows.specs.declared.fault.PlanFault.{PlanFault}
@@ -10,8 +10,15 @@ use Rattle.plan_rows.specs.declared.written.Ended.TheVariants as ended
 use Rattle.plan_rows.specs.declared.written.Written.TheVariants as says
 
 -- six fields
-abbrev pub six_seen : written.Six.Six → Six
-six_seen r = record { kind = r.kind.now; one = r.one.now; two = r.two.now; three = r.three.now; four = r.four.now; five = r.five.now }
+abbrev pub columns_seen : written.Columns.Columns → Columns
+columns_seen r = record {
+  kind = r.kind.now;
+  second = r.second.now;
+  third = r.third.now;
+  fourth = r.fourth.now;
+  fifth = r.fifth.now;
+  sixth = r.sixth.now;
+}
 
 -- an ending
 abbrev pub ending_seen : written.Ended.Ended → Ending

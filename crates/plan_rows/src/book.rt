@@ -2,10 +2,10 @@
 
 ghost use Rattle.std.specs.Prelude.{◌≡◌, ◌==◌, ◌<◌, ◌≤◌, ◌⊎◌, ◌∷◌, ◌++◌, ◌-◌, ◌^◌, [], Ok, Err, length, OnOk, IfOk, IfErr};
 ghost use Rattle.csv.specs.Records.{fields_of};
-ghost use Rattle.plan_rows.specs.Judging.{row_of, number_at, placed, row_at, judge, is_lot, subject_of};
+ghost use Rattle.plan_rows.specs.Judging.{row_of, number_at, placed, row_at, judge, is_lot};
 ghost use Rattle.plan_rows.specs.Forms.{a_die, a_stop, written_of};
 ghost use Rattle.plan_rows.specs.Views.{written_seen, placed_seen, fault_seen};
-ghost use Rattle.plan_rows.specs.Inside.{IsAnswer, IsBook, IsNext, Reads};
+ghost use Rattle.plan_rows.specs.Inside.{IsAnswer, IsBook, IsNext, Reads, key_of};
 ghost use Rattle.plan_rows.specs.declared.fault.PlanFault.TheVariants.{NoMemory};
 
 use crate::fault::PlanFault;
@@ -13,8 +13,8 @@ use crate::kinds::{
     LAST_BATCH, LAST_SITE, MOST_TRIES, are_tries, bin_row, bind_row, lot_row, small_tries,
 };
 use crate::row::{DieRow, FaultRow, Row, StopRow};
-use crate::subject::subject_of;
-use crate::tally::Tally;
+use crate::subject::key_of;
+use crate::tally::DieTally;
 use crate::written::{Written, WrittenFault, written_of};
 use csv::ByteRecord;
 use indexmap::IndexSet;
@@ -25,7 +25,7 @@ use tester_types::Items;
 #[derive(Drop)]
 pub(crate) struct Book {
     rows: Vec<Row>,
-    tally: Tally,
+    tally: DieTally,
     subjects: IndexSet<Vec<u16>>,
 }
 
@@ -44,7 +44,7 @@ impl Book {
     {
         Ok(Book {
             rows: Vec::new(alloc),
-            tally: Tally::new(alloc)?,
+            tally: DieTally::new(alloc)?,
             subjects: IndexSet::new(alloc),
         })
     }
@@ -195,7 +195,7 @@ impl Book {
     fn add(&mut self, alloc: Global, row: Row, subject: Vec<u16>) -> Result<(), AllocError>
         requires book { IsBook self.old }
         requires next { IsNext self.old.rows.items row }
-        requires subject { subject.items ≡ subject_of row }
+        requires subject { subject.items ≡ key_of row }
         ensures { OnOk result (IsBook self.new × (self.new.rows.items ≡ self.old.rows.items ++ row ∷ [])) }
     {
         self.tally.note(alloc, &row)?;
@@ -209,11 +209,12 @@ impl Book {
         requires book { IsBook self.old }
         requires few { length self.old.rows.items < 2 ^ 32 - 1 }
         ensures ok { OnOk result (Reads self.old self.new (fields_of fields.now)) }
-        ensures fault { IfErr result (λ e. (e ≡ NoMemory) ⊎ (judge self.old.rows.items (fields_of fields.now) ≡ Err e)) }
+        ensures fault { IfErr result
+            (λ e. (e ≡ NoMemory) ⊎ (judge self.old.rows.items (fields_of fields.now) ≡ Err e)) }
     {
         let place = self.len() as u32 + 1;
         let row = self.row_at(alloc, place, fields)?;
-        let subject = subject_of(alloc, &row)?;
+        let subject = key_of(alloc, &row)?;
         if self.subjects.contains(subject.as_slice()) {
             return Err(PlanFault::Twice(place));
         }

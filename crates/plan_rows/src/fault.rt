@@ -1,4 +1,5 @@
 //! Why a plan is refused.
+
 ghost use Rattle.std.specs.Prelude.{◌≡◌};
 ghost use Rattle.plan_rows.specs.declared.fault.PlanFault.TheVariants.{NoMemory};
 
@@ -24,6 +25,11 @@ pub enum PlanFault {
 }
 
 impl fmt::Display for PlanFault {
+    ghost use Rattle.std.specs.Prelude.{Some};
+    ghost use Rattle.plan_rows.specs.FaultText.{fault_text};
+
+    ghost output = { λ fault. Some (fault_text fault) };
+
     fn fmt<W: fmt::Write>(&self, f: &mut fmt::Formatter<W>) -> fmt::Result {
         match self {
             PlanFault::NoMemory => write!(f, "out of memory"),

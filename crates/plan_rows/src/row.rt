@@ -86,4 +86,4 @@ pub enum Row {
 }
 
 /// Rows in order.
-pub type RowList = Items<Row>;
+pub type PlanRows = Items<Row>;

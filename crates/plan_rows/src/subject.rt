@@ -1,7 +1,7 @@
-//! What a row is about, which one row of a plan may be.
+//! What a row is about, in numbers: one row of a plan may be about it.
 
 ghost use Rattle.std.specs.Prelude.{◌≡◌, ◌∷◌, ◌++◌, IfOk};
-ghost use Rattle.plan_rows.specs.Judging.{subject_of, ending_subject};
+ghost use Rattle.plan_rows.specs.Inside.{key_of, ending_key};
 
 use crate::row::{Ending, Row};
 use std::alloc::{AllocError, Global};
@@ -18,8 +18,8 @@ fn key(alloc: Global, head: &[u16], text: &[u8]) -> Result<Vec<u16>, AllocError>
 }
 
 /// What a bin's row is about.
-fn ending_subject(alloc: Global, ending: Ending) -> Result<Vec<u16>, AllocError>
-    ensures { IfOk result (λ key. key.items ≡ 6 ∷ ending_subject ending) }
+fn ending_key(alloc: Global, ending: Ending) -> Result<Vec<u16>, AllocError>
+    ensures { IfOk result (λ key. key.items ≡ 6 ∷ ending_key ending) }
 {
     match ending {
         Ending::Pass => key(alloc, &[6, 0], b""),
@@ -30,8 +30,8 @@ fn ending_subject(alloc: Global, ending: Ending) -> Result<Vec<u16>, AllocError>
 }
 
 /// What a row is about.
-pub(crate) fn subject_of(alloc: Global, row: &Row) -> Result<Vec<u16>, AllocError>
-    ensures { IfOk result (λ key. key.items ≡ subject_of row.now) }
+pub(crate) fn key_of(alloc: Global, row: &Row) -> Result<Vec<u16>, AllocError>
+    ensures { IfOk result (λ key. key.items ≡ key_of row.now) }
 {
     match row {
         Row::Lot(_) => key(alloc, &[0], b""),
@@ -48,6 +48,6 @@ pub(crate) fn subject_of(alloc: Global, row: &Row) -> Result<Vec<u16>, AllocErro
             &[5, u16::from(stop.site), stop.die, u16::from(stop.number)],
             b"",
         ),
-        Row::Bin(bin) => ending_subject(alloc, bin.ending),
+        Row::Bin(bin) => ending_key(alloc, bin.ending),
     }
 }

@@ -20,7 +20,7 @@ const MOST_KEPT: u64 = 1_048_576;
 
 /// The lot's own row, how many dies there are, and the names of those of each site, in order.
 #[derive(Drop)]
-pub(crate) struct Tally {
+pub(crate) struct DieTally {
     lot: LotRow,
     dies: u32,
     names: Vec<IndexSet<Vec<u8>>>,
@@ -50,12 +50,12 @@ fn no_names(alloc: Global) -> Result<Vec<IndexSet<Vec<u8>>>, AllocError>
     Ok(names)
 }
 
-impl Tally {
+impl DieTally {
     /// Before any row.
-    pub(crate) fn new(alloc: Global) -> Result<Tally, AllocError>
+    pub(crate) fn new(alloc: Global) -> Result<DieTally, AllocError>
         ensures { IfOk result (λ t. IsTally t []) }
     {
-        Ok(Tally {
+        Ok(DieTally {
             lot: LotRow {
                 batch: 0,
                 tries: 0,
@@ -92,7 +92,8 @@ impl Tally {
         ensures lot { OnOk result (self.new.lot ≡ self.old.lot) }
         ensures dies { OnOk result (self.new.dies ≡ self.old.dies + 1) }
         ensures names { OnOk result (kept_names self.new
-            ≡ slice_set (kept_names self.old) die.now.site (with_name (slice_index_or (kept_names self.old) die.now.site []) die.now.name)) }
+            ≡ slice_set (kept_names self.old) die.now.site
+            (with_name (slice_index_or (kept_names self.old) die.now.site []) die.now.name)) }
     {
         put_name(
             alloc,

@@ -1,7 +1,7 @@
 //! Each kind of record with its refusals, and what the reading of fields leaves to a plan.
 
 use crate::{
-    Ending, PlanFault, Row, RowList, first_refused, no_fault_in_plan, one_record_list, read_rows,
+    Ending, PlanFault, PlanRows, Row, first_refused, no_fault_in_plan, one_record_list, read_rows,
 };
 use std::alloc::{AllocError, Global};
 use std::test::Fail;
@@ -18,7 +18,7 @@ enum Answer {
     Other,
 }
 
-fn read(alloc: Global, text: &[u8]) -> Result<RowList, PlanFault> {
+fn read(alloc: Global, text: &[u8]) -> Result<PlanRows, PlanFault> {
     if text.len() > 1_000_000 {
         return Err(PlanFault::NoMemory);
     }

@@ -1,48 +1,21 @@
-//! Numbers and texts as fields spell them.
+//! Numbers and texts as the fields of a record spell them.
 
-ghost use Rattle.std.specs.Prelude.{◌≡◌, MatchOption, None, Some, fold, length, nat_le, nat_lt, ◌&&◌};
+ghost use Rattle.std.specs.Prelude.{◌≡◌, MatchOption, None, Some, length, nat_le, nat_lt, ◌&&◌};
 ghost use Rattle.std.specs.List.{list_all};
 ghost use Rattle.std.specs.Str.{bytes_eq};
-ghost use Rattle.plan_rows.specs.Words.{is_digit, are_digits, with_digit, value_of, number_of, is_text, name_of, net_of};
+ghost use Rattle.text_bytes.specs.Bytes.{is_printing};
+ghost use Rattle.plan_rows.specs.Words.{value_of, number_in, name_of, net_of};
+
+use text_bytes::{LONGEST_LABEL, LONGEST_NAME, all_printable, are_digits, is_printing, number_of};
 
 /// The most digits of a number that is told from greater ones.
 const MOST_DIGITS: usize = 20;
-
-/// The most bytes of the name of a die or a file.
-const LONGEST_NAME: usize = 255;
-
-/// The most bytes of the name of a signal or a net.
-const LONGEST_NET: usize = 1024;
 
 /// Whether a field is this word.
 pub(crate) fn is_word(bytes: &[u8], word: &[u8]) -> bool
     ensures { result ≡ bytes_eq bytes.now word.now }
 {
     bytes == word
-}
-
-fn all_digits(bytes: &[u8]) -> bool
-    ensures { result ≡ list_all is_digit bytes.now }
-{
-    bytes.iter().all(|byte| *byte >= b'0' && *byte <= b'9')
-}
-
-fn are_digits(bytes: &[u8]) -> bool
-    ensures { result ≡ are_digits bytes.now }
-{
-    !bytes.is_empty() && all_digits(bytes)
-}
-
-/// The number of digits, which stops at 2^64 - 1.
-fn capped(digits: &[u8]) -> u64
-    ensures { result ≡ fold with_digit 0 digits.now }
-{
-    let mut value = 0u64;
-    for digit in digits {
-        let digit = u64::from(digit.saturating_sub(b'0'));
-        value = value.saturating_mul(10).saturating_add(digit);
-    }
-    value
 }
 
 /// The number of digits; more than 20 of them are beyond every range.
@@ -52,13 +25,13 @@ fn value_of(digits: &[u8]) -> u64
     if digits.len() > MOST_DIGITS {
         u64::MAX
     } else {
-        capped(digits)
+        number_of(digits)
     }
 }
 
 /// The number that a field is, if it is decimal digits.
-pub(crate) fn number_of(bytes: &[u8]) -> Option<u64>
-    ensures { result ≡ number_of bytes.now }
+pub(crate) fn number_in(bytes: &[u8]) -> Option<u64>
+    ensures { result ≡ number_in bytes.now }
 {
     if are_digits(bytes) {
         Some(value_of(bytes))
@@ -67,23 +40,25 @@ pub(crate) fn number_of(bytes: &[u8]) -> Option<u64>
     }
 }
 
-fn all_between(least: u8, bytes: &[u8]) -> bool
-    ensures { result ≡ list_all (λ b. nat_le least b && nat_le b 126) bytes.now }
+/// Whether it is 1 to this many bytes.
+fn has_length(most: usize, bytes: &[u8]) -> bool
+    ensures { result ≡ (nat_lt 0 (length bytes.now) && nat_le (length bytes.now) most) }
 {
-    bytes.iter().all(|byte| least <= *byte && *byte <= 0x7E)
+    !bytes.is_empty() && bytes.len() <= most
 }
 
-fn is_text(least: u8, most: usize, bytes: &[u8]) -> bool
-    ensures { result ≡ is_text least most bytes.now }
+/// Whether each byte shows in print.
+fn all_printing(bytes: &[u8]) -> bool
+    ensures { result ≡ list_all is_printing bytes.now }
 {
-    !bytes.is_empty() && bytes.len() <= most && all_between(least, bytes)
+    bytes.iter().all(|byte| is_printing(*byte))
 }
 
 /// The name of a die or a file: 1 to 255 bytes from 0x21 to 0x7E.
 pub(crate) fn name_of(bytes: &[u8]) -> Option<&[u8]>
     ensures { MatchOption result (name_of bytes.now ≡ None) (λ name. name_of bytes.now ≡ Some name.now) }
 {
-    if is_text(0x21, LONGEST_NAME, bytes) {
+    if has_length(LONGEST_LABEL, bytes) && all_printing(bytes) {
         Some(bytes)
     } else {
         None
@@ -94,7 +69,7 @@ pub(crate) fn name_of(bytes: &[u8]) -> Option<&[u8]>
 pub(crate) fn net_of(bytes: &[u8]) -> Option<&[u8]>
     ensures { MatchOption result (net_of bytes.now ≡ None) (λ net. net_of bytes.now ≡ Some net.now) }
 {
-    if is_text(0x20, LONGEST_NET, bytes) {
+    if has_length(LONGEST_NAME, bytes) && all_printable(bytes) {
         Some(bytes)
     } else {
         None

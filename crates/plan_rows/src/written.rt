@@ -3,21 +3,21 @@
 ghost use Rattle.std.specs.Prelude.{◌≡◌, ◌==◌, length, map, option_map};
 ghost use Rattle.std.specs.List.{list_all};
 ghost use Rattle.csv.specs.Records.{fields_of};
-ghost use Rattle.plan_rows.specs.Forms.{six_of, written_of, form_of, lot_form, clock_form, bound_net, bind_form, die_form, fault_tries, fault_form, stop_form, ending_form, bin_form};
-ghost use Rattle.plan_rows.specs.Views.{six_seen, written_seen, ending_seen, net_seen};
+ghost use Rattle.plan_rows.specs.Forms.{columns_of, written_of, form_of, lot_form, clock_form, bound_net, bind_form, die_form, fault_tries, fault_form, stop_form, ending_form, bin_form};
+ghost use Rattle.plan_rows.specs.Views.{columns_seen, written_seen, ending_seen, net_seen};
 
-use crate::words::{is_word, name_of, net_of, number_of};
+use crate::words::{is_word, name_of, net_of, number_in};
 use csv::ByteRecord;
 
-/// The six fields of a record.
+/// The six columns of a record: its kind, and five more.
 #[derive(Clone, Copy)]
-pub(crate) struct Six<'a> {
+pub(crate) struct Columns<'a> {
     kind: &'a [u8],
-    one: &'a [u8],
-    two: &'a [u8],
-    three: &'a [u8],
-    four: &'a [u8],
-    five: &'a [u8],
+    second: &'a [u8],
+    third: &'a [u8],
+    fourth: &'a [u8],
+    fifth: &'a [u8],
+    sixth: &'a [u8],
 }
 
 /// How a last try ends, with its number as it is written.
@@ -73,43 +73,43 @@ pub(crate) enum Written<'a> {
 }
 
 /// The fields of a record that has exactly six.
-fn six_of(fields: &ByteRecord) -> Option<Six<'_>>
-    ensures { option_map six_seen result ≡ six_of (fields_of fields.now) }
+fn columns_of(fields: &ByteRecord) -> Option<Columns<'_>>
+    ensures { option_map columns_seen result ≡ columns_of (fields_of fields.now) }
 {
     if fields.len() != 6 {
         return None;
     }
-    Some(Six {
+    Some(Columns {
         kind: fields.get(0)?,
-        one: fields.get(1)?,
-        two: fields.get(2)?,
-        three: fields.get(3)?,
-        four: fields.get(4)?,
-        five: fields.get(5)?,
+        second: fields.get(1)?,
+        third: fields.get(2)?,
+        fourth: fields.get(3)?,
+        fifth: fields.get(4)?,
+        sixth: fields.get(5)?,
     })
 }
 
 /// `lot,B,TRIES,F,,`
-fn lot_form<'a>(r: &Six<'a>) -> Option<Written<'a>>
-    ensures { option_map written_seen result ≡ lot_form (six_seen r.now) }
+fn lot_form<'a>(r: &Columns<'a>) -> Option<Written<'a>>
+    ensures { option_map written_seen result ≡ lot_form (columns_seen r.now) }
 {
-    if !(r.four.is_empty() && r.five.is_empty()) {
+    if !(r.fifth.is_empty() && r.sixth.is_empty()) {
         return None;
     }
-    let batch = number_of(r.one)?;
-    let tries = number_of(r.two)?;
-    let keep = number_of(r.three)?;
+    let batch = number_in(r.second)?;
+    let tries = number_in(r.third)?;
+    let keep = number_in(r.fourth)?;
     Some(Written::Lot { batch, tries, keep })
 }
 
 /// `clock,SIGNAL,,,,`
-fn clock_form<'a>(r: &Six<'a>) -> Option<Written<'a>>
-    ensures { option_map written_seen result ≡ clock_form (six_seen r.now) }
+fn clock_form<'a>(r: &Columns<'a>) -> Option<Written<'a>>
+    ensures { option_map written_seen result ≡ clock_form (columns_seen r.now) }
 {
-    if !(r.two.is_empty() && r.three.is_empty() && r.four.is_empty() && r.five.is_empty()) {
+    if !(r.third.is_empty() && r.fourth.is_empty() && r.fifth.is_empty() && r.sixth.is_empty()) {
         return None;
     }
-    let signal = net_of(r.one)?;
+    let signal = net_of(r.second)?;
     Some(Written::Clock { signal })
 }
 
@@ -125,27 +125,27 @@ fn bound_net(bytes: &[u8]) -> Option<Option<&[u8]>>
 }
 
 /// `bind,SIGNAL,NET,,,`
-fn bind_form<'a>(r: &Six<'a>) -> Option<Written<'a>>
-    ensures { option_map written_seen result ≡ bind_form (six_seen r.now) }
+fn bind_form<'a>(r: &Columns<'a>) -> Option<Written<'a>>
+    ensures { option_map written_seen result ≡ bind_form (columns_seen r.now) }
 {
-    if !(r.three.is_empty() && r.four.is_empty() && r.five.is_empty()) {
+    if !(r.fourth.is_empty() && r.fifth.is_empty() && r.sixth.is_empty()) {
         return None;
     }
-    let signal = net_of(r.one)?;
-    let net = bound_net(r.two)?;
+    let signal = net_of(r.second)?;
+    let net = bound_net(r.third)?;
     Some(Written::Bind { signal, net })
 }
 
 /// `die,SITE,NAME,FILE,,`
-fn die_form<'a>(r: &Six<'a>) -> Option<Written<'a>>
-    ensures { option_map written_seen result ≡ die_form (six_seen r.now) }
+fn die_form<'a>(r: &Columns<'a>) -> Option<Written<'a>>
+    ensures { option_map written_seen result ≡ die_form (columns_seen r.now) }
 {
-    if !(r.four.is_empty() && r.five.is_empty()) {
+    if !(r.fifth.is_empty() && r.sixth.is_empty()) {
         return None;
     }
-    let site = number_of(r.one)?;
-    let name = name_of(r.two)?;
-    let file = name_of(r.three)?;
+    let site = number_in(r.second)?;
+    let name = name_of(r.third)?;
+    let file = name_of(r.fourth)?;
     Some(Written::Die { site, name, file })
 }
 
@@ -156,19 +156,19 @@ fn fault_tries(bytes: &[u8]) -> Option<Option<u64>>
     if bytes.is_empty() {
         return Some(None);
     }
-    let tries = number_of(bytes)?;
+    let tries = number_in(bytes)?;
     Some(Some(tries))
 }
 
 /// `fault,SITE,NAME,NET,VALUE,TRIES`
-fn fault_form<'a>(r: &Six<'a>) -> Option<Written<'a>>
-    ensures { option_map written_seen result ≡ fault_form (six_seen r.now) }
+fn fault_form<'a>(r: &Columns<'a>) -> Option<Written<'a>>
+    ensures { option_map written_seen result ≡ fault_form (columns_seen r.now) }
 {
-    let site = number_of(r.one)?;
-    let name = name_of(r.two)?;
-    let net = net_of(r.three)?;
-    let value = number_of(r.four)?;
-    let tries = fault_tries(r.five)?;
+    let site = number_in(r.second)?;
+    let name = name_of(r.third)?;
+    let net = net_of(r.fourth)?;
+    let value = number_in(r.fifth)?;
+    let tries = fault_tries(r.sixth)?;
     Some(Written::Fault(WrittenFault {
         site,
         name,
@@ -179,16 +179,16 @@ fn fault_form<'a>(r: &Six<'a>) -> Option<Written<'a>>
 }
 
 /// `stop,SITE,NAME,TRY,BATCH,`
-fn stop_form<'a>(r: &Six<'a>) -> Option<Written<'a>>
-    ensures { option_map written_seen result ≡ stop_form (six_seen r.now) }
+fn stop_form<'a>(r: &Columns<'a>) -> Option<Written<'a>>
+    ensures { option_map written_seen result ≡ stop_form (columns_seen r.now) }
 {
-    if !r.five.is_empty() {
+    if !r.sixth.is_empty() {
         return None;
     }
-    let site = number_of(r.one)?;
-    let name = name_of(r.two)?;
-    let number = number_of(r.three)?;
-    let batch = number_of(r.four)?;
+    let site = number_in(r.second)?;
+    let name = name_of(r.third)?;
+    let number = number_in(r.fourth)?;
+    let batch = number_in(r.fifth)?;
     Some(Written::Stop {
         site,
         name,
@@ -198,21 +198,21 @@ fn stop_form<'a>(r: &Six<'a>) -> Option<Written<'a>>
 }
 
 /// The ending of a bin's record: `pass,`, `fail,E`, `stopped,`, `contact,`
-fn ending_form(r: &Six) -> Option<Ended>
-    ensures { option_map ending_seen result ≡ ending_form (six_seen r.now) }
+fn ending_form(r: &Columns) -> Option<Ended>
+    ensures { option_map ending_seen result ≡ ending_form (columns_seen r.now) }
 {
-    if is_word(r.one, b"fail") {
-        let executive = number_of(r.two)?;
+    if is_word(r.second, b"fail") {
+        let executive = number_in(r.third)?;
         return Some(Ended::Fail(executive));
     }
-    if !r.two.is_empty() {
+    if !r.third.is_empty() {
         return None;
     }
-    if is_word(r.one, b"pass") {
+    if is_word(r.second, b"pass") {
         Some(Ended::Pass)
-    } else if is_word(r.one, b"stopped") {
+    } else if is_word(r.second, b"stopped") {
         Some(Ended::Stopped)
-    } else if is_word(r.one, b"contact") {
+    } else if is_word(r.second, b"contact") {
         Some(Ended::Contact)
     } else {
         None
@@ -220,20 +220,20 @@ fn ending_form(r: &Six) -> Option<Ended>
 }
 
 /// `bin,ENDING,E,N,,`
-fn bin_form<'a>(r: &Six<'a>) -> Option<Written<'a>>
-    ensures { option_map written_seen result ≡ bin_form (six_seen r.now) }
+fn bin_form<'a>(r: &Columns<'a>) -> Option<Written<'a>>
+    ensures { option_map written_seen result ≡ bin_form (columns_seen r.now) }
 {
-    if !(r.four.is_empty() && r.five.is_empty()) {
+    if !(r.fifth.is_empty() && r.sixth.is_empty()) {
         return None;
     }
     let ended = ending_form(r)?;
-    let number = number_of(r.three)?;
+    let number = number_in(r.fourth)?;
     Some(Written::Bin { ended, number })
 }
 
 /// What six fields say, by the form of their kind.
-fn form_of<'a>(r: &Six<'a>) -> Option<Written<'a>>
-    ensures { option_map written_seen result ≡ form_of (six_seen r.now) }
+fn form_of<'a>(r: &Columns<'a>) -> Option<Written<'a>>
+    ensures { option_map written_seen result ≡ form_of (columns_seen r.now) }
 {
     if is_word(r.kind, b"lot") {
         lot_form(r)
@@ -258,6 +258,6 @@ fn form_of<'a>(r: &Six<'a>) -> Option<Written<'a>>
 pub(crate) fn written_of(fields: &ByteRecord) -> Option<Written<'_>>
     ensures { option_map written_seen result ≡ written_of (fields_of fields.now) }
 {
-    let six = six_of(fields)?;
-    form_of(&six)
+    let columns = columns_of(fields)?;
+    form_of(&columns)
 }

@@ -10,7 +10,7 @@ use Rattle.stil_ast.specs.Faults.CodeFaults.{compile_faults}
 use Rattle.stil_ast.specs.Faults.PatternFaults.{check_calls}
 use Rattle.stil_ast.proofs.StandardFacts.Texts.{signal, by_name, driven, assign, text_of, table as table_named}
 use Rattle.stil_ast.proofs.StandardFacts.Lines.{line_of, cycle as line, items, use_table, fault, refused}
-use Rattle.stil_ast.specs.declared.signal.Direction.TheVariants.{In}
+use Rattle.tester_types.specs.declared.signal.Direction.TheVariants.{In}
 use Rattle.stil_ast.specs.declared.body.Step.TheVariants.{Vector, Macro}
 use Rattle.stil_ast.specs.declared.fault.StilFault.{StilFault}
 use Rattle.stil_ast.specs.declared.fault.StilKind.TheVariants.{NoTable, NoWave, NoData, ShiftForm, TooLarge}

@@ -6,7 +6,7 @@ use Rattle.std.specs.declared.alloc.Global.{Global}
 use Rattle.std.proofs.lemmas.List.{map-append}
 use Rattle.std.proofs.lemmas.Option.{slice_get-map}
 use Rattle.page_code.specs.Rows.{is_row_of, row_items}
-use Rattle.page_code.proofs.Lists.{list_any-map}
+use Rattle.text_bytes.proofs.ListLemmas.{list_any-map}
 use Rattle.page_code.proofs.rows.RowList.add.Goals as goal
 
 map-cond : (b : Bool) (keys : List (Vec ℕ Global)) (row : Vec ℕ Global)
@@ -21,7 +21,7 @@ rows_more : (keys : List (Vec ℕ Global)) (row : Vec ℕ Global) (rows : List (
 rows_more keys row rows are =
     map-cond (list_any (λ key. pointwise nat_eq row.items (row_items key)) keys) keys row
     ∙ ap (λ (b : Bool). cond b (map row_items keys) (map row_items keys ++ row.items ∷ []))
-    (sym (list_any-map (pointwise nat_eq row.items) row_items keys))
+    (sym (list_any-map row_items (pointwise nat_eq row.items) keys))
     ∙ ap (λ (rs : List (List ℕ)). cond (is_row_of rs row.items) rs (rs ++ row.items ∷ [])) are
 
 pub returns-clause-number : goal.returns-clause-number

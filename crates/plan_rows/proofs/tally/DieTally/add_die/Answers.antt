@@ -1,7 +1,7 @@
 use Rattle.std.proofs.Common.{ap, ◌∙◌}
 use Rattle.plan_rows.specs.Inside.{key_texts, with_name}
 use Rattle.plan_rows.proofs.TallyLemmas.{kept_set_at}
-use Rattle.plan_rows.proofs.tally.Tally.add_die.Goals as goal
+use Rattle.plan_rows.proofs.tally.DieTally.add_die.Goals as goal
 
 pub returns-clause-names : goal.returns-clause-names
 returns-clause-names c = kept_set_at (λ s. key_texts s.keys) c.args.self.now.names.items c.args.die.now.site c.from.result c.index_mut.result.now c.put_name.new.names

@@ -1,7 +1,7 @@
 use Rattle.std.proofs.Common.{arith}
 use Rattle.csv.specs.Records.{fields_of}
 use Rattle.plan_rows.proofs.FormLemmas.{none_of_six, six_is}
-use Rattle.plan_rows.proofs.written.six_of.Goals as goal
+use Rattle.plan_rows.proofs.written.columns_of.Goals as goal
 
 pub returns-in_err-get : goal.returns-in_err-get
 returns-in_err-get c = absurd (none_of_six (fields_of c.args.fields.now) 0 (omega arith) (omega arith) c.in_err-get.ensures.value)

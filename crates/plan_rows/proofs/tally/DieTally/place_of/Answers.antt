@@ -3,7 +3,7 @@ use Rattle.std.specs.List.{position}
 use Rattle.std.specs.Str.{bytes_eq}
 use Rattle.plan_rows.specs.Inside.{key_texts}
 use Rattle.plan_rows.proofs.TallyLemmas.{kept_at, position-map}
-use Rattle.plan_rows.proofs.tally.Tally.place_of.Goals as goal
+use Rattle.plan_rows.proofs.tally.DieTally.place_of.Goals as goal
 
 pub returns : goal.returns
 returns c = c.get_index_of.ensures.index

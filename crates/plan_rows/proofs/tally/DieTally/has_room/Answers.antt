@@ -1,7 +1,7 @@
 use Rattle.std.proofs.Common.{arith, ◌≤◌, ◌*◌, ◌+◌}
 use Rattle.std.proofs.lemmas.Nat.{mul-le}
 use Rattle.plan_rows.proofs.TallyLemmas.{small_product}
-use Rattle.plan_rows.proofs.tally.Tally.has_room.Goals as goal
+use Rattle.plan_rows.proofs.tally.DieTally.has_room.Goals as goal
 
 pub overflow_mul-kept : goal.overflow_mul-kept
 overflow_mul-kept c =

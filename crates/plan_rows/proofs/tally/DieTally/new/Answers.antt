@@ -1,7 +1,7 @@
 use Rattle.std.proofs.Common.{refl, ap, lit≤}
 use Rattle.plan_rows.specs.Inside.{key_texts}
 use Rattle.plan_rows.proofs.TallyLemmas.{none_kept}
-use Rattle.plan_rows.proofs.tally.Tally.new.Goals as goal
+use Rattle.plan_rows.proofs.tally.DieTally.new.Goals as goal
 
 pub returns : goal.returns
 returns c =
