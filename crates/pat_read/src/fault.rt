@@ -6,6 +6,7 @@ ghost use Rattle.pat_read.specs.declared.fault.DataFault.TheVariants.{NoMemory};
 use std::alloc::{AllocError, AllocFailed};
 use std::error::Error;
 use std::fmt;
+use stil_form::{FormFault, FormKind};
 
 /// Why tokens are no data of an assignment.
 #[derive(Clone, Copy, Debug, PartialEq, Eq)]
@@ -47,3 +48,19 @@ impl fmt::Display for DataFault {
 }
 
 impl Error for DataFault {}
+
+impl DataFault {
+    ghost use Rattle.pat_read.specs.Fault.{fault_at};
+
+    /// The same as the fault of the statement with this first token.
+    pub(crate) fn at(self, first: u32) -> FormFault
+        ensures { result ≡ fault_at self first }
+    {
+        match self {
+            DataFault::NoMemory => FormFault::NoMemory,
+            DataFault::Shape => FormFault::Refused(FormKind::Shape, first),
+            DataFault::LeftOut => FormFault::Refused(FormKind::LeftOut, first),
+            DataFault::OutOfRange => FormFault::Refused(FormKind::OutOfRange, first),
+        }
+    }
+}
