@@ -1,0 +1,6 @@
+pub mod DataLemmas
+pub mod WordLemmas
+pub mod FormLemmas
+pub mod BodyLemmas
+pub mod StandardFacts
+pub mod ToldLemmas

@@ -1,0 +1,14 @@
+-- The words of UserKeywords statements (IEEE 1450-1999, clause 11), and an index of them.
+use Rattle.std.specs.Prelude.{ℕ, Bool, List}
+use Rattle.std.specs.Borrow.{Bor}
+use Rattle.std.specs.List.{list_any}
+use Rattle.std.specs.Str.{bytes_eq}
+use Rattle.indexmap.specs.IndexSet.{IndexSet, keys}
+
+-- a word is among these
+abbrev pub is_listed : List (List ℕ) → List ℕ → Bool
+is_listed words word = list_any (λ listed. bytes_eq listed word) words
+
+-- a word is in an index
+abbrev pub is_kept : {S : Type 0} → IndexSet (Bor (List ℕ)) S → List ℕ → Bool
+is_kept index word = list_any (λ (k : Bor (List ℕ)). bytes_eq word k.now) (keys index)

@@ -1,0 +1,198 @@
+//! Data of an assignment (IEEE 1450-1999, clause 21).
+
+ghost use Rattle.std.specs.Prelude.{◌≡◌, ◌⊎◌, ◌++◌, List, [], map, replicate, Ok, IfOk, IfErr, OnOk, MatchResult, MatchOption, None, Some};
+ghost use Rattle.std.specs.List.{list_any};
+ghost use Rattle.stil_form.specs.Lexeme.{lexeme_of, lexeme_at};
+ghost use Rattle.stil_ast.specs.Meaning.Statements.{Item, letter};
+ghost use Rattle.stil_ast.specs.Data.Items.{item_of, items_of};
+ghost use Rattle.pat_read.specs.declared.fault.DataFault.{DataFault};
+ghost use Rattle.pat_read.specs.declared.fault.DataFault.TheVariants.{NoMemory};
+ghost use Rattle.pat_read.specs.Fault.{DataAnswers};
+ghost use Rattle.pat_read.specs.Data.{has_underscore, times_by, is_left_out, unit_of, word_behind, repeat_said, unit_said, item_said, token_said, said_behind, ended, data_of, IsDataFault};
+
+use crate::fault::DataFault;
+use std::alloc::{AllocError, Global};
+use stil_ast::{ItemRun, VecItem, VecText};
+use stil_form::{Part, SignKind, part_of};
+use stil_lex::Token;
+use text_bytes::number_by;
+
+/// The most times that `\rN` repeats its unit.
+const MOST_TIMES: u64 = 1_048_576;
+
+/// What the next token of data is to be.
+#[derive(Clone, Copy, Debug, PartialEq, Eq)]
+pub(crate) enum Awaited {
+    /// An item.
+    Item,
+    /// A word that stands directly behind a `\`, which ends at this place.
+    Repeat(u32),
+    /// The unit, which stands this often.
+    OfUnit(u64),
+}
+
+fn has_underscore(word: &[u8]) -> bool
+    ensures { result ≡ has_underscore word.now }
+{
+    word.iter().any(|byte| *byte == b'_')
+}
+
+/// How often `rN` repeats.
+fn times_by(word: &[u8]) -> Option<u64>
+    ensures { result ≡ times_by word.now }
+{
+    match word {
+        [b'r', digits @ ..] => number_by(digits),
+        _ => None,
+    }
+}
+
+/// Whether this word behind a `\` is a form of data that is left out.
+fn is_left_out(word: &[u8]) -> bool
+    ensures { result ≡ is_left_out word.now }
+{
+    match word {
+        [first, ..] => b"hdlmjew".contains(first),
+        [] => false,
+    }
+}
+
+/// The unit that a part is.
+fn unit_of(part: &Part) -> Option<VecItem>
+    ensures { MatchOption result (unit_of (lexeme_of part.now) ≡ None) (λ item. unit_of (lexeme_of part.now) ≡ Some (item_of item)) }
+{
+    match *part {
+        Part::Sign(SignKind::Hash) => Some(VecItem::Take),
+        Part::Sign(SignKind::Percent) => Some(VecItem::Peek),
+        Part::Word([byte]) if *byte != b'_' => Some(VecItem::Letter(*byte)),
+        _ => None,
+    }
+}
+
+/// Adds an item that stands so often.
+fn push_item(runs: &mut Vec<ItemRun>, item: VecItem, times: u32) -> Result<(), AllocError>
+    ensures { OnOk result (items_of runs.new.items ≡ items_of runs.old.items ++ replicate times (item_of item)) }
+{
+    runs.push(ItemRun { item, times })?;
+    Ok(())
+}
+
+/// Adds the characters of a word.
+fn push_letters(runs: &mut Vec<ItemRun>, word: &[u8]) -> Result<(), AllocError>
+    ensures { OnOk result (items_of runs.new.items ≡ items_of runs.old.items ++ map letter word.now) }
+{
+    for byte in word {
+        push_item(runs, VecItem::Letter(*byte), 1)?;
+    }
+    Ok(())
+}
+
+/// Takes a part, which ends at this place, as an item.
+fn take_item(runs: &mut Vec<ItemRun>, part: &Part, end: u32) -> Result<Awaited, DataFault>
+    ensures { DataAnswers (λ next. (items_of runs.new.items, next)) result
+        (said_behind (items_of runs.old.items) (item_said (lexeme_of part.now) end)) }
+{
+    match *part {
+        Part::Word(word) => {
+            if has_underscore(word) {
+                return Err(DataFault::Shape);
+            }
+            push_letters(runs, word)?;
+            Ok(Awaited::Item)
+        }
+        Part::Sign(SignKind::Hash) => {
+            push_item(runs, VecItem::Take, 1)?;
+            Ok(Awaited::Item)
+        }
+        Part::Sign(SignKind::Percent) => {
+            push_item(runs, VecItem::Peek, 1)?;
+            Ok(Awaited::Item)
+        }
+        Part::Sign(SignKind::Backslash) => Ok(Awaited::Repeat(end)),
+        _ => Err(DataFault::Shape),
+    }
+}
+
+/// Takes a word behind a `\`.
+fn word_behind(adjacent: bool, word: &[u8]) -> Result<Awaited, DataFault>
+    ensures { DataAnswers (λ next. ([], next)) result (word_behind adjacent word.now (times_by word.now)) }
+{
+    match times_by(word) {
+        Some(times) if adjacent => Ok(Awaited::OfUnit(times)),
+        _ if is_left_out(word) => Err(DataFault::LeftOut),
+        _ => Err(DataFault::Shape),
+    }
+}
+
+/// Takes a part behind a `\`.
+fn take_repeat(adjacent: bool, part: &Part) -> Result<Awaited, DataFault>
+    ensures { DataAnswers (λ next. ([], next)) result (repeat_said adjacent (lexeme_of part.now)) }
+{
+    match *part {
+        Part::Word(word) => word_behind(adjacent, word),
+        _ => Err(DataFault::Shape),
+    }
+}
+
+/// Takes a part as a unit that stands so often.
+fn take_unit(runs: &mut Vec<ItemRun>, times: u64, part: &Part) -> Result<Awaited, DataFault>
+    ensures { DataAnswers (λ next. (items_of runs.new.items, next)) result
+        (said_behind (items_of runs.old.items) (unit_said times (unit_of (lexeme_of part.now)))) }
+{
+    let Some(item) = unit_of(part) else {
+        return Err(DataFault::Shape);
+    };
+    if times > MOST_TIMES {
+        return Err(DataFault::OutOfRange);
+    }
+    push_item(runs, item, times as u32)?;
+    Ok(Awaited::Item)
+}
+
+/// Takes the next token of data.
+fn take_token(
+    runs: &mut Vec<ItemRun>,
+    awaited: Awaited,
+    bytes: &[u8],
+    token: &Token,
+) -> Result<Awaited, DataFault>
+    ensures { DataAnswers (λ next. (items_of runs.new.items, next)) result
+        (said_behind (items_of runs.old.items) (token_said awaited (lexeme_at bytes.now token.now) token.now.start token.now.end)) }
+{
+    let part = part_of(bytes, token);
+    match awaited {
+        Awaited::Item => take_item(runs, &part, token.end),
+        Awaited::Repeat(place) => take_repeat(token.start == place, &part),
+        Awaited::OfUnit(times) => take_unit(runs, times, &part),
+    }
+}
+
+/// The data that tokens spell.
+pub(crate) fn read_data(alloc: Global, bytes: &[u8], tokens: &[Token]) -> Result<VecText, DataFault>
+    ensures { DataAnswers (λ read. read) result (data_of bytes.now tokens.now) }
+{
+    let mut runs = Vec::with_capacity(alloc, tokens.len())?;
+    let mut awaited = Awaited::Item;
+    for token in tokens {
+        awaited = take_token(&mut runs, awaited, bytes, token)?;
+    }
+    match awaited {
+        Awaited::Item => Ok(VecText::from_vec(runs)),
+        Awaited::Repeat(_) => Err(DataFault::Shape),
+        Awaited::OfUnit(_) => Err(DataFault::Shape),
+    }
+}
+
+/// The items that tokens spell: words without `_`, `#`, `%`, and `\rN` directly followed by its unit. They are kept as runs, in
+/// memory that grows with the number of tokens and characters.
+///
+/// The first fault from the left counts: a token without a form is `Shape`, a form of the standard that this profile leaves
+/// out is `LeftOut`, and more than 1,048,576 times is `OutOfRange`, which is judged with the unit.
+pub fn vec_data(alloc: Global, bytes: &[u8], tokens: &[Token]) -> Result<VecText, DataFault>
+    ensures found { IfOk result (λ read. data_of bytes.now tokens.now ≡ Ok read) }
+    ensures only { (items : List Item) → data_of bytes.now tokens.now ≡ Ok items → MatchResult result (λ read. read ≡ items) (λ fault. fault ≡ NoMemory) }
+    ensures fault { IfErr result (λ fault. (fault ≡ NoMemory) ⊎ IsDataFault bytes.now tokens.now fault) }
+    ensures refused { (fault : DataFault) → IsDataFault bytes.now tokens.now fault → MatchResult result (λ _. ⊥) (λ e. (e ≡ NoMemory) ⊎ (e ≡ fault)) }
+{
+    read_data(alloc, bytes, tokens)
+}
