@@ -3,12 +3,12 @@ use Rattle.std.proofs.Common.{◌≡◌, ℕ, ◌+◌, ◌&&◌, Bool, true, fal
 use Rattle.std.specs.List.{list_all, list_any}
 use Rattle.std.proofs.lemmas.Bool.{or_parts, and_from}
 use Rattle.stil_ast.specs.Meaning.Statements.{Item}
-use Rattle.stil_ast.specs.Meaning.Dealing.{is_hash, has_signal, takers}
+use Rattle.stil_ast.specs.Meaning.Dealing.{is_hash, is_character, has_signal, takers}
 use Rattle.stil_ast.specs.Meaning.Members.{reference_kind}
 use Rattle.stil_ast.specs.Meaning.Laws.{is_not_hash, no_hashes}
 use Rattle.stil_ast.specs.Meaning.Resolved.{Scope, resolved_assign, resolved_assigns}
 use Rattle.stil_ast.specs.Data.Written.{Written}
-use Rattle.stil_ast.specs.Faults.AssignmentFaults.{Walked, Checked, fine, refused, then_check, rule, bar_if, rule_kind, Callee, Standing, fault_on, may_walk, hash_misplaced, width_fits, data_there, walked_assign, check_assign, check_assigns, check_arguments}
+use Rattle.stil_ast.specs.Faults.AssignmentFaults.{Walked, Checked, fine, refused, then_check, rule, bar_if, rule_kind, Callee, Standing, fault_on, may_walk, hash_misplaced, width_fits, data_there, walked_assign, check_assign, check_assigns, argument_fits, walked_argument, check_argument, check_arguments}
 use Rattle.stil_ast.specs.Faults.PatternFaults.{inside_body, back_from, with_own, check_body, one_more, counted, same_callee}
 use Rattle.stil_ast.specs.declared.body.Assignment.{Assignment}
 use Rattle.stil_ast.specs.declared.blocks.BodyDef.{BodyDef}
@@ -47,17 +47,18 @@ pub counted-fine : (scope : Scope) (s : Standing) (line : ℕ) (next : Walked �
 counted-fine scope s line next w v e =
     (rule-fine (may_walk (w.count + 1)) (fault_on scope s line TooLarge) (λ (w : Walked). next (one_more w)) w v e).1
 
+-- a check that ends where a function of what was walked says
+pub fine-is : (a b : Walked) → fine a ≡ fine b → b ≡ a
+fine-is a b e = cc
+
 -- a check behind which the caller has its arguments again
 pub record BackTo (c : Checked) (w v : Walked) : Type 0 where
   pub now : Walked
   pub before : c ≡ fine now
   pub after : v ≡ record { args = w.args; hashes = w.hashes; count = now.count }
 
-fine-same : (a b : Walked) → fine a ≡ fine b → b ≡ a
-fine-same a b e = cc
-
 pub back_from-fine : (w : Walked) (c : Checked) (v : Walked) → back_from w c ≡ fine v → BackTo c w v
-back_from-fine w (fine now) v e = record { now = now; before = refl; after = fine-same _ v e }
+back_from-fine w (fine now) v e = record { now = now; before = refl; after = fine-is _ v e }
 back_from-fine w (refused fault) v e = cc
 
 -- what holds of an assignment without a fault
@@ -78,6 +79,17 @@ check_assign-fine scope s d w v e =
     let four = rule-fine (width_fits a) (fault_on scope s d.line Width) _ w v three.1 in
     let five = rule-fine (data_there s a w.args) (fault_on scope s d.line NoData) done w v four.1 in
     record { known = one.0; form = three.0; after = five.1 }
+
+-- an argument without a fault
+pub check_argument-fine : (scope : Scope) (s : Standing) (d : Assignment) (w v : Walked)
+    → check_argument scope s d w ≡ fine v → v ≡ walked_argument (resolved_assign scope.names d) w
+check_argument-fine scope s d w v e =
+    let a = resolved_assign scope.names d in
+    let one = rule_kind-fine (reference_kind scope.names d.reference) (fault_on scope s d.line) _ w v e in
+    let two = rule-fine (may_walk (w.count + length a.signals)) (fault_on scope s d.line TooLarge) _ w v one.1 in
+    let three = rule-fine (list_all is_character d.items) (fault_on scope s d.line ShiftForm) _ w v two.1 in
+    let four = rule-fine (argument_fits a) (fault_on scope s d.line Width) _ w v three.1 in
+    fine-is (walked_argument a w) v four.1
 
 -- items of which none is `#`
 none_is_hash : (items : List Item) → list_any is_hash items ≡ false → list_all is_not_hash items ≡ true

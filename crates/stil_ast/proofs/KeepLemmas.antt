@@ -23,7 +23,7 @@ neither : (x y : Bool) → not (x || y) ≡ true → (x ≡ false) × (not y ≡
 neither true y e = cc
 neither false y e = (refl, e)
 
-other_signal : (a b : ℕ) → (a == b) ≡ false → b ≢ a
+pub other_signal : (a b : ℕ) → (a == b) ≡ false → b ≢ a
 other_signal a b e same = let h : (a == b) ≡ true = eq-eqb a b (sym same) in cc
 
 gift_of-NoneTo : (signal other : ℕ) (entry : Option Entry) → signal ≢ other

@@ -18,3 +18,5 @@ mod TreeLemmas
 pub mod GroupItems
 pub mod GroupLexemes
 pub mod GroupLemmas
+mod ArgumentLemmas
+pub mod ConsumedLemmas

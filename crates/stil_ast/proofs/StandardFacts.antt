@@ -13,3 +13,4 @@ pub mod Limits
 pub mod Places
 pub mod Groups
 pub mod Inherited
+pub mod Executives

@@ -1,21 +1,29 @@
 -- The flat trees of an executive have its run one after another; trees that are as good give the same.
-use Rattle.std.proofs.Common.{◌≡◌, ℕ, Bool, true, false, List, [], ◌∷◌, refl, ap, ◌∙◌, map}
-use Rattle.stil_ast.specs.Meaning.State.{State}
-use Rattle.stil_ast.specs.Meaning.Statements.{of_pattern}
-use Rattle.stil_ast.specs.Meaning.Running.{Ran, Here, behind, then_run, run, outside, stops}
-use Rattle.stil_ast.specs.Meaning.Bursts.{Played}
+use Rattle.std.proofs.Common.{◌≡◌, ℕ, ◌+◌, ◌<◌, Bool, true, false, List, [], ◌∷◌, ◌++◌, refl, ap, sym, ◌∙◌, length, map, get_or, slice_index_or}
+use Rattle.std.proofs.lemmas.List.{get_or-append-add}
+use Rattle.std.proofs.Math.ListN.{get_or-append}
+use Rattle.std.proofs.lemmas.List.Sums.{sum_by-cons}
+use Rattle.std.proofs.lemmas.Grind.{flat_map-append}
+use Rattle.stil_ast.specs.Meaning.State.{State, start_of}
+use Rattle.stil_ast.specs.Meaning.Statements.{of_pattern, Titles}
+use Rattle.stil_ast.specs.Meaning.Flat.{measure}
+use Rattle.stil_ast.specs.Meaning.Running.{Ran, Made, Here, behind, then_run, run, outside, stops}
+use Rattle.stil_ast.specs.Meaning.Bursts.{Played, played}
 use Rattle.stil_ast.specs.Meaning.Chains.{scan_outs}
 use Rattle.stil_ast.specs.Meaning.Signals.{names_of}
 use Rattle.stil_ast.specs.Meaning.Resolved.{resolved}
-use Rattle.stil_ast.specs.Meaning.ExecutiveData.{tree_run, trees_run}
-use Rattle.stil_ast.specs.Meaning.Executive.{Part, scope_of, part_of, cut_behind, tree_of, run_parts, chain_list}
+use Rattle.stil_ast.specs.Meaning.ExecutiveData.{Tree, Executive, tree_run, trees_run, vectors_of, measure_in, tables_of, code_table, AreSameTrees}
+use Rattle.stil_ast.specs.Meaning.Executive.{Part, scope_of, part_of, cut_behind, parts, tree_of, run_parts, exec_vectors, chain_list}
 use Rattle.stil_ast.specs.Meaning.Laws.{with_state}
 use Rattle.stil_ast.specs.Faults.AssignmentFaults.{Walked, Checked, fine, refused}
 use Rattle.stil_ast.specs.Faults.PatternFaults.{check_pattern}
 use Rattle.stil_ast.specs.Faults.ExecutiveFaults.{behind_pattern, check_patterns}
+use Rattle.stil_ast.specs.Faults.Found.{or_else, first_in}
+use Rattle.stil_ast.specs.Faults.CodeFaults.{vector_fault, trees_fault}
 use Rattle.stil_ast.specs.Faults.CheckedLaws.{parts_of}
 use Rattle.stil_ast.specs.declared.executive.ExecDecl.{ExecDecl}
 use Rattle.stil_ast.specs.declared.blocks.Blocks.{Blocks}
+use Rattle.tester_types.specs.declared.wave.Table.{Table}
 use Rattle.stil_ast.proofs.SteadyLemmas.{checked_tree_agrees}
 
 -- parts of which each one's tree has its run
@@ -54,3 +62,40 @@ trees_agree blocks e (p ∷ patterns) count w h checked =
     (λ v found s. checked_tree_agrees scope outs p.pattern.body count v s found)
     (λ v found now. trees_agree blocks e patterns v.count w now found)
     h
+
+pub vectors_agree : (blocks : Blocks) (e : ExecDecl) (count : ℕ) (w : Walked) (x : Executive)
+    → check_patterns blocks e (played blocks e) count ≡ fine w → x.trees ≡ map tree_of (parts blocks e)
+    → vectors_of (length (names_of blocks).signals) x ≡ exec_vectors blocks e
+vectors_agree blocks e count w x checked trees =
+    let begin = start_of (length (names_of blocks).signals) in
+    let vectors = λ (r : Ran State). map (λ (m : Made). m.vector) r.made in
+    ap (λ (all : List Tree). vectors (trees_run all begin)) trees
+    ∙ ap vectors (trees_agree blocks e (played blocks e) count w (outside begin) checked)
+
+pub same_trees_serve : (tables : List Table) (trees more : List Tree) (s : State) → AreSameTrees trees more
+    → (trees_run trees s ≡ trees_run more s) × (trees_fault tables trees s ≡ trees_fault tables more s)
+    × (measure_in trees ≡ measure_in more)
+same_trees_serve tables [] [] s are = (refl, refl, refl)
+same_trees_serve tables [] (b ∷ more) s are = absurd are
+same_trees_serve tables (a ∷ trees) [] s are = absurd are
+same_trees_serve tables (a ∷ trees) (b ∷ more) s are =
+    let first = are.1.runs (outside s).held s in
+    let now = tree_run b s in
+    let later = same_trees_serve tables trees more now.here are.2 in
+    let fault_behind = λ (titles : Titles) (r : Ran State). or_else (first_in (vector_fault tables titles) r.made) (trees_fault tables trees r.here) in (
+      ap (λ (r : Ran State). then_run r (trees_run trees)) first ∙ ap (behind now.made) later.0,
+      ap (fault_behind a.titles) first
+          ∙ (ap (λ (titles : Titles). fault_behind titles now) are.0
+          ∙ ap (or_else (first_in (vector_fault tables b.titles) now.made)) later.1),
+      sum_by-cons (λ (t : Tree). measure t.flat) a trees
+          ∙ (ap (λ (n : ℕ). n + measure_in trees) are.1.measure
+          ∙ (ap (λ (n : ℕ). measure b.flat + n) later.2 ∙ sym (sum_by-cons (λ (t : Tree). measure t.flat) b more))),
+    )
+
+pub tables_are_numbered : (before after : List Executive) (e : Executive) (table : ℕ) (d : Table)
+    → table < length e.tables
+    → slice_index_or (tables_of (before ++ (e ∷ after))) (code_table before table) d ≡ slice_index_or e.tables table d
+tables_are_numbered before after e table d within =
+    ap (λ (all : List Table). get_or all (code_table before table) d) (flat_map-append (λ (e : Executive). e.tables) before (e ∷ after))
+    ∙ (get_or-append-add (tables_of before) (e.tables ++ tables_of after) table d
+    ∙ get_or-append e.tables (tables_of after) d table within)

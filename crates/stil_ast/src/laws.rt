@@ -1,8 +1,8 @@
 //! Laws of the language: what its definitions say, as a test engineer expects it.
 
-ghost use Rattle.stil_ast.specs.Faults.CheckedLaws.{CheckedIsSteady, CheckedTreeAgrees, TreesAgree};
+ghost use Rattle.stil_ast.specs.Faults.CheckedLaws.{CheckedIsSteady, CheckedTreeAgrees, TreesAgree, VectorsAgree, MarkIsWalked, ConsumedIsWalked, SameTreesServe, TablesAreNumbered};
 ghost use Rattle.stil_ast.specs.Meaning.GroupReading.{TermsAreSpelled};
-ghost use Rattle.stil_ast.specs.Meaning.Laws.{LoopSplits, MacroIsItsBody, CallGivesBack, ShiftIsInOrder, SignalKeepsCharacter, CyclesFollow, FlatTreeAgrees, LineageFollows};
+ghost use Rattle.stil_ast.specs.Meaning.Laws.{LoopSplits, MacroIsItsBody, CallGivesBack, ShiftIsInOrder, ShiftUsesUp, SignalKeepsCharacter, CyclesFollow, FlatTreeAgrees, LineageFollows};
 
 /// The items that are found in a group's text are those that it spells.
 pub fn group_texts_are_spelled()
@@ -27,6 +27,11 @@ pub fn call_gives_back()
 /// A Shift of a signal's data shifts each character once, in order.
 pub fn shift_is_in_order()
     ensures { ShiftIsInOrder }
+{}
+
+/// Behind a Shift of W, V and C nothing is left of the data of a signal that takes in it.
+pub fn shift_uses_up()
+    ensures { ShiftUsesUp }
 {}
 
 /// A signal that nothing assigns keeps its character, in each vector and behind the statements.
@@ -63,4 +68,30 @@ pub fn checked_tree_agrees()
 /// The flat trees of an executive whose patterns are checked without a fault have its run, one after another.
 pub fn trees_agree()
     ensures { TreesAgree }
+{}
+
+/// Plain data with an executive's flat trees have its vectors, where its patterns are checked without a fault.
+pub fn vectors_agree()
+    ensures { VectorsAgree }
+{}
+
+/// The assignments of a statement that are checked without a fault take at most as many characters of a signal as signals
+/// are walked; so the mark of the statement is at most what was walked.
+pub fn mark_is_walked()
+    ensures { MarkIsWalked }
+{}
+
+/// The statements of a body that are checked without a fault take at most as many characters of a signal as are walked.
+pub fn consumed_is_walked()
+    ensures { ConsumedIsWalked }
+{}
+
+/// Flat trees that are as good, as where overwritten assignments are dropped, give the same vectors, fault and measure.
+pub fn same_trees_serve()
+    ensures { SameTreesServe }
+{}
+
+/// Under its number in the code stands the table of the executive.
+pub fn tables_are_numbered()
+    ensures { TablesAreNumbered }
 {}

@@ -53,9 +53,13 @@ vector_period tables v = period_at (table_at tables v.table)
 abbrev pub cycles_of : ℕ → Executive → List Dated
 cycles_of signals e = dated (vector_period e.tables) (vectors_of signals e)
 
+-- the measure of flat trees
+abbrev pub measure_in : List Tree → ℕ
+measure_in trees = sum_by (λ (t : Tree). measure t.flat) trees
+
 -- the measure of an executive: that of its flat trees
 abbrev pub measure_of : Executive → ℕ
-measure_of e = sum_by (λ (t : Tree). measure t.flat) e.trees
+measure_of e = measure_in e.trees
 
 -- a row of bytes: the character of each signal, 0 for none
 abbrev pub row_of : Vector → List ℕ

@@ -5,6 +5,7 @@ use Rattle.stil_ast.specs.Meaning.State.{State, Vector}
 use Rattle.stil_ast.specs.Meaning.Statements.{Item, hash, Assign, Statements, finish, place, wave, vector, condition, loop, expand, call, shift, stop}
 use Rattle.stil_ast.specs.Meaning.Arguments.{given, argument_of}
 use Rattle.stil_ast.specs.Meaning.Dealing.{has_signal, is_hash, is_character}
+use Rattle.stil_ast.specs.Meaning.Shift.{taking}
 use Rattle.stil_ast.specs.Meaning.Running.{Setting, Made, Here, Ran, run, outside}
 use Rattle.stil_ast.specs.Meaning.Cycles.{Dated, dated}
 use Rattle.stil_ast.specs.Meaning.Tables.{inherited, leads_into_cycle, lineage}
@@ -91,6 +92,25 @@ abbrev pub ShiftIsInOrder : Type 0
 ShiftIsInOrder = (t : Setting) (signal : ℕ) (characters : List ℕ) (h : Here) →
     signal < length h.state.letters → signal < length h.args → (argument_of h.args signal).left ≡ map given characters →
     shown_at signal (run t (shift_of signal) h).made ≡ map (λ c. Some c) characters
+
+-- a body of W, V and C alone, as a Shift may hold it
+abbrev pub is_plain : Statements → Bool
+is_plain finish = true
+is_plain (place p rest) = is_plain rest
+is_plain (wave table rest) = is_plain rest
+is_plain (vector assigns rest) = is_plain rest
+is_plain (condition assigns rest) = is_plain rest
+is_plain (loop count body rest) = false
+is_plain (expand body assigns rest) = false
+is_plain (call body assigns rest) = false
+is_plain (shift body rest) = false
+is_plain (stop rest) = false
+
+-- behind a Shift nothing is left of a signal's data that takes in it
+abbrev pub ShiftUsesUp : Type 0
+ShiftUsesUp = (t : Setting) (body : Statements) (signal : ℕ) (h : Here) →
+    is_plain body ≡ true → has_signal (taking body) signal ≡ true →
+    (argument_of (run t (shift body finish) h).here.args signal).left ≡ []
 
 -- whether statements assign nothing to a signal, and run no other bodies
 abbrev pub all_leave : ℕ → List Assign → Bool
