@@ -3,8 +3,8 @@ use Rattle.std.proofs.Common.{◌≡◌, ◌⊎◌, ℕ, ◌<◌, Bool, true, fa
 use Rattle.std.specs.Prelude.{◌==◌}
 use Rattle.std.specs.List.{list_all}
 use Rattle.std.proofs.lemmas.Bool.{and_parts, and_from, cond-true, cond-false, eqb-true, true≢false, not-true, not_from_false}
-use Rattle.stil_ast.specs.Data.Texts.{is_blank}
-use Rattle.stil_ast.specs.Meaning.GroupText.{Lexeme, word, quoted, plus, minus, opens, closes, dot, stray, is_word, IsLexeme, Reads}
+use Rattle.stil_ast.specs.Data.Texts.{is_word, is_blank}
+use Rattle.stil_ast.specs.Meaning.GroupText.{Lexeme, word, quoted, plus, minus, opens, closes, dot, stray, IsLexeme, Reads}
 use Rattle.stil_ast.specs.Meaning.GroupReading.{Kind, of_word, of_quote, of_blank, of_sign, kind_of, Within, between, in_word, in_quotes, sign_of, begun_by, ended_by, behind_kind, lexemes}
 
 -- what may be a lexeme of a text

@@ -13,4 +13,5 @@ pub mod ValueLemmas
 pub mod TimesLemmas
 pub mod NamedLemmas
 pub mod TimesFacts
+pub mod TextFacts
 pub mod StandardFacts

@@ -1,7 +1,6 @@
 -- What reading lets pass: the scan text is of one text, and names, waveforms, bodies and counts end where they are to.
 use Rattle.std.proofs.Common.{◌≡◌, ℕ, ◌+◌, ◌^◌, ◌≤◌, length, Bool, true, false, List, [], ◌∷◌, ◌++◌, Some, None, refl, codes, replicate, arith, if◌then◌else◌}
-use Rattle.stil_ast.specs.Data.Texts.{same, is_name}
-use Rattle.stil_ast.specs.Data.Forms.{is_wave_letter}
+use Rattle.stil_ast.specs.Data.Texts.{same, is_wave_letter, is_name}
 use Rattle.stil_ast.specs.Data.BlockForms.{is_wave_decl, is_body, is_cells_decl, is_chain_decl, is_burst, is_selector}
 use Rattle.stil_ast.specs.Data.OneText.{tables_differ_in, bodies_differ_in, AreOfOneText}
 use Rattle.stil_ast.specs.Data.Written.{no_more, single, looped}

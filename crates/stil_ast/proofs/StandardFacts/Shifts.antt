@@ -1,5 +1,5 @@
 -- Shifts, arguments and patterns one after another.
-use Rattle.std.proofs.Common.{◌≡◌, ℕ, List, [], ◌∷◌, None, refl, codes}
+use Rattle.std.proofs.Common.{◌≡◌, ℕ, List, [], ◌∷◌, ◌++◌, None, refl, codes}
 use Rattle.stil_ast.specs.Meaning.Statements.{Item, hash, percent}
 use Rattle.stil_ast.specs.Meaning.Running.{calls}
 use Rattle.stil_ast.specs.Meaning.Flattening.{flat_calls}
@@ -9,6 +9,8 @@ use Rattle.stil_ast.proofs.StandardFacts.Texts.{signal, group, by_text, driven, 
 use Rattle.stil_ast.proofs.StandardFacts.Lines.{lines, cycle, marks, items, fault, refused, use_table}
 use Rattle.tester_types.specs.declared.signal.Direction.{Direction}
 use Rattle.tester_types.specs.declared.signal.Direction.TheVariants.{In, Out, InOut}
+use Rattle.stil_ast.specs.declared.executive.BurstWord.TheVariants.{ScanStructures, Entry}
+use Rattle.stil_ast.specs.declared.executive.BurstItem.{BurstItem}
 use Rattle.stil_ast.specs.declared.body.Assignment.{Assignment}
 use Rattle.stil_ast.specs.declared.body.Step.TheVariants.{Vector, Condition, Macro, Stop}
 use Rattle.stil_ast.specs.declared.blocks.Blocks.{Blocks}
@@ -128,3 +130,31 @@ nothing_to_take = refl
 pub peeks_in_argument : fault (scanning In no_more [] (to (codes "a") (percent ∷ []) ∷ [])) ≡ refused ShiftForm (codes "Pattern") (codes "p") 23
 unfolding calls flat_calls check_calls
 peeks_in_argument = refl
+
+-- a text whose chain stands in ScanStructures s, and whose burst names these blocks
+abbrev in_block : List BurstItem → Blocks → Blocks
+in_block items b = record {
+  signals = b.signals;
+  groups = b.groups;
+  specs = b.specs;
+  selectors = b.selectors;
+  timings = b.timings;
+  scans = record { name = codes "s"; chains = chain_at 4 (codes "c") (codes "y") ∷ [] } ∷ [];
+  macros = b.macros;
+  procedures = b.procedures;
+  patterns = b.patterns;
+  bursts = record { name = codes "b"; items = items ++ record { word = Entry; name = codes "p"; line = 15 } ∷ [] } ∷ [];
+  executives = b.executives;
+}
+
+abbrev shifting : Blocks
+shifting = scanning In (shift (taken (codes "y") ∷ []) no_more) [] (to (codes "y") (items (codes "LH")) ∷ [])
+
+-- an executive has the chains that its burst names, and without a name those of the unnamed block
+pub named_chain : marks (in_block (record { word = ScanStructures; name = codes "s"; line = 14 } ∷ []) shifting) ≡ 1 ∷ 2 ∷ []
+unfolding calls
+named_chain = refl
+
+pub unnamed_chain : marks (in_block [] shifting) ≡ 0 ∷ 0 ∷ []
+unfolding calls
+unnamed_chain = refl

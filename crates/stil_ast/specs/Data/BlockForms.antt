@@ -1,8 +1,8 @@
 -- The form of the statements of each kind of block in a text that was read (IEEE 1450-1999, clauses 14 to 24).
 use Rattle.std.specs.Prelude.{ℕ, suc, ◌-◌, ◌^◌, ◌==◌, ◌&&◌, ◌||◌, Bool, true, false, List, Option, Some, None, nat_le, nat_eq, length, map, sum_by, count_by, if◌then◌else◌}
 use Rattle.std.specs.List.{list_all}
-use Rattle.stil_ast.specs.Data.Texts.{same, within, is_name}
-use Rattle.stil_ast.specs.Data.Forms.{all_differ, is_absent_or, is_line, is_optional_name, is_range, is_name_ref, is_quoted, is_sig_ref, is_named, is_optionally_named, is_wave_letter, is_item}
+use Rattle.stil_ast.specs.Data.Texts.{same, within, is_wave_letter, is_name}
+use Rattle.stil_ast.specs.Data.Forms.{all_differ, is_absent_or, is_line, is_optional_name, is_range, is_name_ref, is_quoted, is_sig_ref, is_named, is_optionally_named, is_item}
 use Rattle.stil_ast.specs.Data.Written.{Written, no_more, single, looped, shifted}
 use Rattle.stil_ast.specs.declared.name.IndexRange.{IndexRange}
 use Rattle.stil_ast.specs.declared.name.NameRef.{NameRef}

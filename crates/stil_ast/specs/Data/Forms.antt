@@ -1,7 +1,7 @@
 -- The form of names, lines, references and data in a text that was read (IEEE 1450-1999, clauses 6 and 21).
-use Rattle.std.specs.Prelude.{ℕ, ◌&&◌, ◌||◌, not, Bool, true, List, [], ◌∷◌, Option, Some, None, nat_le}
+use Rattle.std.specs.Prelude.{ℕ, ◌&&◌, not, Bool, true, List, [], ◌∷◌, Option, Some, None, nat_le}
 use Rattle.std.specs.List.{list_any}
-use Rattle.stil_ast.specs.Data.Texts.{within, is_digit, is_name}
+use Rattle.stil_ast.specs.Data.Texts.{within, is_wave_letter, is_name}
 use Rattle.stil_ast.specs.Meaning.Statements.{Item, letter, hash, percent}
 use Rattle.stil_ast.specs.declared.name.IndexRange.{IndexRange}
 use Rattle.stil_ast.specs.declared.name.Named.{Named}
@@ -53,10 +53,6 @@ is_named n = is_name n.name && is_line n.line
 -- the same of a block that may be the unnamed one
 abbrev pub is_optionally_named : Named → Bool
 is_optionally_named n = is_optional_name n.name && is_line n.line
-
--- a waveform character, an ASCII letter or digit
-abbrev pub is_wave_letter : ℕ → Bool
-is_wave_letter c = is_digit c || within 65 90 c || within 97 122 c
 
 -- an item of data
 abbrev pub is_item : Item → Bool

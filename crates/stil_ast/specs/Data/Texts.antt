@@ -21,6 +21,14 @@ is_digit c = within 48 57 c
 abbrev pub is_letter : ℕ → Bool
 is_letter c = within 65 90 c || within 97 122 c || c == 95
 
+-- a byte of a word
+abbrev pub is_word : ℕ → Bool
+is_word c = is_letter c || is_digit c
+
+-- a waveform character, an ASCII letter or digit
+abbrev pub is_wave_letter : ℕ → Bool
+is_wave_letter c = is_digit c || within 65 90 c || within 97 122 c
+
 -- space, tab, line feed, form feed and carriage return
 abbrev pub is_blank : ℕ → Bool
 is_blank c = c == 32 || c == 9 || c == 10 || c == 12 || c == 13

@@ -1,7 +1,7 @@
 -- Group expressions: items joined by `+` and `-` (IEEE 1450-1999, clause 6, signal references).
-use Rattle.std.specs.Prelude.{◌≡◌, ℕ, ◌<◌, ◌==◌, ◌||◌, not, Bool, true, false, List, [], ◌∷◌, ◌++◌, Option, Some, None, length, if◌then◌else◌}
+use Rattle.std.specs.Prelude.{◌≡◌, ℕ, ◌<◌, ◌==◌, not, Bool, true, false, List, [], ◌∷◌, ◌++◌, Option, Some, None, length, if◌then◌else◌}
 use Rattle.std.specs.List.{list_all}
-use Rattle.stil_ast.specs.Data.Texts.{is_letter, is_digit, is_blank, is_name, is_bare_name, index_of}
+use Rattle.stil_ast.specs.Data.Texts.{is_word, is_blank, is_name, is_bare_name, index_of}
 use Rattle.stil_ast.specs.declared.name.IndexRange.{IndexRange}
 use Rattle.stil_ast.specs.declared.name.NameRef.{NameRef}
 
@@ -16,10 +16,6 @@ pub data Lexeme : Type 0 where
   closes : Lexeme
   dot : Lexeme
   stray : Lexeme
-
--- a byte of a word
-abbrev pub is_word : ℕ → Bool
-is_word c = is_letter c || is_digit c
 
 -- letters, digits and `_`
 pub record IsWord (bytes text : List ℕ) : Type 0 where
