@@ -64,12 +64,14 @@ abbrev with_tables : List TableDecl → Option StilFault
 with_tables tables = fault (text_of declared [] tables [] [] no_more)
 
 -- a waveform of an unknown signal isn't inherited: the fault is that of the name, and not that the event is late
-pub unknown_is_not_inherited : with_tables (heir 3 (codes "v") (Some (codes "30ns")) (codes "w" ∷ []) [] ∷ table (codes "w") (codes "100ns") (looked_at (by_text 7 (codes "y+z")) ∷ []) ∷ [])
+pub unknown_is_not_inherited : with_tables
+    (heir 3 (codes "v") (Some (codes "30ns")) (codes "w" ∷ []) [] ∷ table (codes "w") (codes "100ns") (looked_at (by_text 7 (codes "y+z")) ∷ []) ∷ [])
     ≡ refused UnknownName (codes "Timing") (codes "t") 7
 unfolding digits
 unknown_is_not_inherited = refl
 
-pub known_is_inherited : with_tables (heir 3 (codes "v") (Some (codes "30ns")) (codes "w" ∷ []) [] ∷ table (codes "w") (codes "100ns") (looked_at (by_text 7 (codes "y")) ∷ []) ∷ [])
+pub known_is_inherited : with_tables
+    (heir 3 (codes "v") (Some (codes "30ns")) (codes "w" ∷ []) [] ∷ table (codes "w") (codes "100ns") (looked_at (by_text 7 (codes "y")) ∷ []) ∷ [])
     ≡ refused EventOutside (codes "Timing") (codes "t") 7
 unfolding digits
 known_is_inherited = refl
@@ -77,7 +79,8 @@ known_is_inherited = refl
 -- u leads into the cycle of v and w without being part of it
 abbrev around : List TableDecl
 around =
-    heir 3 (codes "u") (Some (codes "30ns")) (codes "v" ∷ []) [] ∷ heir 4 (codes "v") None (codes "w" ∷ []) [] ∷ heir 5 (codes "w") None (codes "v" ∷ []) [] ∷ []
+    heir 3 (codes "u") (Some (codes "30ns")) (codes "v" ∷ []) []
+    ∷ heir 4 (codes "v") None (codes "w" ∷ []) [] ∷ heir 5 (codes "w") None (codes "v" ∷ []) [] ∷ []
 
 pub leads_there : with_tables around ≡ refused Cyclic (codes "Timing") (codes "t") 3
 unfolding digits
@@ -86,7 +89,8 @@ leads_there = refl
 -- x is made of a and b, of which each is made of c
 abbrev twice_over : List TableDecl
 twice_over =
-    heir 3 (codes "x") None (codes "a" ∷ codes "b" ∷ []) [] ∷ heir 4 (codes "a") (Some (codes "20ns")) (codes "c" ∷ []) [] ∷ heir 5 (codes "b") None (codes "c" ∷ []) []
+    heir 3 (codes "x") None (codes "a" ∷ codes "b" ∷ []) []
+    ∷ heir 4 (codes "a") (Some (codes "20ns")) (codes "c" ∷ []) [] ∷ heir 5 (codes "b") None (codes "c" ∷ []) []
     ∷ heir 6 (codes "c") (Some (codes "40ns")) [] [] ∷ []
 
 pub in_order : lineage twice_over 0 ≡ 3 ∷ 1 ∷ 3 ∷ 2 ∷ 0 ∷ []
@@ -107,7 +111,8 @@ abbrev cells : ℕ → List (List ℕ) → ChainStmt
 cells line texts = Cells (record { cells = map (λ (text : List ℕ). record { name = text; range = None }) texts; line = line })
 
 -- `ScanLength 3; ScanIn q[0]; ScanOut y; ScanCells a b;`, and another chain that ends at y
-pub one_chain : chains_of names (chain 20 (codes "c") (Length 3 ∷ ScanIn (named 21 (codes "q[0]")) ∷ ScanOut (named 22 (codes "y")) ∷ cells 23 (codes "a" ∷ codes "b" ∷ []) ∷ [])
+pub one_chain : chains_of names
+    (chain 20 (codes "c") (Length 3 ∷ ScanIn (named 21 (codes "q[0]")) ∷ ScanOut (named 22 (codes "y")) ∷ cells 23 (codes "a" ∷ codes "b" ∷ []) ∷ [])
     ∷ chain 24 (codes "d") (ScanOut (named 25 (codes "y")) ∷ []) ∷ chain 26 (codes "e") (Length 2 ∷ []) ∷ [])
     ≡ record { name = codes "c"; scan_out = 3; length = 3; cells = codes "a" ∷ codes "b" ∷ [] } ∷ []
 unfolding digits
@@ -118,7 +123,8 @@ pub cell_is_first : chains_fault names [] [] (chain 20 (codes "c") (cells 21 (re
     ≡ refused OutOfRange (codes "ScanStructures") [] 21
 cell_is_first = refl
 
-pub out_is_first : chains_fault names [] [] (chain 20 (codes "c") (ScanOut (named 21 (codes "z")) ∷ ScanIn (named 21 (codes "x")) ∷ cells 22 (replicate 1025 97 ∷ []) ∷ []) ∷ [])
+pub out_is_first : chains_fault names [] []
+    (chain 20 (codes "c") (ScanOut (named 21 (codes "z")) ∷ ScanIn (named 21 (codes "x")) ∷ cells 22 (replicate 1025 97 ∷ []) ∷ []) ∷ [])
     ≡ refused UnknownName (codes "ScanStructures") [] 21
 out_is_first = refl
 
