@@ -9,9 +9,9 @@ pub mod ShiftLemmas
 pub mod BodyLemmas
 pub mod FlatSteps
 pub mod FlatLemmas
-mod InheritLemmas
-mod CheckedLemmas
-mod SteadyLemmas
-mod TreeLemmas
-mod ArgumentLemmas
+pub mod InheritLemmas
+pub mod CheckedLemmas
+pub mod SteadyLemmas
+pub mod TreeLemmas
+pub mod ArgumentLemmas
 pub mod ConsumedLemmas

@@ -5,9 +5,12 @@ use Rattle.stil_ast.specs.Meaning.Signals.{Names, names_of}
 use Rattle.stil_ast.specs.Meaning.Members.{members}
 use Rattle.stil_ast.specs.Meaning.Tables.{lineage, period_text}
 use Rattle.stil_ast.specs.Meaning.Chains.{chains_of, chains_fault}
-use Rattle.stil_ast.specs.Data.Written.{no_more}
-use Rattle.stil_ast.proofs.StandardFacts.Texts.{signal, by_text, looked_at, table, text_of}
-use Rattle.stil_ast.proofs.StandardFacts.Lines.{fault, refused}
+use Rattle.stil_ast.specs.Data.Written.{Written, no_more, single, shifted}
+use Rattle.stil_ast.specs.Meaning.Statements.{hash, percent}
+use Rattle.stil_ast.specs.Faults.PatternFaults.{check_calls}
+use Rattle.stil_ast.specs.declared.body.Step.TheVariants.{Vector, Macro}
+use Rattle.stil_ast.proofs.StandardFacts.Texts.{signal, by_text, looked_at, table, assign, text_of}
+use Rattle.stil_ast.proofs.StandardFacts.Lines.{items, fault, refused}
 use Rattle.stil_ast.specs.declared.name.Named.{Named}
 use Rattle.stil_ast.specs.declared.name.SigRef.{SigRef}
 use Rattle.stil_ast.specs.declared.name.SigRef.TheVariants.{Name}
@@ -46,6 +49,25 @@ one_unknown = refl
 
 pub no_form : members names (by_text 7 (codes "y +")) ≡ []
 no_form = refl
+
+-- `Shift { V { y=%; } V { 'y+z'=#; } }` with data for y
+abbrev faulty_shift : Written
+faulty_shift =
+    shifted 20 (single 21 (Vector (assign 21 (codes "y") (percent ∷ []) ∷ []))
+    (single 22 (Vector (record { reference = by_text 22 (codes "y+z"); items = hash ∷ []; line = 22 } ∷ [])) no_more)) no_more
+
+-- such a Shift has no pass, so its body is checked for all but data, whether or not there are data for y
+abbrev shifts : List ℕ → Option StilFault
+shifts text = fault (text_of declared [] [] (record { name = codes "m"; body = faulty_shift } ∷ []) []
+    (single 10 (Macro (codes "m") (assign 10 (codes "y") (items text) ∷ [])) no_more))
+
+pub unknown_in_shift : shifts (codes "LH") ≡ refused UnknownName (codes "MacroDefs") [] 22
+unfolding check_calls digits
+unknown_in_shift = refl
+
+pub unknown_without_data : shifts [] ≡ refused UnknownName (codes "MacroDefs") [] 22
+unfolding check_calls digits
+unknown_without_data = refl
 
 abbrev named : ℕ → List ℕ → Named
 named line name = record { name = name; line = line }
