@@ -117,14 +117,16 @@ check_assigns-no_hashes scope s (d ∷ assigns) w v e looped =
     (check_assigns-no_hashes scope s assigns first.now v first.after looped)
 
 -- what holds of a Macro or Call without a fault: its body is there, and has none
-pub record BodyFine (scope : Scope) (inner : Standing → Written → Walked → Checked) (s : Standing) (c : Callee) (assigns : List Assignment) (o : Option BodyDef) (w v : Walked) : Type 0 where
+pub record BodyFine (scope : Scope) (inner : Standing → Written → Walked → Checked) (s : Standing) (c : Callee)
+    (assigns : List Assignment) (o : Option BodyDef) (w v : Walked) : Type 0 where
   pub def : BodyDef
   pub found : o ≡ Some def
   pub given : Walked
   pub arguments : check_arguments scope s assigns w ≡ fine given
   pub back : BackTo (inner (inside_body c s) def.body (with_own scope assigns given)) w v
 
-pub check_body-fine : (scope : Scope) (inner : Standing → Written → Walked → Checked) (s : Standing) (line : ℕ) (c : Callee) (assigns : List Assignment) (o : Option BodyDef) (w v : Walked)
+pub check_body-fine : (scope : Scope) (inner : Standing → Written → Walked → Checked) (s : Standing) (line : ℕ)
+    (c : Callee) (assigns : List Assignment) (o : Option BodyDef) (w v : Walked)
     → check_body scope inner s line c assigns o w ≡ fine v
     → BodyFine scope inner s c assigns o w v
 check_body-fine scope inner s line c assigns None w v e = cc

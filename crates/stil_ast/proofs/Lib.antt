@@ -11,11 +11,11 @@ pub mod FlatSteps
 pub mod FlatLemmas
 pub mod FormLemmas
 pub mod ItemLemmas
-mod InheritLemmas
-mod CheckedLemmas
-mod SteadyLemmas
-mod TreeLemmas
-mod ArgumentLemmas
+pub mod InheritLemmas
+pub mod CheckedLemmas
+pub mod SteadyLemmas
+pub mod TreeLemmas
+pub mod ArgumentLemmas
 pub mod ConsumedLemmas
 pub mod GroupItems
 pub mod GroupLexemes

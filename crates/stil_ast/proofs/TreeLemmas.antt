@@ -1,5 +1,5 @@
 -- The flat trees of an executive have its run one after another; trees that are as good give the same.
-use Rattle.std.proofs.Common.{◌≡◌, ℕ, ◌+◌, ◌<◌, Bool, true, false, List, [], ◌∷◌, ◌++◌, refl, ap, sym, ◌∙◌, length, map, get_or, slice_index_or}
+use Rattle.std.proofs.Common.{◌≡◌, ℕ, ◌+◌, ◌<◌, Bool, true, false, List, [], ◌∷◌, ◌++◌, Option, Some, None, refl, ap, sym, ◌∙◌, length, map, sum_by, get_or, slice_index_or}
 use Rattle.std.proofs.lemmas.List.{get_or-append-add}
 use Rattle.std.proofs.Math.ListN.{get_or-append}
 use Rattle.std.proofs.lemmas.List.Sums.{sum_by-cons}
@@ -8,16 +8,22 @@ use Rattle.stil_ast.specs.Meaning.State.{State, start_of}
 use Rattle.stil_ast.specs.Meaning.Statements.{of_pattern, Titles}
 use Rattle.stil_ast.specs.Meaning.Flat.{measure}
 use Rattle.stil_ast.specs.Meaning.Running.{Ran, Made, Here, behind, then_run, run, outside, stops}
-use Rattle.stil_ast.specs.Meaning.Bursts.{Played, played}
-use Rattle.stil_ast.specs.Meaning.Chains.{scan_outs}
+use Rattle.stil_ast.specs.Meaning.Bursts.{Played, played, exec_scans}
+use Rattle.stil_ast.specs.Meaning.Chains.{scan_outs, chains_named, chains_fault}
+use Rattle.stil_ast.specs.Meaning.Cycles.{dated}
+use Rattle.stil_ast.specs.Meaning.Times.{Times}
+use Rattle.stil_ast.specs.Meaning.Variables.{picked, variables_fault}
+use Rattle.stil_ast.specs.Faults.BurstFaults.{exec_names_fault}
+use Rattle.stil_ast.specs.Faults.TableFaults.{tables_fault}
+use Rattle.stil_ast.specs.declared.fault.StilFault.{StilFault}
 use Rattle.stil_ast.specs.Meaning.Signals.{names_of}
 use Rattle.stil_ast.specs.Meaning.Resolved.{resolved}
-use Rattle.stil_ast.specs.Meaning.ExecutiveData.{Tree, Executive, tree_run, trees_run, vectors_of, measure_in, tables_of, code_table, AreSameTrees}
-use Rattle.stil_ast.specs.Meaning.Executive.{Part, scope_of, part_of, cut_behind, parts, tree_of, run_parts, exec_vectors, chain_list}
+use Rattle.stil_ast.specs.Meaning.ExecutiveData.{Tree, Executive, tree_run, trees_run, vectors_of, cycles_of, vector_period, measure_in, tables_of, code_table, AreSameTrees}
+use Rattle.stil_ast.specs.Meaning.Executive.{Part, scope_of, part_of, cut_behind, parts, tree_of, run_parts, exec_vectors, chain_list, table_list, cycles, executive_of}
 use Rattle.stil_ast.specs.Meaning.Laws.{with_state}
 use Rattle.stil_ast.specs.Faults.AssignmentFaults.{Walked, Checked, fine, refused}
 use Rattle.stil_ast.specs.Faults.PatternFaults.{check_pattern}
-use Rattle.stil_ast.specs.Faults.ExecutiveFaults.{behind_pattern, check_patterns}
+use Rattle.stil_ast.specs.Faults.ExecutiveFaults.{behind_pattern, check_patterns, timed_of, exec_waves, exec_walked, checked_fault, exec_fault}
 use Rattle.stil_ast.specs.Faults.Found.{or_else, first_in}
 use Rattle.stil_ast.specs.Faults.CodeFaults.{vector_fault, trees_fault}
 use Rattle.stil_ast.specs.Faults.CheckedLaws.{parts_of}
@@ -71,6 +77,34 @@ vectors_agree blocks e count w x checked trees =
     let vectors = λ (r : Ran State). map (λ (m : Made). m.vector) r.made in
     ap (λ (all : List Tree). vectors (trees_run all begin)) trees
     ∙ ap vectors (trees_agree blocks e (played blocks e) count w (outside begin) checked)
+
+or_else-none : (a b : Option StilFault) → or_else a b ≡ None → (a ≡ None) × (b ≡ None)
+or_else-none None b e = (refl, e)
+or_else-none (Some fault) b e = cc
+
+checked-none : (c : Checked) → checked_fault c ≡ None → (w : Walked) × (c ≡ fine w)
+checked-none (fine w) e = (w, refl)
+checked-none (refused fault) e = cc
+
+-- the patterns of an executive without a fault are checked without one
+pub patterns_fine : {V : Type 0} (times : Times V) (blocks : Blocks) (before : List ExecDecl) (e : ExecDecl)
+    → exec_fault times blocks before e ≡ None
+    → (w : Walked) × (check_patterns blocks e (played blocks e) (sum_by (exec_walked blocks) before) ≡ fine w)
+patterns_fine times blocks before e none =
+    let one = or_else-none (exec_names_fault blocks e) _ none in
+    let two = or_else-none (variables_fault times (picked blocks e)) _ one.1 in
+    let three = or_else-none (tables_fault (timed_of times blocks e) (sum_by (exec_waves blocks) before)) _ two.1 in
+    let four = or_else-none (chains_fault (names_of blocks) (exec_scans blocks e) [] (chains_named blocks.scans (exec_scans blocks e))) _ three.1 in
+    checked-none (check_patterns blocks e (played blocks e) (sum_by (exec_walked blocks) before)) four.1
+
+-- the cycles of an executive without a fault are those of its plain data
+pub cycles_agree : {V : Type 0} (times : Times V) (blocks : Blocks) (before : List ExecDecl) (e : ExecDecl)
+    → exec_fault times blocks before e ≡ None
+    → cycles_of (length (names_of blocks).signals) (executive_of times blocks e) ≡ cycles times blocks e
+cycles_agree times blocks before e none =
+    let checked = patterns_fine times blocks before e none in
+    ap (dated (vector_period (table_list times blocks e)))
+    (vectors_agree blocks e (sum_by (exec_walked blocks) before) checked.0 (executive_of times blocks e) checked.1 refl)
 
 pub same_trees_serve : (tables : List Table) (trees more : List Tree) (s : State) → AreSameTrees trees more
     → (trees_run trees s ≡ trees_run more s) × (trees_fault tables trees s ≡ trees_fault tables more s)

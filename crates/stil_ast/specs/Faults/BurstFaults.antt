@@ -60,8 +60,8 @@ has_block blocks Procedures name = list_any (λ (d : DefBlock). same d.name name
 has_block blocks ScanStructures name = list_any (λ (s : ScanBlock). same s.name name) blocks.scans
 has_block blocks Entry name = is_some (pattern_named blocks name)
 
--- a name that is met on the walk through a burst: where it stands, whether it names a block or a pattern, the burst that
--- it names otherwise, and whether it stands inside that burst
+-- a name that is met on the walk through a burst: where it stands, whether it names a block or a pattern, the burst
+-- that it names otherwise, and whether it stands inside that burst
 pub record Mention : Type 0 where
   pub place : Place
   pub is_block : Bool

@@ -26,7 +26,8 @@ use Rattle.tester_types.specs.declared.wave.Table.{Table}
 -- in a pattern without a fault no `#` and no Shift stands in a Loop, nor in the bodies that run in it
 abbrev pub CheckedIsSteady : Type 0
 CheckedIsSteady =
-    (scope : Scope) (scan_outs : List ℕ) (body : Written) (count : ℕ) (w : Walked) → check_pattern scope body count ≡ fine w →
+    (scope : Scope) (scan_outs : List ℕ) (body : Written) (count : ℕ) (w : Walked) →
+    check_pattern scope body count ≡ fine w →
     is_steady_pattern (setting_of scope scan_outs) (resolved scope of_pattern body) ≡ true
 
 -- the flat tree of a pattern without a fault has the pattern's run

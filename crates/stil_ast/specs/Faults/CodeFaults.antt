@@ -53,7 +53,8 @@ compile_fault signals before e =
     unless (nat_le (sum_by measure_of (before ++ (e ∷ []))) (2 ^ 22)) (fault_at (exec_place e.name e.line) TooLarge)
     (unless (nat_le (length (vectors_of signals e)) (2 ^ 48)) (fault_at (exec_place e.name e.line) TooManyCycles)
     (or_else (trees_fault e.tables e.trees (start_of signals))
-    (unless (nat_le (length (rows_of signals (before ++ (e ∷ []))) * signals) (2 ^ 28)) (fault_at (exec_place e.name e.line) TooLarge) None)))
+    (unless (nat_le (length (rows_of signals (before ++ (e ∷ []))) * signals) (2 ^ 28))
+    (fault_at (exec_place e.name e.line) TooLarge) None)))
 
 -- executives in order, behind others
 abbrev pub compile_faults : ℕ → List Executive → List Executive → Option StilFault

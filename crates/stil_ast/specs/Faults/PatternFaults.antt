@@ -196,7 +196,8 @@ check_list scope inner s (shifted line body rest) w =
     then_check
     (counted scope s line
     (rule (may_shift s) (fault_on scope s line ShiftForm)
-    (λ now. check_passes (passes (takers_in scope s body) now.args) (λ without. check_list scope inner (inside_shift without s) body)
+    (λ now. check_passes (passes (takers_in scope s body) now.args)
+    (λ without. check_list scope inner (inside_shift without s) body)
     (columns (outs_of scope.names) (takers_in scope s body) now.args) now)) w)
     (check_list scope inner s rest)
 

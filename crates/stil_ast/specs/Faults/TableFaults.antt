@@ -49,7 +49,8 @@ abbrev pub with_period : {V : Type 0} → Timed V → ℕ → Option Quoted → 
 with_period t line None rest = Some (fault_at (on_line t.place line) NoPeriod)
 with_period t line (Some q) rest =
     with_time (time_at t.times t.vars t.place q) (λ period.
-    unless (int_le (pos 1) period && int_le period (pos (10 ^ 12))) (fault_at (on_line t.place q.line) OutOfRange) (rest period))
+    unless (int_le (pos 1) period && int_le period (pos (10 ^ 12)))
+    (fault_at (on_line t.place q.line) OutOfRange) (rest period))
 
 -- the events of a waveform, behind one at `before`
 abbrev pub events_fault : {V : Type 0} → Timed V → ℤ → ℤ → List EventDecl → Option StilFault
@@ -98,7 +99,8 @@ late_waveform t period table all w =
 -- the first inherited event in text order that isn't below the heir's period
 abbrev pub inherited_fault : {V : Type 0} → Timed V → ℤ → ℕ → Option StilFault
 inherited_fault t period table =
-    first_in (λ (other : ℕ × TableDecl). first_in (late_waveform t period table (waveforms t.names t.tables table)) (own_waveforms t.names other.0 other.1))
+    first_in (λ (other : ℕ × TableDecl).
+    first_in (late_waveform t period table (waveforms t.names t.tables table)) (own_waveforms t.names other.0 other.1))
     (enumerate_from 0 t.tables)
 
 -- how many waves the first tables of an executive have, so many of them
@@ -113,7 +115,8 @@ table_fault t before d =
     (with_period t d.1.line (period_text t.tables d.0) (λ period.
     or_else (first_in (signal_fault t period) d.1.waveforms)
     (or_else (inherited_fault t period d.0)
-    (unless (nat_le (before + waves_of_first t.names t.tables (suc d.0)) (2 ^ 20)) (fault_at (on_line t.place d.1.line) TooLarge) None))))
+    (unless (nat_le (before + waves_of_first t.names t.tables (suc d.0)) (2 ^ 20))
+    (fault_at (on_line t.place d.1.line) TooLarge) None))))
 
 -- the first fault of an executive's tables, in text order
 abbrev pub tables_fault : {V : Type 0} → Timed V → ℕ → Option StilFault

@@ -56,7 +56,8 @@ every width (suc place) (entry ∷ entries) = every width place entries
 abbrev pub dealt_out : List Entry → ℕ → ℕ → List ℕ → List Argument → List Argument
 dealt_out entries width place [] args = args
 dealt_out entries width place (signal ∷ signals) args =
-    dealt_out entries width (suc place) signals (slice_set args signal (record { left = every width place entries; taken = 0 }))
+    dealt_out entries width (suc place) signals
+    (slice_set args signal (record { left = every width place entries; taken = 0 }))
 
 -- the arguments that assignments give, over those that are there
 abbrev pub with_arguments : List Assign → List Argument → List Argument

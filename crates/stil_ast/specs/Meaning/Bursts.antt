@@ -69,7 +69,8 @@ entry_played macros procedures inner None None = []
 -- the patterns for which one name in a burst stands
 abbrev pub item_played : Blocks → List ℕ → List ℕ → (Burst → List Played) → BurstItem → List Played
 item_played blocks macros procedures inner i =
-    if is_entry i.word then entry_played macros procedures inner (pattern_named blocks i.name) (burst_named blocks i.name) else []
+    if is_entry i.word
+    then entry_played macros procedures inner (pattern_named blocks i.name) (burst_named blocks i.name) else []
 
 -- The patterns of a burst in running order, with bursts in bursts so deep. MacroDefs and Procedures are those of the
 -- innermost burst that names one.

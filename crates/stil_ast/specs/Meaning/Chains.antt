@@ -69,7 +69,12 @@ scan_out_of names (Some name) = signal_of names name
 abbrev pub chain_with : ChainDecl → Option ℕ → List Chain
 chain_with d None = []
 chain_with d (Some out) =
-    record { name = d.name; scan_out = out; length = unwrap_or (length_in d.stmts) (length (cells_in d.stmts)); cells = cells_in d.stmts } ∷ []
+    record {
+      name = d.name;
+      scan_out = out;
+      length = unwrap_or (length_in d.stmts) (length (cells_in d.stmts));
+      cells = cells_in d.stmts;
+    } ∷ []
 
 -- of two chains with one ScanOut the first counts
 abbrev pub distinct_chains : List Chain → List Chain → List Chain
@@ -99,7 +104,8 @@ chain_stmt_fault names block (In n) =
 chain_stmt_fault names block (Out n) =
     unless (is_some (signal_of names n.name)) (fault_at (scan_place block n.line) UnknownName) None
 chain_stmt_fault names block (Cells c) =
-    unless (list_all (λ text. nat_le (length text) 1024) (cells_of c)) (fault_at (scan_place block c.line) OutOfRange) None
+    unless (list_all (λ text. nat_le (length text) 1024) (cells_of c))
+    (fault_at (scan_place block c.line) OutOfRange) None
 
 -- a chain, behind others: its name twice, then its statements in text order
 abbrev pub chain_fault : Names → List ℕ → List ChainDecl → ChainDecl → Option StilFault

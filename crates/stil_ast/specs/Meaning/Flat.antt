@@ -33,7 +33,8 @@ flat_run (character signal c rest) base s = flat_run rest base (with_letter sign
 flat_run (back signal rest) base s =
     flat_run rest base (with_letter signal (slice_index_or base.letters signal None) s)
 flat_run (cycle mark spot rest) base s =
-    behind (record { vector = record { table = s.table; letters = s.letters; mark = mark }; place = spot } ∷ []) (flat_run rest base s)
+    behind (record { vector = record { table = s.table; letters = s.letters; mark = mark }; place = spot } ∷ [])
+    (flat_run rest base s)
 flat_run (repeat count body rest) base s =
     then_run (times count (flat_run body base) s) (flat_run rest base)
 flat_run (save putting body rest) base s =

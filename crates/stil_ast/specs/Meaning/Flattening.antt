@@ -105,11 +105,18 @@ flat_list t inner (condition assigns rest) spot =
 flat_list t inner (loop count body rest) spot =
     then_piece (repeat_piece count spot (flat_list t inner body spot)) (flat_list t inner rest)
 flat_list t inner (expand body assigns rest) spot =
-    then_piece (macro_piece spot (inner (slice_get t.macros body) (with_args spot (arguments (length t.outs) assigns)))) (flat_list t inner rest)
+    then_piece
+    (macro_piece spot (inner (slice_get t.macros body) (with_args spot (arguments (length t.outs) assigns))))
+    (flat_list t inner rest)
 flat_list t inner (call body assigns rest) spot =
-    then_piece (call_piece spot (inner (slice_get t.procedures body) (with_args spot (arguments (length t.outs) assigns)))) (flat_list t inner rest)
+    then_piece
+    (call_piece spot (inner (slice_get t.procedures body) (with_args spot (arguments (length t.outs) assigns))))
+    (flat_list t inner rest)
 flat_list t inner (shift body rest) spot =
-    then_piece (shift_piece spot (pieces (passes (taking body) spot.args) (pass_piece spot.place (flat_list t inner body)) (with_args spot (columns t.outs (taking body) spot.args)))) (flat_list t inner rest)
+    then_piece
+    (shift_piece spot (pieces (passes (taking body) spot.args) (pass_piece spot.place (flat_list t inner body))
+    (with_args spot (columns t.outs (taking body) spot.args))))
+    (flat_list t inner rest)
 flat_list t inner (stop rest) spot = no_piece spot
 
 -- bodies that name bodies, so deep
@@ -121,4 +128,5 @@ flat_calls t (suc depth) (Some body) spot = flat_list t (flat_calls t depth) bod
 -- the flat tree of a pattern's own statements
 abbrev pub flat_of : Setting → Statements → Flat
 flat_of t statements =
-    (flat_list t (flat_calls t 64) statements (record { args = []; place = record { body = of_pattern; line = 0 } })).flat
+    (flat_list t (flat_calls t 64) statements
+    (record { args = []; place = record { body = of_pattern; line = 0 } })).flat

@@ -77,7 +77,8 @@ text_members names (suc depth) text =
 -- whether an item names something
 abbrev pub is_known_with : Names → List ℕ → Option IndexRange → Bool
 is_known_with names name None =
-    is_some (signal_of names name) || is_some (group_of names name) || list_any (λ s. is_based_on name s.base) names.signals
+    is_some (signal_of names name) || is_some (group_of names name)
+    || list_any (λ s. is_based_on name s.base) names.signals
 is_known_with names name (Some range) =
     list_all (λ i. is_some (signal_of names (indexed name i))) (indices range)
 

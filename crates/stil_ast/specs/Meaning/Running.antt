@@ -64,7 +64,12 @@ pass_at p f h = back_at p (f h)
 -- W: the table from here on
 abbrev pub at_table : ℕ → Here → Here
 at_table table h =
-    record { state = record { table = Some table; letters = h.state.letters }; held = h.held; args = h.args; place = h.place }
+    record {
+      state = record { table = Some table; letters = h.state.letters };
+      held = h.held;
+      args = h.args;
+      place = h.place;
+    }
 
 -- the place once what is dealt is received
 abbrev pub after_deal : Dealt → Here → Here
@@ -79,7 +84,11 @@ after assigns h = after_deal (deal assigns h.args) h
 abbrev pub make : Setting → List Assign → Here → Ran Here
 make t assigns h = record {
   made = record {
-    vector = record { table = h.state.table; letters = h.state.letters; mark = mark_of t.scan_outs (takers assigns) h.args };
+    vector = record {
+      table = h.state.table;
+      letters = h.state.letters;
+      mark = mark_of t.scan_outs (takers assigns) h.args;
+    };
     place = h.place;
   } ∷ [];
   here = h;
@@ -129,7 +138,9 @@ run_list t inner (expand body assigns rest) h =
 run_list t inner (call body assigns rest) h =
     then_run (from_call h (inner (slice_get t.procedures body) (in_call t assigns h))) (run_list t inner rest)
 run_list t inner (shift body rest) h =
-    then_run (from_shift h (times (passes (taking body) h.args) (pass_at h.place (run_list t inner body)) (in_shift t body h))) (run_list t inner rest)
+    then_run
+    (from_shift h (times (passes (taking body) h.args) (pass_at h.place (run_list t inner body)) (in_shift t body h)))
+    (run_list t inner rest)
 run_list t inner (stop rest) h = still h
 
 -- bodies that name bodies, so deep; one that isn't there does nothing

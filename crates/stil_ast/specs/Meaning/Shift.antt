@@ -31,7 +31,10 @@ column false count left = replicate (count - length left) padding ++ left
 -- the arguments with the column of one signal
 abbrev pub with_column : List Bool → ℕ → ℕ → List Argument → List Argument
 with_column outs count signal args =
-    slice_set args signal (record { left = column (slice_index_or outs signal false) count (argument_of args signal).left; taken = (argument_of args signal).taken })
+    slice_set args signal (record {
+      left = column (slice_index_or outs signal false) count (argument_of args signal).left;
+      taken = (argument_of args signal).taken;
+    })
 
 -- the arguments with the columns of these signals
 abbrev pub with_columns : List Bool → ℕ → List ℕ → List Argument → List Argument

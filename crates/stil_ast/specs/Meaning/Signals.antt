@@ -25,7 +25,12 @@ abbrev pub declared_as : SignalDecl → Option IndexRange → List Signal
 declared_as d None =
     record { text = d.name; base = None; direction = d.direction; place = signals_place d.line } ∷ []
 declared_as d (Some range) =
-    map (λ i. record { text = indexed d.name i; base = Some d.name; direction = d.direction; place = signals_place d.line }) (indices range)
+    map (λ i. record {
+      text = indexed d.name i;
+      base = Some d.name;
+      direction = d.direction;
+      place = signals_place d.line;
+    }) (indices range)
 
 -- the signals of a declaration
 abbrev pub declared : SignalDecl → List Signal

@@ -40,7 +40,13 @@ pub record Waveform : Type 0 where
 -- a table's own waveforms in text order, not numbered yet
 abbrev pub unnumbered : Names → ℕ → TableDecl → List Waveform
 unnumbered names table t =
-    flat_map (λ (s : SignalWaves). map (λ (w : WaveDecl). record { table = table; number = 0; signals = members names s.reference; letters = w.letters; events = w.events }) s.waves) t.waveforms
+    flat_map (λ (s : SignalWaves). map (λ (w : WaveDecl). record {
+      table = table;
+      number = 0;
+      signals = members names s.reference;
+      letters = w.letters;
+      events = w.events;
+    }) s.waves) t.waveforms
 
 -- a waveform with its number
 abbrev pub numbered : ℕ × Waveform → Waveform
