@@ -1,0 +1,6 @@
+pub mod SumLemmas
+pub mod RuleLemmas
+pub mod WordLemmas
+pub mod StepLemmas
+pub mod MakingLemmas
+pub mod ClosingLemmas

@@ -1,0 +1,35 @@
+//! How often a stop was asked for at each site.
+
+ghost use Rattle.std.specs.Prelude.{◌≡◌, ◌<◌, slice_index};
+
+use std::marker::Model;
+
+/// The number of stops that were asked for at each of the sites 0 to 15. Contracts see it as the list of these numbers.
+#[derive(Debug, Drop)]
+pub struct AskedList {
+    words: [u64; 16],
+}
+
+impl Model for AskedList {
+    ghost use Rattle.std.specs.Prelude.{ℕ, List};
+
+    ghost Value = { List ℕ };
+
+    ghost view = { λ a. a.words };
+}
+
+impl AskedList {
+    pub(crate) fn of_words(words: [u64; 16]) -> AskedList
+        ensures { result ≡ words }
+    {
+        AskedList { words }
+    }
+
+    /// The number of stops that were asked for at the site.
+    pub fn get(&self, site: u8) -> u64
+        requires { site < 16 }
+        ensures { result ≡ slice_index self.now site }
+    {
+        self.words[usize::from(site)]
+    }
+}
