@@ -11,3 +11,6 @@ mod view;
 pub use asked::AskedList;
 pub use board::{Board, BoardEnd};
 pub use seats::{DeskSeat, SiteSeat, SiteSeatList};
+
+#[cfg(test)]
+mod tests;
