@@ -4,3 +4,4 @@ pub mod WordLemmas
 pub mod StepLemmas
 pub mod MakingLemmas
 pub mod ClosingLemmas
+pub mod StandardFacts

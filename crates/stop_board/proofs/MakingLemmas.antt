@@ -17,11 +17,11 @@ use Rattle.stop_board.proofs.RuleLemmas.{state, desk_place}
 below_yes : (a b : ℕ) → a < b → cond {A = ℕ} (nat_lt a b) 1 0 ≡ 1
 below_yes a b h = ap (λ x. cond x 1 0) (lt-ltb a b h)
 
-below_no : (a b : ℕ) → b ≤ a → cond {A = ℕ} (nat_lt a b) 1 0 ≡ 0
+pub below_no : (a b : ℕ) → b ≤ a → cond {A = ℕ} (nat_lt a b) 1 0 ≡ 0
 below_no a b h = ap (λ x. cond x 1 0) (le-ltb a b h)
 
 -- the sites below made, and made, are the sites below one more
-below_one_more : (site made : ℕ)
+pub below_one_more : (site made : ℕ)
     → cond {A = ℕ} (nat_lt site made) 1 0 + cond (made == site) 1 0 ≡ cond (nat_lt site (made + 1)) 1 0
 below_one_more site made =
     dite (ℕ_discrete made site)

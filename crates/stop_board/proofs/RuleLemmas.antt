@@ -28,7 +28,7 @@ desk_first desk seats none zero d e = let same : Desk desk ≡ Desk d = some-inj
 desk_first desk seats none (suc k) d e = absurd (none k d e)
 
 -- two sites' views that are one view are one
-site-injective : (v w : SiteView) → Site v ≡ Site w → v ≡ w
+pub site-injective : (v w : SiteView) → Site v ≡ Site w → v ≡ w
 site-injective v w e = cc
 
 -- a seat that becomes no desk's leaves no desk's among the seats
