@@ -60,16 +60,19 @@ if_at site v = cond (v.site == site) 1 0
 abbrev pub IsWithin : List ℕ → SiteView → Type 0
 IsWithin asked v = v.seen ≤ slice_index asked v.site
 
+-- what holds of a board's words and views between any two steps
 pub record IsKept {S : Type 0} (s : State S View) : Type 0 where
   pub desk : DeskView
   pub seats : List View
-  -- one seat is the desk's
+  -- one seat is the desk's, and the others are sites' or spent
   pub views : s.views ≡ Desk desk ∷ seats
   pub no_desk : (k : ℕ) (d : DeskView) → get_elem? seats k ≡ some (Desk d) → ⊥
   -- word s is the number of stops that the desk asked for at site s, and word 16 that of the seats that have finished
   pub words : s.words ≡ desk.asked ++ over_seats if_finished desk seats ∷ []
   pub sixteen : length desk.asked ≡ 16
+  -- the desk saw no more finished seats than there are
   pub looked : desk.looked ≤ over_seats if_finished desk seats
+  -- no seat, out or back, saw more stops than were asked for
   pub seen : (k : ℕ) (v : SiteView) → get_elem? seats k ≡ some (Site v) → IsWithin desk.asked v
   pub seen_ended : All (IsWithin desk.asked) desk.ended
   -- each site below the number made has one seat, and no other site has any

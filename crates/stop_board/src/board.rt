@@ -38,7 +38,8 @@ pub struct BoardEnd {
 }
 
 impl Board {
-    /// A board for so many sites, the desk's seat, and a seat for each site from 0 in order.
+    /// A board for so many sites, the desk's seat, and a seat for each site from 0 in order. It is an `Err` only for want
+    /// of memory.
     pub fn new(alloc: Global, sites: u8) -> Result<(Board, DeskSeat, SiteSeatList), NoMemory>
         requires { sites ≤ 16 }
         ensures desk { IfOk result (λ made. made.1 ≡ new_desk made.0 sites) }
@@ -75,7 +76,7 @@ impl Board {
         Ok(seats)
     }
 
-    /// Ends the board, once all its seats have come back.
+    /// Ends the board, once all its seats have come back. What was asked for is final then.
     pub fn close(self, desk: DeskSeat, seats: SiteSeatList) -> BoardEnd
         requires desk { desk.board ≡ self }
         requires seats { All (λ seat. seat.board ≡ self) seats }

@@ -63,7 +63,7 @@ impl DeskSeat {
             .fetch_add::<Ask>(&mut self.seat, usize::from(site), 1);
     }
 
-    /// The number of seats that have finished, by one load.
+    /// The number of seats that have finished, by one load. It never falls.
     pub fn finished(&mut self, board: &Board) -> u64
         requires { self.old.board ≡ board.now }
         ensures later { self.old.looked ≤ result }
@@ -75,7 +75,7 @@ impl DeskSeat {
 }
 
 impl SiteSeat {
-    /// The number of stops that were asked for at this site, by one load.
+    /// The number of stops that were asked for at this site, by one load. It never falls.
     pub fn poll(&mut self, board: &Board) -> u64
         requires { self.old.board ≡ board.now }
         ensures later { self.old.seen ≤ result }
