@@ -1,0 +1,143 @@
+//! A case, run through a public call over objects in memory.
+
+use crate::case::Case;
+use die_sim::{FailingSocket, SimSocket, SocketBox};
+use std::alloc::{AllocError, Global};
+use std::fmt;
+use std::sync::Wait;
+use std::thread::Threads;
+use stil_tool::{Status, offline, tester};
+use tester_types::{Desk, ListDesk, MemShelf, MemSink, NoMemory, OpenGate, SilentDesk};
+
+/// A public call of `stil_tool`.
+#[derive(Clone, Copy, Debug, PartialEq, Eq)]
+pub enum Call {
+    Tester,
+    Offline,
+}
+
+impl fmt::Display for Call {
+    fn fmt<W: fmt::Write>(&self, f: &mut fmt::Formatter<W>) -> fmt::Result {
+        match self {
+            Call::Tester => write!(f, "tester"),
+            Call::Offline => write!(f, "offline"),
+        }
+    }
+}
+
+/// What a call answered, and what it wrote.
+#[derive(Drop)]
+pub struct Answer {
+    pub status: Status,
+    pub sink: MemSink,
+}
+
+/// The shelf of a case.
+fn shelf(alloc: Global, case: &Case) -> Result<MemShelf, NoMemory> {
+    let mut files = Vec::new(alloc);
+    for file in case.files.as_slice() {
+        let name = String::from_str(alloc, file.0.as_str())?;
+        files.push((name, Vec::from_slice(alloc, file.1.as_slice())?))?;
+    }
+    let failing = Vec::from_slice(alloc, case.failing_loads.as_slice())?;
+    Ok(MemShelf::new(files, failing))
+}
+
+/// The sink of a case: it has room for what is wanted and some more, where the case doesn't say how much.
+fn sink(alloc: Global, case: &Case) -> Result<MemSink, NoMemory> {
+    let room = case.room.unwrap_or(case.text.len().saturating_add(4096));
+    let failing = Vec::from_slice(alloc, case.failing_puts.as_slice())?;
+    let empty = Vec::from_slice(alloc, case.empty_puts.as_slice())?;
+    MemSink::new(alloc, room, case.most.max(1), failing, empty)
+}
+
+/// A socket that loses contact at the call of this number; never where it is 0.
+fn socket(alloc: Global, call: u64) -> Result<SocketBox, AllocError> {
+    if call == 0 {
+        let socket: SocketBox = Box::new(alloc, SimSocket::new(alloc))?;
+        return Ok(socket);
+    }
+    let socket: SocketBox = Box::new(alloc, FailingSocket::new(alloc, call))?;
+    Ok(socket)
+}
+
+/// The sockets of a case.
+fn sockets(alloc: Global, case: &Case) -> Result<Vec<SocketBox>, NoMemory> {
+    let mut sockets = Vec::new(alloc);
+    for call in case.sockets.as_slice() {
+        sockets.push(socket(alloc, *call)?)?;
+    }
+    Ok(sockets)
+}
+
+/// Runs a case through `tester`, with this desk.
+fn run_with<R: AllocGlobal + Threads + Wait + Sync, D: Desk>(
+    rt: &R,
+    case: &Case,
+    desk: &mut D,
+) -> Result<Answer, NoMemory> {
+    let alloc = rt.alloc();
+    let (mut shelf, mut sink) = (shelf(alloc, case)?, sink(alloc, case)?);
+    let mut sockets = sockets(alloc, case)?;
+    let status = tester(
+        rt,
+        alloc,
+        case.words.as_slice(),
+        &mut shelf,
+        &mut sockets,
+        desk,
+        &OpenGate,
+        &mut sink,
+    );
+    Ok(Answer { status, sink })
+}
+
+/// Runs a case through `tester`, whose desk is silent where the case says nothing of it.
+fn run_tester<R: AllocGlobal + Threads + Wait + Sync>(
+    rt: &R,
+    case: &Case,
+) -> Result<Answer, NoMemory> {
+    if case.asks.is_empty() {
+        return run_with(rt, case, &mut SilentDesk::new());
+    }
+    let asks = Vec::from_slice(rt.alloc(), case.asks.as_slice())?;
+    run_with(rt, case, &mut ListDesk::new(asks))
+}
+
+/// Runs a case through `offline`.
+fn run_offline(alloc: Global, case: &Case) -> Result<Answer, NoMemory> {
+    let (mut shelf, mut sink) = (shelf(alloc, case)?, sink(alloc, case)?);
+    let status = offline(alloc, case.words.as_slice(), &mut shelf, &mut sink);
+    Ok(Answer { status, sink })
+}
+
+/// Runs a case through a call.
+pub fn run<R: AllocGlobal + Threads + Wait + Sync>(
+    rt: &R,
+    case: &Case,
+    call: Call,
+) -> Result<Answer, NoMemory> {
+    match call {
+        Call::Tester => run_tester(rt, case),
+        Call::Offline => run_offline(rt.alloc(), case),
+    }
+}
+
+/// Whether the words are those of a lot, which only the tester runs.
+fn is_lot(case: &Case) -> bool {
+    match case.words.first() {
+        Some(word) => word.as_str() == "lot",
+        None => false,
+    }
+}
+
+/// The calls of a case: both, but the tester alone for a lot, and `offline` alone where the case says so.
+pub fn calls(case: &Case) -> &'static [Call] {
+    if case.is_offline {
+        &[Call::Offline]
+    } else if is_lot(case) {
+        &[Call::Tester]
+    } else {
+        &[Call::Tester, Call::Offline]
+    }
+}
