@@ -32,7 +32,8 @@ body-front s top before first count (Some t) more =
 pub body-at : (s : Setting) (top : Bool) (before : List PatStmt) (stmts : List Stmt) (i : ℕ) (item : Stmt) →
     i < length stmts → item ≡ get_or stmts i item →
     body_from s top before (trees_from (map entry_of (drop i stmts)))
-    ≡ one_more s top before (entry_of item) (inner_body s (entry_of item).body) (λ read. body_from s top read (trees_from (map entry_of (drop (i + 1) stmts))))
+    ≡ one_more s top before (entry_of item) (inner_body s (entry_of item).body)
+    (λ read. body_from s top read (trees_from (map entry_of (drop (i + 1) stmts))))
 body-at s top before stmts i item within is =
     ap (λ ss. body_from s top before (trees_from (map entry_of ss))) (drop-item stmts i item within is)
     ∙ body-front s top before (entry_of item).first (entry_of item).count (entry_of item).body (trees_from (map entry_of (drop (i + 1) stmts)))
@@ -51,14 +52,16 @@ body_skips s top before stmts i item whole within is skipped all =
 body-kept : (s : Setting) (top : Bool) (before : List PatStmt) (stmts : List Stmt) (i : ℕ) (item : Stmt) (whole : Result (List PatStmt) FormFault) →
     i < length stmts → item ≡ get_or stmts i item → is_skipped s.words (lexemes_at s (entry_of item)) ≡ false →
     body_from s top before (trees_from (map entry_of (drop i stmts))) ≡ whole →
-    and_then (judge_statement s top (entry_of item) (inner_body s (entry_of item).body)) (λ stmt. body_from s top (before ++ stmt ∷ []) (trees_from (map entry_of (drop (i + 1) stmts)))) ≡ whole
+    and_then (judge_statement s top (entry_of item) (inner_body s (entry_of item).body))
+    (λ stmt. body_from s top (before ++ stmt ∷ []) (trees_from (map entry_of (drop (i + 1) stmts)))) ≡ whole
 body-kept s top before stmts i item whole within is stays all =
     let rest : List PatStmt → Result (List PatStmt) FormFault = λ read. body_from s top read (trees_from (map entry_of (drop (i + 1) stmts))) in
     sym (ap (λ b. cond b (rest before) (and_then (judge_statement s top (entry_of item) (inner_body s (entry_of item).body)) (λ stmt. rest (before ++ stmt ∷ [])))) stays)
     ∙ sym (body-at s top before stmts i item within is) ∙ all
 
 -- a statement that is read
-pub body_goes_on : (s : Setting) (top : Bool) (before : List PatStmt) (stmts : List Stmt) (i : ℕ) (item : Stmt) (whole : Result (List PatStmt) FormFault) (stmt : PatStmt) →
+pub body_goes_on : (s : Setting) (top : Bool) (before : List PatStmt) (stmts : List Stmt) (i : ℕ) (item : Stmt)
+    (whole : Result (List PatStmt) FormFault) (stmt : PatStmt) →
     i < length stmts → item ≡ get_or stmts i item → is_skipped s.words (lexemes_at s (entry_of item)) ≡ false →
     judge_statement s top (entry_of item) (inner_body s (entry_of item).body) ≡ Ok stmt →
     body_from s top before (trees_from (map entry_of (drop i stmts))) ≡ whole →

@@ -3,7 +3,6 @@ use Rattle.std.proofs.Common.{◌≡◌, ℕ, ◌+◌, ◌<◌, List, [], ◌∷
 use Rattle.std.proofs.Math.Seq.{drop-cons}
 use Rattle.stil_lex.specs.declared.token.Token.{Token}
 use Rattle.stil_form.specs.declared.fault.FormKind.{FormKind}
-use Rattle.stil_form.specs.Lexeme.{lexeme_at}
 use Rattle.stil_ast.specs.Meaning.Statements.{Item}
 use Rattle.stil_ast.specs.Data.Items.{item_of, items_of}
 use Rattle.stil_ast.specs.declared.data.ItemRun.{ItemRun}
@@ -11,7 +10,7 @@ use Rattle.pat_read.specs.declared.data.Awaited.{Awaited}
 use Rattle.pat_read.specs.declared.fault.DataFault.{DataFault}
 use Rattle.pat_read.specs.declared.fault.DataFault.TheVariants.{NoMemory, Shape, LeftOut, OutOfRange}
 use Rattle.pat_read.specs.Fault.{followed, DataAnswers}
-use Rattle.pat_read.specs.Data.{token_said, behind, data_from, said_behind}
+use Rattle.pat_read.specs.Data.{said_by, behind, data_from, said_behind}
 
 -- the items of runs, and of one run more
 pub items_of-more : (runs : List ItemRun) (run : ItemRun) →
@@ -36,25 +35,28 @@ behind-said before (Err kind) rest = refl
 -- behind items stand a token and those behind it
 pub data-token : (before : List Item) (bytes : List ℕ) (wanted : Awaited) (token : Token) (tokens : List Token) →
     behind before (data_from bytes wanted (token ∷ tokens))
-    ≡ followed (said_behind before (token_said wanted (lexeme_at bytes token) token.start token.end)) (λ s. behind s.0 (data_from bytes s.1 tokens))
+    ≡ followed (said_behind before (said_by bytes wanted token)) (λ s. behind s.0 (data_from bytes s.1 tokens))
 data-token before bytes wanted token tokens =
-    behind-said before (token_said wanted (lexeme_at bytes token) token.start token.end) (λ next. data_from bytes next tokens)
+    behind-said before (said_by bytes wanted token) (λ next. data_from bytes next tokens)
 
 suc-plus : (i : ℕ) → suc i ≡ i + 1
 suc-plus i = omega arith
 
 -- the token at hand in front of those behind it
 data-at : (before : List Item) (bytes : List ℕ) (wanted : Awaited) (tokens : List Token) (i : ℕ) (d : Token) → i < length tokens →
-    followed (said_behind before (token_said wanted (lexeme_at bytes (get_or tokens i d)) (get_or tokens i d).start (get_or tokens i d).end)) (λ s. behind s.0 (data_from bytes s.1 (drop (i + 1) tokens)))
+    followed (said_behind before (said_by bytes wanted (get_or tokens i d)))
+    (λ s. behind s.0 (data_from bytes s.1 (drop (i + 1) tokens)))
     ≡ behind before (data_from bytes wanted (drop i tokens))
 data-at before bytes wanted tokens i d within =
     sym (data-token before bytes wanted (get_or tokens i d) (drop (i + 1) tokens))
-    ∙ ap (λ ts. behind before (data_from bytes wanted ts)) (sym (drop-cons tokens i d within ∙ ap (λ j. get_or tokens i d ∷ drop j tokens) (suc-plus i)))
+    ∙ ap (λ ts. behind before (data_from bytes wanted ts))
+    (sym (drop-cons tokens i d within ∙ ap (λ j. get_or tokens i d ∷ drop j tokens) (suc-plus i)))
 
 -- what was read with one token more, and the rest, are the whole
-pub data_goes_on : (before after : List Item) (bytes : List ℕ) (wanted next : Awaited) (tokens : List Token) (i : ℕ) (d : Token) (whole : Result (List Item) FormKind) →
+pub data_goes_on : (before after : List Item) (bytes : List ℕ) (wanted next : Awaited) (tokens : List Token)
+    (i : ℕ) (d : Token) (whole : Result (List Item) FormKind) →
     i < length tokens →
-    said_behind before (token_said wanted (lexeme_at bytes (get_or tokens i d)) (get_or tokens i d).start (get_or tokens i d).end) ≡ Ok (after, next) →
+    said_behind before (said_by bytes wanted (get_or tokens i d)) ≡ Ok (after, next) →
     behind before (data_from bytes wanted (drop i tokens)) ≡ whole →
     behind after (data_from bytes next (drop (i + 1) tokens)) ≡ whole
 data_goes_on before after bytes wanted next tokens i d whole within said is =
@@ -70,9 +72,9 @@ fault_stays view view' LeftOut first next answer = ap (λ r. followed r next) an
 fault_stays view view' OutOfRange first next answer = ap (λ r. followed r next) answer
 
 -- a fault at the token at hand is the fault of the whole
-pub data_stops : {Z : Type 0} (view : Z → List Item) (view' : Awaited → List Item × Awaited) (before : List Item) (bytes : List ℕ) (wanted : Awaited) (tokens : List Token) (i : ℕ) (d : Token)
-    (whole : Result (List Item) FormKind) (fault : DataFault) → i < length tokens →
-    DataAnswers {X = Awaited} view' (Err fault) (said_behind before (token_said wanted (lexeme_at bytes (get_or tokens i d)) (get_or tokens i d).start (get_or tokens i d).end)) →
+pub data_stops : {Z : Type 0} (view : Z → List Item) (view' : Awaited → List Item × Awaited) (before : List Item)
+    (bytes : List ℕ) (wanted : Awaited) (tokens : List Token) (i : ℕ) (d : Token) (whole : Result (List Item) FormKind) (fault : DataFault) → i < length tokens →
+    DataAnswers {X = Awaited} view' (Err fault) (said_behind before (said_by bytes wanted (get_or tokens i d))) →
     behind before (data_from bytes wanted (drop i tokens)) ≡ whole →
     DataAnswers {X = Z} view (Err fault) whole
 data_stops {Z} view view' before bytes wanted tokens i d whole fault within answer is =

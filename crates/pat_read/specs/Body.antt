@@ -31,6 +31,10 @@ pub record Setting : Type 0 where
   pub tokens : List Token
   pub words : List (List ℕ)
 
+-- the setting of these
+abbrev pub setting : List ℕ → List Token → List (List ℕ) → Setting
+setting bytes tokens words = record { bytes = bytes; tokens = tokens; words = words }
+
 -- the tokens of a statement's head
 abbrev pub tokens_at : List Token → Entry → List Token
 tokens_at tokens e = take e.count (drop e.first tokens)
@@ -50,7 +54,8 @@ at_statement first (Err kind) = Err (Refused kind first)
 
 -- what an assignment says, or the kind of its fault
 abbrev pub assignment_at : Setting → Entry → Result Assignment FormKind
-assignment_at s e = assignment_of s.bytes (tokens_at s.tokens e) (line_at s.tokens e.first) (is_some e.body) (lexemes_at s e)
+assignment_at s e =
+    assignment_of s.bytes (tokens_at s.tokens e) (line_at s.tokens e.first) (is_some e.body) (lexemes_at s e)
 
 -- the same, by its statement
 abbrev pub judge_assignment : Setting → List Assignment → Entry → Result Assignment FormFault
@@ -72,7 +77,8 @@ step_of said.BreakPoint assigned = Ok step.BreakPoint
 step_of said.IddqTestPoint assigned = Ok step.IddqTestPoint
 
 -- what a statement does, by what it says, what its block assigns, and the statements of its block
-abbrev pub action_of : Outline → Result (List Assignment) FormFault → Result (List PatStmt) FormFault → Result PatAction FormFault
+abbrev pub action_of : Outline → Result (List Assignment) FormFault → Result (List PatStmt) FormFault
+    → Result PatAction FormFault
 action_of (outline.Step one) assigned inner = and_then (step_of one assigned) (λ found. Ok (action.Step found))
 action_of (outline.Loop times) assigned inner = and_then inner (λ stmts. Ok (action.Loop times (written_of stmts)))
 action_of outline.Shift assigned inner = and_then inner (λ stmts. Ok (action.Shift (written_of stmts)))
@@ -94,10 +100,12 @@ outline_at s top e = statement_said top (is_some e.body) (lexemes_at s e)
 abbrev pub judge_statement : Setting → Bool → Entry → Result (List PatStmt) FormFault → Result PatStmt FormFault
 judge_statement s top e inner =
     and_then (at_statement e.first (outline_at s top e)) (λ found.
-    and_then (action_of found (assignments_of s (inner_of e.body)) inner) (λ does. Ok (on_line (line_at s.tokens e.first) does)))
+    and_then (action_of found (assignments_of s (inner_of e.body)) inner) (λ does.
+    Ok (on_line (line_at s.tokens e.first) does)))
 
 -- a statement behind those before it, and then the rest; one that begins with one of the words is skipped
-abbrev pub one_more : Setting → Bool → List PatStmt → Entry → Result (List PatStmt) FormFault → (List PatStmt → Result (List PatStmt) FormFault) → Result (List PatStmt) FormFault
+abbrev pub one_more : Setting → Bool → List PatStmt → Entry → Result (List PatStmt) FormFault
+    → (List PatStmt → Result (List PatStmt) FormFault) → Result (List PatStmt) FormFault
 one_more s top before e inner rest =
     if is_skipped s.words (lexemes_at s e) then rest before
     else and_then (judge_statement s top e inner) (λ stmt. rest (before ++ stmt ∷ []))
@@ -106,9 +114,11 @@ one_more s top before e inner rest =
 abbrev pub body_from : Setting → Bool → List PatStmt → Trees → Result (List PatStmt) FormFault
 body_from s top before end = Ok before
 body_from s top before (plain first count more) =
-    one_more s top before (record { first = first; count = count; body = None }) (Ok []) (λ read. body_from s top read more)
+    one_more s top before (record { first = first; count = count; body = None }) (Ok [])
+    (λ read. body_from s top read more)
 body_from s top before (block first count inside more) =
-    one_more s top before (record { first = first; count = count; body = Some inside }) (body_from s false [] inside) (λ read. body_from s top read more)
+    one_more s top before (record { first = first; count = count; body = Some inside }) (body_from s false [] inside)
+    (λ read. body_from s top read more)
 
 -- a body stands at a Pattern's top level, or not
 abbrev pub is_pattern : BodyPlace → Bool

@@ -60,13 +60,18 @@ repeat_said adjacent _ = Err Shape
 -- the unit, which stands this often
 abbrev pub unit_said : ℕ → Option Item → Result (List Item × Awaited) FormKind
 unit_said times None = Err Shape
-unit_said times (Some item) = if nat_le times most_times then Ok (replicate times item, awaited.Item) else Err OutOfRange
+unit_said times (Some item) =
+    if nat_le times most_times then Ok (replicate times item, awaited.Item) else Err OutOfRange
 
 -- what a token from one place to another says, where this is awaited: its items, and what is awaited behind it
 abbrev pub token_said : Awaited → Lexeme → ℕ → ℕ → Result (List Item × Awaited) FormKind
 token_said awaited.Item one start end = item_said one end
 token_said (awaited.Repeat place) one start end = repeat_said (start == place) one
 token_said (awaited.OfUnit times) one start end = unit_said times (unit_of one)
+
+-- the same of a token of these bytes
+abbrev pub said_by : List ℕ → Awaited → Token → Result (List Item × Awaited) FormKind
+said_by bytes wanted token = token_said wanted (lexeme_at bytes token) token.start token.end
 
 -- where data end nothing but an item may be awaited
 abbrev pub ended : Awaited → Result (List Item) FormKind
@@ -82,7 +87,7 @@ behind items more = followed more (λ rest. Ok (items ++ rest))
 abbrev pub data_from : List ℕ → Awaited → List Token → Result (List Item) FormKind
 data_from bytes wanted [] = ended wanted
 data_from bytes wanted (token ∷ tokens) =
-    followed (token_said wanted (lexeme_at bytes token) token.start token.end) (λ said. behind said.0 (data_from bytes said.1 tokens))
+    followed (said_by bytes wanted token) (λ said. behind said.0 (data_from bytes said.1 tokens))
 
 -- the items that tokens spell, or the kind of the first fault from the left
 abbrev pub data_of : List ℕ → List Token → Result (List Item) FormKind

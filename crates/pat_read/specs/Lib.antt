@@ -1,5 +1,5 @@
--- Read Fault first (what a reader answers), then Data, References (assignments), Statements (each by its own tokens), Body
--- (statements with their blocks), and Refusal (what is told of a fault).
+-- Read Fault first (what a reader answers), then Data, References (assignments), Statements (each by its own tokens),
+-- Body (statements with their blocks), and Refusal (what is told of a fault).
 pub mod Fault
 pub mod Words
 pub mod Data

@@ -50,7 +50,8 @@ assigned line false reference items =
     followed (ref_of line reference) (λ found. Ok (record { reference = found; items = items; line = line }))
 
 -- an assignment by its reference and what stands behind it
-abbrev pub assignment_by : List ℕ → List Token → ℕ → Bool → Option (Ref × List Lexeme) → Result Assignment FormKind
+abbrev pub assignment_by : List ℕ → List Token → ℕ → Bool → Option (Ref × List Lexeme)
+    → Result Assignment FormKind
 assignment_by bytes tokens line has_block None = Err Shape
 assignment_by bytes tokens line has_block (Some found) =
     followed (data_behind bytes tokens found.1) (λ items. assigned line has_block found.0 items)

@@ -38,14 +38,16 @@ abbrev pub name_behind : List Token → Option ℕ → Option ℕ
 name_behind tokens None = None
 name_behind tokens (Some index) = name_if (slice_get tokens (index + 1)) (index + 1)
 
--- what is told of a fault of the statement with this first token: the block is the top-level statement that is open behind the token
-pub record IsTold (bytes : List ℕ) (tokens : List Token) (kind : FormKind) (first : ℕ) (fault : StilFault) : Type 0 where
-  pub found : Option ℕ × Option ℕ
-  pub is_block : IsBlock (take (first + 1) tokens) found
-  pub is_kind : fault.kind ≡ stil_kind kind
-  pub is_keyword : fault.block ≡ text_at bytes tokens found.0
-  pub is_name : fault.name ≡ text_at bytes tokens (name_behind tokens found.0)
-  pub is_line : fault.line ≡ line_at tokens first
+-- what is told of a fault of the statement with this first token: the block is the top-level statement that is open behind
+-- the token
+pub record IsTold (bytes : List ℕ) (tokens : List Token) (kind : FormKind) (first : ℕ) (fault : StilFault) : Type 0
+  where
+    pub found : Option ℕ × Option ℕ
+    pub is_block : IsBlock (take (first + 1) tokens) found
+    pub is_kind : fault.kind ≡ stil_kind kind
+    pub is_keyword : fault.block ≡ text_at bytes tokens found.0
+    pub is_name : fault.name ≡ text_at bytes tokens (name_behind tokens found.0)
+    pub is_line : fault.line ≡ line_at tokens first
 
 -- the fault of a body is this one: that of the first statement in text order that is refused
 pub record IsFaultOf (s : Setting) (here : BodyPlace) (stmts : Trees) (fault : StilFault) : Type 0 where

@@ -1,4 +1,5 @@
--- A statement of a body by its own tokens: its label, its keyword, and the form behind it (IEEE 1450-1999, clauses 22 to 24).
+-- A statement of a body by its own tokens: its label, its keyword, and the form behind it (IEEE 1450-1999, clauses 22
+-- to 24).
 use Rattle.std.specs.Prelude.{ℕ, ◌^◌, Bool, true, false, ◌&&◌, ◌||◌, nat_le, List, [], ◌∷◌, codes, Option, Some, None, is_some, Result, Ok, Err, if◌then◌else◌}
 use Rattle.stil_form.specs.declared.fault.FormKind.{FormKind}
 use Rattle.stil_form.specs.declared.fault.FormKind.TheVariants.{Shape, LeftOut, OutOfRange}

@@ -54,7 +54,8 @@ fn read_ref(alloc: Global, line: u32, reference: Reference) -> Result<SigRef, Da
 
 /// The data of a statement with this head, of which the part behind its reference is given.
 fn data_behind(alloc: Global, head: Source, behind: Source) -> Result<VecText, DataFault>
-    ensures { DataAnswers (λ items. items) result (data_behind head.entry.bytes.now head.entry.tokens.now (lexemes behind.entry)) }
+    ensures { DataAnswers (λ items. items) result
+        (data_behind head.entry.bytes.now head.entry.tokens.now (lexemes behind.entry)) }
 {
     match first_part(behind) {
         Some((Part::Sign(SignKind::Equals), rest)) => {

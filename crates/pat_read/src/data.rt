@@ -8,7 +8,7 @@ ghost use Rattle.stil_ast.specs.Data.Items.{item_of, items_of};
 ghost use Rattle.pat_read.specs.declared.fault.DataFault.{DataFault};
 ghost use Rattle.pat_read.specs.declared.fault.DataFault.TheVariants.{NoMemory};
 ghost use Rattle.pat_read.specs.Fault.{DataAnswers};
-ghost use Rattle.pat_read.specs.Data.{has_underscore, times_by, is_left_out, unit_of, word_behind, repeat_said, unit_said, item_said, token_said, said_behind, ended, data_of, IsDataFault};
+ghost use Rattle.pat_read.specs.Data.{has_underscore, times_by, is_left_out, unit_of, word_behind, repeat_said, unit_said, item_said, said_by, said_behind, ended, data_of, IsDataFault};
 
 use crate::fault::DataFault;
 use std::alloc::{AllocError, Global};
@@ -59,7 +59,8 @@ fn is_left_out(word: &[u8]) -> bool
 
 /// The unit that a part is.
 fn unit_of(part: &Part) -> Option<VecItem>
-    ensures { MatchOption result (unit_of (lexeme_of part.now) ≡ None) (λ item. unit_of (lexeme_of part.now) ≡ Some (item_of item)) }
+    ensures { MatchOption result (unit_of (lexeme_of part.now) ≡ None)
+        (λ item. unit_of (lexeme_of part.now) ≡ Some (item_of item)) }
 {
     match *part {
         Part::Sign(SignKind::Hash) => Some(VecItem::Take),
@@ -157,7 +158,7 @@ fn take_token(
     token: &Token,
 ) -> Result<Awaited, DataFault>
     ensures { DataAnswers (λ next. (items_of runs.new.items, next)) result
-        (said_behind (items_of runs.old.items) (token_said awaited (lexeme_at bytes.now token.now) token.now.start token.now.end)) }
+        (said_behind (items_of runs.old.items) (said_by bytes.now awaited token.now)) }
 {
     let part = part_of(bytes, token);
     match awaited {
@@ -183,16 +184,18 @@ pub(crate) fn read_data(alloc: Global, bytes: &[u8], tokens: &[Token]) -> Result
     }
 }
 
-/// The items that tokens spell: words without `_`, `#`, `%`, and `\rN` directly followed by its unit. They are kept as runs, in
-/// memory that grows with the number of tokens and characters.
+/// The items that tokens spell: words without `_`, `#`, `%`, and `\rN` with its unit behind it. They are kept as runs,
+/// in memory that grows with the number of tokens and characters.
 ///
-/// The first fault from the left counts: a token without a form is `Shape`, a form of the standard that this profile leaves
-/// out is `LeftOut`, and more than 1,048,576 times is `OutOfRange`, which is judged with the unit.
+/// The first fault from the left counts: a token without a form is `Shape`, a form of the standard that this profile
+/// leaves out is `LeftOut`, and more than 1,048,576 times is `OutOfRange`, which is judged with the unit.
 pub fn vec_data(alloc: Global, bytes: &[u8], tokens: &[Token]) -> Result<VecText, DataFault>
     ensures found { IfOk result (λ read. data_of bytes.now tokens.now ≡ Ok read) }
-    ensures only { (items : List Item) → data_of bytes.now tokens.now ≡ Ok items → MatchResult result (λ read. read ≡ items) (λ fault. fault ≡ NoMemory) }
+    ensures only { (items : List Item) → data_of bytes.now tokens.now ≡ Ok items
+        → MatchResult result (λ read. read ≡ items) (λ fault. fault ≡ NoMemory) }
     ensures fault { IfErr result (λ fault. (fault ≡ NoMemory) ⊎ IsDataFault bytes.now tokens.now fault) }
-    ensures refused { (fault : DataFault) → IsDataFault bytes.now tokens.now fault → MatchResult result (λ _. ⊥) (λ e. (e ≡ NoMemory) ⊎ (e ≡ fault)) }
+    ensures refused { (fault : DataFault) → IsDataFault bytes.now tokens.now fault
+        → MatchResult result (λ _. ⊥) (λ e. (e ≡ NoMemory) ⊎ (e ≡ fault)) }
 {
     read_data(alloc, bytes, tokens)
 }

@@ -1,4 +1,5 @@
-//! Reads the bodies of patterns, macros and procedures, and the data of their assignments (IEEE 1450-1999, clauses 21 to 24).
+//! Reads the bodies of patterns, macros and procedures, and the data of their assignments (IEEE 1450-1999, clauses 21
+//! to 24).
 #![tactic(auto)]
 
 mod assignment;

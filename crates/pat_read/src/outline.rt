@@ -180,7 +180,8 @@ fn block_at_break(rest: Source) -> Result<Outline, DataFault>
     }
 }
 
-/// The form of a keyword, by whether it stands at a Pattern's top level, whether it has a block, and what stands behind it.
+/// The form of a keyword, by whether it stands at a Pattern's top level, whether it has a block, and what stands
+/// behind it.
 fn keyword_said(
     alloc: Global,
     top: bool,

@@ -9,7 +9,7 @@ ghost use Rattle.stil_ast.specs.declared.fault.StilRefusal.{StilRefusal};
 ghost use Rattle.stil_ast.specs.declared.fault.StilRefusal.TheVariants as refusal;
 ghost use Rattle.pat_read.specs.Setting.{setting_of};
 ghost use Rattle.pat_read.specs.Fault.{DataAnswers};
-ghost use Rattle.pat_read.specs.Body.{Setting, tokens_at, lexemes_at, line_at, at_statement, assignment_at, outline_at, judge_assignment, assignments_of, step_of, inner_of, action_of, judge_statement, body_from, is_pattern, body_of};
+ghost use Rattle.pat_read.specs.Body.{Setting, setting, tokens_at, lexemes_at, line_at, at_statement, assignment_at, outline_at, judge_assignment, assignments_of, step_of, inner_of, action_of, judge_statement, body_from, is_pattern, body_of};
 ghost use Rattle.pat_read.specs.Refusal.{IsBodyFault, BodyAnswers};
 
 use crate::assignment::assignment_of;
@@ -152,7 +152,8 @@ fn read_outline(
     top: bool,
     stmt: &Stmt,
 ) -> Result<Outline, FormFault>
-    ensures { Answers result (at_statement (entry_of stmt.now).first (outline_at (setting_of form.now) top (entry_of stmt.now))) }
+    ensures { Answers result
+        (at_statement (entry_of stmt.now).first (outline_at (setting_of form.now) top (entry_of stmt.now))) }
 {
     match outline_at(alloc, form, top, stmt) {
         Ok(outline) => Ok(outline),
@@ -239,7 +240,8 @@ fn read_stmts(
     top: bool,
     stmts: &[Stmt],
 ) -> Result<Vec<PatStmt>, FormFault>
-    ensures { AnswersBy (λ read. read.items) result (body_from (setting_of form.now) top [] (trees_from (map entry_of stmts.now))) }
+    ensures { AnswersBy (λ read. read.items) result
+        (body_from (setting_of form.now) top [] (trees_from (map entry_of stmts.now))) }
 {
     let mut read = Vec::with_capacity(alloc, stmts.len())?;
     for stmt in stmts {
@@ -307,7 +309,7 @@ fn read_tokens<'a>(
     place: BodyPlace,
     user: &WordList,
 ) -> Result<PatBody, StilRefusal>
-    ensures { BodyAnswers (record { bytes = bytes.now; tokens = tokens.now; words = user.now }) place (trees body.now) result }
+    ensures { BodyAnswers (setting bytes.now tokens.now user.now) place (trees body.now) result }
 {
     let words = Words::new(alloc, user.as_slice())?;
     let form = BodyForm {
@@ -319,9 +321,10 @@ fn read_tokens<'a>(
 
 /// The body that statements of these tokens are, of a pattern, a macro or a procedure.
 ///
-/// Statements that begin with a word of `user` are skipped, at any place. Each statement is judged as a whole before the
-/// statements of its block. The first one that is refused in text order gives the fault: its kind (`Shape`, `LeftOut` or
-/// `OutOfRange`), its line, which is its label's where it has one, and the top-level statement in which it stands.
+/// Statements that begin with a word of `user` are skipped, at any place. Each statement is judged as a whole before
+/// the statements of its block. The first one that is refused in text order gives the fault: its kind (`Shape`,
+/// `LeftOut` or `OutOfRange`), its line, which is its label's where it has one, and the top-level statement in which it
+/// stands. Lines count from 1.
 pub fn read_body<'a>(
     alloc: Global,
     bytes: &'a [u8],
@@ -330,12 +333,13 @@ pub fn read_body<'a>(
     place: BodyPlace,
     user: &WordList,
 ) -> Result<PatBody, StilRefusal>
-    ensures found { IfOk result (λ read. body_of (record { bytes = bytes.now; tokens = tokens.now; words = user.now }) place (trees body.now) ≡ Ok read) }
-    ensures only { (wanted : Written) → body_of (record { bytes = bytes.now; tokens = tokens.now; words = user.now }) place (trees body.now) ≡ Ok wanted
+    ensures found { IfOk result (λ read. body_of (setting bytes.now tokens.now user.now) place (trees body.now) ≡ Ok read) }
+    ensures only { (wanted : Written) → body_of (setting bytes.now tokens.now user.now) place (trees body.now) ≡ Ok wanted
         → MatchResult result (λ read. read ≡ wanted) (λ e. e ≡ refusal.NoMemory) }
     ensures fault { IfErr result (λ e. (e ≡ refusal.NoMemory)
-        ⊎ IsBodyFault (record { bytes = bytes.now; tokens = tokens.now; words = user.now }) place (trees body.now) e) }
-    ensures refused { (fault : StilRefusal) → IsBodyFault (record { bytes = bytes.now; tokens = tokens.now; words = user.now }) place (trees body.now) fault
+        ⊎ IsBodyFault (setting bytes.now tokens.now user.now) place (trees body.now) e) }
+    ensures refused { (fault : StilRefusal)
+        → IsBodyFault (setting bytes.now tokens.now user.now) place (trees body.now) fault
         → MatchResult result (λ _. ⊥) (λ e. (e ≡ refusal.NoMemory) ⊎ (e ≡ fault)) }
 {
     read_tokens(alloc, bytes, tokens, body, place, user)

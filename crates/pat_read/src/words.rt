@@ -76,7 +76,8 @@ fn is_kept(index: &IndexSet<&[u8]>, word: &[u8]) -> bool
 }
 
 fn add_word<'a>(index: &mut IndexSet<&'a [u8]>, word: &'a [u8]) -> Result<(), AllocError>
-    ensures { OnOk result ((other : List ℕ) → is_kept index.new other ≡ (is_kept index.old other || bytes_eq word.now other)) }
+    ensures { OnOk result ((other : List ℕ) →
+        is_kept index.new other ≡ (is_kept index.old other || bytes_eq word.now other)) }
 {
     index.insert(word)?;
     Ok(())
