@@ -3,7 +3,7 @@ use Rattle.std.proofs.Common.{◌≡◌, ℕ, List, [], ◌∷◌, Option, Some,
 use Rattle.stil_ast.specs.Data.Written.{no_more}
 use Rattle.stil_ast.specs.Faults.FrontFaults.{read_as, fault_of_front}
 use Rattle.stil_ast.specs.declared.timing.SignalWaves.{SignalWaves}
-use Rattle.stil_ast.specs.declared.signal.Direction.TheVariants.{Out}
+use Rattle.tester_types.specs.declared.signal.Direction.TheVariants.{Out}
 use Rattle.stil_ast.specs.declared.blocks.Blocks.{Blocks}
 use Rattle.stil_ast.specs.declared.fault.StilFault.{StilFault}
 use Rattle.stil_ast.specs.declared.fault.StilKind.{StilKind}
