@@ -3,7 +3,8 @@ use Rattle.std.proofs.Common.{◌≡◌, ℕ, true, false, ◌||◌, not, List, 
 use Rattle.std.specs.Prelude.{◌==◌}
 use Rattle.std.proofs.lemmas.Bool.{cond_both, eqb-true, false≢true, and_cases, or_from, not-false}
 use Rattle.std.specs.List.{position_or_len}
-use Rattle.stil_lex.specs.Bytes.{begins_with, starts_pair, is_word, is_blank, is_printing, line_feed, slash, star, double_quote, single_quote}
+use Rattle.stil_lex.specs.Bytes.{starts_pair, line_feed, slash, star, double_quote, single_quote}
+use Rattle.text_bytes.specs.Bytes.{begins_with, is_word, is_blank, is_printing}
 use Rattle.stil_lex.specs.Pieces.{IsGap.blank, IsGap.line_comment, IsGap.comment}
 use Rattle.stil_lex.specs.Step.{a_gap, a_token, closed_front, word_front, quoted_front, sign_front, front_of}
 use Rattle.stil_lex.specs.declared.token.TokenKind.TheVariants.{Name, Text, Sign}
@@ -11,7 +12,7 @@ use Rattle.stil_lex.specs.declared.front.Front.{Front}
 use Rattle.stil_lex.specs.declared.fault.LexFault.{LexFault}
 use Rattle.stil_lex.specs.declared.fault.LexFault.TheVariants.{BadByte}
 use Rattle.stil_lex.proofs.Pairs.{starts_pair_is}
-use Rattle.stil_lex.proofs.Spans.{span, list_any-not}
+use Rattle.text_bytes.proofs.Spans.{span, list_any-not}
 use Rattle.stil_lex.proofs.Found.{IsSo, closed_is_so}
 use Rattle.stil_lex.proofs.Words.{word_is_so}
 use Rattle.stil_lex.proofs.Quotes.{quoted_is_so}

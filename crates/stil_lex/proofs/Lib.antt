@@ -1,6 +1,5 @@
 pub mod StandardFacts
 pub mod Pairs
-pub mod Spans
 pub mod Found
 pub mod Words
 pub mod Quotes

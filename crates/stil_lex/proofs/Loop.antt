@@ -5,7 +5,8 @@ use Rattle.std.proofs.lemmas.List.{drop_at, take_at, append-nil, take-append-dro
 use Rattle.std.proofs.lemmas.List.Sums.{sum_by-append}
 use Rattle.std.specs.List.{list_all}
 use Rattle.std.proofs.lemmas.Bool.{and_parts, eqb-true, false≢true, false_from_ne_true}
-use Rattle.stil_lex.specs.Bytes.{line_feed, is_word, is_printing}
+use Rattle.stil_lex.specs.Bytes.{line_feed}
+use Rattle.text_bytes.specs.Bytes.{is_word, is_printing}
 use Rattle.stil_lex.specs.Pieces.{Piece, gap, token, spelling, IsPiece}
 use Rattle.stil_lex.specs.Tokens.{spelled, ArePieces, tokens_of, line_behind, Reads}
 use Rattle.stil_lex.specs.Faults.{IsFault}
@@ -60,7 +61,8 @@ pub starts : (bytes : List ℕ) → IsRead bytes 0 1 []
 starts bytes = record { pieces = []; each = tt; whole = refl; are = refl; within = omega arith; is_line = refl }
 
 -- the front at a place of the text
-pub front_at : (bytes : List ℕ) (at : ℕ) (found : Result Front LexFault) → at < length bytes → found ≡ front_of at (drop at bytes) → IsSo (drop at bytes) at found
+pub front_at : (bytes : List ℕ) (at : ℕ) (found : Result Front LexFault) → at < length bytes
+    → found ≡ front_of at (drop at bytes) → IsSo (drop at bytes) at found
 front_at bytes at found below is =
     let e = drop_more bytes at 0 below in
     subst (IsSo (drop at bytes) at) (sym is) (rw e (front_is_so at (get_or bytes at 0) (drop (at + 1) bytes)))
@@ -79,7 +81,8 @@ front_len bytes at kind len within f =
     (omega (arith, f.is_len), omega (arith, f.is_len, length-take-le at bytes within))
 
 -- one front further on
-pub goes_on : (bytes : List ℕ) (at line : ℕ) (tokens : List Token) (kind : Option TokenKind) (len feeds : ℕ) → IsRead bytes at line tokens → IsFront (drop at bytes) kind len
+pub goes_on : (bytes : List ℕ) (at line : ℕ) (tokens : List Token) (kind : Option TokenKind) (len feeds : ℕ)
+    → IsRead bytes at line tokens → IsFront (drop at bytes) kind len
     → feeds ≡ count_by (λ b. b == line_feed) (take len (drop at bytes)) → IsRead bytes (at + len) (line + feeds) (tokens ++ kept kind at (at + len) line)
 goes_on bytes at line tokens kind len feeds r f is_feeds =
     let read = take at bytes in
@@ -153,7 +156,8 @@ is_done bytes at line tokens r all =
     }
 
 -- a fault
-pub stops : (bytes : List ℕ) (at line : ℕ) (tokens : List Token) (fault : LexFault) → IsRead bytes at line tokens → Err fault ≡ front_of at (drop at bytes) → IsFault bytes fault
+pub stops : (bytes : List ℕ) (at line : ℕ) (tokens : List Token) (fault : LexFault) → IsRead bytes at line tokens
+    → Err fault ≡ front_of at (drop at bytes) → IsFault bytes fault
 stops bytes at line tokens fault r is =
     let place : length (spelled r.pieces) ≡ at = sym (ap length r.whole) ∙ length-take-le at bytes r.within in
     found_is_fault bytes r.pieces (drop at bytes) fault r.each (sym (take-append-drop at bytes) ∙ ap (λ ys. ys ++ drop at bytes) r.whole) (ap (λ n. front_of n (drop at bytes)) place ∙ sym is)

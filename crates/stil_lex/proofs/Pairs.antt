@@ -10,7 +10,8 @@ pub pair_place-cons : (a b x : ℕ) (xs : List ℕ) → starts_pair a b (x ∷ x
 pair_place-cons a b x xs fails = cond-false (starts_pair a b (x ∷ xs)) _ _ fails
 
 -- one byte further on
-pub pair_place_more : (a b : ℕ) (xs : List ℕ) (i : ℕ) → i < length xs → starts_pair a b (drop i xs) ≡ false → pair_place a b (drop i xs) ≡ 1 + pair_place a b (drop (i + 1) xs)
+pub pair_place_more : (a b : ℕ) (xs : List ℕ) (i : ℕ) → i < length xs → starts_pair a b (drop i xs) ≡ false
+    → pair_place a b (drop i xs) ≡ 1 + pair_place a b (drop (i + 1) xs)
 pair_place_more a b xs i below fails =
     let e = drop_more xs i 0 below in
     rw e (pair_place-cons a b (get_or xs i 0) (drop (i + 1) xs) (rw e at fails))

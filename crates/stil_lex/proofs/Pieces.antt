@@ -1,11 +1,11 @@
 -- What stands at the front of a text is what `front_of` says.
 use Rattle.std.proofs.Common.{◌≡◌, ℕ, ◌+◌, ◌<◌, Bool, true, false, ◌&&◌, ◌||◌, not, List, [], ◌∷◌, ◌++◌, length, take, drop, Ok, Err, refl, sym, ap, subst, ◌∙◌, inl, inr, ◌⊎◌, arith, append_assoc, eq-eqb, ne_eqb, length-append, eqb}
 use Rattle.std.specs.Prelude.{◌==◌, nat_lt}
-use Rattle.std.proofs.lemmas.Bool.{cond-true, cond-false, eqb-true, false≢true, and_parts, and_from, or_parts, or_cases, cases_Bool, false_from_ne_true, le-ltb, lt-ltb, ltb-true, and_left, and_right}
-use Rattle.std.proofs.lemmas.Bool.Decides.{nat_tests}
+use Rattle.std.proofs.lemmas.Bool.{cond-true, cond-false, eqb-true, false≢true, and_parts, and_from, or_parts, cases_Bool, false_from_ne_true, le-ltb, lt-ltb, ltb-true, and_left, and_right}
 use Rattle.std.proofs.lemmas.List.{drop_at, take_at, append-nil}
 use Rattle.std.specs.List.{list_all, list_any, prefix_len, position_or_len}
-use Rattle.stil_lex.specs.Bytes.{begins_with, starts_pair, is_word, is_blank, is_printing, may_be_quoted, line_feed, slash, star, open_brace, close_brace, double_quote, single_quote}
+use Rattle.stil_lex.specs.Bytes.{starts_pair, may_be_quoted, line_feed, slash, star, open_brace, close_brace, double_quote, single_quote}
+use Rattle.text_bytes.specs.Bytes.{begins_with, is_word, is_blank, is_printing}
 use Rattle.stil_lex.specs.Pieces.{Piece, gap, token, spelling, ann, IsPiece, IsToken, IsGap, IsGap.blank, IsGap.line_comment, IsGap.comment, IsGap.annotation, IsClosed, IsWord, IsQuoted, IsSign}
 use Rattle.stil_lex.specs.Step.{a_gap, a_token, closed_front, word_front, quoted_front, sign_front, front_of, mark_len, is_ann, pair_place}
 use Rattle.stil_lex.specs.declared.token.TokenKind.{TokenKind}
@@ -13,49 +13,14 @@ use Rattle.stil_lex.specs.declared.token.TokenKind.TheVariants.{Word, Name, Text
 use Rattle.stil_lex.specs.declared.front.Front.{Front}
 use Rattle.stil_lex.specs.declared.fault.LexFault.TheVariants.{BadByte, OpenQuote, OpenComment}
 use Rattle.stil_lex.proofs.Pairs.{pair_place-closed}
-use Rattle.stil_lex.proofs.Spans.{prefix_len-span, list_all-not}
+use Rattle.text_bytes.proofs.ByteLemmas.{is_word-blank, is_printing-blank, blanks_no_word}
+use Rattle.text_bytes.proofs.Spans.{prefix_len-span, list_all-not}
 use Rattle.stil_lex.proofs.Words.{mark_len-blanks, is_ann_is, opened_from_mark}
 
 -- the front of a piece
 abbrev pub front_for : Piece → Front
 front_for (gap text) = a_gap (length text)
 front_for (token kind text) = a_token kind (length text)
-
--- a blank is one of five bytes
-pub in_blanks : (P : ℕ → Type 0) → P 32 → P 9 → P 10 → P 12 → P 13 → (b : ℕ) → is_blank b ≡ true → P b
-unfolding is_blank
-in_blanks P space tab feed form back b h =
-    elim (or_cases (b == 0x20 || b == 0x09 || b == 0x0A || b == 0x0C) (b == 0x0D) h) [
-      | inr e ↦ subst P (sym (eqb-true b 13 e)) back
-      | inl h4 ↦
-          elim (or_cases (b == 0x20 || b == 0x09 || b == 0x0A) (b == 0x0C) h4) [
-            | inr e ↦ subst P (sym (eqb-true b 12 e)) form
-            | inl h3 ↦
-                elim (or_cases (b == 0x20 || b == 0x09) (b == 0x0A) h3) [
-                  | inr e ↦ subst P (sym (eqb-true b 10 e)) feed
-                  | inl h2 ↦
-                      elim (or_cases (b == 0x20) (b == 0x09) h2) [
-                        | inr e ↦ subst P (sym (eqb-true b 9 e)) tab
-                        | inl e ↦ subst P (sym (eqb-true b 32 e)) space
-                      ]
-                ]
-          ]
-    ]
-
--- no blank is part of a word
-pub is_word-blank : (b : ℕ) → is_blank b ≡ true → is_word b ≡ false
-unfolding is_word
-is_word-blank b h = in_blanks (λ c. is_word c ≡ false) refl refl refl refl refl b h
-
--- no blank prints
-pub is_printing-blank : (b : ℕ) → is_blank b ≡ true → is_printing b ≡ false
-unfolding is_printing
-is_printing-blank b h = in_blanks (λ c. is_printing c ≡ false) refl refl refl refl refl b h
-
--- what is part of a word prints
-pub is_printing-word : (b : ℕ) → is_word b ≡ true → is_printing b ≡ true
-unfolding is_printing is_word
-is_printing-word b h = grind (arith, nat_tests)
 
 -- a blank is found as it is
 pub blank_is_found : (at b : ℕ) (rest : List ℕ) → is_blank b ≡ true → front_of at (b ∷ rest) ≡ Ok (a_gap 1)
@@ -78,7 +43,8 @@ closed_is_found at n first second opening text after is_n closed =
     ∙ ap (λ k. Ok (a_gap k)) (omega (arith, place, long, is_n, length-append opening text)))
 
 -- the first quote stands behind a body without one
-pub position-quote : (quote : ℕ) (body after : List ℕ) → list_any (λ b. b == quote) body ≡ false → position_or_len (λ b. b == quote) (body ++ quote ∷ after) ≡ length body
+pub position-quote : (quote : ℕ) (body after : List ℕ) → list_any (λ b. b == quote) body ≡ false
+    → position_or_len (λ b. b == quote) (body ++ quote ∷ after) ≡ length body
 position-quote quote body after first =
     prefix_len-span (λ b. not (b == quote)) body (quote ∷ after) (list_all-not (λ b. b == quote) body first) (ap not (eq-eqb quote quote refl))
 
@@ -146,12 +112,12 @@ word_is_found at (b ∷ more) after w =
 -- no blank and no mark goes on with a word
 pub no_word_behind : (blanks more : List ℕ) → list_all is_blank blanks ≡ true → begins_with is_word (blanks ++ open_brace ∷ more) ≡ false
 unfolding is_word
-no_word_behind [] more are = refl
-no_word_behind (b ∷ blanks) more are = is_word-blank b (and_parts (is_blank b) (list_all is_blank blanks) are).0
+no_word_behind blanks more are = blanks_no_word blanks (open_brace ∷ more) are refl
 
 -- what opens an annotation is read as the code reads one
 pub annotation_front : (at : ℕ) (blanks more : List ℕ) → list_all is_blank blanks ≡ true
-    → front_of at (ann ++ (blanks ++ open_brace ∷ star ∷ more)) ≡ closed_front at (3 + (length blanks + 2)) star close_brace (ann ++ (blanks ++ open_brace ∷ star ∷ []) ++ more)
+    → front_of at (ann ++ (blanks ++ open_brace ∷ star ∷ more))
+    ≡ closed_front at (3 + (length blanks + 2)) star close_brace (ann ++ (blanks ++ open_brace ∷ star ∷ []) ++ more)
 unfolding front_of word_front is_word
 annotation_front at blanks more are =
     let behind = blanks ++ open_brace ∷ star ∷ more in
@@ -176,7 +142,8 @@ annotation_is_found at blanks rest after are closed =
     ∙ ap (λ n. Ok (a_gap n)) long))
 
 -- a byte with another one behind it than the pair has
-pub starts_pair-other : (first second b : ℕ) (after : List ℕ) → (b ≡ first → begins_with (λ c. c == second) after ≡ false) → starts_pair first second (b ∷ after) ≡ false
+pub starts_pair-other : (first second b : ℕ) (after : List ℕ)
+    → (b ≡ first → begins_with (λ c. c == second) after ≡ false) → starts_pair first second (b ∷ after) ≡ false
 starts_pair-other first second b [] other = refl
 starts_pair-other first second b (c ∷ after) other =
     elim (cases_Bool (b == first)) [

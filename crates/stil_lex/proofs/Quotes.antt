@@ -4,13 +4,14 @@ use Rattle.std.specs.Prelude.{◌==◌, nat_lt}
 use Rattle.std.proofs.lemmas.Bool.{cond_both, eqb-true, false≢true, ltb-true, ltb-false, not-false}
 use Rattle.std.proofs.lemmas.List.{take_at, append-nil}
 use Rattle.std.specs.List.{list_all, list_any, prefix_len, position_or_len}
-use Rattle.stil_lex.specs.Bytes.{begins_with, may_be_quoted}
+use Rattle.stil_lex.specs.Bytes.{may_be_quoted}
+use Rattle.text_bytes.specs.Bytes.{begins_with}
 use Rattle.stil_lex.specs.Pieces.{IsToken, IsQuoted}
 use Rattle.stil_lex.specs.Faults.{is_quote}
 use Rattle.stil_lex.specs.Step.{a_token, quoted_front}
 use Rattle.stil_lex.specs.declared.token.TokenKind.{TokenKind}
 use Rattle.stil_lex.specs.declared.fault.LexFault.TheVariants.{BadByte, OpenQuote}
-use Rattle.stil_lex.proofs.Spans.{span, list_any-not}
+use Rattle.text_bytes.proofs.Spans.{span, list_any-not}
 use Rattle.stil_lex.proofs.Found.{IsSo}
 
 -- a text ends, or has a first such byte

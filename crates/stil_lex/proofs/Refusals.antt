@@ -4,7 +4,8 @@ use Rattle.std.specs.Prelude.{◌==◌, nat_lt}
 use Rattle.std.proofs.lemmas.Bool.{cond-true, cond-false, eqb-true, false≢true, or_cases, false_from_ne_true, lt-ltb}
 use Rattle.std.proofs.lemmas.List.{drop_at, take_at}
 use Rattle.std.specs.List.{list_all, list_any, prefix_len, position_or_len}
-use Rattle.stil_lex.specs.Bytes.{has_pair, is_word, is_blank, is_printing, may_be_quoted, slash, star, open_brace, close_brace, double_quote, single_quote}
+use Rattle.stil_lex.specs.Bytes.{has_pair, may_be_quoted, slash, star, open_brace, close_brace, double_quote, single_quote}
+use Rattle.text_bytes.specs.Bytes.{is_word, is_blank, is_printing}
 use Rattle.stil_lex.specs.Pieces.{ann}
 use Rattle.stil_lex.specs.Faults.{is_quote, HasBadQuoted, IsRefusal, place}
 use Rattle.stil_lex.specs.Step.{closed_front, quoted_front, sign_front, front_of, pair_place}
@@ -13,8 +14,9 @@ use Rattle.stil_lex.specs.declared.token.TokenKind.TheVariants.{Name, Text}
 use Rattle.stil_lex.specs.declared.fault.LexFault.{LexFault}
 use Rattle.stil_lex.specs.declared.fault.LexFault.TheVariants.{NoMemory, BadByte, OpenQuote, OpenComment}
 use Rattle.stil_lex.proofs.Pairs.{pair_place-none}
-use Rattle.stil_lex.proofs.Spans.{prefix_len-bad}
-use Rattle.stil_lex.proofs.Pieces.{is_printing-word, position-quote, position-none, annotation_front}
+use Rattle.text_bytes.proofs.Spans.{prefix_len-bad}
+use Rattle.text_bytes.proofs.ByteLemmas.{is_printing-word}
+use Rattle.stil_lex.proofs.Pieces.{position-quote, position-none, annotation_front}
 
 -- the code finds a refusal that stands no later, and at the same place this one
 pub record FindsFirst (text : List ℕ) (at : ℕ) (fault : LexFault) : Type 0 where
@@ -37,7 +39,8 @@ stray_is_found at b after n_blank n_print =
     rw (n_word, n_blank, n_double, n_single, n_print)
 
 -- a quote is read as the code reads quotes
-pub quote_front : (at quote : ℕ) (after : List ℕ) → is_quote quote ≡ true → (kind : TokenKind) × (front_of at (quote ∷ after) ≡ quoted_front at quote kind after)
+pub quote_front : (at quote : ℕ) (after : List ℕ) → is_quote quote ≡ true
+    → (kind : TokenKind) × (front_of at (quote ∷ after) ≡ quoted_front at quote kind after)
 unfolding front_of is_word is_blank
 quote_front at quote after quotes =
     elim (or_cases (quote == double_quote) (quote == single_quote) quotes) [
@@ -87,7 +90,8 @@ open_annotation_is_found at blanks rest are n_end =
     ∙ open_closed_is_found at (3 + (length blanks + 2)) star close_brace (ann ++ (blanks ++ open_brace ∷ star ∷ [])) rest (simp length-append (omega arith)) n_end
 
 -- a bad byte in a closed quote, or one before it, is found
-pub bad_quoted_finds : (text : List ℕ) (at fault_place skipped : ℕ) → fault_place ≡ at + 1 + skipped → HasBadQuoted text skipped → FindsFirst text at (BadByte fault_place)
+pub bad_quoted_finds : (text : List ℕ) (at fault_place skipped : ℕ) → fault_place ≡ at + 1 + skipped
+    → HasBadQuoted text skipped → FindsFirst text at (BadByte fault_place)
 bad_quoted_finds text at fault_place skipped is_place h =
     let body = h.front ++ h.byte ∷ h.back in
     let m = prefix_len may_be_quoted body in

@@ -4,7 +4,8 @@ use Rattle.std.specs.Prelude.{◌==◌, nat_lt}
 use Rattle.std.specs.List.{list_any, position_or_len}
 use Rattle.std.proofs.lemmas.Bool.{and_parts, and_from, false≢true, eqb-true, lt-ltb, ltb-true, not-true, not_from_false, cases_order, cases_lt}
 use Rattle.std.proofs.lemmas.List.{take-append-drop, drop_more, length-take-le, get_or_at}
-use Rattle.stil_lex.specs.Bytes.{slash, star, close_brace, is_blank, is_printing, may_be_quoted, starts_pair, has_pair}
+use Rattle.stil_lex.specs.Bytes.{slash, star, close_brace, may_be_quoted, starts_pair, has_pair}
+use Rattle.text_bytes.specs.Bytes.{is_blank, is_printing}
 use Rattle.stil_lex.specs.Tokens.{spelled}
 use Rattle.stil_lex.specs.Faults.{is_quote, IsStray, HasBadQuoted, HasOpenQuote, HasOpenComment, HasOpenAnnotation, IsRefusal, Refuses, IsFault, place}
 use Rattle.stil_lex.specs.Step.{pair_place, mark_len}

@@ -4,7 +4,8 @@ use Rattle.std.specs.Prelude.{◌==◌, nat_lt, count_by}
 use Rattle.std.specs.List.{list_all, list_any, position_or_len}
 use Rattle.std.proofs.lemmas.Bool.{and_parts, and_cases, or_cases, or_parts, eqb-true, false≢true, ltb-true, not-true, lt-ltb, and_from}
 use Rattle.std.proofs.lemmas.List.{take_at, drop_at, take-append-drop, nil_from_length, length-take-le}
-use Rattle.stil_lex.specs.Bytes.{line_feed, double_quote, single_quote, slash, star, open_brace, close_brace, is_word, is_printing, may_be_quoted, begins_with, starts_pair}
+use Rattle.stil_lex.specs.Bytes.{line_feed, double_quote, single_quote, slash, star, open_brace, close_brace, may_be_quoted, starts_pair}
+use Rattle.text_bytes.specs.Bytes.{is_word, is_printing, begins_with}
 use Rattle.stil_lex.specs.Pieces.{ann, OpensAnnotation, IsClosed, IsGap, IsGap.blank, IsGap.line_comment, IsGap.comment, IsGap.annotation, IsWord, IsQuoted, IsSign}
 use Rattle.stil_lex.specs.Tokens.{line_behind}
 use Rattle.stil_lex.specs.Step.{pair_place, is_ann, mark_len, kept}
@@ -159,7 +160,8 @@ quoted_is quote (b ∷ rest) h =
     ]
 
 -- a slash that begins no comment
-pub comments_none : (byte : ℕ) (after : List ℕ) → comments_test byte after ≡ false → byte ≡ slash → (begins_with (λ b. b == slash) after || begins_with (λ b. b == star) after) ≡ false
+pub comments_none : (byte : ℕ) (after : List ℕ) → comments_test byte after ≡ false → byte ≡ slash
+    → (begins_with (λ b. b == slash) after || begins_with (λ b. b == star) after) ≡ false
 unfolding comments_test
 comments_none byte after h e =
     elim (and_cases (byte == slash) (begins_with (λ b. b == slash) after || begins_with (λ b. b == star) after) h) [
@@ -168,7 +170,8 @@ comments_none byte after h e =
     ]
 
 -- neither of two bytes begins the text
-pub neither_begins : (after : List ℕ) → (begins_with (λ b. b == slash) after || begins_with (λ b. b == star) after) ≡ false → begins_with (λ b. b == slash || b == star) after ≡ false
+pub neither_begins : (after : List ℕ)
+    → (begins_with (λ b. b == slash) after || begins_with (λ b. b == star) after) ≡ false → begins_with (λ b. b == slash || b == star) after ≡ false
 neither_begins [] h = refl
 neither_begins (b ∷ after) h = h
 
@@ -199,7 +202,8 @@ pub relined : (bytes : List ℕ) (at line : ℕ) (tokens : List Token) → IsRea
 relined bytes at line tokens r = record { pieces = r.pieces; each = r.each; whole = r.whole; are = r.are; within = r.within; is_line = refl }
 
 -- one piece more
-pub goes_on_slowly : (bytes : List ℕ) (at : ℕ) (tokens : List Token) (kind : Option TokenKind) (len : ℕ) → IsRead bytes at (line_behind (take at bytes)) tokens → Begins kind len (drop at bytes)
+pub goes_on_slowly : (bytes : List ℕ) (at : ℕ) (tokens : List Token) (kind : Option TokenKind) (len : ℕ)
+    → IsRead bytes at (line_behind (take at bytes)) tokens → Begins kind len (drop at bytes)
     → IsRead bytes (at + len) (line_behind (take (at + len) bytes)) (tokens ++ kept kind at (at + len) (line_behind (take at bytes)))
 goes_on_slowly bytes at tokens kind len r b =
     let line = line_behind (take at bytes) in

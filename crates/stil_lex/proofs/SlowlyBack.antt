@@ -4,7 +4,8 @@ use Rattle.std.specs.Prelude.{◌==◌, nat_lt}
 use Rattle.std.specs.List.{list_all, list_any, position_or_len}
 use Rattle.std.proofs.lemmas.Bool.{and_parts, and_from, or_from, false≢true, eqb-true, or_left, or_right, lt-ltb, ltb-true, cases_Bool, cases_order, not_from_false, and_left, and_right}
 use Rattle.std.proofs.lemmas.List.{take_at, drop_at, take-append-drop, append-nil, length-drop}
-use Rattle.stil_lex.specs.Bytes.{line_feed, double_quote, single_quote, slash, star, close_brace, is_word, is_printing, may_be_quoted, begins_with, starts_pair}
+use Rattle.stil_lex.specs.Bytes.{line_feed, double_quote, single_quote, slash, star, close_brace, may_be_quoted, starts_pair}
+use Rattle.text_bytes.specs.Bytes.{is_word, is_printing, begins_with}
 use Rattle.stil_lex.specs.Pieces.{spelling, IsPiece, IsBlank, IsLineComment, IsComment, IsAnnotation, IsClosed, IsGap, IsGap.blank, IsGap.line_comment, IsGap.comment, IsGap.annotation, IsWord, IsQuoted, IsSign, IsToken}
 use Rattle.stil_lex.specs.Tokens.{spelled, Reads}
 use Rattle.stil_lex.specs.Step.{pair_place, is_ann, mark_len, front_of}
@@ -119,7 +120,8 @@ quoted_test-is quote text q =
     (and_from (n + 1 == length rest) (list_all may_be_quoted (take n rest)) width (ap (list_all may_be_quoted) front ∙ q.each))
 
 -- a sign begins no comment
-pub comments_test-is : (byte : ℕ) (after : List ℕ) → (byte ≡ slash → begins_with (λ b. b == slash || b == star) after ≡ false) → comments_test byte after ≡ false
+pub comments_test-is : (byte : ℕ) (after : List ℕ)
+    → (byte ≡ slash → begins_with (λ b. b == slash || b == star) after ≡ false) → comments_test byte after ≡ false
 unfolding comments_test
 comments_test-is byte after h =
     elim (cases_Bool (byte == slash)) [
@@ -127,7 +129,8 @@ comments_test-is byte after h =
       | inr other ↦ and_left (byte == slash) (begins_with (λ b. b == slash) after || begins_with (λ b. b == star) after) other
     ]
   where
-    neither : (ys : List ℕ) → begins_with (λ b. b == slash || b == star) ys ≡ false → (begins_with (λ b. b == slash) ys || begins_with (λ b. b == star) ys) ≡ false
+    neither : (ys : List ℕ) → begins_with (λ b. b == slash || b == star) ys ≡ false
+        → (begins_with (λ b. b == slash) ys || begins_with (λ b. b == star) ys) ≡ false
     neither [] none = refl
     neither (b ∷ ys) none = none
 

@@ -3,7 +3,8 @@ use Rattle.std.proofs.Common.{◌≡◌, ℕ, true, false, List, [], ◌∷◌, 
 use Rattle.std.proofs.lemmas.Bool.{false≢true}
 use Rattle.std.specs.List.{list_all}
 use Rattle.std.specs.Prelude.{codes}
-use Rattle.stil_lex.specs.Bytes.{begins_with, is_blank, is_word, is_printing, may_be_quoted}
+use Rattle.stil_lex.specs.Bytes.{may_be_quoted}
+use Rattle.text_bytes.specs.Bytes.{is_printable, begins_with, is_blank, is_word, is_printing}
 use Rattle.stil_lex.specs.Pieces.{gap, token, IsWord, IsGap.blank, IsGap.comment, IsGap.annotation}
 use Rattle.stil_lex.specs.Tokens.{Reads}
 use Rattle.stil_lex.specs.Faults.{Refuses}
@@ -13,7 +14,8 @@ use Rattle.stil_lex.specs.declared.token.TokenKind.TheVariants.{Word, Name, Text
 use Rattle.stil_lex.specs.declared.fault.LexFault.TheVariants.{BadByte, OpenQuote, OpenComment}
 
 -- a word other than `Ann`
-plain_word : (b : ℕ) (more after : List ℕ) → list_all is_word (b ∷ more) ≡ true → begins_with is_word after ≡ false → is_ann (b ∷ more) ≡ false → IsWord (b ∷ more) after
+plain_word : (b : ℕ) (more after : List ℕ) → list_all is_word (b ∷ more) ≡ true → begins_with is_word after ≡ false
+    → is_ann (b ∷ more) ≡ false → IsWord (b ∷ more) after
 plain_word b more after each longest other =
     record {
       not_empty = λ e. cc;
@@ -136,7 +138,7 @@ open_quote = record {
 
 -- a bad byte in a closed quote is refused at its own place
 pub bad_quoted : Refuses (39 ∷ 97 ∷ 1 ∷ 39 ∷ []) (BadByte 2)
-unfolding is_blank may_be_quoted
+unfolding is_blank is_printable may_be_quoted
 bad_quoted = record {
   pieces = [];
   rest = 39 ∷ 97 ∷ 1 ∷ 39 ∷ [];

@@ -4,12 +4,13 @@ use Rattle.std.specs.Prelude.{nat_lt}
 use Rattle.std.proofs.lemmas.Bool.{cond_both, cond-true, cond-false, eqb-true, false≢true, and_parts, and_from, lt-ltb, ltb-true, cases_Bool}
 use Rattle.std.proofs.lemmas.List.{drop_at, take_at}
 use Rattle.std.specs.List.{list_all, prefix_len}
-use Rattle.stil_lex.specs.Bytes.{starts_pair, begins_with, is_blank, is_word, star, open_brace, close_brace}
+use Rattle.stil_lex.specs.Bytes.{starts_pair, star, open_brace, close_brace}
+use Rattle.text_bytes.specs.Bytes.{begins_with, is_blank, is_word}
 use Rattle.stil_lex.specs.Pieces.{IsGap.annotation, OpensAnnotation, ann}
 use Rattle.stil_lex.specs.Step.{a_token, closed_front, word_front, mark_len, is_ann}
 use Rattle.stil_lex.specs.declared.token.TokenKind.TheVariants.{Word}
 use Rattle.stil_lex.proofs.Pairs.{starts_pair_is}
-use Rattle.stil_lex.proofs.Spans.{span, prefix_len-span}
+use Rattle.text_bytes.proofs.Spans.{span, prefix_len-span}
 use Rattle.stil_lex.proofs.Found.{IsSo, closed_is_so}
 
 -- the test of the word is right

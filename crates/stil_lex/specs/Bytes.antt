@@ -1,5 +1,6 @@
--- The bytes of a STIL text by what they may be part of (the lexical part of IEEE 1450-1999, in ASCII).
-use Rattle.std.specs.Prelude.{ℕ, Bool, false, ◌==◌, nat_le, ◌&&◌, ◌||◌, List, [], ◌∷◌}
+-- The bytes of which the marks and quotes of a STIL text are made (the lexical part of IEEE 1450-1999, in ASCII).
+use Rattle.std.specs.Prelude.{ℕ, Bool, false, ◌==◌, ◌&&◌, ◌||◌, List, [], ◌∷◌}
+use Rattle.text_bytes.specs.Bytes.{is_blank, is_printable}
 
 -- what ends a line
 abbrev pub line_feed : ℕ
@@ -29,27 +30,9 @@ open_brace = 123
 abbrev pub close_brace : ℕ
 close_brace = 125
 
--- space, tab, line feed, form feed and carriage return
-unfoldable pub is_blank : ℕ → Bool
-is_blank b = b == 0x20 || b == 0x09 || b == 0x0A || b == 0x0C || b == 0x0D
-
--- a letter, a digit or the low line
-unfoldable pub is_word : ℕ → Bool
-is_word b =
-    (nat_le 0x61 b && nat_le b 0x7A) || (nat_le 0x41 b && nat_le b 0x5A) || (nat_le 0x30 b && nat_le b 0x39) || b == 0x5F
-
--- a byte that shows in print, of which signs, words and quotes are made
-unfoldable pub is_printing : ℕ → Bool
-is_printing b = nat_le 0x21 b && nat_le b 0x7E
-
 -- what may stand between quotes
 unfoldable pub may_be_quoted : ℕ → Bool
-may_be_quoted b = (nat_le 0x20 b && nat_le b 0x7E) || is_blank b
-
--- the text begins with a byte that passes
-abbrev pub begins_with : (ℕ → Bool) → List ℕ → Bool
-begins_with test [] = false
-begins_with test (b ∷ text) = test b
+may_be_quoted b = is_printable b || is_blank b
 
 -- the text begins with these two bytes
 abbrev pub starts_pair : ℕ → ℕ → List ℕ → Bool

@@ -1,7 +1,8 @@
 -- The fault of a text without tokens: the refusal with the smallest place.
 use Rattle.std.specs.Prelude.{◌≡◌, ◌⊎◌, ℕ, ◌+◌, ◌≤◌, Bool, true, false, ◌==◌, ◌||◌, List, ◌∷◌, ◌++◌, length}
 use Rattle.std.specs.List.{list_any}
-use Rattle.stil_lex.specs.Bytes.{double_quote, single_quote, slash, star, close_brace, is_blank, is_printing, may_be_quoted, has_pair}
+use Rattle.stil_lex.specs.Bytes.{double_quote, single_quote, slash, star, close_brace, may_be_quoted, has_pair}
+use Rattle.text_bytes.specs.Bytes.{is_blank, is_printing}
 use Rattle.stil_lex.specs.Pieces.{Piece, ann, OpensAnnotation}
 use Rattle.stil_lex.specs.Tokens.{spelled, ArePieces}
 use Rattle.stil_lex.specs.declared.fault.LexFault.{LexFault}
@@ -19,7 +20,8 @@ pub record IsStray (text : List ℕ) : Type 0 where
 abbrev pub is_quote : ℕ → Bool
 is_quote b = b == double_quote || b == single_quote
 
--- the text begins with a quote that ends, and `skipped` bytes behind the opening one stands a byte that may not be quoted
+-- the text begins with a quote that ends, and `skipped` bytes behind the opening one stands a byte that may not be
+-- quoted
 pub record HasBadQuoted (text : List ℕ) (skipped : ℕ) : Type 0 where
   pub quote : ℕ
   pub front : List ℕ

@@ -1,7 +1,8 @@
 -- The pieces that a STIL text is made of: gaps and tokens, each by its spelling and by the text behind it.
 use Rattle.std.specs.Prelude.{◌≡◌, ◌⊎◌, ℕ, true, false, ◌==◌, ◌||◌, List, [], ◌∷◌, ◌++◌}
 use Rattle.std.specs.List.{list_all, list_any}
-use Rattle.stil_lex.specs.Bytes.{line_feed, double_quote, single_quote, slash, star, open_brace, close_brace, is_blank, is_word, is_printing, may_be_quoted, begins_with, has_pair}
+use Rattle.stil_lex.specs.Bytes.{line_feed, double_quote, single_quote, slash, star, open_brace, close_brace, may_be_quoted, has_pair}
+use Rattle.text_bytes.specs.Bytes.{is_blank, is_word, is_printing, begins_with}
 use Rattle.stil_lex.specs.declared.token.TokenKind.{TokenKind}
 use Rattle.stil_lex.specs.declared.token.TokenKind.TheVariants.{Word, Name, Text, Sign}
 

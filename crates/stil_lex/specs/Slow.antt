@@ -1,7 +1,8 @@
 -- What the plain slow lexer asks of a text and the text behind it. No public clause cites this file.
 use Rattle.std.specs.Prelude.{ℕ, ◌+◌, Bool, true, false, not, ◌==◌, nat_lt, ◌&&◌, ◌||◌, List, [], ◌∷◌, ◌≤◌, ◌<◌, length, take, drop, Option, Some, None}
 use Rattle.std.specs.List.{list_all, position_or_len}
-use Rattle.stil_lex.specs.Bytes.{line_feed, double_quote, single_quote, slash, star, close_brace, is_blank, is_word, is_printing, may_be_quoted, begins_with, starts_pair}
+use Rattle.stil_lex.specs.Bytes.{line_feed, double_quote, single_quote, slash, star, close_brace, may_be_quoted, starts_pair}
+use Rattle.text_bytes.specs.Bytes.{is_blank, is_word, is_printing, begins_with}
 use Rattle.stil_lex.specs.Pieces.{IsGap, IsToken}
 use Rattle.stil_lex.specs.declared.token.TokenKind.{TokenKind}
 use Rattle.stil_lex.specs.Step.{pair_place, is_ann, mark_len}
@@ -24,7 +25,8 @@ ends_or_begins byte (b ∷ text) = b == byte
 -- `//` and the rest of a line
 unfoldable pub line_test : List ℕ → List ℕ → Bool
 line_test text after =
-    (starts_pair slash slash text && position_or_len (λ b. b == line_feed) text == length text) && ends_or_begins line_feed after
+    (starts_pair slash slash text && position_or_len (λ b. b == line_feed) text == length text)
+    && ends_or_begins line_feed after
 
 -- `/*` up to the first `*/`
 unfoldable pub comment_test : List ℕ → Bool
@@ -44,7 +46,8 @@ annotation_test text = opened_test text && closed_test star close_brace (drop (m
 -- a longest run that opens no annotation
 unfoldable pub word_test : List ℕ → List ℕ → Bool
 word_test text after =
-    ((nat_lt 0 (length text) && list_all is_word text) && not (begins_with is_word after)) && not (is_ann text && nat_lt 0 (mark_len after))
+    ((nat_lt 0 (length text) && list_all is_word text) && not (begins_with is_word after))
+    && not (is_ann text && nat_lt 0 (mark_len after))
 
 -- a gap
 abbrev pub gap_test : List ℕ → List ℕ → Bool
@@ -53,7 +56,8 @@ gap_test text after = ((blank_test text || line_test text after) || comment_test
 -- what stands behind an opening quote, up to the first such quote, which ends it
 unfoldable pub quoted_rest_test : ℕ → List ℕ → Bool
 quoted_rest_test quote rest =
-    position_or_len (λ b. b == quote) rest + 1 == length rest && list_all may_be_quoted (take (position_or_len (λ b. b == quote) rest) rest)
+    position_or_len (λ b. b == quote) rest + 1 == length rest
+    && list_all may_be_quoted (take (position_or_len (λ b. b == quote) rest) rest)
 
 -- text between two quotes
 abbrev pub quoted_test : ℕ → List ℕ → Bool
@@ -67,7 +71,8 @@ comments_test byte after = byte == slash && (begins_with (λ b. b == slash) afte
 -- a sign
 unfoldable pub sign_byte_test : ℕ → List ℕ → Bool
 sign_byte_test byte after =
-    ((is_printing byte && not (is_word byte)) && not (byte == double_quote || byte == single_quote)) && not (comments_test byte after)
+    ((is_printing byte && not (is_word byte)) && not (byte == double_quote || byte == single_quote))
+    && not (comments_test byte after)
 
 -- a sign that is the whole text
 abbrev pub sign_test : List ℕ → List ℕ → Bool

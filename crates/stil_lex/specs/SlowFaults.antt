@@ -1,7 +1,8 @@
 -- What the plain slow search for a text's fault asks of a text. No public clause cites this file.
 use Rattle.std.specs.Prelude.{◌≡◌, ℕ, Bool, false, not, ◌==◌, nat_lt, ◌&&◌, List, [], ◌∷◌, ◌≤◌, ◌<◌, length, take, drop, slice_index, Option}
 use Rattle.std.specs.List.{position_or_len}
-use Rattle.stil_lex.specs.Bytes.{slash, star, close_brace, is_blank, is_printing, may_be_quoted, starts_pair}
+use Rattle.stil_lex.specs.Bytes.{slash, star, close_brace, may_be_quoted, starts_pair}
+use Rattle.text_bytes.specs.Bytes.{is_blank, is_printing}
 use Rattle.stil_lex.specs.Pieces.{Piece}
 use Rattle.stil_lex.specs.Tokens.{spelled, ArePieces}
 use Rattle.stil_lex.specs.Faults.{is_quote, HasBadQuoted, IsRefusal, place}
@@ -30,12 +31,14 @@ open_comment_test text = starts_pair slash star text && unclosed_test star slash
 
 -- `Ann`, blanks and `{*` without `*}` behind them
 unfoldable pub open_annotation_test : List ℕ → Bool
-open_annotation_test text = opened_test text && unclosed_test star close_brace (drop (mark_len (drop 3 text)) (drop 3 text))
+open_annotation_test text =
+    opened_test text && unclosed_test star close_brace (drop (mark_len (drop 3 text)) (drop 3 text))
 
 -- behind an opening quote that ends stands, so many bytes further on and before the end, a byte that may not be quoted
 unfoldable pub bad_rest_test : ℕ → List ℕ → ℕ → Bool
 bad_rest_test quote rest skipped =
-    (nat_lt (position_or_len (λ c. c == quote) rest) (length rest) && nat_lt skipped (position_or_len (λ c. c == quote) rest))
+    (nat_lt (position_or_len (λ c. c == quote) rest) (length rest)
+    && nat_lt skipped (position_or_len (λ c. c == quote) rest))
     && not (may_be_quoted (slice_index rest skipped))
 
 -- such a byte in a quote at the front of the text

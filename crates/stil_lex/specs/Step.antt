@@ -1,7 +1,8 @@
 -- What stands at the front of a text, as the code finds it. No public clause cites this file.
 use Rattle.std.specs.Prelude.{ℕ, ◌+◌, Bool, false, ◌==◌, nat_lt, ◌&&◌, if◌then◌else◌, List, [], ◌∷◌, length, take, drop, count_by, Option, Some, None, Result, Ok, Err}
 use Rattle.std.specs.List.{prefix_len, position_or_len}
-use Rattle.stil_lex.specs.Bytes.{line_feed, double_quote, single_quote, slash, star, open_brace, close_brace, is_blank, is_word, is_printing, may_be_quoted, starts_pair}
+use Rattle.stil_lex.specs.Bytes.{line_feed, double_quote, single_quote, slash, star, open_brace, close_brace, may_be_quoted, starts_pair}
+use Rattle.text_bytes.specs.Bytes.{is_blank, is_word, is_printing}
 use Rattle.stil_lex.specs.declared.token.TokenKind.{TokenKind}
 use Rattle.stil_lex.specs.declared.token.TokenKind.TheVariants.{Word, Name, Text, Sign}
 use Rattle.stil_lex.specs.declared.token.Token.{Token}
@@ -57,7 +58,8 @@ word_front at text =
 unfoldable pub quoted_front : ℕ → ℕ → TokenKind → List ℕ → Result Front LexFault
 quoted_front at quote kind rest =
     if position_or_len (λ b. b == quote) rest == length rest then Err (OpenQuote at)
-    else if nat_lt (prefix_len may_be_quoted (take (position_or_len (λ b. b == quote) rest) rest)) (position_or_len (λ b. b == quote) rest)
+    else if nat_lt (prefix_len may_be_quoted (take (position_or_len (λ b. b == quote) rest) rest))
+    (position_or_len (λ b. b == quote) rest)
     then Err (BadByte (at + 1 + prefix_len may_be_quoted (take (position_or_len (λ b. b == quote) rest) rest)))
     else Ok (a_token kind (position_or_len (λ b. b == quote) rest + 2))
 

@@ -1,49 +1,19 @@
-//! The bytes of a text, and how many stand together at its front.
+//! How many bytes of one class stand together at the front of a text.
 
-ghost use Rattle.std.specs.Prelude.{◌≡◌, ◌≤◌, length, ◌==◌, count_by};
+ghost use Rattle.std.specs.Prelude.{◌≡◌, ◌≤◌, length, ◌==◌};
 ghost use Rattle.std.specs.List.{prefix_len, position_or_len};
-ghost use Rattle.stil_lex.specs.Bytes.{is_blank, is_word, is_printing, may_be_quoted, starts_pair};
+ghost use Rattle.stil_lex.specs.Bytes.{may_be_quoted, starts_pair};
+ghost use Rattle.text_bytes.specs.Bytes.{is_blank, is_word, is_printing};
 ghost use Rattle.stil_lex.specs.Step.{pair_place};
 
-#[tactic(auto, unfolding(crate::specs::Bytes::is_blank))]
-pub(crate) fn is_blank(b: u8) -> bool
-    ensures { result ≡ is_blank b }
-{
-    b == b' ' || b == b'\t' || b == b'\n' || b == 0x0C || b == b'\r'
-}
+use text_bytes::{is_blank, is_printable, is_word};
 
-/// 1 at each byte that a word may hold, else 0.
-#[rattlefmt::skip]
-static WORD_BYTES: [u8; 256] = [
-    0, 0, 0, 0, 0, 0, 0, 0, 0, 0, 0, 0, 0, 0, 0, 0, 0, 0, 0, 0, 0, 0, 0, 0, 0, 0, 0, 0, 0, 0, 0, 0,
-    0, 0, 0, 0, 0, 0, 0, 0, 0, 0, 0, 0, 0, 0, 0, 0, 1, 1, 1, 1, 1, 1, 1, 1, 1, 1, 0, 0, 0, 0, 0, 0,
-    0, 1, 1, 1, 1, 1, 1, 1, 1, 1, 1, 1, 1, 1, 1, 1, 1, 1, 1, 1, 1, 1, 1, 1, 1, 1, 1, 0, 0, 0, 0, 1,
-    0, 1, 1, 1, 1, 1, 1, 1, 1, 1, 1, 1, 1, 1, 1, 1, 1, 1, 1, 1, 1, 1, 1, 1, 1, 1, 1, 0, 0, 0, 0, 0,
-    0, 0, 0, 0, 0, 0, 0, 0, 0, 0, 0, 0, 0, 0, 0, 0, 0, 0, 0, 0, 0, 0, 0, 0, 0, 0, 0, 0, 0, 0, 0, 0,
-    0, 0, 0, 0, 0, 0, 0, 0, 0, 0, 0, 0, 0, 0, 0, 0, 0, 0, 0, 0, 0, 0, 0, 0, 0, 0, 0, 0, 0, 0, 0, 0,
-    0, 0, 0, 0, 0, 0, 0, 0, 0, 0, 0, 0, 0, 0, 0, 0, 0, 0, 0, 0, 0, 0, 0, 0, 0, 0, 0, 0, 0, 0, 0, 0,
-    0, 0, 0, 0, 0, 0, 0, 0, 0, 0, 0, 0, 0, 0, 0, 0, 0, 0, 0, 0, 0, 0, 0, 0, 0, 0, 0, 0, 0, 0, 0, 0,
-];
-
-#[inline(always)]
-pub(crate) fn is_word(b: u8) -> bool
-    ensures { result ≡ is_word b }
-{
-    WORD_BYTES[usize::from(b)] == 1
-}
-
-#[tactic(auto, unfolding(crate::specs::Bytes::is_printing))]
-pub(crate) fn is_printing(b: u8) -> bool
-    ensures { result ≡ is_printing b }
-{
-    b'!' <= b && b <= b'~'
-}
-
+/// Whether it may stand between quotes.
 #[tactic(auto, unfolding(crate::specs::Bytes::may_be_quoted))]
 pub(crate) fn may_be_quoted(b: u8) -> bool
     ensures { result ≡ may_be_quoted b }
 {
-    (b' ' <= b && b <= b'~') || is_blank(b)
+    is_printable(b) || is_blank(b)
 }
 
 /// Whether the text begins with these two bytes.
@@ -94,14 +64,4 @@ pub(crate) fn quotable_len(text: &[u8]) -> usize
     ensures { result ≡ prefix_len may_be_quoted text.now }
 {
     text.iter().take_while(|b| may_be_quoted(**b)).count()
-}
-
-/// How many line feeds stand in the text.
-pub(crate) fn line_feeds(text: &[u8]) -> usize
-    ensures { result ≡ count_by (λ b. b == 10) text.now }
-{
-    match text {
-        [byte] => usize::from(*byte == b'\n'),
-        _ => text.iter().filter(|b| **b == b'\n').count(),
-    }
 }

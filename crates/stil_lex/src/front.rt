@@ -1,14 +1,13 @@
 //! What stands at the front of a text: a gap, a token or a fault.
 
 ghost use Rattle.std.specs.Prelude.{◌≡◌, ◌+◌, ◌<◌, ◌≤◌, length};
+ghost use Rattle.text_bytes.specs.Limits.{most_bytes};
 ghost use Rattle.stil_lex.specs.Step.{closed_front, is_ann, mark_len, word_front, quoted_front, sign_front, front_of};
 
-use crate::byte::{
-    blanks_len, is_blank, is_printing, is_word, pair_place, place_of, quotable_len, starts_pair,
-    word_len,
-};
+use crate::byte::{blanks_len, pair_place, place_of, quotable_len, starts_pair, word_len};
 use crate::fault::LexFault;
 use crate::token::TokenKind;
+use text_bytes::{is_blank, is_printing, is_word};
 
 /// A gap, which has no kind, or a token.
 #[derive(Clone, Copy)]
@@ -43,7 +42,7 @@ fn closed_front(
     second: u8,
 ) -> Result<Front, LexFault>
     requires opened { opened ≤ length text.now }
-    requires short { length text.now ≤ 16777216 }
+    requires short { length text.now ≤ most_bytes }
     ensures { result ≡ closed_front at opened first second text.now }
 {
     let rest = &text[opened..];
@@ -67,7 +66,7 @@ pub(crate) fn is_ann(word: &[u8]) -> bool
 /// How many bytes open an annotation behind `Ann`, or 0.
 #[tactic(auto, unfolding(crate::specs::Step::mark_len))]
 pub(crate) fn mark_len(text: &[u8]) -> usize
-    requires { length text.now ≤ 16777216 }
+    requires { length text.now ≤ most_bytes }
     ensures len { result ≡ mark_len text.now }
     ensures within { result ≤ length text.now }
 {
@@ -82,7 +81,7 @@ pub(crate) fn mark_len(text: &[u8]) -> usize
 /// A word, or the annotation that it opens.
 #[tactic(auto, unfolding(crate::specs::Step::word_front))]
 fn word_front(text: &[u8], at: usize) -> Result<Front, LexFault>
-    requires { length text.now ≤ 16777216 }
+    requires { length text.now ≤ most_bytes }
     ensures { result ≡ word_front at text.now }
 {
     let len = word_len(text);
@@ -98,8 +97,8 @@ fn word_front(text: &[u8], at: usize) -> Result<Front, LexFault>
 /// A Name or a Text, of which the opening quote is read.
 #[tactic(auto, unfolding(crate::specs::Step::quoted_front))]
 fn quoted_front(rest: &[u8], at: usize, quote: u8, kind: TokenKind) -> Result<Front, LexFault>
-    requires place { at ≤ 16777216 }
-    requires short { length rest.now ≤ 16777216 }
+    requires place { at ≤ most_bytes }
+    requires short { length rest.now ≤ most_bytes }
     ensures { result ≡ quoted_front at quote kind rest.now }
 {
     let len = place_of(rest, quote);
@@ -116,7 +115,7 @@ fn quoted_front(rest: &[u8], at: usize, quote: u8, kind: TokenKind) -> Result<Fr
 /// A sign, or the comment that it opens.
 #[tactic(auto, unfolding(crate::specs::Step::sign_front))]
 fn sign_front(text: &[u8], at: usize, byte: u8) -> Result<Front, LexFault>
-    requires { length text.now ≤ 16777216 }
+    requires { length text.now ≤ most_bytes }
     ensures { result ≡ sign_front at byte text.now }
 {
     if starts_pair(text, b'/', b'/') {
@@ -131,8 +130,8 @@ fn sign_front(text: &[u8], at: usize, byte: u8) -> Result<Front, LexFault>
 /// What stands at the front of a text whose first byte has the place `at`.
 #[tactic(auto, unfolding(crate::specs::Step::front_of))]
 pub(crate) fn front_of(text: &[u8], at: usize) -> Result<Front, LexFault>
-    requires place { at ≤ 16777216 }
-    requires short { length text.now ≤ 16777216 }
+    requires place { at ≤ most_bytes }
+    requires short { length text.now ≤ most_bytes }
     ensures { result ≡ front_of at text.now }
 {
     match text {

@@ -8,7 +8,8 @@ ghost use Rattle.stil_lex.specs.declared.fault.LexFault.{LexFault};
 
 /// The tokens of a text are one list.
 pub fn one_token_list()
-    ensures { (bytes : List ℕ) (tokens others : List Token) → Reads bytes tokens → Reads bytes others → tokens ≡ others }
+    ensures { (bytes : List ℕ) (tokens others : List Token) → Reads bytes tokens → Reads bytes others
+        → tokens ≡ others }
 {}
 
 /// No text has both tokens and a fault.

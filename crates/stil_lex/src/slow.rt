@@ -3,21 +3,22 @@
 
 ghost use Rattle.std.specs.Prelude.{◌≡◌, ◌≤◌, length, IfOk, IfSome, IfNone, IsTrue, List, ℕ, Option};
 ghost use Rattle.std.specs.List.{list_all, list_any};
-ghost use Rattle.stil_lex.specs.Bytes.{begins_with, is_word, may_be_quoted, line_feed};
+ghost use Rattle.text_bytes.specs.Limits.{most_bytes};
+ghost use Rattle.stil_lex.specs.Bytes.{may_be_quoted, line_feed};
+ghost use Rattle.text_bytes.specs.Bytes.{begins_with, is_word};
 ghost use Rattle.stil_lex.specs.Tokens.{Reads};
 ghost use Rattle.stil_lex.specs.Pieces.{IsToken};
 ghost use Rattle.stil_lex.specs.declared.token.Token.{Token};
 ghost use Rattle.stil_lex.specs.declared.token.TokenKind.{TokenKind};
 ghost use Rattle.stil_lex.specs.Slow.{blank_test, closed_test, ends_or_begins, line_test, comment_test, opened_test, annotation_test, gap_test, word_test, quoted_rest_test, quoted_test, comments_test, sign_byte_test, sign_test, IsKind, Begins};
 
-use crate::byte::{
-    is_blank, is_printing, is_word, line_feeds, may_be_quoted, pair_place, place_of, starts_pair,
-};
+use crate::byte::{may_be_quoted, pair_place, place_of, starts_pair};
 use crate::front::{Front, is_ann, mark_len};
 use crate::lexer::keep;
 use crate::list::TokenList;
 use crate::token::TokenKind;
 use std::alloc::{AllocError, Global};
+use text_bytes::{all_words, is_blank, is_printing, is_word, line_feeds};
 
 fn is_one_blank(text: &[u8]) -> bool
     ensures { result ≡ blank_test text.now }
@@ -31,7 +32,7 @@ fn is_one_blank(text: &[u8]) -> bool
 /// Whether the first such pair ends the text.
 #[tactic(auto, unfolding(crate::specs::Slow::closed_test))]
 fn is_closed(text: &[u8], first: u8, second: u8) -> bool
-    requires { length text.now ≤ 16777216 }
+    requires { length text.now ≤ most_bytes }
     ensures { result ≡ closed_test first second text.now }
 {
     pair_place(text, first, second) + 2 == text.len()
@@ -57,14 +58,14 @@ fn is_line_comment(text: &[u8], after: &[u8]) -> bool
 
 #[tactic(auto, unfolding(crate::specs::Slow::comment_test))]
 fn is_comment(text: &[u8]) -> bool
-    requires { length text.now ≤ 16777216 }
+    requires { length text.now ≤ most_bytes }
     ensures { result ≡ comment_test text.now }
 {
     starts_pair(text, b'/', b'*') && is_closed(&text[2..], b'*', b'/')
 }
 
 pub(crate) fn opens_annotation(text: &[u8]) -> bool
-    requires { length text.now ≤ 16777216 }
+    requires { length text.now ≤ most_bytes }
     ensures test { result ≡ opened_test text.now }
     ensures long { IsTrue result → 3 ≤ length text.now }
 {
@@ -76,7 +77,7 @@ pub(crate) fn opens_annotation(text: &[u8]) -> bool
 
 #[tactic(auto, unfolding(crate::specs::Slow::annotation_test))]
 fn is_annotation(text: &[u8]) -> bool
-    requires { length text.now ≤ 16777216 }
+    requires { length text.now ≤ most_bytes }
     ensures { result ≡ annotation_test text.now }
 {
     if !opens_annotation(text) {
@@ -88,16 +89,10 @@ fn is_annotation(text: &[u8]) -> bool
 }
 
 fn is_gap(text: &[u8], after: &[u8]) -> bool
-    requires { length text.now ≤ 16777216 }
+    requires { length text.now ≤ most_bytes }
     ensures { result ≡ gap_test text.now after.now }
 {
     is_one_blank(text) || is_line_comment(text, after) || is_comment(text) || is_annotation(text)
-}
-
-fn all_pass(text: &[u8]) -> bool
-    ensures { result ≡ list_all is_word text.now }
-{
-    text.iter().all(|b| is_word(*b))
 }
 
 fn all_quotable(text: &[u8]) -> bool
@@ -117,18 +112,18 @@ fn begins_word(text: &[u8]) -> bool
 
 #[tactic(auto, unfolding(crate::specs::Slow::word_test))]
 fn is_whole_word(text: &[u8], after: &[u8]) -> bool
-    requires { length after.now ≤ 16777216 }
+    requires { length after.now ≤ most_bytes }
     ensures { result ≡ word_test text.now after.now }
 {
     0 < text.len()
-        && all_pass(text)
+        && all_words(text)
         && !begins_word(after)
         && !(is_ann(text) && 0 < mark_len(after))
 }
 
 #[tactic(auto, unfolding(crate::specs::Slow::quoted_rest_test))]
 fn is_quoted_rest(rest: &[u8], quote: u8) -> bool
-    requires { length rest.now ≤ 16777216 }
+    requires { length rest.now ≤ most_bytes }
     ensures { result ≡ quoted_rest_test quote rest.now }
 {
     let len = place_of(rest, quote);
@@ -136,7 +131,7 @@ fn is_quoted_rest(rest: &[u8], quote: u8) -> bool
 }
 
 fn is_quoted(text: &[u8], quote: u8) -> bool
-    requires { length text.now ≤ 16777216 }
+    requires { length text.now ≤ most_bytes }
     ensures { result ≡ quoted_test quote text.now }
 {
     match text {
@@ -176,8 +171,8 @@ fn is_sign_text(text: &[u8], after: &[u8]) -> bool
 }
 
 fn token_kind(text: &[u8], after: &[u8]) -> Option<TokenKind>
-    requires text { length text.now ≤ 16777216 }
-    requires after { length after.now ≤ 16777216 }
+    requires text { length text.now ≤ most_bytes }
+    requires after { length after.now ≤ most_bytes }
     ensures some { IfSome result (λ kind. IsToken kind text.now after.now) }
     ensures none { IfNone result ((kind : TokenKind) → IsToken kind text.now after.now → ⊥) }
 {
@@ -198,7 +193,7 @@ fn token_kind(text: &[u8], after: &[u8]) -> Option<TokenKind>
 
 /// The first gap or token at the front of a text, or none where no gap and no token stands there.
 pub(crate) fn first(text: &[u8]) -> Option<Front>
-    requires { length text.now ≤ 16777216 }
+    requires { length text.now ≤ most_bytes }
     ensures some { IfSome result (λ f. Begins f.kind f.len text.now) }
     ensures none { IfNone result ((kind : Option TokenKind) (len : ℕ) → Begins kind len text.now → ⊥) }
 {
@@ -220,7 +215,7 @@ pub(crate) fn first(text: &[u8]) -> Option<Front>
 
 /// The tokens of a text, or none where it has no reading.
 pub(crate) fn slow_lex(alloc: Global, bytes: &[u8]) -> Result<Option<TokenList>, AllocError>
-    requires { length bytes.now ≤ 16777216 }
+    requires { length bytes.now ≤ most_bytes }
     ensures some { IfOk result (λ found. IfSome found (λ tokens. Reads bytes.now tokens)) }
     ensures none { IfOk result (λ found. IfNone found ((tokens : List Token) → Reads bytes.now tokens → ⊥)) }
 {
@@ -232,7 +227,7 @@ pub(crate) fn slow_lex(alloc: Global, bytes: &[u8]) -> Result<Option<TokenList>,
         };
         let end = at + front.len;
         let line = 1 + line_feeds(&bytes[..at]) as u32;
-        keep(&mut tokens, front.kind, at, end, line)?;
+        keep(&mut tokens, front.kind, at as u32, end as u32, line)?;
         at = end;
     }
     Ok(Some(TokenList::from_vec(tokens)))

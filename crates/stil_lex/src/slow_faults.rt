@@ -2,14 +2,16 @@
 //! trying every length. Where none begins, one kind of refusal after another is tried.
 
 ghost use Rattle.std.specs.Prelude.{◌≡◌, ◌+◌, ◌<◌, ◌≤◌, length, IfSome, IfNone, ℕ};
+ghost use Rattle.text_bytes.specs.Limits.{most_bytes};
 ghost use Rattle.stil_lex.specs.Faults.{is_quote, HasBadQuoted, IsRefusal, IsFault};
 ghost use Rattle.stil_lex.specs.SlowFaults.{stray_test, open_quote_test, unclosed_test, open_comment_test, open_annotation_test, bad_rest_test, bad_quoted_test, IsFirstBad, IsFirstRefusal, IsReadUpTo};
 ghost use Rattle.stil_lex.specs.declared.fault.LexFault.{LexFault};
 
-use crate::byte::{is_blank, is_printing, may_be_quoted, pair_place, place_of, starts_pair};
+use crate::byte::{may_be_quoted, pair_place, place_of, starts_pair};
 use crate::fault::LexFault;
 use crate::front::mark_len;
 use crate::slow::{first, opens_annotation};
+use text_bytes::{is_blank, is_printing};
 
 /// Whether the text begins with a byte that no token and no gap begins with.
 fn is_stray(text: &[u8]) -> bool
@@ -57,7 +59,7 @@ fn is_open_comment(text: &[u8]) -> bool
 /// Whether the text begins with an annotation without an end.
 #[tactic(auto, unfolding(crate::specs::SlowFaults::open_annotation_test))]
 fn is_open_annotation(text: &[u8]) -> bool
-    requires { length text.now ≤ 16777216 }
+    requires { length text.now ≤ most_bytes }
     ensures { result ≡ open_annotation_test text.now }
 {
     if !opens_annotation(text) {
@@ -102,7 +104,7 @@ fn bad_quoted(text: &[u8]) -> Option<usize>
 
 /// The refusal with the smallest place, by what stands at the front of a text whose first byte has the place `at`.
 fn refusal(text: &[u8], at: usize) -> Option<LexFault>
-    requires { at + length text.now ≤ 16777216 }
+    requires { at + length text.now ≤ most_bytes }
     ensures some { IfSome result (λ fault. IsFirstRefusal text.now at fault) }
     ensures none { IfNone result ((fault : LexFault) → IsRefusal text.now at fault → ⊥) }
 {
@@ -126,7 +128,7 @@ fn refusal(text: &[u8], at: usize) -> Option<LexFault>
 
 /// Up to where the text is pieces: the first place where none begins.
 fn pieces_len(bytes: &[u8]) -> usize
-    requires { length bytes.now ≤ 16777216 }
+    requires { length bytes.now ≤ most_bytes }
     ensures { IsReadUpTo bytes.now result }
 {
     let mut at = 0usize;
@@ -138,7 +140,7 @@ fn pieces_len(bytes: &[u8]) -> usize
 
 /// The fault of a text, or none where it has none.
 pub(crate) fn slow_fault(bytes: &[u8]) -> Option<LexFault>
-    requires { length bytes.now ≤ 16777216 }
+    requires { length bytes.now ≤ most_bytes }
     ensures some { IfSome result (λ fault. IsFault bytes.now fault) }
     ensures none { IfNone result ((fault : LexFault) → IsFault bytes.now fault → ⊥) }
 {

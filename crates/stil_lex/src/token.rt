@@ -19,13 +19,16 @@ pub enum TokenKind {
 #[derive(Clone, Copy, PartialEq, Eq, Debug)]
 pub struct Token {
     pub kind: TokenKind,
-    /// Its line, counted from 1. It stands beside the kind, where it takes no room of its own.
-    pub line: u32,
     /// The place of its first byte. A Name and a Text begin at their opening quote.
-    pub start: usize,
+    pub start: u32,
     /// The place behind its last byte, which in a Name and a Text is the closing quote.
-    pub end: usize,
+    pub end: u32,
+    /// Its line, counted from 1.
+    pub line: u32,
 }
+
+/// A long text has millions of tokens.
+const _: () = prove!(size_of::<Token>() == 16);
 
 impl TokenKind {
     ghost use Rattle.stil_lex.specs.Text.{quote_len};
@@ -50,8 +53,8 @@ impl Token {
         ensures { result.now ≡ text_of bytes.now self.now }
     {
         let quote = self.kind.quote_len();
-        let end = self.end.saturating_sub(quote).min(bytes.len());
-        let start = self.start.saturating_add(quote).min(end);
+        let end = (self.end as usize).saturating_sub(quote).min(bytes.len());
+        let start = (self.start as usize).saturating_add(quote).min(end);
         &bytes[start..end]
     }
 }

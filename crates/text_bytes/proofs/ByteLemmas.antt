@@ -52,6 +52,11 @@ pub begins_name-word : (b : ℕ) → is_word b ≡ false → begins_name b ≡ f
 unfolding begins_name is_word
 begins_name-word b h = grind (arith, nat_tests)
 
+-- the same, forwards
+pub is_word-begins_name : (b : ℕ) → begins_name b ≡ true → is_word b ≡ true
+unfolding begins_name is_word
+is_word-begins_name b h = grind (arith, nat_tests)
+
 -- no digit begins a name
 pub is_digit-begins_name : (b : ℕ) → begins_name b ≡ true → is_digit b ≡ false
 unfolding begins_name is_digit

@@ -17,6 +17,12 @@ overflow_add-end c =
     let f = front_at c.args.bytes.now c.loop-at.at (Ok c.in_ok-front.front) (omega arith) (sym c.in_ok-front.was ∙ is) in
     omega (arith, (front_len c.args.bytes.now c.loop-at.at _ _ (omega arith) f).1)
 
+pub overflow_cast-end : goal.overflow_cast-end
+overflow_cast-end c =
+    let is = rw take_rest at c.front_of.ensures in
+    let f = front_at c.args.bytes.now c.loop-at.at (Ok c.in_ok-front.front) (omega arith) (sym c.in_ok-front.was ∙ is) in
+    omega (arith, (front_len c.args.bytes.now c.loop-at.at _ _ (omega arith) f).1)
+
 pub slice_bounds-feeds_of-end : goal.slice_bounds-feeds_of-end
 slice_bounds-feeds_of-end c =
     let is = rw take_rest at c.front_of.ensures in

@@ -1,5 +1,0 @@
-use Rattle.stil_form.proofs.ReadingLemmas.{first_is, is_first}
-use Rattle.stil_form.proofs.laws.first_refused.Goals as goal
-
-pub returns : goal.returns
-returns g c = λ judge before es fault. (first_is judge before es fault, is_first judge before es fault)

@@ -1,6 +1,0 @@
-use Rattle.std.proofs.Common.{◌≡◌, take, fold}
-use Rattle.stil_form.specs.Words.{with_digit}
-use Rattle.stil_form.proofs.word.value_of.Given as goal
-
-abbrev pub invariant-loop-digit : goal.invariant-loop-digit
-invariant-loop-digit l = l.value ≡ fold with_digit 0 (take l.digit-index l.digits)
