@@ -51,7 +51,8 @@ refused tokens (Err e) (inr h) wanted f =
     inr cc
 
 -- the run over one token more
-pub run-more : (s : State) (tokens : List Token) (at : ℕ) (d : Token) → at < length tokens → run 0 s (take (at + 1) tokens) ≡ step_on at (run 0 s (take at tokens)) (get_or tokens at d)
+pub run-more : (s : State) (tokens : List Token) (at : ℕ) (d : Token) → at < length tokens
+    → run 0 s (take (at + 1) tokens) ≡ step_on at (run 0 s (take at tokens)) (get_or tokens at d)
 run-more s tokens at d below =
     let place : 0 + length (take at tokens) ≡ at = omega (arith, length-take-le at tokens (omega arith)) in
     ap (run 0 s) (take_more tokens at d below)

@@ -10,7 +10,8 @@ use Rattle.stil_tree.specs.Step.{join}
 use Rattle.stil_tree.specs.Slow.{trees_of}
 
 -- a statement in front is the first
-pub entries-in_front : (first count : ℕ) (body : Option Trees) (more : Trees) → entries (in_front first count body more) ≡ record { first = first; count = count; body = body } ∷ entries more
+pub entries-in_front : (first count : ℕ) (body : Option Trees) (more : Trees)
+    → entries (in_front first count body more) ≡ record { first = first; count = count; body = body } ∷ entries more
 entries-in_front first count None more = refl
 entries-in_front first count (Some body) more = refl
 
@@ -32,7 +33,8 @@ pub length-entries : (xs : List Stmt) (es : List Entry) → map entry_of xs ≡ 
 length-entries xs es e = sym (length-map xs entry_of) ∙ ap length e
 
 -- statements behind a statement
-pub join-in_front : (first count : ℕ) (body : Option Trees) (more behind : Trees) → join (in_front first count body more) behind ≡ in_front first count body (join more behind)
+pub join-in_front : (first count : ℕ) (body : Option Trees) (more behind : Trees)
+    → join (in_front first count body more) behind ≡ in_front first count body (join more behind)
 join-in_front first count None more behind = refl
 join-in_front first count (Some body) more behind = refl
 
@@ -43,15 +45,18 @@ trees_from-push (x ∷ es) e =
     ap (in_front x.first x.count x.body) (trees_from-push es e) ∙ sym (join-in_front x.first x.count x.body (trees_from es) (in_front e.first e.count e.body end))
 
 -- one more statement in memory
-pub trees_of-push : (xs : List Stmt) (s : Stmt) (e : Entry) → entry_of s ≡ e → trees_of (xs ++ s ∷ []) ≡ join (trees_of xs) (in_front e.first e.count e.body end)
+pub trees_of-push : (xs : List Stmt) (s : Stmt) (e : Entry) → entry_of s ≡ e
+    → trees_of (xs ++ s ∷ []) ≡ join (trees_of xs) (in_front e.first e.count e.body end)
 trees_of-push xs s e is = ap trees_from (map_push entry_of xs s ∙ ap (λ x. map entry_of xs ++ x ∷ []) is) ∙ trees_from-push (map entry_of xs) e
 
 -- a statement made without a block
-pub entry_of-plain : (first count : ℕ) → entry_of (roll-Stmt (record { first = first; count = count; body = None })) ≡ record { first = first; count = count; body = None }
+pub entry_of-plain : (first count : ℕ)
+    → entry_of (roll-Stmt (record { first = first; count = count; body = None })) ≡ record { first = first; count = count; body = None }
 entry_of-plain first count = fold-roll-Stmt Entry Trees stmt_step list_step (record { first = first; count = count; body = None })
 
 -- a statement made with a block
-pub entry_of-block : (first count : ℕ) (l : StmtList) → entry_of (roll-Stmt (record { first = first; count = count; body = Some l })) ≡ record { first = first; count = count; body = Some (trees l) }
+pub entry_of-block : (first count : ℕ) (l : StmtList)
+    → entry_of (roll-Stmt (record { first = first; count = count; body = Some l })) ≡ record { first = first; count = count; body = Some (trees l) }
 entry_of-block first count l = fold-roll-Stmt Entry Trees stmt_step list_step (record { first = first; count = count; body = Some l })
 
 -- one more statement with a block

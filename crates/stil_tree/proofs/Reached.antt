@@ -4,7 +4,7 @@ use Rattle.std.specs.Prelude.{◌==◌}
 use Rattle.std.proofs.lemmas.Bool.{cond-true, cond-false}
 use Rattle.std.proofs.lemmas.List.{length-map}
 use Rattle.stil_lex.specs.declared.token.Token.{Token}
-use Rattle.stil_tree.specs.Marks.{close_brace, is_sign}
+use Rattle.stil_tree.specs.Signs.{close_brace, is_sign}
 use Rattle.stil_tree.specs.Trees.{Trees, end}
 use Rattle.stil_tree.specs.Grammar.{most_levels, Parses}
 use Rattle.stil_tree.specs.Faults.{IsLevel, EndsInside, IsFault}
@@ -22,7 +22,8 @@ pub record IsReached (braces : List ℕ) (first : ℕ) (tokens : List Token) : T
   pub places : map brace_of frames ≡ braces
 
 -- the tokens of a level are run to its statements and its head
-pub run-level : (frames : List Frame) (depth from : ℕ) (found : Trees) (first : ℕ) (tokens : List Token) → IsLevel depth from found first tokens → depth ≡ length frames
+pub run-level : (frames : List Frame) (depth from : ℕ) (found : Trees) (first : ℕ) (tokens : List Token)
+    → IsLevel depth from found first tokens → depth ≡ length frames
     → run from (going frames end from) tokens ≡ going frames found first
 run-level frames depth from found first tokens l same =
     ap (run from (going frames end from)) l.spelled
@@ -69,7 +70,8 @@ is_reached (brace ∷ braces) first tokens e =
     }
 
 -- a run over a sign that is met at a place
-pub run-met : (s : State) (front : List Token) (sign : Token) (back : List Token) (frames : List Frame) (done : Trees) (first : ℕ) → run 0 s front ≡ going frames done first
+pub run-met : (s : State) (front : List Token) (sign : Token) (back : List Token) (frames : List Frame) (done : Trees) (first : ℕ)
+    → run 0 s front ≡ going frames done first
     → run 0 s (front ++ sign ∷ back) ≡ run (length front + 1) (step (length front) frames done first sign) back
 run-met s front sign back frames done first is =
     run-append 0 s front (sign ∷ back)
@@ -106,7 +108,8 @@ first_frame brace braces (f ∷ fs) e =
 
 -- an unfinished head at a `}` inside a block is answered
 pub open_statement_inside : (tokens : List Token) (first brace : ℕ) (braces : List ℕ) (front : List Token) (sign : Token) (back : List Token)
-    → tokens ≡ front ++ sign ∷ back → is_sign close_brace sign ≡ true → first < length front → EndsInside (brace ∷ braces) first front → forest_of tokens ≡ Err (OpenStatement first)
+    → tokens ≡ front ++ sign ∷ back → is_sign close_brace sign ≡ true → first < length front
+    → EndsInside (brace ∷ braces) first front → forest_of tokens ≡ Err (OpenStatement first)
 open_statement_inside tokens first brace braces front sign back spelled is less e =
     let r = is_reached (brace ∷ braces) first front e in
     let f = first_frame brace braces r.frames r.places in

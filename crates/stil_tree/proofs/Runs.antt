@@ -3,7 +3,7 @@ use Rattle.std.proofs.Common.{◌≡◌, ℕ, zero, suc, ◌+◌, ◌-◌, ◌<�
 use Rattle.std.specs.List.{list_any}
 use Rattle.std.proofs.lemmas.Bool.{or_parts}
 use Rattle.stil_lex.specs.declared.token.Token.{Token}
-use Rattle.stil_tree.specs.Marks.{is_mark}
+use Rattle.stil_tree.specs.Signs.{is_delimiter}
 use Rattle.stil_tree.specs.Trees.{Trees, end, plain, block}
 use Rattle.stil_tree.specs.Grammar.{most_levels, AreHead, ParsesAt, ParsesAt.nothing, ParsesAt.skipped, ParsesAt.ended, ParsesAt.nested}
 use Rattle.stil_tree.specs.Step.{join, Frame, State, going, failed, ended_by, step_on, run}
@@ -45,14 +45,16 @@ run-failed at fault [] = refl
 run-failed at fault (t ∷ ts) = run-failed (at + 1) fault ts
 
 -- a head changes nothing
-pub run-head : (at : ℕ) (frames : List Frame) (done : Trees) (first : ℕ) (head : List Token) → AreHead head → run at (going frames done first) head ≡ going frames done first
+pub run-head : (at : ℕ) (frames : List Frame) (done : Trees) (first : ℕ) (head : List Token) → AreHead head
+    → run at (going frames done first) head ≡ going frames done first
 run-head at frames done first [] h = refl
 run-head at frames done first (t ∷ head) h =
-    let parts = or_parts (is_mark t) (list_any is_mark head) h in
+    let parts = or_parts (is_delimiter t) (list_any is_delimiter head) h in
     ap (λ s. run (at + 1) s head) (step-head at frames done first t parts.0) ∙ run-head (at + 1) frames done first head parts.1
 
 -- statements of the grammar are run to their trees
-pub run-parses : (frames : List Frame) {depth at : ℕ} {found : Trees} {tokens : List Token} → ParsesAt depth at found tokens → depth ≡ length frames → (done : Trees)
+pub run-parses : (frames : List Frame) {depth at : ℕ} {found : Trees} {tokens : List Token}
+    → ParsesAt depth at found tokens → depth ≡ length frames → (done : Trees)
     → run at (going frames done at) tokens ≡ going frames (join done found) (at + length tokens)
 run-parses frames (nothing depth at) same done = ap (λ t. going frames t at) (sym (join-end done)) ∙ ap (going frames (join done end)) (sym (add-zero at))
 run-parses frames (skipped depth at more stop rest is behind) same done =

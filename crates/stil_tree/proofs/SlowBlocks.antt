@@ -5,7 +5,7 @@ use Rattle.std.proofs.lemmas.Bool.{and_parts, and_from, or_cases, or_left, or_ri
 use Rattle.std.proofs.lemmas.List.{take_at, drop_more, take-append-drop, length-take-le, get_or_at}
 use Rattle.std.proofs.lemmas.Option.{slice_get-get_or, slice_get_cases}
 use Rattle.stil_lex.specs.declared.token.Token.{Token}
-use Rattle.stil_tree.specs.Marks.{semicolon, close_brace, is_sign}
+use Rattle.stil_tree.specs.Signs.{semicolon, close_brace, is_sign}
 use Rattle.stil_tree.specs.Blocks.{open_braces, EndsStatement, BeginsAt}
 use Rattle.stil_tree.specs.Slow.{ends_if, ends_at}
 

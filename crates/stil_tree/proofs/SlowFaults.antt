@@ -6,7 +6,7 @@ use Rattle.std.proofs.lemmas.Bool.{cond-true, cond-false, and_from, and_left, an
 use Rattle.std.proofs.lemmas.List.{take_more, take_all, drop_more, take-append-drop, length-take-le, drop-drop}
 use Rattle.std.proofs.lemmas.Option.{slice_get-get_or}
 use Rattle.stil_lex.specs.declared.token.Token.{Token}
-use Rattle.stil_tree.specs.Marks.{semicolon, open_brace, close_brace, is_sign, is_mark}
+use Rattle.stil_tree.specs.Signs.{semicolon, open_brace, close_brace, is_sign, is_delimiter}
 use Rattle.stil_tree.specs.Trees.{Trees, end, block}
 use Rattle.stil_tree.specs.Blocks.{braces_behind, open_braces}
 use Rattle.stil_tree.specs.Grammar.{most_levels, Parses}
@@ -20,47 +20,47 @@ use Rattle.stil_tree.proofs.Reached.{forest_is_found, fault_is_found}
 use Rattle.stil_tree.proofs.Standing.{Standing, Says, IsAnswer, few_frames, standing_within, step_says, outcome_says}
 use Rattle.stil_tree.proofs.Levels.{level-start}
 use Rattle.stil_tree.proofs.Spots.{braces-push}
-use Rattle.stil_tree.proofs.SlowlyBack.{semicolon_marks, brace_marks}
+use Rattle.stil_tree.proofs.SlowlyBack.{semicolon_delimiters, brace_delimiters}
 
--- tokens with a mark behind them have one
-pub list_any-mark : (xs : List Token) (t : Token) → is_mark t ≡ true
-    → list_any is_mark (xs ++ t ∷ []) ≡ true
-list_any-mark [] t is = or_left (is_mark t) false is
-list_any-mark (x ∷ xs) t is = or_right (is_mark x) (list_any is_mark (xs ++ t ∷ [])) (list_any-mark xs t is)
+-- tokens with a delimiter behind them have one
+pub list_any-delimiter : (xs : List Token) (t : Token) → is_delimiter t ≡ true
+    → list_any is_delimiter (xs ++ t ∷ []) ≡ true
+list_any-delimiter [] t is = or_left (is_delimiter t) false is
+list_any-delimiter (x ∷ xs) t is = or_right (is_delimiter x) (list_any is_delimiter (xs ++ t ∷ [])) (list_any-delimiter xs t is)
 
--- a head token behind tokens is no mark of them
-pub list_any-other : (xs : List Token) (t : Token) → is_mark t ≡ false
-    → list_any is_mark (xs ++ t ∷ []) ≡ list_any is_mark xs
-list_any-other [] t other = or_from (is_mark t) false other refl
-list_any-other (x ∷ xs) t other = ap (λ b. is_mark x || b) (list_any-other xs t other)
+-- a head token behind tokens is no delimiter of them
+pub list_any-other : (xs : List Token) (t : Token) → is_delimiter t ≡ false
+    → list_any is_delimiter (xs ++ t ∷ []) ≡ list_any is_delimiter xs
+list_any-other [] t other = or_from (is_delimiter t) false other refl
+list_any-other (x ∷ xs) t other = ap (λ b. is_delimiter x || b) (list_any-other xs t other)
 
--- behind a mark a head begins
-pub head_start-mark : (xs : List Token) (t : Token) → is_mark t ≡ true
+-- behind a delimiter a head begins
+pub head_start-delimiter : (xs : List Token) (t : Token) → is_delimiter t ≡ true
     → head_start (xs ++ t ∷ []) ≡ length xs + 1
-head_start-mark [] t is = cond-true (is_mark t || false) 1 0 (or_left (is_mark t) false is)
-head_start-mark (x ∷ xs) t is =
-    let more = head_start-mark xs t is in
-    cond-true (list_any is_mark (x ∷ xs ++ t ∷ [])) (1 + head_start (xs ++ t ∷ [])) 0 (list_any-mark (x ∷ xs) t is) ∙ omega arith
+head_start-delimiter [] t is = cond-true (is_delimiter t || false) 1 0 (or_left (is_delimiter t) false is)
+head_start-delimiter (x ∷ xs) t is =
+    let more = head_start-delimiter xs t is in
+    cond-true (list_any is_delimiter (x ∷ xs ++ t ∷ [])) (1 + head_start (xs ++ t ∷ [])) 0 (list_any-delimiter (x ∷ xs) t is) ∙ omega arith
 
 -- behind a head token it goes on
-pub head_start-head : (xs : List Token) (t : Token) → is_mark t ≡ false
+pub head_start-head : (xs : List Token) (t : Token) → is_delimiter t ≡ false
     → head_start (xs ++ t ∷ []) ≡ head_start xs
-head_start-head [] t other = cond-false (is_mark t || false) 1 0 (or_from (is_mark t) false other refl)
+head_start-head [] t other = cond-false (is_delimiter t || false) 1 0 (or_from (is_delimiter t) false other refl)
 head_start-head (x ∷ xs) t other =
     ap (λ b. cond b (1 + head_start (xs ++ t ∷ [])) 0) (list_any-other (x ∷ xs) t other)
-    ∙ ap (λ n. cond (list_any is_mark (x ∷ xs)) (1 + n) 0) (head_start-head xs t other)
+    ∙ ap (λ n. cond (list_any is_delimiter (x ∷ xs)) (1 + n) 0) (head_start-head xs t other)
 
--- in tokens with a mark the head begins behind the first of them
-pub head_start-tail : (tokens : List Token) → list_any is_mark tokens ≡ true
+-- in tokens with a delimiter the head begins behind the first of them
+pub head_start-tail : (tokens : List Token) → list_any is_delimiter tokens ≡ true
     → head_start tokens ≡ 1 + head_start (drop 1 tokens)
-head_start-tail [] marked = absurd (false≢true marked)
-head_start-tail (t ∷ ts) marked = cond-true (list_any is_mark (t ∷ ts)) (1 + head_start ts) 0 marked
+head_start-tail [] delimitered = absurd (false≢true delimitered)
+head_start-tail (t ∷ ts) delimitered = cond-true (list_any is_delimiter (t ∷ ts)) (1 + head_start ts) 0 delimitered
 
 -- the same of tokens behind others
 pub head_start-more : (tokens : List Token) (start : ℕ)
-    → list_any is_mark (drop start tokens) ≡ true
+    → list_any is_delimiter (drop start tokens) ≡ true
     → head_start (drop start tokens) ≡ 1 + head_start (drop (start + 1) tokens)
-head_start-more tokens start marked = head_start-tail (drop start tokens) marked ∙ ap (λ ts. 1 + head_start ts) (drop-drop 1 start tokens)
+head_start-more tokens start delimitered = head_start-tail (drop start tokens) delimitered ∙ ap (λ ts. 1 + head_start ts) (drop-drop 1 start tokens)
 
 -- where as many braces are open before a token, it isn't the one with which so many are
 pub opens_if-fewer : (before braces : ℕ) (t : Option Token) → braces ≤ before
@@ -203,7 +203,7 @@ stands-more tokens at d frames done first below s count head places =
 
 -- at a head token
 pub meets-head : (tokens : List Token) (at : ℕ) (d : Token) → Stands tokens at → at < length tokens
-    → is_mark (get_or tokens at d) ≡ false → Meets tokens at (get_or tokens at d)
+    → is_delimiter (get_or tokens at d) ≡ false → Meets tokens at (get_or tokens at d)
 meets-head tokens at d s below other =
     let read = take at tokens in
     let t = get_or tokens at d in
@@ -230,7 +230,7 @@ meets-semicolon tokens at d s below is =
     let behind = step_at tokens at d s.frames s.done s.first (going s.frames done (at + 1)) below s.standing (step-semicolon at s.frames s.done s.first t is) in
     inl (
       stands-more tokens at d s.frames done (at + 1) below behind (s.count ∙ sym (braces_behind-other (open_braces read) t n_open n_close))
-          (omega (arith, place, head_start-mark read t (semicolon_marks t is))) (AreLast-on s.frames tokens at (omega (arith, s.count)) s.places),
+          (omega (arith, place, head_start-delimiter read t (semicolon_delimiters t is))) (AreLast-on s.frames tokens at (omega (arith, s.count)) s.places),
       refusal_at-other read t n_open n_close,
     )
 
@@ -265,15 +265,15 @@ meets-open tokens at d s below is =
           inl (
             stands-more tokens at d (f ∷ s.frames) end (at + 1) below behind
                 (sym so_many ∙ sym (cond-true (is_sign open_brace t) (open_braces read + 1) (cond (is_sign close_brace t) (open_braces read - 1) (open_braces read)) is))
-                (omega (arith, place, head_start-mark read t (brace_marks t is))) (brace ∙ sym last, AreLast-on s.frames tokens at (omega (arith, s.count)) s.places),
+                (omega (arith, place, head_start-delimiter read t (brace_delimiters t is))) (brace ∙ sym last, AreLast-on s.frames tokens at (omega (arith, s.count)) s.places),
             refusal_at-fewer read t (and_right (is_sign open_brace t) (open_braces read == most_levels) fewer)
                 ∙ cond-false (is_sign close_brace t) (refusal_at_close read) None n_close,
           )
     ]
 
--- a `}` is a mark
-pub close_marks : (t : Token) → is_sign close_brace t ≡ true → is_mark t ≡ true
-close_marks t is = or_right (is_sign semicolon t || is_sign open_brace t) (is_sign close_brace t) is
+-- a `}` is a delimiter
+pub close_delimiters : (t : Token) → is_sign close_brace t ≡ true → is_delimiter t ≡ true
+close_delimiters t is = or_right (is_sign semicolon t || is_sign open_brace t) (is_sign close_brace t) is
 
 -- at a `}`, by the blocks that are open
 pub meets-close : (tokens : List Token) (at : ℕ) (d : Token) (frames : List Frame) (done : Trees) (first : ℕ)
@@ -318,7 +318,7 @@ meets-close tokens at d (f ∷ fs) done first below is s count head places =
           cond-false (is_sign open_brace t) (open_braces read + 1) (cond (is_sign close_brace t) (open_braces read - 1) (open_braces read)) n_open
           ∙ cond-true (is_sign close_brace t) (open_braces read - 1) (open_braces read) is in
           inl (
-            stands-more tokens at d fs outside (at + 1) below behind (omega (arith, count, fewer)) (omega (arith, place, head_start-mark read t (close_marks t is)))
+            stands-more tokens at d fs outside (at + 1) below behind (omega (arith, count, fewer)) (omega (arith, place, head_start-delimiter read t (close_delimiters t is)))
                 (AreLast-on fs tokens at (omega (arith, count)) places.1),
             some ∙ unfinished-none read first head all,
           )

@@ -6,7 +6,7 @@ use Rattle.stil_lex.specs.declared.token.Token.{Token}
 use Rattle.stil_tree.specs.declared.stmt.Stmt.{Stmt}
 use Rattle.stil_tree.specs.declared.stmt.StmtList.{StmtList}
 use Rattle.stil_tree.specs.declared.stmt.Stmt.TheViews.{roll-Stmt}
-use Rattle.stil_tree.specs.Marks.{semicolon, open_brace, close_brace, is_sign, is_mark}
+use Rattle.stil_tree.specs.Signs.{semicolon, open_brace, close_brace, is_sign, is_delimiter}
 use Rattle.stil_tree.specs.Trees.{Trees, end, plain, block, in_front, trees, entry_of}
 use Rattle.stil_tree.specs.Grammar.{most_levels, AreHead, ParsesAt, ParsesAt.nothing, ParsesAt.skipped, ParsesAt.ended, ParsesAt.nested}
 use Rattle.stil_tree.specs.Step.{join}
@@ -19,8 +19,10 @@ use Rattle.stil_tree.proofs.Cuts.{cut}
 use Rattle.stil_tree.proofs.SlowlyBack.{after_semicolon, block_behind}
 
 -- a statement that `;` ends, or one that is skipped
-pub plain-first : (depth at count : ℕ) (tokens : List Token) (d : Token) (stmt : Option Stmt) → count ≡ position_or_len is_mark tokens → count < length tokens
-    → is_sign semicolon (get_or tokens count d) ≡ true → ((more : Trees) → before stmt more ≡ plain_before at count more) → IsFirst depth at stmt (count + 1) tokens
+pub plain-first : (depth at count : ℕ) (tokens : List Token) (d : Token) (stmt : Option Stmt)
+    → count ≡ position_or_len is_delimiter tokens → count < length tokens
+    → is_sign semicolon (get_or tokens count d) ≡ true
+    → ((more : Trees) → before stmt more ≡ plain_before at count more) → IsFirst depth at stmt (count + 1) tokens
 plain-first depth at count tokens d stmt is below ends front =
     let c = cut tokens count d is below in
     record {
@@ -33,7 +35,8 @@ plain-first depth at count tokens d stmt is below ends front =
       goes = λ found p. after_semicolon depth at count found tokens d p is below ends;
     }
   where
-    by_count : (depth at n : ℕ) (more : Trees) (head : List Token) (stop : Token) (rest : List Token) → AreHead head → n ≡ length head → is_sign semicolon stop ≡ true
+    by_count : (depth at n : ℕ) (more : Trees) (head : List Token) (stop : Token) (rest : List Token) → AreHead head
+        → n ≡ length head → is_sign semicolon stop ≡ true
         → ParsesAt depth (at + (n + 1)) more rest → ParsesAt depth at (plain_before at n more) (head ++ stop ∷ rest)
     by_count depth at zero more [] stop rest are n_is is p = skipped depth at more stop rest is (ParsesAt-at (at + 1) (omega arith) p)
     by_count depth at zero more (t ∷ head) stop rest are n_is is p = absurd (omega (arith, n_is))
@@ -44,9 +47,12 @@ plain-first depth at count tokens d stmt is below ends front =
         (ended depth at more (t ∷ head) stop rest (λ e. cc) are is (ParsesAt-at (at + length (t ∷ head) + 1) (omega arith) p))
 
 -- a statement with a block
-pub block-first : (depth at count len : ℕ) (tokens : List Token) (d e : Token) (stmt : Stmt) (l : StmtList) → count ≡ position_or_len is_mark tokens → count < length tokens
-    → is_sign open_brace (get_or tokens count d) ≡ true → depth < most_levels → len < length (drop (count + 1) tokens) → is_sign close_brace (get_or (drop (count + 1) tokens) len e) ≡ true
-    → len ≡ block_end 0 (drop (count + 1) tokens) → ParsesAt (depth + 1) (at + count + 1) (trees l) (take len (drop (count + 1) tokens)) → stmt ≡ roll-Stmt (record { first = at; count = count; body = Some l })
+pub block-first : (depth at count len : ℕ) (tokens : List Token) (d e : Token) (stmt : Stmt) (l : StmtList)
+    → count ≡ position_or_len is_delimiter tokens → count < length tokens
+    → is_sign open_brace (get_or tokens count d) ≡ true → depth < most_levels → len < length (drop (count + 1) tokens)
+    → is_sign close_brace (get_or (drop (count + 1) tokens) len e) ≡ true
+    → len ≡ block_end 0 (drop (count + 1) tokens) → ParsesAt (depth + 1) (at + count + 1) (trees l) (take len (drop (count + 1) tokens))
+    → stmt ≡ roll-Stmt (record { first = at; count = count; body = Some l })
     → IsFirst depth at (Some stmt) (count + 1 + len + 1) tokens
 block-first depth at count len tokens d e stmt l is below opens few short closes ends body made =
     let c = cut tokens count d is below in
@@ -85,7 +91,8 @@ pub starts : (depth at : ℕ) (tokens : List Token) → IsRead depth at 0 end to
 starts depth at tokens = record { within = omega arith; completes = λ more p. ParsesAt-at at (omega arith) p; goes = λ found p. (found, ParsesAt-at (at + 0) (omega arith) p) }
 
 -- one statement more
-pub goes_on : (depth at read len : ℕ) (done next : Trees) (stmt : Option Stmt) (tokens : List Token) → IsRead depth at read done tokens → IsFirst depth (at + read) stmt len (drop read tokens)
+pub goes_on : (depth at read len : ℕ) (done next : Trees) (stmt : Option Stmt) (tokens : List Token)
+    → IsRead depth at read done tokens → IsFirst depth (at + read) stmt len (drop read tokens)
     → ((more : Trees) → join next more ≡ join done (before stmt more)) → IsRead depth at (read + len) next tokens
 goes_on depth at read len done next stmt tokens r f joined = record {
   within = omega (arith, f.within, r.within, length-drop read tokens);

@@ -6,7 +6,8 @@ use Rattle.stil_tree.specs.Grammar.{ParsesAt, ParsesAt.nothing, ParsesAt.skipped
 use Rattle.stil_tree.specs.Step.{join}
 
 -- at another index that is the same number
-pub ParsesAt-at : {depth at : ℕ} {found : Trees} {tokens : List Token} (other : ℕ) → at ≡ other → ParsesAt depth at found tokens → ParsesAt depth other found tokens
+pub ParsesAt-at : {depth at : ℕ} {found : Trees} {tokens : List Token} (other : ℕ) → at ≡ other
+    → ParsesAt depth at found tokens → ParsesAt depth other found tokens
 ParsesAt-at {depth} {at} {found} {tokens} other same p = subst (λ (n : ℕ). ParsesAt depth n found tokens) same p
 
 -- statements behind statements

@@ -5,7 +5,7 @@ use Rattle.std.proofs.lemmas.Bool.{cond_both, cond-true, cond-false, eqb-true, e
 use Rattle.std.proofs.lemmas.List.{same_from_push, length_push, take_more, length-take-le}
 use Rattle.std.proofs.lemmas.List.Sums.{fold_push}
 use Rattle.stil_lex.specs.declared.token.Token.{Token}
-use Rattle.stil_tree.specs.Marks.{semicolon, open_brace, close_brace, is_sign}
+use Rattle.stil_tree.specs.Signs.{semicolon, open_brace, close_brace, is_sign}
 use Rattle.stil_tree.specs.Blocks.{braces_behind, open_braces, EndsStatement, BeginsAt}
 use Rattle.stil_tree.specs.declared.block.Spot.{Spot}
 use Rattle.stil_tree.specs.Step.{spot_behind}
@@ -103,12 +103,14 @@ pub braces-push : (xs : List Token) (t : Token) → open_braces (xs ++ t ∷ [])
 braces-push xs t = fold_push braces_behind 0 xs t
 
 -- a spot where no statement ends
-pub spot-on : (xs : List Token) (t : Token) (start braces behind : ℕ) → IsSpot xs start braces → (Ends xs t → ⊥) → behind ≡ braces_behind braces t → IsSpot (xs ++ t ∷ []) start behind
+pub spot-on : (xs : List Token) (t : Token) (start braces behind : ℕ) → IsSpot xs start braces → (Ends xs t → ⊥)
+    → behind ≡ braces_behind braces t → IsSpot (xs ++ t ∷ []) start behind
 spot-on xs t start braces behind s goes is =
     record { begins = begins-on xs t start s.begins goes; are_open = is ∙ (ap (λ n. braces_behind n t) s.are_open ∙ sym (braces-push xs t)) }
 
 -- a spot where one does
-pub spot-end : (xs : List Token) (t : Token) (start braces behind : ℕ) → IsSpot xs start braces → Ends xs t → behind ≡ braces_behind braces t → IsSpot (xs ++ t ∷ []) (length xs + 1) behind
+pub spot-end : (xs : List Token) (t : Token) (start braces behind : ℕ) → IsSpot xs start braces → Ends xs t
+    → behind ≡ braces_behind braces t → IsSpot (xs ++ t ∷ []) (length xs + 1) behind
 spot-end xs t start braces behind s ends is =
     record { begins = begins-end xs t ends; are_open = is ∙ (ap (λ n. braces_behind n t) s.are_open ∙ sym (braces-push xs t)) }
 

@@ -3,7 +3,7 @@ use Rattle.std.proofs.Common.{◌≡◌, [], ◌∷◌, refl, inl, inr, arith}
 use Rattle.stil_lex.specs.declared.token.Token.{Token}
 use Rattle.stil_lex.specs.declared.token.TokenKind.{TokenKind}
 use Rattle.stil_lex.specs.declared.token.TokenKind.TheVariants.{Word, Sign}
-use Rattle.stil_tree.specs.Marks.{semicolon, open_brace, close_brace}
+use Rattle.stil_tree.specs.Signs.{semicolon, open_brace, close_brace}
 use Rattle.stil_tree.specs.Trees.{end, plain, block}
 use Rattle.stil_tree.specs.Grammar.{Parses, ParsesAt.nothing, ParsesAt.skipped, ParsesAt.ended, ParsesAt.nested}
 use Rattle.stil_tree.specs.Faults.{IsFault, EndsInside}

@@ -4,7 +4,7 @@ use Rattle.std.specs.Prelude.{◌==◌}
 use Rattle.std.proofs.lemmas.Bool.{cond_both, or_from, eqb-true, eqb-false}
 use Rattle.std.proofs.lemmas.List.{length-map, append-nil, nil_from_length}
 use Rattle.stil_lex.specs.declared.token.Token.{Token}
-use Rattle.stil_tree.specs.Marks.{semicolon, open_brace, close_brace, is_sign, is_mark}
+use Rattle.stil_tree.specs.Signs.{semicolon, open_brace, close_brace, is_sign, is_delimiter}
 use Rattle.stil_tree.specs.Trees.{Trees, end, block}
 use Rattle.stil_tree.specs.Grammar.{most_levels, Parses, ParsesAt}
 use Rattle.stil_tree.specs.Faults.{IsLevel, EndsInside, IsFault}
@@ -43,7 +43,8 @@ pub record Innermost (frames : List Frame) (done : Trees) (first : ℕ) (tokens 
   pub inner : List Token
   pub spelled : tokens ≡ before ++ inner
   pub level : IsLevel (length frames) (length before) done first inner
-  pub again : (others : Trees) (begin : ℕ) (more : List Token) → IsLevel (length frames) (length before) others begin more → Standing frames others begin (before ++ more)
+  pub again : (others : Trees) (begin : ℕ) (more : List Token)
+      → IsLevel (length frames) (length before) others begin more → Standing frames others begin (before ++ more)
 
 pub innermost : (frames : List Frame) (done : Trees) (first : ℕ) (tokens : List Token) → Standing frames done first tokens → Innermost frames done first tokens
 innermost [] done first tokens s = record { before = []; inner = tokens; spelled = refl; level = s; again = λ others begin more l. l }
@@ -71,7 +72,8 @@ innermost (f ∷ fs) done first tokens s =
     }
 
 -- the definition of where tokens end says less
-pub ends_inside : (frames : List Frame) (done : Trees) (first : ℕ) (tokens : List Token) → Standing frames done first tokens → EndsInside (map brace_of frames) first tokens
+pub ends_inside : (frames : List Frame) (done : Trees) (first : ℕ) (tokens : List Token)
+    → Standing frames done first tokens → EndsInside (map brace_of frames) first tokens
 ends_inside [] done first tokens s = (done, s)
 ends_inside (f ∷ fs) done first tokens s =
     let i = s.1 in
@@ -96,7 +98,8 @@ pub standing_within : (frames : List Frame) (done : Trees) (first : ℕ) (tokens
 standing_within frames done first tokens s = ends_within (map brace_of frames) first tokens (ends_inside frames done first tokens s)
 
 -- behind a head token
-pub standing-head : (frames : List Frame) (done : Trees) (first : ℕ) (tokens : List Token) (t : Token) → Standing frames done first tokens → is_mark t ≡ false
+pub standing-head : (frames : List Frame) (done : Trees) (first : ℕ) (tokens : List Token) (t : Token)
+    → Standing frames done first tokens → is_delimiter t ≡ false
     → Standing frames done first (tokens ++ t ∷ [])
 standing-head frames done first tokens t s other =
     let i = innermost frames done first tokens s in
@@ -104,7 +107,8 @@ standing-head frames done first tokens t s other =
     (i.again done first (i.inner ++ t ∷ []) (level-head (length frames) (length i.before) done first i.inner t i.level other))
 
 -- behind a `;`
-pub standing-semicolon : (frames : List Frame) (done : Trees) (first : ℕ) (tokens : List Token) (t : Token) → Standing frames done first tokens → is_sign semicolon t ≡ true
+pub standing-semicolon : (frames : List Frame) (done : Trees) (first : ℕ) (tokens : List Token) (t : Token)
+    → Standing frames done first tokens → is_sign semicolon t ≡ true
     → Standing frames (ended_by done first (length tokens - first)) (length tokens + 1) (tokens ++ t ∷ [])
 standing-semicolon frames done first tokens t s is =
     let i = innermost frames done first tokens s in
@@ -113,8 +117,10 @@ standing-semicolon frames done first tokens t s is =
     (level-semicolon (length frames) (length i.before) done first i.inner t (length tokens) i.level is (ap length i.spelled ∙ length-append i.before i.inner)))
 
 -- behind a `{`
-pub standing-open : (frames : List Frame) (done : Trees) (first : ℕ) (tokens : List Token) (t : Token) → Standing frames done first tokens → is_sign open_brace t ≡ true
-    → length frames < most_levels → Standing (record { before = done; first = first; count = length tokens - first } ∷ frames) end (length tokens + 1) (tokens ++ t ∷ [])
+pub standing-open : (frames : List Frame) (done : Trees) (first : ℕ) (tokens : List Token) (t : Token)
+    → Standing frames done first tokens → is_sign open_brace t ≡ true
+    → length frames < most_levels
+    → Standing (record { before = done; first = first; count = length tokens - first } ∷ frames) end (length tokens + 1) (tokens ++ t ∷ [])
 standing-open frames done first tokens t s is few = (
   few,
   record {
@@ -130,7 +136,8 @@ standing-open frames done first tokens t s is few = (
 )
 
 -- behind a `}` that closes a block
-pub standing-close : (f : Frame) (fs : List Frame) (done : Trees) (first : ℕ) (tokens : List Token) (t : Token) → Standing (f ∷ fs) done first tokens → is_sign close_brace t ≡ true
+pub standing-close : (f : Frame) (fs : List Frame) (done : Trees) (first : ℕ) (tokens : List Token) (t : Token)
+    → Standing (f ∷ fs) done first tokens → is_sign close_brace t ≡ true
     → first ≡ length tokens → Standing fs (join f.before (block f.first f.count done end)) (length tokens + 1) (tokens ++ t ∷ [])
 standing-close f fs done first tokens t s is finished =
     let i = s.1 in
@@ -155,7 +162,8 @@ Says (going frames done first) read all = Standing frames done first read
 Says (failed fault) read all = IsFault all fault
 
 -- a `}` says so
-pub closed_says : (frames : List Frame) (done : Trees) (first : ℕ) (read : List Token) (t : Token) (back : List Token) → Standing frames done first read → is_sign close_brace t ≡ true
+pub closed_says : (frames : List Frame) (done : Trees) (first : ℕ) (read : List Token) (t : Token) (back : List Token)
+    → Standing frames done first read → is_sign close_brace t ≡ true
     → Says (closed (length read) frames done first) (read ++ t ∷ []) (read ++ t ∷ back)
 closed_says [] done first read t back s is =
     record { front = read; sign = t; back = back; spelled = refl; is_it = is; is_place = refl; before = (first, (done, s)) }

@@ -5,7 +5,7 @@ use Rattle.std.proofs.lemmas.Bool.{cond-true, cond-false, eqb-true, false≢true
 use Rattle.stil_lex.specs.declared.token.Token.{Token}
 use Rattle.stil_lex.specs.declared.token.TokenKind.{TokenKind}
 use Rattle.stil_lex.specs.declared.token.TokenKind.TheVariants.{Word, Name, Text, Sign}
-use Rattle.stil_tree.specs.Marks.{semicolon, open_brace, close_brace, is_kind, is_sign, is_mark}
+use Rattle.stil_tree.specs.Signs.{semicolon, open_brace, close_brace, is_kind, is_sign, is_delimiter}
 use Rattle.stil_tree.specs.Trees.{Trees, end, block}
 use Rattle.stil_tree.specs.Grammar.{most_levels}
 use Rattle.stil_tree.specs.Step.{join, Frame, going, failed, ended_by, closed, step}
@@ -19,7 +19,8 @@ is_kind-other byte other Text is differs = absurd (false≢true is)
 is_kind-other byte other (Sign b) is differs = ap (λ c. eqb c other) (eqb-true b byte is) ∙ differs
 
 -- a head token changes nothing
-pub step-head : (at : ℕ) (frames : List Frame) (done : Trees) (first : ℕ) (t : Token) → is_mark t ≡ false → step at frames done first t ≡ going frames done first
+pub step-head : (at : ℕ) (frames : List Frame) (done : Trees) (first : ℕ) (t : Token) → is_delimiter t ≡ false
+    → step at frames done first t ≡ going frames done first
 unfolding step
 step-head at frames done first t h =
     let parts = or_parts (is_sign semicolon t || is_sign open_brace t) (is_sign close_brace t) h in
@@ -51,7 +52,8 @@ step-deep at frames done first t is many =
     rw (other, is, full)
 
 -- a `}` closes a block, or is refused
-pub step-close : (at : ℕ) (frames : List Frame) (done : Trees) (first : ℕ) (t : Token) → is_sign close_brace t ≡ true → step at frames done first t ≡ closed at frames done first
+pub step-close : (at : ℕ) (frames : List Frame) (done : Trees) (first : ℕ) (t : Token) → is_sign close_brace t ≡ true
+    → step at frames done first t ≡ closed at frames done first
 unfolding step
 step-close at frames done first t is =
     let one : is_sign semicolon t ≡ false = is_kind-other close_brace semicolon t.kind is refl in

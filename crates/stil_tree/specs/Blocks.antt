@@ -3,24 +3,27 @@ use Rattle.std.specs.Prelude.{◌≡◌, ◌⊎◌, ℕ, ◌+◌, ◌-◌, ◌�
 use Rattle.stil_lex.specs.declared.token.Token.{Token}
 use Rattle.stil_lex.specs.declared.token.TokenKind.{TokenKind}
 use Rattle.stil_lex.specs.declared.token.TokenKind.TheVariants.{Word, Name, Text, Sign}
-use Rattle.stil_tree.specs.Marks.{semicolon, open_brace, close_brace, is_sign}
+use Rattle.stil_tree.specs.Signs.{semicolon, open_brace, close_brace, is_sign}
 
 -- how many braces are open behind a token, where `open` were before it; a `}` without a `{` closes none
 abbrev pub braces_behind : ℕ → Token → ℕ
-braces_behind braces t = if is_sign open_brace t then braces + 1 else (if is_sign close_brace t then braces - 1 else braces)
+braces_behind braces t =
+    if is_sign open_brace t then braces + 1 else (if is_sign close_brace t then braces - 1 else braces)
 
 -- how many braces are open behind these tokens
 abbrev pub open_braces : List Token → ℕ
 open_braces tokens = fold braces_behind 0 tokens
 
--- the token at the index ends a statement outside all braces: a `;` outside braces, or a `}` that closes the last open brace
+-- the token at the index ends a statement outside all braces: a `;` outside braces, or a `}` that closes the last open
+-- brace
 pub record EndsStatement (tokens : List Token) (index : ℕ) : Type 0 where
   pub front : List Token
   pub token : Token
   pub back : List Token
   pub spelled : tokens ≡ front ++ token ∷ back
   pub place : index ≡ length front
-  pub ends : ((is_sign semicolon token ≡ true) × (open_braces front ≡ 0)) ⊎ ((is_sign close_brace token ≡ true) × (open_braces front ≡ 1))
+  pub ends : ((is_sign semicolon token ≡ true) × (open_braces front ≡ 0))
+      ⊎ ((is_sign close_brace token ≡ true) × (open_braces front ≡ 1))
 
 -- the statement outside all braces that is open behind the tokens begins at this index: where the one before it ended
 pub record BeginsAt (tokens : List Token) (start : ℕ) : Type 0 where
@@ -44,8 +47,8 @@ abbrev pub name_if : Option Token → ℕ → Option ℕ
 name_if None index = None
 name_if (Some t) index = if may_name t.kind then Some index else None
 
--- the indices of the keyword and the name of the block behind these tokens: the first token of the statement that is open there,
--- and its second where that is a Word or a Name
+-- the indices of the keyword and the name of the block behind these tokens: the first token of the statement that is
+-- open there, and its second where that is a Word or a Name
 pub record IsBlock (tokens : List Token) (found : Option ℕ × Option ℕ) : Type 0 where
   pub start : ℕ
   pub begins : BeginsAt tokens start

@@ -1,7 +1,8 @@
-pub mod Marks
+pub mod Signs
 pub mod Trees
 pub mod Grammar
 pub mod Faults
+pub mod FaultText
 pub mod Blocks
 pub mod Step
 pub mod Memory

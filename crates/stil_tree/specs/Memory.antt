@@ -16,7 +16,8 @@ level (o ∷ os) done = drop o.start done
 abbrev pub frames : List Open → List Entry → List Frame
 frames [] done = []
 frames (o ∷ os) done =
-    record { before = trees_from (level os (take o.start done)); first = o.first; count = o.count } ∷ frames os (take o.start done)
+    record { before = trees_from (level os (take o.start done)); first = o.first; count = o.count }
+    ∷ frames os (take o.start done)
 
 -- the open blocks begin one behind another, within so many statements
 abbrev pub Stand : List Open → ℕ → Type 0

@@ -27,6 +27,6 @@ is_kind byte (Sign b) = b == byte
 abbrev pub is_sign : ℕ → Token → Bool
 is_sign byte t = is_kind byte t.kind
 
--- the token is one of the three signs
-abbrev pub is_mark : Token → Bool
-is_mark t = is_sign semicolon t || is_sign open_brace t || is_sign close_brace t
+-- the token is one of the three signs, at which a head ends
+abbrev pub is_delimiter : Token → Bool
+is_delimiter t = is_sign semicolon t || is_sign open_brace t || is_sign close_brace t

@@ -1,7 +1,7 @@
 -- What the code does at each token. No public clause cites this file.
 use Rattle.std.specs.Prelude.{ℕ, zero, suc, ◌+◌, ◌-◌, ◌==◌, ◌&&◌, if◌then◌else◌, List, [], ◌∷◌, length, Result, Ok, Err}
 use Rattle.stil_lex.specs.declared.token.Token.{Token}
-use Rattle.stil_tree.specs.Marks.{semicolon, open_brace, close_brace, is_sign}
+use Rattle.stil_tree.specs.Signs.{semicolon, open_brace, close_brace, is_sign}
 use Rattle.stil_tree.specs.Trees.{Trees, end, plain, block}
 use Rattle.stil_tree.specs.Grammar.{most_levels}
 use Rattle.stil_tree.specs.declared.block.Spot.{Spot}
@@ -24,7 +24,8 @@ pub record Frame : Type 0 where
 abbrev pub brace_of : Frame → ℕ
 brace_of f = f.first + f.count
 
--- the open blocks, the innermost first, the statements done in the innermost, and where its unfinished head begins; or a fault
+-- the open blocks, the innermost first, the statements done in the innermost, and where its unfinished head begins; or a
+-- fault
 pub data State : Type 0 where
   going : List Frame → Trees → ℕ → State
   failed : TreeFault → State
@@ -37,12 +38,15 @@ ended_by done first (suc n) = join done (plain first (suc n) end)
 -- a `{`
 abbrev pub opened : ℕ → List Frame → Trees → ℕ → State
 opened at frames done first =
-    if length frames == most_levels then failed (TooDeep at) else going (record { before = done; first = first; count = at - first } ∷ frames) end (at + 1)
+    if length frames == most_levels then failed (TooDeep at)
+    else going (record { before = done; first = first; count = at - first } ∷ frames) end (at + 1)
 
 -- a `}`
 abbrev pub closed : ℕ → List Frame → Trees → ℕ → State
 closed at [] done first = failed (StrayClose at)
-closed at (f ∷ fs) done first = if first == at then going fs (join f.before (block f.first f.count done end)) (at + 1) else failed (OpenStatement first)
+closed at (f ∷ fs) done first =
+    if first == at then going fs (join f.before (block f.first f.count done end)) (at + 1)
+    else failed (OpenStatement first)
 
 -- the state behind a token with the index `at`
 unfoldable pub step : ℕ → List Frame → Trees → ℕ → Token → State

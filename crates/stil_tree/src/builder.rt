@@ -1,7 +1,8 @@
 //! The statements that are read so far.
 
 ghost use Rattle.std.specs.Prelude.{◌≡◌, ◌⊎◌, ◌+◌, ◌-◌, ◌<◌, ◌≤◌, [], ◌∷◌, ◌++◌, OnOk, MatchResult, Ok, Err, Some, length, map, take, drop};
-ghost use Rattle.stil_tree.specs.Marks.{is_sign};
+ghost use Rattle.text_bytes.specs.Limits.{most_bytes};
+ghost use Rattle.stil_tree.specs.Signs.{is_sign};
 ghost use Rattle.stil_tree.specs.Trees.{trees, trees_from, entry_of, end};
 ghost use Rattle.stil_tree.specs.Step.{State, going, ended_by, opened, closed, step_on, outcome};
 ghost use Rattle.stil_tree.specs.Memory.{level_of, frames_of, state_of, AreStanding, ended_entry, Gives};
@@ -47,8 +48,9 @@ pub(crate) fn is_sign(token: &Token, byte: u8) -> bool
 /// Appends the statement whose head stands from `first` up to `at`, where that isn't empty.
 fn push_plain(done: &mut Vec<Stmt>, first: usize, at: usize) -> Result<(), AllocError>
     requires below { first ≤ at }
-    requires small { at < 16777216 }
-    ensures { OnOk result (map entry_of done.new.items ≡ map entry_of done.old.items ++ ended_entry first (at - first)) }
+    requires small { at < most_bytes }
+    ensures { OnOk result (map entry_of done.new.items ≡ map entry_of done.old.items
+        ++ ended_entry first (at - first)) }
 {
     if first < at {
         done.push(Stmt {
@@ -93,9 +95,10 @@ impl Builder {
     /// A `;` with the index `at`.
     fn end_statement(&mut self, at: usize) -> Result<(), TreeFault>
         requires below { self.old.first ≤ at }
-        requires small { at < 16777216 }
+        requires small { at < most_bytes }
         requires standing { AreStanding self.old }
-        ensures state { Gives result (state_of self.new) (going (frames_of self.old) (ended_by (level_of self.old) self.old.first (at - self.old.first)) (at + 1)) }
+        ensures state { Gives result (state_of self.new)
+            (going (frames_of self.old) (ended_by (level_of self.old) self.old.first (at - self.old.first)) (at + 1)) }
         ensures first { OnOk result (self.new.first ≡ at + 1) }
         ensures stands { OnOk result (AreStanding self.new) }
     {
@@ -107,9 +110,10 @@ impl Builder {
     /// A `{` with the index `at`.
     fn open_block(&mut self, at: usize) -> Result<(), TreeFault>
         requires below { self.old.first ≤ at }
-        requires small { at < 16777216 }
+        requires small { at < most_bytes }
         requires standing { AreStanding self.old }
-        ensures state { Gives result (state_of self.new) (opened at (frames_of self.old) (level_of self.old) self.old.first) }
+        ensures state { Gives result (state_of self.new)
+            (opened at (frames_of self.old) (level_of self.old) self.old.first) }
         ensures first { OnOk result (self.new.first ≡ at + 1) }
         ensures stands { OnOk result (AreStanding self.new) }
     {
@@ -127,9 +131,10 @@ impl Builder {
 
     /// A `}` with the index `at`.
     fn close_block(&mut self, at: usize) -> Result<(), TreeFault>
-        requires small { at < 16777216 }
+        requires small { at < most_bytes }
         requires standing { AreStanding self.old }
-        ensures state { Gives result (state_of self.new) (closed at (frames_of self.old) (level_of self.old) self.old.first) }
+        ensures state { Gives result (state_of self.new)
+            (closed at (frames_of self.old) (level_of self.old) self.old.first) }
         ensures first { OnOk result (self.new.first ≡ at + 1) }
         ensures stands { OnOk result (AreStanding self.new) }
     {
@@ -148,7 +153,7 @@ impl Builder {
     #[tactic(auto, unfolding(crate::specs::Step::step))]
     pub(crate) fn token(&mut self, at: usize, token: &Token) -> Result<(), TreeFault>
         requires below { self.old.first ≤ at }
-        requires small { at < 16777216 }
+        requires small { at < most_bytes }
         requires standing { AreStanding self.old }
         ensures state { Gives result (state_of self.new) (step_on at (state_of self.old) token.now) }
         ensures first { OnOk result (self.new.first ≤ at + 1) }
@@ -167,7 +172,8 @@ impl Builder {
 
     /// The statements, or the fault of the end, behind so many tokens.
     pub(crate) fn finish(self, len: usize) -> Result<StmtList, TreeFault>
-        ensures { MatchResult result (λ list. outcome len (state_of self) ≡ Ok (trees list)) (λ e. outcome len (state_of self) ≡ Err e) }
+        ensures { MatchResult result (λ list. outcome len (state_of self) ≡ Ok (trees list))
+            (λ e. outcome len (state_of self) ≡ Err e) }
     {
         if let Some(block) = self.blocks.last() {
             let index = block.first as usize + block.count as usize;

@@ -38,6 +38,11 @@ impl<T: Drop> From<AllocFailed<T>> for TreeFault {
 }
 
 impl fmt::Display for TreeFault {
+    ghost use Rattle.std.specs.Prelude.{Some};
+    ghost use Rattle.stil_tree.specs.FaultText.{fault_text};
+
+    ghost output = { λ fault. Some (fault_text fault) };
+
     fn fmt<W: fmt::Write>(&self, f: &mut fmt::Formatter<W>) -> fmt::Result {
         match self {
             TreeFault::NoMemory => write!(f, "out of memory"),

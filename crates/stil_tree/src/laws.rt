@@ -10,15 +10,18 @@ ghost use Rattle.stil_tree.specs.declared.fault.TreeFault.{TreeFault};
 
 /// The statements of tokens are one forest.
 pub fn one_forest()
-    ensures { (tokens : List Token) (forest other : Trees) → Parses tokens forest → Parses tokens other → forest ≡ other }
+    ensures { (tokens : List Token) (forest other : Trees) → Parses tokens forest → Parses tokens other
+        → forest ≡ other }
 {}
 
 /// No tokens have both a forest and a fault.
 pub fn forest_or_fault()
-    ensures { (tokens : List Token) (forest : Trees) (fault : TreeFault) → Parses tokens forest → IsFault tokens fault → ⊥ }
+    ensures { (tokens : List Token) (forest : Trees) (fault : TreeFault) → Parses tokens forest
+        → IsFault tokens fault → ⊥ }
 {}
 
 /// The block of a place is one.
 pub fn one_block()
-    ensures { (tokens : List Token) (found other : Option ℕ × Option ℕ) → IsBlock tokens found → IsBlock tokens other → found ≡ other }
+    ensures { (tokens : List Token) (found other : Option ℕ × Option ℕ) → IsBlock tokens found
+        → IsBlock tokens other → found ≡ other }
 {}

@@ -4,7 +4,8 @@
 
 ghost use Rattle.std.specs.Prelude.{◌≡◌, ◌+◌, ◌≤◌, ◌<◌, length, take, IfOk, IfSome, IfNone, OnOk};
 ghost use Rattle.std.specs.List.{position_or_len};
-ghost use Rattle.stil_tree.specs.Marks.{is_mark, is_sign};
+ghost use Rattle.text_bytes.specs.Limits.{most_bytes};
+ghost use Rattle.stil_tree.specs.Signs.{is_delimiter, is_sign};
 ghost use Rattle.stil_tree.specs.Trees.{Trees, trees};
 ghost use Rattle.stil_tree.specs.Blocks.{open_braces, BeginsAt, IsBlock};
 ghost use Rattle.stil_tree.specs.Step.{join};
@@ -17,23 +18,23 @@ use crate::stmt::{Stmt, StmtList};
 use std::alloc::{AllocError, Global};
 use stil_lex::Token;
 
-pub(crate) fn is_mark(token: &Token) -> bool
-    ensures { result ≡ is_mark token.now }
+pub(crate) fn is_delimiter(token: &Token) -> bool
+    ensures { result ≡ is_delimiter token.now }
 {
     is_sign(token, b';') || is_sign(token, b'{') || is_sign(token, b'}')
 }
 
-/// How many tokens stand before the first mark.
+/// How many tokens stand before the first delimiter.
 fn head_len(tokens: &[Token]) -> usize
-    ensures len { result ≡ position_or_len is_mark tokens.now }
+    ensures len { result ≡ position_or_len is_delimiter tokens.now }
     ensures within { result ≤ length tokens.now }
 {
-    tokens.iter().take_while(|t| !is_mark(t)).count()
+    tokens.iter().take_while(|t| !is_delimiter(t)).count()
 }
 
 /// Where the block ends of which these tokens are the rest, or the tokens' end.
 fn block_len(tokens: &[Token]) -> usize
-    requires { length tokens.now ≤ 16777216 }
+    requires { length tokens.now ≤ most_bytes }
     ensures end { result ≡ block_end 0 tokens.now }
     ensures within { result ≤ length tokens.now }
 {
@@ -73,7 +74,8 @@ fn plain_statement(first: u32, count: u32) -> Option<Stmt>
 
 /// Appends the statement, where there is one.
 fn add(stmts: &mut Vec<Stmt>, stmt: Option<Stmt>) -> Result<(), AllocError>
-    ensures { OnOk result ((more : Trees) → join (trees_of stmts.new.items) more ≡ join (trees_of stmts.old.items) (before stmt more)) }
+    ensures { OnOk result ((more : Trees)
+        → join (trees_of stmts.new.items) more ≡ join (trees_of stmts.old.items) (before stmt more)) }
 {
     if let Some(stmt) = stmt {
         stmts.push(stmt)?;
@@ -89,7 +91,7 @@ fn statement(
     at: usize,
     depth: usize,
 ) -> Result<Option<First>, AllocError>
-    requires small { at + length tokens.now ≤ 16777216 }
+    requires small { at + length tokens.now ≤ most_bytes }
     requires levels { depth ≤ 16 }
     requires some { 0 < length tokens.now }
     ensures some { IfOk result (λ found. IfSome found (λ f. IsFirst depth at f.stmt f.len tokens.now)) }
@@ -99,14 +101,14 @@ fn statement(
     if count == tokens.len() {
         return Ok(None);
     }
-    let mark = &tokens[count];
-    if is_sign(mark, b';') {
+    let delimiter = &tokens[count];
+    if is_sign(delimiter, b';') {
         return Ok(Some(First {
             stmt: plain_statement(at as u32, count as u32),
             len: count + 1,
         }));
     }
-    if !is_sign(mark, b'{') {
+    if !is_sign(delimiter, b'{') {
         return Ok(None);
     }
     if depth == 16 {
@@ -141,7 +143,7 @@ fn level(
     at: usize,
     depth: usize,
 ) -> Result<Option<StmtList>, AllocError>
-    requires small { at + length tokens.now ≤ 16777216 }
+    requires small { at + length tokens.now ≤ most_bytes }
     requires levels { depth ≤ 16 }
     ensures some { IfOk result (λ found. IfSome found (λ list. ParsesAt depth at (trees list) tokens.now)) }
     ensures none { IfOk result (λ found. IfNone found ((t : Trees) → ParsesAt depth at t tokens.now → ⊥)) }
@@ -160,7 +162,7 @@ fn level(
 
 /// The statements of the tokens, or none where they are no statements.
 pub(crate) fn slow_forest(alloc: Global, tokens: &[Token]) -> Result<Option<StmtList>, AllocError>
-    requires { length tokens.now ≤ 16777216 }
+    requires { length tokens.now ≤ most_bytes }
     ensures some { IfOk result (λ found. IfSome found (λ list. Parses tokens.now (trees list))) }
     ensures none { IfOk result (λ found. IfNone found ((t : Trees) → Parses tokens.now t → ⊥)) }
 {
@@ -169,7 +171,7 @@ pub(crate) fn slow_forest(alloc: Global, tokens: &[Token]) -> Result<Option<Stmt
 
 /// How many braces are open behind the tokens.
 pub(crate) fn open_braces(tokens: &[Token]) -> usize
-    requires { length tokens.now ≤ 16777216 }
+    requires { length tokens.now ≤ most_bytes }
     ensures count { result ≡ open_braces tokens.now }
     ensures few { result ≤ length tokens.now }
 {
@@ -186,7 +188,7 @@ pub(crate) fn open_braces(tokens: &[Token]) -> usize
 
 /// Whether the token at the index ends a statement outside all braces.
 fn ends_at(tokens: &[Token], index: usize) -> bool
-    requires small { length tokens.now ≤ 16777216 }
+    requires small { length tokens.now ≤ most_bytes }
     requires within { index < length tokens.now }
     ensures { result ≡ ends_at tokens.now index }
 {
@@ -197,7 +199,7 @@ fn ends_at(tokens: &[Token], index: usize) -> bool
 
 /// Where the statement outside all braces that is open behind the tokens begins.
 fn block_start(tokens: &[Token]) -> usize
-    requires { length tokens.now ≤ 16777216 }
+    requires { length tokens.now ≤ most_bytes }
     ensures { BeginsAt tokens.now result }
 {
     let mut start = 0;
@@ -211,7 +213,7 @@ fn block_start(tokens: &[Token]) -> usize
 
 /// The tokens of the keyword and of the name of the block that is open behind the first `upto` tokens.
 pub(crate) fn slow_enclosing(tokens: &[Token], upto: usize) -> (Option<usize>, Option<usize>)
-    requires small { length tokens.now ≤ 16777216 }
+    requires small { length tokens.now ≤ most_bytes }
     requires within { upto ≤ length tokens.now }
     ensures { IsBlock (take upto tokens.now) result }
 {

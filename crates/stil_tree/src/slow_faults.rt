@@ -3,7 +3,8 @@
 
 ghost use Rattle.std.specs.Prelude.{◌≡◌, ◌≤◌, ◌<◌, length, IfSome, IfNone};
 ghost use Rattle.std.specs.List.{list_any};
-ghost use Rattle.stil_tree.specs.Marks.{is_mark};
+ghost use Rattle.text_bytes.specs.Limits.{most_bytes};
+ghost use Rattle.stil_tree.specs.Signs.{is_delimiter};
 ghost use Rattle.stil_tree.specs.Blocks.{open_braces};
 ghost use Rattle.stil_tree.specs.Faults.{IsFault};
 ghost use Rattle.stil_tree.specs.SlowFaults.{head_start, opens_at, last_opening, unfinished, refusal_at_close, refusal_at, refusal_at_end};
@@ -11,22 +12,22 @@ ghost use Rattle.stil_tree.specs.declared.fault.TreeFault.{TreeFault};
 
 use crate::builder::is_sign;
 use crate::fault::TreeFault;
-use crate::slow::{is_mark, open_braces};
+use crate::slow::{is_delimiter, open_braces};
 use stil_lex::Token;
 
-/// Whether a mark stands among the tokens.
-fn has_mark(tokens: &[Token]) -> bool
-    ensures { result ≡ list_any is_mark tokens.now }
+/// Whether a delimiter stands among the tokens.
+fn has_delimiter(tokens: &[Token]) -> bool
+    ensures { result ≡ list_any is_delimiter tokens.now }
 {
-    tokens.iter().any(|t| is_mark(t))
+    tokens.iter().any(|t| is_delimiter(t))
 }
 
-/// Where the head begins that is not finished behind the tokens: the first index from which on no mark stands.
+/// Where the head begins that is not finished behind the tokens: the first index from which on no delimiter stands.
 fn head_start(tokens: &[Token]) -> usize
     ensures { result ≡ head_start tokens.now }
 {
     for start in 0..tokens.len() {
-        if !has_mark(&tokens[start..]) {
+        if !has_delimiter(&tokens[start..]) {
             return start;
         }
     }
@@ -35,7 +36,7 @@ fn head_start(tokens: &[Token]) -> usize
 
 /// Whether the token at the index is a `{` with which so many braces are open.
 fn opens_at(tokens: &[Token], index: usize, braces: usize) -> bool
-    requires small { length tokens.now ≤ 16777216 }
+    requires small { length tokens.now ≤ most_bytes }
     requires within { index < length tokens.now }
     ensures { result ≡ opens_at braces tokens.now index }
 {
@@ -44,7 +45,7 @@ fn opens_at(tokens: &[Token], index: usize, braces: usize) -> bool
 
 /// The last `{` with which so many braces are open.
 fn last_opening(tokens: &[Token], braces: usize) -> usize
-    requires { length tokens.now ≤ 16777216 }
+    requires { length tokens.now ≤ most_bytes }
     ensures { result ≡ last_opening braces tokens.now (length tokens.now) }
 {
     let mut place = 0;
@@ -70,7 +71,7 @@ fn unfinished(tokens: &[Token]) -> Option<TreeFault>
 
 /// The refusal of a `}` behind the tokens.
 fn refusal_at_close(front: &[Token]) -> Option<TreeFault>
-    requires { length front.now ≤ 16777216 }
+    requires { length front.now ≤ most_bytes }
     ensures { result ≡ refusal_at_close front.now }
 {
     if open_braces(front) == 0 {
@@ -82,7 +83,7 @@ fn refusal_at_close(front: &[Token]) -> Option<TreeFault>
 
 /// The refusal of a token behind others.
 fn refusal_at(front: &[Token], token: &Token) -> Option<TreeFault>
-    requires { length front.now ≤ 16777216 }
+    requires { length front.now ≤ most_bytes }
     ensures { result ≡ refusal_at front.now token.now }
 {
     if is_sign(token, b'{') && open_braces(front) == 16 {
@@ -96,7 +97,7 @@ fn refusal_at(front: &[Token], token: &Token) -> Option<TreeFault>
 
 /// The refusal of the end of the tokens.
 fn refusal_at_end(tokens: &[Token]) -> Option<TreeFault>
-    requires { length tokens.now ≤ 16777216 }
+    requires { length tokens.now ≤ most_bytes }
     ensures { result ≡ refusal_at_end tokens.now }
 {
     let open = open_braces(tokens);
@@ -109,7 +110,7 @@ fn refusal_at_end(tokens: &[Token]) -> Option<TreeFault>
 
 /// The fault of the tokens, or none where they have none.
 pub(crate) fn slow_tree_fault(tokens: &[Token]) -> Option<TreeFault>
-    requires { length tokens.now ≤ 16777216 }
+    requires { length tokens.now ≤ most_bytes }
     ensures some { IfSome result (λ fault. IsFault tokens.now fault) }
     ensures none { IfNone result ((fault : TreeFault) → IsFault tokens.now fault → ⊥) }
 {

@@ -2,7 +2,7 @@ use Rattle.std.proofs.Common.{refl, arith, ◌∙◌, sym, ◌<◌, length}
 use Rattle.std.proofs.lemmas.Bool.{false≢true}
 use Rattle.std.proofs.lemmas.List.{take_rest}
 use Rattle.stil_tree.proofs.Slowly.{starts, goes_on, is_done, plain-first, block-first}
-use Rattle.stil_tree.proofs.SlowlyBack.{no_mark, block_behind}
+use Rattle.stil_tree.proofs.SlowlyBack.{no_delimiter, block_behind}
 use Rattle.stil_tree.proofs.slow.+slow.Goals as goal
 
 pub level-returns-clause-some : goal.level-returns-clause-some
@@ -34,7 +34,7 @@ level-returns-in_default-clause-none t c = λ found p.
 
 pub statement-returns-then-count-tokens-clause-none : goal.statement-returns-then-count-tokens-clause-none
 statement-returns-then-count-tokens-clause-none t c = λ found p.
-    no_mark c.args.depth c.args.at found c.args.tokens.now p c.requires.some (sym c.head_len-count.ensures.len ∙ omega arith)
+    no_delimiter c.args.depth c.args.at found c.args.tokens.now p c.requires.some (sym c.head_len-count.ensures.len ∙ omega arith)
 
 pub statement-returns-then-not-is_sign-clause-none : goal.statement-returns-then-not-is_sign-clause-none
 statement-returns-then-not-is_sign-clause-none t c = λ found p.
