@@ -1,12 +1,13 @@
 -- Indices and references to signals at the front of a head, and what stands behind them.
 use Rattle.std.specs.Prelude.{ℕ, ◌^◌, ◌&&◌, nat_lt, if◌then◌else◌, List, [], ◌∷◌, Option, Some, None, option_map}
 use Rattle.std.specs.Option.{option_and_then}
-use Rattle.stil_form.specs.declared.part.Mark.TheVariants.{Open, Close, Dot}
+use Rattle.stil_form.specs.declared.part.SignKind.TheVariants.{Open, Close, Dot}
 use Rattle.stil_form.specs.declared.front.Span.{Span}
 use Rattle.stil_form.specs.declared.front.Reference.{Reference}
 use Rattle.stil_form.specs.declared.front.Reference.TheVariants as reference
 use Rattle.stil_form.specs.Lexeme.{Lexeme, word, text, sign}
-use Rattle.stil_form.specs.Words.{named_by, number_by}
+use Rattle.text_bytes.specs.Numbers.{number_by}
+use Rattle.stil_form.specs.Words.{named_by}
 
 -- the number that a word of digits is
 abbrev pub index_by : Lexeme → Option ℕ

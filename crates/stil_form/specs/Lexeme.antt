@@ -5,8 +5,8 @@ use Rattle.stil_lex.specs.declared.token.TokenKind.{TokenKind}
 use Rattle.stil_lex.specs.declared.token.TokenKind as kinds
 use Rattle.stil_lex.specs.Text.{text_of}
 use Rattle.stil_tree.specs.Trees.{Entry, entries}
-use Rattle.stil_form.specs.declared.part.Mark.{Mark}
-use Rattle.stil_form.specs.declared.part.Mark.TheVariants.{Open, Close, Dot, Equals, Hash, Percent, Slash, Backslash, Colon, Plus, Minus, Bang, Other}
+use Rattle.stil_form.specs.declared.part.SignKind.{SignKind}
+use Rattle.stil_form.specs.declared.part.SignKind.TheVariants.{Open, Close, Dot, Equals, Hash, Percent, Slash, Backslash, Colon, Plus, Minus, Bang, Other}
 use Rattle.stil_form.specs.declared.part.Part.{Part}
 use Rattle.stil_form.specs.declared.part.Part.TheVariants.{Word, Name, Text, Sign}
 use Rattle.stil_form.specs.declared.source.Source.{Source}
@@ -16,11 +16,11 @@ pub data Lexeme : Type 0 where
   word : List ℕ → Lexeme
   name : List ℕ → Lexeme
   text : List ℕ → Lexeme
-  sign : Mark → Lexeme
+  sign : SignKind → Lexeme
 
 -- the sign of a byte
-abbrev pub mark_of : ℕ → Mark
-mark_of byte =
+abbrev pub sign_kind : ℕ → SignKind
+sign_kind byte =
     if byte == 91 then Open
     else if byte == 93 then Close
     else if byte == 46 then Dot
@@ -40,14 +40,14 @@ abbrev pub lexeme_of : Part → Lexeme
 lexeme_of (Word bytes) = word bytes.now
 lexeme_of (Name bytes) = name bytes.now
 lexeme_of (Text bytes) = text bytes.now
-lexeme_of (Sign mark) = sign mark
+lexeme_of (Sign kind) = sign kind
 
 -- a token of this kind with this text
 abbrev pub lexeme_from : TokenKind → List ℕ → Lexeme
 lexeme_from kinds.TheVariants.Word bytes = word bytes
 lexeme_from kinds.TheVariants.Name bytes = name bytes
 lexeme_from kinds.TheVariants.Text bytes = text bytes
-lexeme_from (kinds.TheVariants.Sign byte) bytes = sign (mark_of byte)
+lexeme_from (kinds.TheVariants.Sign byte) bytes = sign (sign_kind byte)
 
 -- the lexeme of a token in its text
 abbrev pub lexeme_at : List ℕ → Token → Lexeme

@@ -1,4 +1,5 @@
 pub mod Lexeme
 pub mod Reading
+pub mod FaultText
 pub mod Words
 pub mod Fronts

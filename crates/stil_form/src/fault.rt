@@ -24,6 +24,24 @@ pub enum FormKind {
     NoExec,
 }
 
+impl FormKind {
+    ghost use Rattle.stil_form.specs.FaultText.{kind_text};
+
+    /// The word by which it is printed.
+    pub fn name(self) -> &'static str
+        ensures { result.now ≡ kind_text self }
+    {
+        match self {
+            FormKind::NoHeader => "NoHeader",
+            FormKind::Shape => "Shape",
+            FormKind::LeftOut => "LeftOut",
+            FormKind::OutOfRange => "OutOfRange",
+            FormKind::Twice => "Twice",
+            FormKind::NoExec => "NoExec",
+        }
+    }
+}
+
 /// Why a statement was not read.
 #[derive(Clone, Copy, Debug, PartialEq, Eq)]
 pub enum FormFault {
@@ -48,11 +66,27 @@ impl<T: Drop> From<AllocFailed<T>> for FormFault {
     }
 }
 
+impl fmt::Display for FormKind {
+    ghost use Rattle.std.specs.Prelude.{Some};
+    ghost use Rattle.stil_form.specs.FaultText.{kind_text};
+
+    ghost output = { λ kind. Some (kind_text kind) };
+
+    fn fmt<W: fmt::Write>(&self, f: &mut fmt::Formatter<W>) -> fmt::Result {
+        f.write_str(self.name())
+    }
+}
+
 impl fmt::Display for FormFault {
+    ghost use Rattle.std.specs.Prelude.{Some};
+    ghost use Rattle.stil_form.specs.FaultText.{fault_text};
+
+    ghost output = { λ fault. Some (fault_text fault) };
+
     fn fmt<W: fmt::Write>(&self, f: &mut fmt::Formatter<W>) -> fmt::Result {
         match self {
             FormFault::NoMemory => write!(f, "out of memory"),
-            FormFault::Refused(kind, first) => write!(f, "{kind:?} at token {first}"),
+            FormFault::Refused(kind, first) => write!(f, "{kind} at token {first}"),
         }
     }
 }

@@ -1,13 +1,13 @@
 //! Tokens as readers of forms see them.
 
 ghost use Rattle.std.specs.Prelude.{◌≡◌};
-ghost use Rattle.stil_form.specs.Lexeme.{lexeme_of, lexeme_at, mark_of};
+ghost use Rattle.stil_form.specs.Lexeme.{lexeme_of, lexeme_at, sign_kind};
 
 use stil_lex::{Token, TokenKind};
 
 /// A sign.
 #[derive(Clone, Copy, Debug, PartialEq, Eq)]
-pub enum Mark {
+pub enum SignKind {
     /// `[`
     Open,
     /// `]`
@@ -34,27 +34,27 @@ pub enum Part<'a> {
     Name(&'a [u8]),
     /// What stood in single quotes.
     Text(&'a [u8]),
-    Sign(Mark),
+    Sign(SignKind),
 }
 
 #[inline(always)]
-fn mark_from(byte: u8) -> Mark
-    ensures { result ≡ mark_of byte }
+fn sign_kind(byte: u8) -> SignKind
+    ensures { result ≡ sign_kind byte }
 {
     match byte {
-        b'[' => Mark::Open,
-        b']' => Mark::Close,
-        b'.' => Mark::Dot,
-        b'=' => Mark::Equals,
-        b'#' => Mark::Hash,
-        b'%' => Mark::Percent,
-        b'/' => Mark::Slash,
-        b'\\' => Mark::Backslash,
-        b':' => Mark::Colon,
-        b'+' => Mark::Plus,
-        b'-' => Mark::Minus,
-        b'!' => Mark::Bang,
-        _ => Mark::Other(byte),
+        b'[' => SignKind::Open,
+        b']' => SignKind::Close,
+        b'.' => SignKind::Dot,
+        b'=' => SignKind::Equals,
+        b'#' => SignKind::Hash,
+        b'%' => SignKind::Percent,
+        b'/' => SignKind::Slash,
+        b'\\' => SignKind::Backslash,
+        b':' => SignKind::Colon,
+        b'+' => SignKind::Plus,
+        b'-' => SignKind::Minus,
+        b'!' => SignKind::Bang,
+        _ => SignKind::Other(byte),
     }
 }
 
@@ -67,6 +67,6 @@ pub fn part_of<'a>(bytes: &'a [u8], token: &Token) -> Part<'a>
         TokenKind::Word => Part::Word(token.text(bytes)),
         TokenKind::Name => Part::Name(token.text(bytes)),
         TokenKind::Text => Part::Text(token.text(bytes)),
-        TokenKind::Sign(byte) => Part::Sign(mark_from(byte)),
+        TokenKind::Sign(byte) => Part::Sign(sign_kind(byte)),
     }
 }

@@ -5,7 +5,8 @@ ghost use Rattle.stil_tree.specs.Trees.{Entry, entry_of};
 ghost use Rattle.std.specs.List.{list_any};
 ghost use Rattle.std.specs.Str.{bytes_eq};
 ghost use Rattle.stil_form.specs.Lexeme.{lexemes, head_of};
-ghost use Rattle.stil_form.specs.Reading.{Answers, AnswersBy, reading, is_skipped, unskipped};
+ghost use Rattle.first_fault.specs.Reading.{reading};
+ghost use Rattle.stil_form.specs.Reading.{Answers, AnswersBy, is_skipped, unskipped};
 ghost use Rattle.stil_form.specs.declared.fault.FormFault.{FormFault};
 
 use crate::fault::FormFault;

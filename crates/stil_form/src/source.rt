@@ -18,7 +18,8 @@ pub struct Source<'a> {
 /// The first part, and what stands behind it.
 #[inline(always)]
 pub fn first_part<'a>(source: Source<'a>) -> Option<(Part<'a>, Source<'a>)>
-    ensures { MatchOption result (lexemes source.entry ≡ []) (λ found. lexemes source.entry ≡ lexeme_of found.0 ∷ lexemes found.1) }
+    ensures { MatchOption result (lexemes source.entry ≡ [])
+        (λ found. lexemes source.entry ≡ lexeme_of found.0 ∷ lexemes found.1) }
 {
     let bytes = source.bytes;
     match source.tokens {
@@ -43,7 +44,8 @@ pub fn head<'a>(source: Source<'a>, stmt: &Stmt) -> Source<'a>
 /// The statements of a statement's block.
 #[inline(always)]
 pub fn body(stmt: &Stmt) -> Option<&[Stmt]>
-    ensures { MatchOption result (body_of (entry_of stmt.now) ≡ None) (λ stmts. body_of (entry_of stmt.now) ≡ Some (map entry_of stmts.now)) }
+    ensures { MatchOption result (body_of (entry_of stmt.now) ≡ None)
+        (λ stmts. body_of (entry_of stmt.now) ≡ Some (map entry_of stmts.now)) }
 {
     match &stmt.body {
         Some(list) => Some(list.as_slice()),

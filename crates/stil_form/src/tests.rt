@@ -1,10 +1,12 @@
-//! What is skipped, numbers and names at their limits, and references.
+//! What is skipped, names, indices at their limits, and references.
 
-ghost use Rattle.std.specs.Prelude.{Ok, length};
+ghost use Rattle.std.specs.Prelude.{Ok, Err, true, length, if◌then◌else◌};
+ghost use Rattle.stil_form.specs.declared.fault.FormFault.TheVariants.{Refused};
+ghost use Rattle.stil_form.specs.declared.fault.FormKind.TheVariants.{Twice};
 
 use crate::{
-    Form, FormFault, Part, Reference, Source, Span, head, index_front, is_skipped, name_of,
-    number_of, read_each, read_unskipped, reference_front,
+    Form, FormFault, FormKind, Part, Reference, Source, Span, StepForm, head, index_front,
+    is_skipped, name_of, read_each, read_steps, read_unskipped, reference_front,
 };
 use std::alloc::Global;
 use std::test::Fail;
@@ -27,6 +29,25 @@ impl Form for Numbered {
     }
 }
 
+/// A form of which there may be one statement.
+#[derive(Clone, Copy)]
+struct Once;
+
+impl StepForm for Once {
+    type State = bool;
+
+    ghost step = { λ _ met _. if met then Err (Refused Twice 0) else Ok true };
+
+    fn take(&self, alloc: Global, met: bool, stmt: &Stmt) -> Result<bool, FormFault> {
+        let _ = (alloc, stmt.count);
+        if met {
+            Err(FormFault::Refused(FormKind::Twice, 0))
+        } else {
+            Ok(true)
+        }
+    }
+}
+
 #[test]
 fn statements_of_listed_words_are_skipped(rt: HostRuntime) -> Result<(), Fail> {
     let text = b"a 1; note { b; } c; note;";
@@ -37,6 +58,8 @@ fn statements_of_listed_words_are_skipped(rt: HostRuntime) -> Result<(), Fail> {
         bytes: text,
         tokens: tokens.as_slice(),
     };
+    let twice = read_steps(rt.alloc(), &Once, false, stmts.as_slice());
+    assert_eq!(rt; twice, Err(FormFault::Refused(FormKind::Twice, 0)));
     let mut words = Vec::new(rt.alloc());
     words.push(Items::from_slice(rt.alloc(), b"note")?)?;
     let all = read_each(rt.alloc(), &Numbered, stmts.as_slice()).map_err(|_| "all")?;
@@ -57,13 +80,7 @@ fn statements_of_listed_words_are_skipped(rt: HostRuntime) -> Result<(), Fail> {
 }
 
 #[test]
-fn numbers_stop_at_the_greatest_and_names_begin_with_a_letter(rt: HostRuntime) {
-    assert_eq!(rt; number_of(b"007"), Some(7));
-    assert_eq!(rt;
-        number_of(b"99999999999999999999"),
-        Some(18446744073709551615)
-    );
-    assert_eq!(rt; number_of(b"1x"), None);
+fn names_begin_with_a_letter(rt: HostRuntime) {
     assert!(rt; name_of(&Part::Word(b"_a")).is_some());
     assert!(rt; name_of(&Part::Word(b"1a")).is_none());
     assert!(rt; name_of(&Part::Name(b"1 a")).is_some());

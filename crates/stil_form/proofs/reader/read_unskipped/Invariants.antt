@@ -1,7 +1,8 @@
 use Rattle.std.proofs.Common.{◌≡◌, map, drop, []}
 use Rattle.stil_tree.specs.Trees.{entry_of}
 use Rattle.stil_form.specs.Lexeme.{lexemes}
-use Rattle.stil_form.specs.Reading.{reading, unskipped}
+use Rattle.first_fault.specs.Reading.{reading}
+use Rattle.stil_form.specs.Reading.{unskipped}
 use Rattle.stil_form.proofs.reader.read_unskipped.Given as goal
 
 -- what was read, and the rest, are the whole
