@@ -1,12 +1,14 @@
 -- A lexeme that is spelled at the front of a text is found there.
-use Rattle.std.proofs.Common.{◌≡◌, ℕ, zero, suc, ◌+◌, ◌≤◌, ◌<◌, Bool, true, false, ◌&&◌, ◌||◌, List, [], ◌∷◌, ◌++◌, length, drop, Option, Some, None, refl, sym, ap, subst, ◌∙◌, inl, inr, arith, append_assoc, length-append}
+use Rattle.std.proofs.Common.{◌≡◌, ℕ, zero, suc, ◌+◌, ◌≤◌, ◌<◌, Bool, true, false, ◌&&◌, List, [], ◌∷◌, ◌++◌, length, drop, Option, Some, None, refl, sym, ap, subst, ◌∙◌, inl, inr, arith, append_assoc, length-append}
 use Rattle.std.specs.Prelude.{◌==◌, nat_lt, nat_le}
-use Rattle.std.proofs.lemmas.Bool.{and_parts, and_from, or_parts, or_cases, cond-true, cond-false, eqb-true, false≢true, lt-ltb, and_left, false_from_ne_true}
+use Rattle.std.proofs.lemmas.Bool.{and_parts, and_from, cond-true, cond-false, eqb-true, false≢true, lt-ltb, and_left, false_from_ne_true}
 use Rattle.std.proofs.lemmas.Bool.Decides.{nat_tests}
 use Rattle.std.proofs.lemmas.List.{drop_at}
 use Rattle.std.specs.List.{list_all, prefix_len}
-use Rattle.time_expr.specs.Bytes.{double_quote, open_paren, point, is_blank, is_digit, is_letter, is_word, may_be_quoted, begins_with}
-use Rattle.time_expr.specs.Lexeme.{Lexeme, literal, word, operator, opening, comma, closing, digits_from, number_of, longest_name, sign_of, unit_text, bound_text, pointed, IsNumber, IsLexeme}
+use Rattle.time_expr.specs.Bytes.{double_quote, open_paren, point, may_be_quoted}
+use Rattle.text_bytes.specs.Bytes.{is_blank, is_digit, begins_name, is_word, begins_with, is_printable}
+use Rattle.time_expr.specs.Lexeme.{Lexeme, literal, word, operator, opening, comma, closing, digits_from, number_of, sign_of, unit_text, bound_text, pointed, IsNumber, IsLexeme}
+use Rattle.text_bytes.specs.Limits.{longest_name}
 use Rattle.time_expr.specs.Front.{begins, begins_pair, unit_front, digits_of, decimals_of, pointed_len, number_len, number_front, bound_of, paren_len, short_name, called, word_front, quoted_front, sign_front, front_of}
 use Rattle.time_expr.specs.declared.unit.Unit as units
 use Rattle.time_expr.specs.declared.unit.Unit.TheVariants.{Plain, Seconds, Milliseconds, Microseconds, Nanoseconds, Picoseconds, Femtoseconds}
@@ -16,7 +18,8 @@ use Rattle.time_expr.specs.declared.expr.Bound.{Bound}
 use Rattle.time_expr.specs.declared.expr.Bound.TheVariants.{Least, Greatest}
 use Rattle.time_expr.specs.declared.token.Number.{Number}
 use Rattle.time_expr.proofs.NumberLemmas.{digits_from-append}
-use Rattle.time_expr.proofs.Spans.{cut, begins_with-weaker}
+use Rattle.text_bytes.proofs.ByteLemmas.{is_digit-word, is_digit-begins_name, blanks_no_word}
+use Rattle.text_bytes.proofs.Spans.{cut, begins_with-weaker}
 use Rattle.time_expr.proofs.FrontLemmas.{length-pointed}
 
 -- a text that ends an operand before it: it goes on with no name and no number, and opens no parenthesis
@@ -35,18 +38,9 @@ begins_pair-other : (first second : ℕ) (text : List ℕ) → begins first text
 begins_pair-other first second [] h = refl
 begins_pair-other first second (b ∷ text) h = and_left (b == first) (begins second text) h
 
--- a byte of a word is a digit or none
-pub is_digit-word : (b : ℕ) → is_word b ≡ false → is_digit b ≡ false
-is_digit-word b h = (or_parts (is_letter b) (is_digit b) h).1
-
--- a letter is no digit
-pub is_digit-letter : (b : ℕ) → is_letter b ≡ true → is_digit b ≡ false
-unfolding is_letter is_digit
-is_digit-letter b h = grind (arith, nat_tests)
-
 -- behind a number without a unit stands none
 unit-plain : (text : List ℕ) → begins_with is_word text ≡ false → unit_front text ≡ (Plain, 0)
-unfolding unit_front is_letter is_digit
+unfolding unit_front begins_name is_digit is_word
 unit-plain text h =
     let seconds : begins 115 text ≡ false = begins-other 115 text refl h in
     let milli : begins_pair 109 115 text ≡ false = begins_pair-other 109 115 text (begins-other 109 text refl h) in
@@ -200,19 +194,19 @@ called-zero (Some bound) bytes zero e = refl
 called-zero (Some bound) bytes (suc n) e = absurd (omega (arith, e))
 
 -- a text that begins with a letter begins with a word
-front_letter : (all : List ℕ) → begins_with is_letter all ≡ true → front_of all ≡ word_front all
+front_letter : (all : List ℕ) → begins_with begins_name all ≡ true → front_of all ≡ word_front all
 unfolding front_of
 front_letter [] h = absurd (false≢true h)
 front_letter (b ∷ all) h =
-    cond-false (is_digit b) (Some (number_front (b ∷ all))) _ (is_digit-letter b h)
-    ∙ cond-true (is_letter b) (word_front (b ∷ all)) _ h
+    cond-false (is_digit b) (Some (number_front (b ∷ all))) _ (is_digit-begins_name b h)
+    ∙ cond-true (begins_name b) (word_front (b ∷ all)) _ h
 
-begins_letter : (name after : List ℕ) → begins_with is_letter name ≡ true → begins_with is_letter (name ++ after) ≡ true
+begins_letter : (name after : List ℕ) → begins_with begins_name name ≡ true → begins_with begins_name (name ++ after) ≡ true
 begins_letter [] after h = absurd (false≢true h)
 begins_letter (b ∷ name) after h = h
 
 -- a name without quotes at the front
-bare_is_found : (name after : List ℕ) → begins_with is_letter name ≡ true → list_all is_word name ≡ true
+bare_is_found : (name after : List ℕ) → begins_with begins_name name ≡ true → list_all is_word name ≡ true
     → length name ≤ longest_name → EndsOperand after
     → front_of (name ++ after) ≡ Some (word name, length name)
 unfolding word_front
@@ -227,13 +221,13 @@ bare_is_found name after begins_so each short ends =
 
 -- a quote may not stand between quotes
 no_quote : may_be_quoted double_quote ≡ false
-unfolding may_be_quoted
+unfolding may_be_quoted is_printable
 no_quote = refl
 
 -- a name in quotes at the front
 quoted_is_found : (name after : List ℕ) → 0 < length name → list_all may_be_quoted name ≡ true → length name ≤ longest_name
     → front_of (double_quote ∷ (name ++ double_quote ∷ after)) ≡ Some (word name, length name + 2)
-unfolding front_of is_digit is_letter quoted_front
+unfolding front_of is_digit begins_name quoted_front is_word
 quoted_is_found name after some each short =
     let rest = name ++ double_quote ∷ after in
     let c = cut may_be_quoted name (double_quote ∷ after) each no_quote in
@@ -247,44 +241,13 @@ quoted_is_found name after some each short =
     ∙ ap (λ (n : ℕ). short_name name (n + 2)) c.len
     ∙ short-name name (length name + 2) short
 
--- no blank is part of a word, and none is a point or a parenthesis
-pub in_blanks : (P : ℕ → Type 0) → P 32 → P 9 → P 10 → P 12 → P 13 → (b : ℕ) → is_blank b ≡ true → P b
-unfolding is_blank
-in_blanks P space tab feed form back b h =
-    elim (or_cases (b == 0x20 || b == 0x09 || b == 0x0A || b == 0x0C) (b == 0x0D) h) [
-      | inr e ↦ subst P (sym (eqb-true b 13 e)) back
-      | inl h4 ↦
-          elim (or_cases (b == 0x20 || b == 0x09 || b == 0x0A) (b == 0x0C) h4) [
-            | inr e ↦ subst P (sym (eqb-true b 12 e)) form
-            | inl h3 ↦
-                elim (or_cases (b == 0x20 || b == 0x09) (b == 0x0A) h3) [
-                  | inr e ↦ subst P (sym (eqb-true b 10 e)) feed
-                  | inl h2 ↦
-                      elim (or_cases (b == 0x20) (b == 0x09) h2) [
-                        | inr e ↦ subst P (sym (eqb-true b 9 e)) tab
-                        | inl e ↦ subst P (sym (eqb-true b 32 e)) space
-                      ]
-                ]
-          ]
-    ]
-
-pub is_word-blank : (b : ℕ) → is_blank b ≡ true → is_word b ≡ false
-unfolding is_letter is_digit
-is_word-blank b h = in_blanks (λ c. is_word c ≡ false) refl refl refl refl refl b h
-
--- blanks and what stands behind them go on with no word, where that doesn't
-pub blanks_no_word : (blanks rest : List ℕ) → list_all is_blank blanks ≡ true → begins_with is_word rest ≡ false
-    → begins_with is_word (blanks ++ rest) ≡ false
-blanks_no_word [] rest each h = h
-blanks_no_word (b ∷ blanks) rest each h = is_word-blank b (and_parts (is_blank b) (list_all is_blank blanks) each).0
-
 -- a parenthesis is no blank and in no word
 no_blank : is_blank open_paren ≡ false
 unfolding is_blank
 no_blank = refl
 
 no_word : is_word open_paren ≡ false
-unfolding is_letter is_digit
+unfolding begins_name is_digit is_word
 no_word = refl
 
 -- a parenthesis behind blanks
@@ -300,12 +263,12 @@ paren-found blanks after each =
 
 -- the words of calls
 bound_words : (bound : Bound) → list_all is_word (bound_text bound) ≡ true
-unfolding is_letter is_digit
+unfolding begins_name is_digit is_word
 bound_words Least = refl
 bound_words Greatest = refl
 
-bound_begins : (bound : Bound) → begins_with is_letter (bound_text bound) ≡ true
-unfolding is_letter
+bound_begins : (bound : Bound) → begins_with begins_name (bound_text bound) ≡ true
+unfolding begins_name is_word
 bound_begins Least = refl
 bound_begins Greatest = refl
 
@@ -340,7 +303,7 @@ is_operand closing = false
 
 -- an operator at the front
 operator_is_found : (op : Operator) (after : List ℕ) → front_of (sign_of op ∷ after) ≡ Some (operator op, 1)
-unfolding front_of is_digit is_letter sign_front
+unfolding front_of is_digit begins_name sign_front is_word
 operator_is_found Plus after = refl
 operator_is_found Minus after = refl
 operator_is_found Times after = refl
@@ -350,7 +313,7 @@ operator_is_found Over after = refl
 pub front_is_found : (lexeme : Lexeme) (piece after : List ℕ) → IsLexeme lexeme piece
     → (is_operand lexeme ≡ true → EndsOperand after)
     → front_of (piece ++ after) ≡ Some (lexeme, length piece)
-unfolding front_of is_digit is_letter sign_front
+unfolding front_of is_digit begins_name sign_front is_word
 front_is_found (literal n) piece after is ends = number_is_found piece after n is (ends refl)
 front_is_found (word bytes) piece after (inl is) ends =
     ap (λ (ys : List ℕ). front_of (ys ++ after)) is.spelled ∙ bare_is_found bytes after is.begins is.each is.short (ends refl)

@@ -1,13 +1,15 @@
 -- The lexeme that is found at the front of a text is spelled there.
-use Rattle.std.proofs.Common.{◌≡◌, ◌⊎◌, ℕ, zero, suc, ◌+◌, ◌≤◌, ◌<◌, Bool, true, false, ◌&&◌, ◌||◌, List, [], ◌∷◌, ◌++◌, length, take, drop, Option, Some, None, cond, refl, sym, ap, subst, ◌∙◌, inl, inr, arith, append_assoc, length-append}
+use Rattle.std.proofs.Common.{◌≡◌, ℕ, zero, suc, ◌+◌, ◌≤◌, ◌<◌, true, ◌&&◌, List, [], ◌∷◌, ◌++◌, length, take, drop, Option, Some, None, cond, refl, sym, ap, subst, ◌∙◌, inl, inr, arith, append_assoc, length-append}
 use Rattle.std.specs.Prelude.{◌==◌, nat_lt, nat_le}
 use Rattle.std.proofs.lemmas.Bool.{and_parts, cases_Bool, cond-true, cond-false, eqb-true, false≢true, ltb-true}
 use Rattle.std.proofs.lemmas.Bool.Decides.{nat_tests}
 use Rattle.std.proofs.lemmas.List.{drop_at, take-append-drop}
 use Rattle.std.specs.List.{list_all, prefix_len}
 use Rattle.std.specs.Str.{bytes_eq}
-use Rattle.time_expr.specs.Bytes.{double_quote, open_paren, point, is_blank, is_digit, is_letter, is_word, may_be_quoted, begins_with}
-use Rattle.time_expr.specs.Lexeme.{Lexeme, word, operator, opening, comma, closing, number_of, longest_name, unit_text, bound_text, pointed, IsLexeme}
+use Rattle.time_expr.specs.Bytes.{double_quote, open_paren, point, may_be_quoted}
+use Rattle.text_bytes.specs.Bytes.{is_blank, is_digit, begins_name, is_word, begins_with}
+use Rattle.time_expr.specs.Lexeme.{Lexeme, word, operator, opening, comma, closing, number_of, unit_text, bound_text, pointed, IsLexeme}
+use Rattle.text_bytes.specs.Limits.{longest_name}
 use Rattle.time_expr.specs.Front.{begins, begins_pair, unit_front, digits_of, decimals_of, pointed_len, number_len, number_front, bound_of, paren_len, short_name, called, word_front, quoted_front, sign_front, front_of}
 use Rattle.time_expr.specs.declared.unit.Unit as units
 use Rattle.time_expr.specs.declared.unit.Unit.TheVariants.{Plain, Seconds, Milliseconds, Microseconds, Nanoseconds, Picoseconds, Femtoseconds}
@@ -15,12 +17,9 @@ use Rattle.time_expr.specs.declared.expr.Operator.TheVariants.{Plus, Minus, Time
 use Rattle.time_expr.specs.declared.expr.Bound.{Bound}
 use Rattle.time_expr.specs.declared.expr.Bound.TheVariants.{Least, Greatest}
 use Rattle.time_expr.proofs.NumberLemmas.{digits_from-append}
-use Rattle.time_expr.proofs.Spans.{span}
-
--- a choice that is known
-pub chosen : {A : Type 0} (b : Bool) (x y z : A) → cond b x y ≡ z → ((b ≡ true) × (x ≡ z)) ⊎ ((b ≡ false) × (y ≡ z))
-chosen true x y z e = inl (refl, e)
-chosen false x y z e = inr (refl, e)
+use Rattle.text_bytes.proofs.BoolLemmas.{chosen}
+use Rattle.text_bytes.proofs.ByteLemmas.{is_word-begins_name}
+use Rattle.text_bytes.proofs.Spans.{span}
 
 -- two fronts that are the same
 pub same_front : (l m : Lexeme) (i j : ℕ) → ◌≡◌ {A = Option (Lexeme × ℕ)} (Some (l, i)) (Some (m, j)) → (m ≡ l) × (j ≡ i)
@@ -259,7 +258,7 @@ short_name_is bytes len lexeme n e =
     le_from a b h = grind (arith, nat_tests)
 
 -- a name without quotes that is found
-bare_is_so : (text bytes rest : List ℕ) (lexeme : Lexeme) (n : ℕ) → text ≡ bytes ++ rest → begins_with is_letter bytes ≡ true
+bare_is_so : (text bytes rest : List ℕ) (lexeme : Lexeme) (n : ℕ) → text ≡ bytes ++ rest → begins_with begins_name bytes ≡ true
     → list_all is_word bytes ≡ true
     → 0 < length bytes → short_name bytes (length bytes) ≡ Some (lexeme, n) → IsFront text lexeme n
 bare_is_so text bytes rest lexeme n spelled begins_so each some e =
@@ -298,7 +297,7 @@ call_is_so text bytes rest bound lexeme m n spelled is_word_of p is is_len =
 
 -- what a call or a name is
 called_is_so : (text bytes rest : List ℕ) (bound : Option Bound) (paren : ℕ) (lexeme : Lexeme) (n : ℕ) → text ≡ bytes ++ rest
-    → begins_with is_letter bytes ≡ true → list_all is_word bytes ≡ true → 0 < length bytes → bound_of bytes ≡ bound
+    → begins_with begins_name bytes ≡ true → list_all is_word bytes ≡ true → 0 < length bytes → bound_of bytes ≡ bound
     → paren_len rest ≡ paren
     → called bound bytes paren ≡ Some (lexeme, n) → IsFront text lexeme n
 called_is_so text bytes rest None paren lexeme n spelled begins_so each some is_bound is_paren e =
@@ -311,20 +310,20 @@ called_is_so text bytes rest (Some bound) (suc m) lexeme n spelled begins_so eac
     (paren_is_so rest m is_paren) is.0 is.1
 
 -- a text that begins with a letter begins with a name
-word_begins : (b : ℕ) (text front back : List ℕ) → b ∷ text ≡ front ++ back → 0 < length front → is_letter b ≡ true
-    → begins_with is_letter front ≡ true
+word_begins : (b : ℕ) (text front back : List ℕ) → b ∷ text ≡ front ++ back → 0 < length front → begins_name b ≡ true
+    → begins_with begins_name front ≡ true
 word_begins b text [] back e some h = absurd (omega (arith, some))
-word_begins b text (c ∷ front) back e some h = let same : b ≡ c = cc in ap is_letter (sym same) ∙ h
+word_begins b text (c ∷ front) back e some h = let same : b ≡ c = cc in ap begins_name (sym same) ∙ h
 
 -- a name or a call that is found
-pub word_is_so : (b : ℕ) (text : List ℕ) (lexeme : Lexeme) (n : ℕ) → is_letter b ≡ true
+pub word_is_so : (b : ℕ) (text : List ℕ) (lexeme : Lexeme) (n : ℕ) → begins_name b ≡ true
     → word_front (b ∷ text) ≡ Some (lexeme, n) → IsFront (b ∷ text) lexeme n
 unfolding word_front
 word_is_so b text lexeme n starts e =
     let all = b ∷ text in
     let s = span is_word all in
     let long : prefix_len is_word all ≡ 1 + prefix_len is_word text =
-    cond-true (is_word b) (1 + prefix_len is_word text) 0 (ap (λ (t : Bool). t || is_digit b) starts) in
+    cond-true (is_word b) (1 + prefix_len is_word text) 0 (is_word-begins_name b starts) in
     let some : 0 < length s.front = omega (arith, s.len, long) in
     called_is_so all s.front s.back (bound_of s.front) (paren_len s.back) lexeme n s.spelled
     (word_begins b text s.front s.back s.spelled some starts) s.each some refl refl
@@ -409,7 +408,7 @@ unfolding front_of
 front_is_so b text lexeme n e =
     let signs = sign_front b in
     let quotes = cond (b == double_quote) (quoted_front text) signs in
-    let words = cond (is_letter b) (word_front (b ∷ text)) quotes in
+    let words = cond (begins_name b) (word_front (b ∷ text)) quotes in
     elim (chosen (is_digit b) (Some (number_front (b ∷ text))) words (Some (lexeme, n)) e) [
       | inl p ↦
           let found = number_front (b ∷ text) in
@@ -417,7 +416,7 @@ front_is_so b text lexeme n e =
           subst (λ (l : Lexeme). IsFront (b ∷ text) l n) (sym is.0)
           (subst (IsFront (b ∷ text) found.0) (sym is.1) (number_is_so b text p.0))
       | inr p ↦
-          elim (chosen (is_letter b) (word_front (b ∷ text)) quotes (Some (lexeme, n)) p.1) [
+          elim (chosen (begins_name b) (word_front (b ∷ text)) quotes (Some (lexeme, n)) p.1) [
             | inl q ↦ word_is_so b text lexeme n q.0 q.1
             | inr q ↦
                 elim (chosen (b == double_quote) (quoted_front text) signs (Some (lexeme, n)) q.1) [

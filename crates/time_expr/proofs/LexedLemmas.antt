@@ -4,15 +4,17 @@ use Rattle.std.specs.Prelude.{◌==◌}
 use Rattle.std.proofs.lemmas.Bool.{and_parts, and_from, cases_Bool, cond-true, cond-false, false≢true, false_from_ne_true}
 use Rattle.std.proofs.lemmas.List.{drop_at, append-nil}
 use Rattle.std.specs.List.{list_all, prefix_len}
-use Rattle.time_expr.specs.Bytes.{open_paren, point, is_blank, is_digit, is_letter, is_word, begins_with}
+use Rattle.time_expr.specs.Bytes.{open_paren, point}
+use Rattle.text_bytes.specs.Bytes.{is_blank, is_digit, begins_name, is_word, begins_with}
 use Rattle.time_expr.specs.Tree.{Tree}
 use Rattle.time_expr.specs.Lexeme.{Lexeme, literal, word, operator, opening, comma, closing, IsLexeme, Reads}
 use Rattle.time_expr.specs.Front.{begins, paren_len, sign_front, front_of, in_front, going, lexed}
 use Rattle.time_expr.specs.Machine.{Frame, Sum, State, before, behind, refused, step, run, outcome}
 use Rattle.time_expr.specs.declared.expr.Operator.TheVariants.{Plus, Minus, Times, Over}
-use Rattle.time_expr.proofs.Spans.{cut}
+use Rattle.text_bytes.proofs.Spans.{cut}
 use Rattle.time_expr.proofs.FrontLemmas.{front_is_so}
-use Rattle.time_expr.proofs.FoundLemmas.{EndsOperand, is_operand, front_is_found, blanks_no_word, in_blanks}
+use Rattle.time_expr.proofs.FoundLemmas.{EndsOperand, is_operand, front_is_found}
+use Rattle.text_bytes.proofs.ByteLemmas.{blanks_no_word, in_blanks}
 
 -- skipped bytes
 pub lexed-skipped : (n : ℕ) (text : List ℕ) → lexed n text ≡ lexed 0 (drop n text)
@@ -189,7 +191,7 @@ sign_ends : (b : ℕ) (rest : List ℕ) → is_word b ≡ false → (b == point)
 sign_ends b rest h k l m = record { no_word = h; no_point = k; no_paren = l; no_blank = m }
 
 lexeme_ends : (l : Lexeme) (piece rest : List ℕ) → may_follow l ≡ true → IsLexeme l piece → Ends (piece ++ rest)
-unfolding is_letter is_digit is_blank
+unfolding begins_name is_digit is_blank is_word
 lexeme_ends (literal n) piece rest h is = absurd (false≢true h)
 lexeme_ends (word bytes) piece rest h is = absurd (false≢true h)
 lexeme_ends (operator Plus) piece rest h is =
@@ -243,7 +245,7 @@ follow_ends (l ∷ ls) text r f =
 
 -- no lexeme begins with a blank
 front-blank : (b : ℕ) (text : List ℕ) → is_blank b ≡ true → front_of (b ∷ text) ≡ None
-unfolding front_of is_letter is_digit sign_front
+unfolding front_of begins_name is_digit sign_front is_word
 front-blank b text h = in_blanks (λ c. front_of (c ∷ text) ≡ None) refl refl refl refl refl b h
 
 -- a lexeme that is found at the front

@@ -2,7 +2,6 @@ pub mod DivisorLemmas
 pub mod LowestLemmas
 pub mod NumberLemmas
 pub mod TreeLemmas
-pub mod Spans
 pub mod GrammarLemmas
 pub mod RunLemmas
 pub mod FrontLemmas

@@ -2,7 +2,8 @@
 use Rattle.std.proofs.Common.{◌≡◌, ◌⊎◌, ℕ, zero, suc, ◌+◌, ◌-◌, ◌≤◌, ◌<◌, Bool, true, false, ◌&&◌, List, [], ◌∷◌, ◌++◌, length, length-append, drop, get_or, Option, Some, None, option_map, Result, Ok, Err, refl, sym, ap, subst, ◌∙◌, inl, inr, arith}
 use Rattle.std.specs.List.{list_all}
 use Rattle.std.proofs.lemmas.List.{drop_all, drop-drop}
-use Rattle.time_expr.specs.Bytes.{is_blank}
+use Rattle.text_bytes.specs.Bytes.{is_blank}
+use Rattle.text_bytes.proofs.BoolLemmas.{and_true}
 use Rattle.time_expr.specs.Tree.{Tree, tree_of}
 use Rattle.time_expr.specs.Lexeme.{Lexeme, is_in_range}
 use Rattle.time_expr.specs.Spelling.{Spells, IsFault}
@@ -149,10 +150,6 @@ refused_ends s r (Some ls) e =
         → option_map {U = Tree × Bool} (λ t. (t, r && list_all is_in_range ls)) (outcome (run refused xs)) ≡ None
     stays [] = refl
     stays (x ∷ xs) = stays xs
-
-and_true : (b : Bool) → (b && true) ≡ b
-and_true true = refl
-and_true false = refl
 
 -- a blank changes nothing
 pub over_blank : (text : List ℕ) (p : Progress) (s : State) → 0 < length text → is_blank (get_or text 0 0) ≡ true

@@ -8,7 +8,8 @@ use Rattle.time_expr.specs.Range.{divisor_of, remainders}
 use Rattle.time_expr.specs.Ratio.{Ratio, whole, lowest, lowest_signed, sum_of, difference_of, product_of, quotient_of, least_of, greatest_of}
 use Rattle.time_expr.specs.Value.{chain_of, extreme_of, named_of}
 use Rattle.time_expr.specs.Vars.{value_of_name}
-use Rattle.time_expr.specs.Bytes.{is_blank, is_digit, is_letter, may_be_quoted}
+use Rattle.text_bytes.specs.Bytes.{is_blank, is_digit, begins_name, is_word, is_printable}
+use Rattle.time_expr.specs.Bytes.{may_be_quoted}
 use Rattle.time_expr.specs.Tree.{number, name, chain, linked, extreme, also}
 use Rattle.time_expr.specs.Spelling.{Spells, IsFault}
 use Rattle.time_expr.specs.Front.{unit_front, number_front, paren_len, short_name, word_front, quoted_front, sign_front, front_of, lexed}
@@ -119,49 +120,49 @@ from_the_left = refl
 -- ` 1ns +2ns ` is a sum of two times
 sum_text : Spells (codes " 1ns +2ns ")
     (linked (chain (number (whole (pos 1)) Nanoseconds)) Operator.Plus (number (whole (pos 2)) Nanoseconds)) true
-unfolding is_blank is_digit is_letter unit_front number_front sign_front front_of lexed lowest divisor_of remainders
+unfolding is_blank is_digit begins_name unit_front number_front sign_front front_of lexed lowest divisor_of remainders is_word
 sum_text = read_is_so _ _ _ refl
 
 -- `2.50us` is 5/2 of a microsecond
 decimal_text : Spells (codes "2.50us") (number (ratio (pos 5) (pos 2)) Microseconds) true
-unfolding is_blank is_digit is_letter unit_front number_front sign_front front_of lexed lowest divisor_of remainders
+unfolding is_blank is_digit begins_name unit_front number_front sign_front front_of lexed lowest divisor_of remainders is_word
 decimal_text = read_is_so _ _ _ refl
 
 -- `min` before a parenthesis is a function, and elsewhere a name
 call_text : Spells (codes "min (a, \"min\")") (also (extreme Bound.Least (name (codes "a"))) (name (codes "min"))) true
-unfolding is_blank is_digit is_letter may_be_quoted paren_len short_name word_front quoted_front sign_front front_of lexed
+unfolding is_blank is_digit begins_name may_be_quoted paren_len short_name word_front quoted_front sign_front front_of lexed is_word is_printable
 call_text = read_is_so _ _ _ refl
 
 name_text : Spells (codes "min*2") (linked (chain (name (codes "min"))) Operator.Times (number (whole (pos 2)) Plain)) true
-unfolding is_blank is_digit is_letter may_be_quoted paren_len short_name word_front unit_front number_front
+unfolding is_blank is_digit begins_name may_be_quoted paren_len short_name word_front unit_front number_front is_word is_printable
     sign_front front_of lexed lowest divisor_of remainders
 name_text = read_is_so _ _ _ refl
 
 -- parentheses leave no trace where one operand stands in them
 paren_text : Spells (codes "((7))") (number (whole (pos 7)) Plain) true
-unfolding is_blank is_digit is_letter unit_front number_front sign_front front_of lexed lowest divisor_of remainders
+unfolding is_blank is_digit begins_name unit_front number_front sign_front front_of lexed lowest divisor_of remainders is_word
 paren_text = read_is_so _ _ _ refl
 
 -- a unit apart from its number, a sign at the head and one operand of `min` are refused
 apart_text : IsFault (codes "1 ns") BadExpr
-unfolding is_blank is_digit is_letter paren_len short_name word_front unit_front number_front sign_front front_of lexed
+unfolding is_blank is_digit begins_name paren_len short_name word_front unit_front number_front sign_front front_of lexed is_word
     lowest divisor_of remainders
 apart_text = none_spelled _ refl
 
 sign_text : IsFault (codes "-1") BadExpr
-unfolding is_blank is_digit is_letter unit_front number_front sign_front front_of lexed lowest divisor_of remainders
+unfolding is_blank is_digit begins_name unit_front number_front sign_front front_of lexed lowest divisor_of remainders is_word
 sign_text = none_spelled _ refl
 
 one_text : IsFault (codes "min(1)") BadExpr
-unfolding is_blank is_digit is_letter paren_len short_name word_front unit_front number_front sign_front front_of lexed
+unfolding is_blank is_digit begins_name paren_len short_name word_front unit_front number_front sign_front front_of lexed is_word
     lowest divisor_of remainders
 one_text = none_spelled _ refl
 
 -- 2^127 is out of range, and so is a number of 39 decimals
 range_text : IsFault (codes "170141183460469231731687303715884105728") OutOfRange
-unfolding is_blank is_digit is_letter unit_front number_front sign_front front_of lexed
+unfolding is_blank is_digit begins_name unit_front number_front sign_front front_of lexed is_word
 range_text = (_, read_is_so _ _ _ refl)
 
 decimals_text : IsFault (codes "0.000000000000000000000000000000000000000") OutOfRange
-unfolding is_blank is_digit is_letter unit_front number_front sign_front front_of lexed
+unfolding is_blank is_digit begins_name unit_front number_front sign_front front_of lexed is_word
 decimals_text = (_, read_is_so _ _ _ refl)

@@ -1,10 +1,13 @@
--- The lexeme at the front of a text, and those of a whole text, as the code finds them. No public clause cites this file.
+-- The lexeme at the front of a text, and those of a whole text, as the code finds them. No public clause cites this
+-- file.
 use Rattle.std.specs.Prelude.{ℕ, pos, zero, suc, ◌+◌, ◌-◌, ◌^◌, Bool, false, ◌==◌, nat_lt, nat_le, ◌&&◌, if◌then◌else◌, List, [], ◌∷◌, length, take, drop, Option, Some, None, option_map}
 use Rattle.std.specs.List.{prefix_len}
 use Rattle.std.specs.Str.{bytes_eq}
 use Rattle.time_expr.specs.Ratio.{Ratio, lowest}
-use Rattle.time_expr.specs.Bytes.{double_quote, open_paren, point, is_blank, is_digit, is_letter, is_word, may_be_quoted, begins_with}
-use Rattle.time_expr.specs.Lexeme.{Lexeme, literal, word, operator, opening, comma, closing, digits_from, fits, number_of, longest_name, bound_text}
+use Rattle.time_expr.specs.Bytes.{double_quote, open_paren, point, may_be_quoted}
+use Rattle.text_bytes.specs.Bytes.{is_blank, is_digit, begins_name, is_word, begins_with}
+use Rattle.time_expr.specs.Lexeme.{Lexeme, literal, word, operator, opening, comma, closing, digits_from, fits, number_of, bound_text}
+use Rattle.text_bytes.specs.Limits.{longest_name}
 use Rattle.time_expr.specs.declared.unit.Unit.{Unit}
 use Rattle.time_expr.specs.declared.unit.Unit.TheVariants.{Plain, Seconds, Milliseconds, Microseconds, Nanoseconds, Picoseconds, Femtoseconds}
 use Rattle.time_expr.specs.declared.expr.Operator.TheVariants.{Plus, Minus, Times, Over}
@@ -121,7 +124,7 @@ unfoldable pub front_of : List ℕ → Option (Lexeme × ℕ)
 front_of [] = None
 front_of (b ∷ rest) =
     if is_digit b then Some (number_front (b ∷ rest))
-    else if is_letter b then word_front (b ∷ rest)
+    else if begins_name b then word_front (b ∷ rest)
     else if b == double_quote then quoted_front rest
     else sign_front b
 

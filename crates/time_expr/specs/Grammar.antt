@@ -27,7 +27,8 @@ joins of_sum Minus = true
 joins of_sum Times = false
 joins of_sum Over = false
 
--- a part of an expression: a factor; two or more operands that are joined; one or more; two or more operands of `min` or `max`
+-- a part of an expression: a factor; two or more operands that are joined; one or more; two or more operands of `min`
+-- or `max`
 pub data Part : Type 0 where
   factor : Part
   several : Joint → Part

@@ -1,8 +1,10 @@
 -- The lexemes of an expression, each by its spelling, and what lexemes a text is read as.
 use Rattle.std.specs.Prelude.{◌≡◌, ℕ, pos, ◌+◌, ◌-◌, ◌*◌, ◌^◌, ◌<◌, ◌≤◌, Bool, true, nat_lt, ◌&&◌, ◌⊎◌, List, [], ◌∷◌, ◌++◌, length, Option, Some, None, if◌then◌else◌}
 use Rattle.std.specs.List.{list_all}
+use Rattle.text_bytes.specs.Limits.{longest_name}
 use Rattle.time_expr.specs.Ratio.{whole, lowest}
-use Rattle.time_expr.specs.Bytes.{double_quote, open_paren, point, is_blank, is_digit, is_letter, is_word, may_be_quoted, begins_with}
+use Rattle.time_expr.specs.Bytes.{double_quote, open_paren, point, may_be_quoted}
+use Rattle.text_bytes.specs.Bytes.{is_blank, is_digit, begins_name, is_word, begins_with}
 use Rattle.time_expr.specs.declared.unit.Unit.{Unit}
 use Rattle.time_expr.specs.declared.unit.Unit.TheVariants.{Plain, Seconds, Milliseconds, Microseconds, Nanoseconds, Picoseconds, Femtoseconds}
 use Rattle.time_expr.specs.declared.expr.Operator.{Operator}
@@ -64,14 +66,10 @@ pub record IsNumber (number : Number) (text : List ℕ) : Type 0 where
   pub are_decimals : list_all is_digit decimals ≡ true
   pub is : number ≡ number_of (digits_from 0 (digits ++ decimals)) (length decimals) unit
 
--- the most bytes of a name
-abbrev pub longest_name : ℕ
-longest_name = 1024
-
 -- letters, digits and `_`, the first of them no digit
 pub record IsBareName (name text : List ℕ) : Type 0 where
   pub spelled : text ≡ name
-  pub begins : begins_with is_letter name ≡ true
+  pub begins : begins_with begins_name name ≡ true
   pub each : list_all is_word name ≡ true
   pub short : length name ≤ longest_name
 

@@ -69,7 +69,8 @@ purpose_of (Some bound) = no_operand bound
 -- a parenthesis opens
 abbrev pub opened : List Frame → Sum → Option Bound → State
 opened fs s bound =
-    if length fs == most_parens then refused else before (record { around = s; purpose = purpose_of bound } ∷ fs) nothing
+    if length fs == most_parens then refused
+    else before (record { around = s; purpose = purpose_of bound } ∷ fs) nothing
 
 -- a sum ends at a comma
 abbrev pub separated_in : Purpose → Sum → List Frame → Tree → State
@@ -138,7 +139,8 @@ parsed ls = outcome (run (before [] nothing) ls)
 -- the tree behind these lexemes, if there is one, and whether they and those before are in range
 abbrev pub outcome_from : State → Bool → Option (List Lexeme) → Option (Tree × Bool)
 outcome_from state in_range None = None
-outcome_from state in_range (Some ls) = option_map (λ t. (t, in_range && list_all is_in_range ls)) (outcome (run state ls))
+outcome_from state in_range (Some ls) =
+    option_map (λ t. (t, in_range && list_all is_in_range ls)) (outcome (run state ls))
 
 -- the tree that a text spells, if there is one, and whether all its literals are in range
 abbrev pub read_of : List ℕ → Option (Tree × Bool)

@@ -12,7 +12,8 @@ IsQuotient t above below = t.numerator *ℤ below ≡ above *ℤ t.denominator
 
 -- t = r + s
 abbrev pub IsSum : Ratio → Ratio → Ratio → Type 0
-IsSum t r s = IsQuotient t (r.numerator *ℤ s.denominator +ℤ s.numerator *ℤ r.denominator) (r.denominator *ℤ s.denominator)
+IsSum t r s =
+    IsQuotient t (r.numerator *ℤ s.denominator +ℤ s.numerator *ℤ r.denominator) (r.denominator *ℤ s.denominator)
 
 -- t = r - s
 abbrev pub IsDifference : Ratio → Ratio → Ratio → Type 0

@@ -2,41 +2,18 @@
 
 ghost use Rattle.std.specs.Prelude.{◌≡◌, ◌≤◌, length};
 ghost use Rattle.std.specs.List.{prefix_len};
-ghost use Rattle.time_expr.specs.Bytes.{is_blank, is_digit, is_letter, is_word, may_be_quoted};
+ghost use Rattle.text_bytes.specs.Bytes.{is_blank, is_digit, is_word};
+ghost use Rattle.time_expr.specs.Bytes.{may_be_quoted};
 ghost use Rattle.time_expr.specs.Front.{begins, begins_pair};
 
-#[tactic(auto, unfolding(crate::specs::Bytes::is_blank))]
-pub(crate) fn is_blank(b: u8) -> bool
-    ensures { result ≡ is_blank b }
-{
-    b == b' ' || b == b'\t' || b == b'\n' || b == 0x0C || b == b'\r'
-}
+use text_bytes::{is_blank, is_digit, is_printable, is_word};
 
-#[tactic(auto, unfolding(crate::specs::Bytes::is_digit))]
-pub(crate) fn is_digit(b: u8) -> bool
-    ensures { result ≡ is_digit b }
-{
-    b'0' <= b && b <= b'9'
-}
-
-#[tactic(auto, unfolding(crate::specs::Bytes::is_letter))]
-pub(crate) fn is_letter(b: u8) -> bool
-    ensures { result ≡ is_letter b }
-{
-    (b'a' <= b && b <= b'z') || (b'A' <= b && b <= b'Z') || b == b'_'
-}
-
-fn is_word(b: u8) -> bool
-    ensures { result ≡ is_word b }
-{
-    is_letter(b) || is_digit(b)
-}
-
+/// Whether it may stand between double quotes.
 #[tactic(auto, unfolding(crate::specs::Bytes::may_be_quoted))]
 fn may_be_quoted(b: u8) -> bool
     ensures { result ≡ may_be_quoted b }
 {
-    b' ' <= b && b <= b'~' && b != b'"'
+    is_printable(b) && b != b'"'
 }
 
 /// Whether the text begins with this byte.

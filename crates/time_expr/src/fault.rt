@@ -38,6 +38,11 @@ impl<T: Drop> From<AllocFailed<T>> for ExprFault {
 }
 
 impl fmt::Display for ExprFault {
+    ghost use Rattle.std.specs.Prelude.{Some};
+    ghost use Rattle.time_expr.specs.FaultText.{fault_text};
+
+    ghost output = { λ fault. Some (fault_text fault) };
+
     fn fmt<W: fmt::Write>(&self, f: &mut fmt::Formatter<W>) -> fmt::Result {
         match self {
             ExprFault::NoMemory => write!(f, "out of memory"),

@@ -4,13 +4,11 @@ ghost use Rattle.std.specs.Prelude.{◌≡◌, ◌+◌, ◌<◌, ◌≤◌, ◌^
 ghost use Rattle.time_expr.specs.Front.{bound_of, paren_len, short_name, called, word_front, quoted_front, sign_front, front_of};
 ghost use Rattle.time_expr.specs.Memory.{front_in};
 
-use crate::byte::{begins, blanks_len, is_digit, is_letter, quotable_len, word_len};
+use crate::byte::{begins, blanks_len, quotable_len, word_len};
 use crate::expr::{Bound, Operator};
 use crate::number::number_front;
 use crate::token::Token;
-
-/// The most bytes of a name.
-const LONGEST_NAME: usize = 1024;
+use text_bytes::{LONGEST_NAME, begins_name, is_digit};
 
 fn bound_of(word: &[u8]) -> Option<Bound>
     ensures { result ≡ bound_of word.now }
@@ -110,7 +108,7 @@ pub(crate) fn front_of(text: &[u8]) -> Option<(Token, usize)>
         [byte, rest @ ..] => {
             if is_digit(*byte) {
                 Some(number_front(text))
-            } else if is_letter(*byte) {
+            } else if begins_name(*byte) {
                 word_front(text)
             } else if *byte == b'"' {
                 quoted_front(rest)

@@ -26,7 +26,8 @@ pub fn one_value_each()
 /// A whole number in a unit is that many times the unit's femtoseconds, where that is in range.
 pub fn whole_numbers_in_units()
     ensures { (vars : List (List ℕ × Ratio)) (expr : Expr) (n : ℤ) (unit : Unit) → tree_of expr ≡ number (whole n) unit
-        → unsigned_abs (n *ℤ femtoseconds_of unit) < 2 ^ 127 → value_of vars expr ≡ Ok (whole (n *ℤ femtoseconds_of unit)) }
+        → unsigned_abs (n *ℤ femtoseconds_of unit) < 2 ^ 127
+        → value_of vars expr ≡ Ok (whole (n *ℤ femtoseconds_of unit)) }
 {}
 
 /// A sum that is in range is that of rational numbers.

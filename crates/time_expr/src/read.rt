@@ -9,13 +9,13 @@ ghost use Rattle.time_expr.specs.Memory.{state_of, Answers, ReadsFront, ReadsOn}
 ghost use Rattle.time_expr.specs.declared.fault.ExprFault.{ExprFault};
 ghost use Rattle.time_expr.specs.declared.fault.ExprFault.TheVariants.{NoMemory};
 
-use crate::byte::is_blank;
 use crate::expr::Expr;
 use crate::fault::ExprFault;
 use crate::front::front_of;
 use crate::reader::Reader;
 use crate::token::is_in_range;
 use std::alloc::Global;
+use text_bytes::is_blank;
 
 /// What is read behind the front of a text, whether no number of the front is out of range, and how many bytes it has.
 #[derive(Drop)]

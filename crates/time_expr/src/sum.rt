@@ -77,7 +77,8 @@ fn grown(
     last: Expr,
     next: Operator,
 ) -> Result<Operands, AllocError>
-    ensures { IfOk result (λ o. Some (unfinished_of o) ≡ grown_by (option_map unfinished_of operands) (tree_of last) next) }
+    ensures { IfOk result
+        (λ o. Some (unfinished_of o) ≡ grown_by (option_map unfinished_of operands) (tree_of last) next) }
 {
     let Some(operands) = operands else {
         return Ok(Operands {
