@@ -27,14 +27,14 @@ behind period number whole vs =
 length-more : (before : List Vector) (v : Vector) → length (before ++ v ∷ []) ≡ length before + 1
 length-more before v = simp length-append
 
-sum-more : (period : ℕ) (before : List Vector) (v : Vector) →
-    sum_by (λ _. period) (before ++ v ∷ []) ≡ sum_by (λ _. period) before + period
+sum-more : (period : ℕ) (before : List Vector) (v : Vector)
+    → sum_by (λ _. period) (before ++ v ∷ []) ≡ sum_by (λ _. period) before + period
 sum-more period before v =
     sum_by-append (λ _. period) before (v ∷ []) ∙ ap (λ one. sum_by (λ _. period) before + one) (zero-add period)
 
 -- the sum of the periods before is what has been summed so far
-pub behind-is : (period : ℕ) (before vs : List Vector) →
-    behind period (length before) (before ++ vs) vs ≡ dated_from period (length before) (sum_by (λ _. period) before) vs
+pub behind-is : (period : ℕ) (before vs : List Vector)
+    → behind period (length before) (before ++ vs) vs ≡ dated_from period (length before) (sum_by (λ _. period) before) vs
 behind-is period before [] = refl
 behind-is period before (v ∷ vs) =
     let start : starts_at (λ _. period) (before ++ v ∷ vs) (length before) ≡ sum_by (λ _. period) before =
@@ -50,8 +50,8 @@ behind-is period before (v ∷ vs) =
     ∙ ap (λ tail. record { number = length before; start = sum_by (λ _. period) before; vector = v } ∷ tail) rest
 
 -- a row that shows the letters shows them after a V too
-pub row-after : (show : Option ℕ → ℕ) → ((c : ℕ) → show (Some c) ≡ c) → (given : List (ℕ × ℕ)) (held s : State) →
-    row_after given (map show s.letters) ≡ map show (received held (deal (assigns_of given) []).gifts s).letters
+pub row-after : (show : Option ℕ → ℕ) → ((c : ℕ) → show (Some c) ≡ c) → (given : List (ℕ × ℕ)) (held s : State)
+    → row_after given (map show s.letters) ≡ map show (received held (deal (assigns_of given) []).gifts s).letters
 row-after show is [] held s = refl
 row-after show is (g ∷ rest) held s =
     ap (λ c. row_after rest (slice_set (map show s.letters) g.0 c)) (sym (is g.1))
@@ -66,8 +66,8 @@ pub cycles-are-dated : (text : ThinText) → cycles_of text ≡ dated_from text.
 cycles-are-dated text = behind-is text.table.period [] (vectors_in text)
 
 -- the rows show the letters of the vectors
-pub rows-show : (show : Option ℕ → ℕ) → ((c : ℕ) → show (Some c) ≡ c) → (s : State) (vs : List (List (ℕ × ℕ))) →
-    rows_from (map show s.letters) vs ≡ map (λ v. map show v.letters) (vectors_from (vectors_of vs) s)
+pub rows-show : (show : Option ℕ → ℕ) → ((c : ℕ) → show (Some c) ≡ c) → (s : State) (vs : List (List (ℕ × ℕ)))
+    → rows_from (map show s.letters) vs ≡ map (λ v. map show v.letters) (vectors_from (vectors_of vs) s)
 rows-show show is s [] = refl
 rows-show show is s (given ∷ rest) =
     let next : State = assigned (assigns_of given) s in

@@ -1,11 +1,12 @@
 -- The place of a name after one more entry.
-use Rattle.std.proofs.Common.{◌≡◌, ℕ, Bool, false, cond, List, [], ◌∷◌, ◌++◌, Option, Some, None, is_some, refl, sym, ap, ◌∙◌, inl, inr}
+use Rattle.std.proofs.Common.{◌≡◌, ℕ, cond, List, [], ◌∷◌, ◌++◌, Some, None, sym, ap, ◌∙◌, inl, inr}
 use Rattle.std.specs.Borrow.{Bor}
 use Rattle.std.specs.Option.{option_or}
 use Rattle.std.specs.Str.{bytes_eq}
 use Rattle.std.specs.Map.{lookup}
 use Rattle.std.proofs.lemmas.Bool.{cases_Bool}
 use Rattle.std.proofs.lemmas.Slice.Eq.{bytes_eq-Decides}
+use Rattle.text_bytes.proofs.MapLemmas.{lookup-push}
 use Rattle.indexmap.specs.IndexMap.{IndexMap, IsEmpty}
 use Rattle.thin_stil.specs.Lookup.{place_in}
 
@@ -20,31 +21,14 @@ bytes_eq-comm a b =
       ]
     ]
 
--- what is found after one more entry
-lookup-push : {K X : Type 0} (test : K → Bool) (es : List (K × X)) (k : K) (v : X) →
-    lookup test (es ++ (k, v) ∷ []) ≡ option_or (lookup test es) (cond (test k) (Some v) None)
-lookup-push test [] k v = refl
-lookup-push test (e ∷ es) k v =
-    elim (cases_Bool (test e.0)) [
-      | inl t ↦ ap (λ b. cond b (Some e.1) (lookup test (es ++ (k, v) ∷ []))) t
-          ∙ sym (ap (λ b. option_or (cond b (Some e.1) (lookup test es)) (cond (test k) (Some v) None)) t)
-      | inr t ↦ ap (λ b. cond b (Some e.1) (lookup test (es ++ (k, v) ∷ []))) t ∙ lookup-push test es k v
-          ∙ sym (ap (λ b. option_or (cond b (Some e.1) (lookup test es)) (cond (test k) (Some v) None)) t)
-    ]
-
 -- a name that had no place has this one
-pub place-added : {S : Type 0} (old new : IndexMap (Bor (List ℕ)) ℕ S) (key : Bor (List ℕ)) (place : ℕ) (called : List ℕ) →
-    new.entries ≡ old.entries ++ (key, place) ∷ [] →
-    place_in new called ≡ option_or (place_in old called) (cond (bytes_eq key.now called) (Some place) None)
+pub place-added : {S : Type 0} (old new : IndexMap (Bor (List ℕ)) ℕ S) (key : Bor (List ℕ)) (place : ℕ) (called : List ℕ)
+    → new.entries ≡ old.entries ++ (key, place) ∷ []
+    → place_in new called ≡ option_or (place_in old called) (cond (bytes_eq key.now called) (Some place) None)
 place-added old new key place called put =
     ap (λ es. lookup (λ (k : Bor (List ℕ)). bytes_eq called k.now) es) put
     ∙ lookup-push (λ (k : Bor (List ℕ)). bytes_eq called k.now) old.entries key place
     ∙ ap (λ b. option_or (place_in old called) (cond b (Some place) None)) (bytes_eq-comm called key.now)
-
--- a name that is not found has no place
-pub none-from : {X : Type 0} (o : Option X) → false ≡ is_some o → o ≡ None
-none-from None h = refl
-none-from (Some x) h = cc
 
 -- an empty index has no place
 pub none-kept : {S : Type 0} (places : IndexMap (Bor (List ℕ)) ℕ S) (called : List ℕ) → IsEmpty places → place_in places called ≡ None

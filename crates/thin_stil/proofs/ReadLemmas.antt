@@ -48,9 +48,9 @@ parses_same seen tokens others forest first second parses =
     subst (λ (ts : List Token). Parses ts forest) (sym (first ∙ second)) parses
 
 -- what was read is the thin text, and there is no other
-pub read_found : (bytes : List ℕ) (seen tokens : List Token) (es : List Entry) (forest : Trees) (result : Result ThinText ThinFault) →
-    seen ≡ tokens → Reads bytes tokens → Parses seen forest → es ≡ entries forest →
-    ThinAnswers result (thin_of (lexemes_of bytes seen) es) → IfOk result (IsThin bytes)
+pub read_found : (bytes : List ℕ) (seen tokens : List Token) (es : List Entry) (forest : Trees) (result : Result ThinText ThinFault)
+    → seen ≡ tokens → Reads bytes tokens → Parses seen forest → es ≡ entries forest
+    → ThinAnswers result (thin_of (lexemes_of bytes seen) es) → IfOk result (IsThin bytes)
 read_found bytes seen tokens es forest (Ok text) same reads parses es_are answer = record {
   tokens = tokens;
   forest = forest;
@@ -63,15 +63,15 @@ read_found bytes seen tokens es forest (Err fault) same reads parses es_are answ
 no_err : {X E : Type 0} (r : Result X E) (x : X) → r ≡ Ok x → IsErr r → ⊥
 no_err r x is err = cc
 
-only_one : (r : Result ThinText ThinFault) (wanted : Result ThinText FormFault) (text : ThinText) → wanted ≡ Ok text → ThinAnswers r wanted →
-    MatchResult r (λ t. t ≡ text) (λ e. e ≡ NoMemory)
+only_one : (r : Result ThinText ThinFault) (wanted : Result ThinText FormFault) (text : ThinText) → wanted ≡ Ok text → ThinAnswers r wanted
+    → MatchResult r (λ t. t ≡ text) (λ e. e ≡ NoMemory)
 only_one (Ok t) wanted text ok answer = cc
 only_one (Err NoMemory) wanted text ok answer = refl
 only_one (Err NotThin) wanted text ok answer = absurd (no_err wanted text ok answer)
 
 pub read_only : (bytes : List ℕ) (seen tokens : List Token) (es : List Entry) (forest : Trees) (result : Result ThinText ThinFault) (text : ThinText)
-    (is : IsThin bytes text) → seen ≡ tokens → tokens ≡ is.tokens → es ≡ entries forest → forest ≡ is.forest →
-    ThinAnswers result (thin_of (lexemes_of bytes seen) es) → MatchResult result (λ t. t ≡ text) (λ e. e ≡ NoMemory)
+    (is : IsThin bytes text) → seen ≡ tokens → tokens ≡ is.tokens → es ≡ entries forest → forest ≡ is.forest
+    → ThinAnswers result (thin_of (lexemes_of bytes seen) es) → MatchResult result (λ t. t ≡ text) (λ e. e ≡ NoMemory)
 read_only bytes seen tokens es forest result text is same tokens_are es_are forest_is answer =
     let forms : thin_of (lexemes_of bytes seen) es ≡ Ok text =
     ap (λ ts. thin_of (lexemes_of bytes ts) es) (same ∙ tokens_are) ∙ ap (thin_of (lexemes_of bytes is.tokens)) (es_are ∙ ap entries forest_is) ∙ is.forms in

@@ -6,8 +6,9 @@ use Rattle.tester_types.specs.declared.wave.Act.TheVariants as act
 use Rattle.tester_types.specs.declared.wave.Push.TheVariants as push
 use Rattle.tester_types.specs.declared.wave.Look.TheVariants as look
 use Rattle.tester_types.specs.declared.wave.Wave.{Wave}
+use Rattle.text_bytes.specs.Bytes.{is_character, is_printable, is_digit, begins_name}
 use Rattle.stil_tree.specs.Trees.{Trees, end, plain, block, entries}
-use Rattle.stil_form.specs.declared.part.Mark.TheVariants.{Dot, Equals, Slash, Other}
+use Rattle.stil_form.specs.declared.part.SignKind.TheVariants.{Dot, Equals, Slash, Other}
 use Rattle.stil_form.specs.Lexeme.{Lexeme, word, text, sign}
 use Rattle.thin_stil.specs.declared.thin.ThinText.{ThinText}
 use Rattle.thin_stil.specs.ThinBlocks.{thin_of}
@@ -60,6 +61,7 @@ said = record {
 
 -- its tokens and statements are those of a thin text
 pub it_is_thin : thin_of lexemes (entries forest) ≡ Ok said
+unfolding is_character is_printable is_digit begins_name
 it_is_thin = refl
 
 abbrev cycle : ℕ → ℕ → List (Option ℕ) → Dated

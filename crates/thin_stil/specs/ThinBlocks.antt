@@ -6,11 +6,11 @@ use Rattle.std.specs.Str.{bytes_eq}
 use Rattle.tester_types.specs.declared.wave.Wave.{Wave}
 use Rattle.tester_types.specs.declared.wave.Table.{Table}
 use Rattle.stil_tree.specs.Trees.{Entry}
-use Rattle.stil_form.specs.declared.part.Mark.TheVariants.{Dot, Equals}
+use Rattle.stil_form.specs.declared.part.SignKind.TheVariants.{Dot, Equals}
 use Rattle.stil_form.specs.declared.fault.FormFault.{FormFault}
 use Rattle.stil_form.specs.Lexeme.{Lexeme, word, name, text, sign, head_of, body_of}
 use Rattle.stil_form.specs.Words.{is_keyword, named_by}
-use Rattle.stil_form.specs.Reading.{and_then, reading}
+use Rattle.first_fault.specs.Reading.{and_then, reading}
 use Rattle.thin_stil.specs.declared.thin.ThinSignal.{ThinSignal}
 use Rattle.thin_stil.specs.declared.thin.ThinText.{ThinText}
 use Rattle.thin_stil.specs.declared.thin.ThinFault.{ThinFault}
@@ -61,7 +61,8 @@ names keyword wanted lexemes e = not (is_some (body_of e)) && is_called wanted (
 
 -- the words of the header
 abbrev pub is_stil_1_0 : List Lexeme → Bool
-is_stil_1_0 (stil ∷ major ∷ sign Dot ∷ minor ∷ []) = is_keyword (codes "STIL") stil && is_keyword (codes "1") major && is_keyword (codes "0") minor
+is_stil_1_0 (stil ∷ major ∷ sign Dot ∷ minor ∷ []) =
+    is_keyword (codes "STIL") stil && is_keyword (codes "1") major && is_keyword (codes "0") minor
 is_stil_1_0 _ = false
 
 -- `STIL 1.0;`
@@ -89,7 +90,9 @@ signals_of lexemes e =
 
 -- a period of 1 to 1,000,000 nanoseconds, in femtoseconds
 abbrev pub period_by : List ℕ → Option ℕ
-period_by bytes = option_and_then (λ number. if nat_le 1 number && nat_le number 1000000 then Some (number * nanosecond) else None) (nanoseconds bytes)
+period_by bytes =
+    option_and_then (λ number. if nat_le 1 number && nat_le number 1000000 then Some (number * nanosecond) else None)
+    (nanoseconds bytes)
 
 -- `Period Text`
 abbrev pub period_in : List Lexeme → Option ℕ
@@ -131,12 +134,14 @@ has_wave waves signal letter = list_any (λ wave. wave.signal == signal && wave.
 -- one character that the table defines for the signal
 abbrev pub given_by : List ThinSignal → List Wave → List ℕ → List ℕ → Option (ℕ × ℕ)
 given_by signals waves called (letter ∷ []) =
-    option_and_then (λ signal. if has_wave waves signal letter then Some (signal, letter) else None) (signal_number signals called)
+    option_and_then (λ signal. if has_wave waves signal letter then Some (signal, letter) else None)
+    (signal_number signals called)
 given_by signals waves called _ = None
 
 -- `name=Word`
 abbrev pub given_said : List ThinSignal → List Wave → List Lexeme → Option (ℕ × ℕ)
-given_said signals waves (called ∷ sign Equals ∷ word bytes ∷ []) = option_and_then (λ wanted. given_by signals waves wanted bytes) (named_by called)
+given_said signals waves (called ∷ sign Equals ∷ word bytes ∷ []) =
+    option_and_then (λ wanted. given_by signals waves wanted bytes) (named_by called)
 given_said signals waves _ = None
 
 -- the same as a statement that `;` ends
@@ -144,7 +149,8 @@ abbrev pub given_of : List ThinSignal → List Wave → List Lexeme → Option (
 given_of signals waves head block = if is_some block then None else given_said signals waves head
 
 -- `V { name=Word; .. }`, at most 65,536 of them
-abbrev pub vector_of : List Lexeme → List ThinSignal → List Wave → List (List (ℕ × ℕ)) → Entry → Result (List (ℕ × ℕ)) FormFault
+abbrev pub vector_of : List Lexeme → List ThinSignal → List Wave → List (List (ℕ × ℕ)) → Entry
+    → Result (List (ℕ × ℕ)) FormFault
 vector_of lexemes signals waves before e =
     only (nat_lt (length before) 65536) (and_then (kept (plain_block (codes "V") lexemes e)) (λ es.
     reading (λ _ s. kept (given_of signals waves (head_of lexemes s) (body_of s))) [] es))
@@ -170,12 +176,14 @@ is_name wanted _ = false
 
 -- `{ name; }`
 abbrev pub is_list_of : List ℕ → List Lexeme → List Entry → Bool
-is_list_of wanted lexemes es = option_map_or (λ e. not (is_some (body_of e)) && is_name wanted (head_of lexemes e)) (one_of es) false
+is_list_of wanted lexemes es =
+    option_map_or (λ e. not (is_some (body_of e)) && is_name wanted (head_of lexemes e)) (one_of es) false
 
 -- `{ PatList { name; } }`
 abbrev pub has_list_of : List ℕ → List Lexeme → List Entry → Bool
 has_list_of wanted lexemes es =
-    option_map_or (is_list_of wanted lexemes) (option_and_then (plain_block (codes "PatList") lexemes) (one_of es)) false
+    option_map_or (is_list_of wanted lexemes) (option_and_then (plain_block (codes "PatList") lexemes) (one_of es))
+    false
 
 -- `PatternBurst name { PatList { pattern; } }`: its name
 abbrev pub burst_of : List Lexeme → List ℕ → Entry → Result (List ℕ) FormFault
@@ -195,11 +203,13 @@ name_both timing burst lexemes first second =
 -- the Timing and the burst, in either order
 abbrev pub runs_with : List ℕ → List ℕ → List Lexeme → List Entry → Bool
 runs_with timing burst lexemes es =
-    option_map_or (λ pair. name_both timing burst lexemes pair.0 pair.1 || name_both timing burst lexemes pair.1 pair.0) (two_of es) false
+    option_map_or (λ pair. name_both timing burst lexemes pair.0 pair.1 || name_both timing burst lexemes pair.1 pair.0)
+    (two_of es) false
 
 -- what an executive names: the Timing exactly where it has a name, and the burst
 abbrev pub runs : List ℕ → List ℕ → List Lexeme → List Entry → Bool
-runs timing burst lexemes es = if nat_lt 0 (length timing) then runs_with timing burst lexemes es else runs_alone burst lexemes es
+runs timing burst lexemes es =
+    if nat_lt 0 (length timing) then runs_with timing burst lexemes es else runs_alone burst lexemes es
 
 -- `PatternExec [name] { Timing name; PatternBurst name; }`: its name
 abbrev pub exec_of : List Lexeme → List ℕ → List ℕ → Entry → Result (List ℕ) FormFault

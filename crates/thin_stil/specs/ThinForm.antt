@@ -1,4 +1,5 @@
--- The forms of a thin text, statement by statement (IEEE 1450-1999: Signals, Timing, Pattern, PatternBurst, PatternExec).
+-- The forms of a thin text, statement by statement (IEEE 1450-1999: Signals, Timing, Pattern, PatternBurst,
+-- PatternExec).
 use Rattle.std.specs.Prelude.{ℕ, ◌-◌, ◌*◌, Bool, true, false, not, ◌&&◌, ◌||◌, ◌==◌, nat_le, nat_lt, List, [], ◌∷◌, ◌++◌, length, take, drop, map, codes, Option, Some, None, option_and_then, option_map, Result, Ok, Err, slice_index_or, slice_get, position, is_some, if◌then◌else◌}
 use Rattle.std.specs.List.{list_all, list_any, flat_map, enumerate_from}
 use Rattle.std.specs.Option.{option_map_or}
@@ -10,13 +11,16 @@ use Rattle.tester_types.specs.declared.wave.Act.TheVariants as act
 use Rattle.tester_types.specs.declared.wave.Push.TheVariants as push
 use Rattle.tester_types.specs.declared.wave.Look.TheVariants as look
 use Rattle.stil_tree.specs.Trees.{Entry}
-use Rattle.stil_form.specs.declared.part.Mark.TheVariants.{Slash}
+use Rattle.stil_form.specs.declared.part.SignKind.TheVariants.{Slash}
 use Rattle.stil_form.specs.declared.fault.FormFault.{FormFault}
 use Rattle.stil_form.specs.declared.fault.FormFault.TheVariants.{Refused}
 use Rattle.stil_form.specs.declared.fault.FormKind.TheVariants.{LeftOut}
 use Rattle.stil_form.specs.Lexeme.{Lexeme, word, text, sign, head_of, body_of}
-use Rattle.stil_form.specs.Words.{is_keyword, named_by, number_by, is_letter, is_digit}
-use Rattle.stil_form.specs.Reading.{and_then, reading}
+use Rattle.stil_form.specs.Words.{is_keyword, named_by}
+use Rattle.text_bytes.specs.Bytes.{is_character}
+use Rattle.text_bytes.specs.Limits.{most_signals, most_events}
+use Rattle.text_bytes.specs.Numbers.{number_by}
+use Rattle.first_fault.specs.Reading.{and_then, reading}
 use Rattle.thin_stil.specs.declared.thin.ThinSignal.{ThinSignal}
 use Rattle.thin_stil.specs.declared.thin.EventRow.{EventRow}
 use Rattle.thin_stil.specs.declared.thin.WaveGroup.{WaveGroup}
@@ -38,7 +42,8 @@ only false next = Err not_thin
 
 -- `In` and `Out`: whether the signal is looked at
 abbrev pub direction_of : List ℕ → Option Bool
-direction_of bytes = if bytes_eq bytes (codes "In") then Some false else (if bytes_eq bytes (codes "Out") then Some true else None)
+direction_of bytes =
+    if bytes_eq bytes (codes "In") then Some false else (if bytes_eq bytes (codes "Out") then Some true else None)
 
 -- a signal has the name
 abbrev pub has_name : List ℕ → ThinSignal → Bool
@@ -59,7 +64,9 @@ is_declared signals called = list_any (has_name called) signals
 -- one more signal: a name that no signal before has
 abbrev pub new_signal : List ThinSignal → Bool → List ℕ → Option ThinSignal
 new_signal before is_out called =
-    if nat_lt (length before) 1024 && not (is_declared before called) then Some (record { name = called; is_out = is_out }) else None
+    if nat_lt (length before) most_signals && not (is_declared before called)
+    then Some (record { name = called; is_out = is_out })
+    else None
 
 -- `name In` or `name Out`
 abbrev pub signal_said : List ThinSignal → List Lexeme → Option ThinSignal
@@ -73,7 +80,8 @@ signal_of before head block = if is_some block then None else signal_said before
 
 -- digits directly followed by `ns`: a time in nanoseconds
 abbrev pub nanoseconds : List ℕ → Option ℕ
-nanoseconds bytes = if bytes_eq (drop (length bytes - 2) bytes) (codes "ns") then number_by (take (length bytes - 2) bytes) else None
+nanoseconds bytes =
+    if bytes_eq (drop (length bytes - 2) bytes) (codes "ns") then number_by (take (length bytes - 2) bytes) else None
 
 -- femtoseconds of a nanosecond
 abbrev pub nanosecond : ℕ
@@ -102,7 +110,8 @@ with_part false acts part = option_map (λ act. acts ++ act ∷ []) (act_of part
 -- acts, and those behind them; whether a `/` comes next
 abbrev pub more_acts : Bool → List Act → List Lexeme → Option (List Act)
 more_acts slash_next acts [] = if slash_next then Some acts else None
-more_acts slash_next acts (part ∷ rest) = option_and_then (λ read. more_acts (not slash_next) read rest) (with_part slash_next acts part)
+more_acts slash_next acts (part ∷ rest) =
+    option_and_then (λ read. more_acts (not slash_next) read rest) (with_part slash_next acts part)
 
 -- one act, or acts with `/` between them
 abbrev pub acts_of : List Lexeme → Option (List Act)
@@ -114,7 +123,7 @@ last_time rows = option_map_or (λ row. row.time) (slice_get rows (length rows -
 
 -- one more event of a waveform may stand here: inside the period, not before the event before, at most 16 events
 abbrev pub fits_row : ℕ → List EventRow → ℕ → Bool
-fits_row period before time = nat_lt time period && nat_le (last_time before) time && nat_lt (length before) 16
+fits_row period before time = nat_lt time period && nat_le (last_time before) time && nat_lt (length before) most_events
 
 -- the time of a number of nanoseconds, where it fits
 abbrev pub row_time : ℕ → List EventRow → ℕ → Option ℕ
@@ -123,12 +132,14 @@ row_time period before time = if fits_row period before time then Some time else
 -- a Text that gives the time, and what stands behind it
 abbrev pub row_said : ℕ → List EventRow → List Lexeme → Option (ℕ × List Lexeme)
 row_said period before (text time ∷ acts) =
-    option_map (λ at. (at, acts)) (option_and_then (λ number. row_time period before (number * nanosecond)) (nanoseconds time))
+    option_map (λ at. (at, acts))
+    (option_and_then (λ number. row_time period before (number * nanosecond)) (nanoseconds time))
 row_said period before _ = None
 
 -- one act, or one for each character
 abbrev pub row_with : ℕ → ℕ → List Act → Option EventRow
-row_with letters time acts = if length acts == 1 || length acts == letters then Some (record { time = time; acts = acts }) else None
+row_with letters time acts =
+    if length acts == 1 || length acts == letters then Some (record { time = time; acts = acts }) else None
 
 -- the acts of an event at this time
 abbrev pub row_from : ℕ → ℕ → List Lexeme → Result EventRow FormFault
@@ -140,10 +151,6 @@ row_of letters period before head block =
     only (not (is_some block))
     (and_then (kept (row_said period before head)) (λ said. row_from letters said.0 said.1))
 
--- a waveform character: a letter or a digit
-abbrev pub is_character : ℕ → Bool
-is_character byte = is_letter byte || is_digit byte
-
 -- no character stands twice
 abbrev pub are_apart : List ℕ → Bool
 are_apart [] = true
@@ -154,28 +161,30 @@ abbrev pub is_given : List WaveGroup → ℕ → Bool
 is_given before byte = list_any (λ group. list_any (λ other. other == byte) group.letters) before
 
 -- letters and digits, none of them twice for one signal
-abbrev pub are_letters : List WaveGroup → List ℕ → Bool
-are_letters before bytes = list_all is_character bytes && are_apart bytes && not (list_any (is_given before) bytes)
+abbrev pub are_wfcs : List WaveGroup → List ℕ → Bool
+are_wfcs before bytes = list_all is_character bytes && are_apart bytes && not (list_any (is_given before) bytes)
 
 -- the characters of a waveform
-abbrev pub letters_of : List WaveGroup → List Lexeme → Option (List ℕ)
-letters_of before (word bytes ∷ []) =
-    if are_letters before bytes then Some bytes else None
-letters_of before _ = None
+abbrev pub wfcs_of : List WaveGroup → List Lexeme → Option (List ℕ)
+wfcs_of before (word bytes ∷ []) =
+    if are_wfcs before bytes then Some bytes else None
+wfcs_of before _ = None
 
 -- `letters { events }`
 abbrev pub group_of : List Lexeme → ℕ → List WaveGroup → Entry → Result WaveGroup FormFault
 group_of lexemes period before e =
-    and_then (kept (letters_of before (head_of lexemes e))) (λ letters.
+    and_then (kept (wfcs_of before (head_of lexemes e))) (λ letters.
     and_then (kept (body_of e)) (λ es.
-    and_then (reading (λ rows row. row_of (length letters) period rows (head_of lexemes row) (body_of row)) [] es) (λ rows.
+    and_then (reading (λ rows row. row_of (length letters) period rows (head_of lexemes row) (body_of row)) [] es)
+    (λ rows.
     Ok (record { letters = letters; rows = rows }))))
 
 -- the signal that a Waveforms statement is about: one that is declared, and not twice
 abbrev pub wave_signal : List ThinSignal → List SignalWaves → List Lexeme → Option ℕ
 wave_signal signals before (called ∷ []) =
     option_and_then (λ wanted. option_and_then (λ number.
-    if list_any (λ waves. waves.signal == number) before then None else Some number) (signal_number signals wanted)) (named_by called)
+    if list_any (λ waves. waves.signal == number) before then None else Some number) (signal_number signals wanted))
+    (named_by called)
 wave_signal signals before _ = None
 
 -- `name { waveforms }`
@@ -197,7 +206,8 @@ events_at place rows = map (λ row. record { time = row.time; act = act_at place
 -- the waves of a group, one for each character
 abbrev pub group_waves : ℕ → WaveGroup → List Wave
 group_waves signal group =
-    map (λ letter. record { signal = signal; letter = letter.1; events = events_at letter.0 group.rows }) (enumerate_from 0 group.letters)
+    map (λ letter. record { signal = signal; letter = letter.1; events = events_at letter.0 group.rows })
+    (enumerate_from 0 group.letters)
 
 -- all waves of a table, in text order
 abbrev pub all_waves : List SignalWaves → List Wave

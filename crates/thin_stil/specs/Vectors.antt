@@ -1,7 +1,8 @@
 -- Lists that stand one after another in one list, by the places where they end.
 use Rattle.std.specs.Prelude.{◌≡◌, ℕ, ◌≤◌, List, [], ◌∷◌, slice_range}
 
--- the lists from a place on: the first reaches from there to the first end, and each other from the end before to its own
+-- the lists from a place on: the first reaches from there to the first end, and each other from the end before to its
+-- own
 abbrev pub cut : List (ℕ × ℕ) → ℕ → List ℕ → List (List (ℕ × ℕ))
 cut given at [] = []
 cut given at (end ∷ ends) = slice_range given at end ∷ cut given end ends

@@ -30,8 +30,11 @@ pub fn plain_block<'a>(
     source: Source,
     stmt: &'a Stmt,
 ) -> Result<&'a [Stmt], FormFault>
-    ensures { MatchResult result (λ stmts. kept (plain_block keyword.now (lexemes source.entry) (entry_of stmt.now)) ≡ Ok (map entry_of stmts.now))
-        (λ fault. (fault ≡ not_thin) × (kept (plain_block keyword.now (lexemes source.entry) (entry_of stmt.now)) ≡ Err not_thin)) }
+    ensures { MatchResult result
+        (λ stmts. kept (plain_block keyword.now (lexemes source.entry) (entry_of stmt.now))
+        ≡ Ok (map entry_of stmts.now))
+        (λ fault. (fault ≡ not_thin)
+        × (kept (plain_block keyword.now (lexemes source.entry) (entry_of stmt.now)) ≡ Err not_thin)) }
 {
     if is_plain(keyword, head(source, stmt)) {
         block(stmt)
@@ -124,8 +127,10 @@ pub fn block_of<'a>(
     source: Source,
     stmts: &'a [Stmt],
 ) -> Result<&'a Stmt, FormFault>
-    ensures { MatchResult result (λ stmt. block_of keyword.now (lexemes source.entry) (map entry_of stmts.now) ≡ Ok (entry_of stmt.now))
-        (λ fault. (fault ≡ not_thin) × (block_of keyword.now (lexemes source.entry) (map entry_of stmts.now) ≡ Err not_thin)) }
+    ensures { MatchResult result
+        (λ stmt. block_of keyword.now (lexemes source.entry) (map entry_of stmts.now) ≡ Ok (entry_of stmt.now))
+        (λ fault. (fault ≡ not_thin)
+        × (block_of keyword.now (lexemes source.entry) (map entry_of stmts.now) ≡ Err not_thin)) }
 {
     for stmt in stmts {
         if is_first(keyword, head(source, stmt)) {
@@ -137,7 +142,8 @@ pub fn block_of<'a>(
 
 /// One statement alone.
 pub fn one_of(stmts: &[Stmt]) -> Option<&Stmt>
-    ensures { MatchOption result (one_of (map entry_of stmts.now) ≡ None) (λ stmt. one_of (map entry_of stmts.now) ≡ Some (entry_of stmt.now)) }
+    ensures { MatchOption result (one_of (map entry_of stmts.now) ≡ None)
+        (λ stmt. one_of (map entry_of stmts.now) ≡ Some (entry_of stmt.now)) }
 {
     match stmts {
         [stmt] => Some(stmt),

@@ -73,7 +73,8 @@ fn add_place<'a>(
     place: usize,
 ) -> Result<(), AllocError>
     ensures { OnOk result ((called : List ℕ) →
-        place_in places.new called ≡ option_or (place_in places.old called) (if bytes_eq name.now called then Some place else None)) }
+        place_in places.new called
+        ≡ option_or (place_in places.old called) (if bytes_eq name.now called then Some place else None)) }
 {
     if places.contains_key(name) {
         return Ok(());
@@ -87,7 +88,8 @@ fn places_of<'a>(
     alloc: Global,
     signals: &'a [ThinSignal],
 ) -> Result<IndexMap<&'a [u8], usize>, AllocError>
-    ensures { IfOk result (λ places. (called : List ℕ) → place_in places called ≡ position (has_name called) signals.now) }
+    ensures { IfOk result
+        (λ places. (called : List ℕ) → place_in places called ≡ position (has_name called) signals.now) }
 {
     let mut places = IndexMap::new(alloc);
     for (place, signal) in signals.iter().enumerate() {
@@ -113,7 +115,8 @@ impl<'a> Model for Letters<'a> {
 
     ghost view = { λ l. l.waves.now };
 
-    ghost invariant = { λ l. (signal letter : ℕ) → has_pair l.pairs signal letter ≡ has_wave l.waves.now signal letter };
+    ghost invariant = { λ l. (signal letter : ℕ)
+        → has_pair l.pairs signal letter ≡ has_wave l.waves.now signal letter };
 }
 
 impl<'a> Letters<'a> {
@@ -160,7 +163,8 @@ fn add_pair(pairs: &mut IndexSet<(u16, u8)>, signal: u16, letter: u8) -> Result<
 
 /// The signals and characters that waves define.
 fn pairs_of(alloc: Global, waves: &[Wave]) -> Result<IndexSet<(u16, u8)>, AllocError>
-    ensures { IfOk result (λ pairs. (signal letter : ℕ) → has_pair pairs signal letter ≡ has_wave waves.now signal letter) }
+    ensures { IfOk result
+        (λ pairs. (signal letter : ℕ) → has_pair pairs signal letter ≡ has_wave waves.now signal letter) }
 {
     let mut pairs = IndexSet::new(alloc);
     for wave in waves {

@@ -3,7 +3,8 @@
 ghost use Rattle.std.specs.Prelude.{◌≡◌, ◌==◌, ◌&&◌, [], None, Some, MatchResult, Ok, Err, map};
 ghost use Rattle.stil_tree.specs.Trees.{entry_of};
 ghost use Rattle.stil_form.specs.Lexeme.{lexemes, head_of, body_of};
-ghost use Rattle.stil_form.specs.Reading.{Answers, AnswersBy, reading};
+ghost use Rattle.stil_form.specs.Reading.{Answers, AnswersBy};
+ghost use Rattle.first_fault.specs.Reading.{reading};
 ghost use Rattle.thin_stil.specs.ThinForm.{kept, not_thin};
 ghost use Rattle.thin_stil.specs.ThinBlocks.{given_by, given_said, given_of, vector_of, vectors_in, pattern_in, is_name, is_list_of, has_list_of, burst_of, runs_alone, name_both, runs_with, runs, exec_of};
 
@@ -14,7 +15,7 @@ use crate::lookup::{Letters, Numbers};
 use crate::thin::{ThinPattern, ThinSignal};
 use crate::vectors::VectorList;
 use std::alloc::Global;
-use stil_form::{FormFault, Mark, Part, Source, body, head, name_of, part_of};
+use stil_form::{FormFault, Part, SignKind, Source, body, head, name_of, part_of};
 use stil_tree::Stmt;
 use tester_types::{Items, Table, Text};
 
@@ -43,7 +44,7 @@ fn given_said(numbers: &Numbers, letters: &Letters, head: Source) -> Option<(u16
     let [called, equals, value] = head.tokens else {
         return None;
     };
-    let Part::Sign(Mark::Equals) = part_of(head.bytes, equals) else {
+    let Part::Sign(SignKind::Equals) = part_of(head.bytes, equals) else {
         return None;
     };
     let Part::Word(text) = part_of(head.bytes, value) else {
@@ -121,7 +122,8 @@ fn read_known<'k, 'a>(
     letters: &'k Letters<'a>,
     stmts: &[Stmt],
 ) -> Result<VectorList, FormFault>
-    ensures { Answers result (reading (vector_of (lexemes source.entry) numbers.now letters.now) [] (map entry_of stmts.now)) }
+    ensures { Answers result
+        (reading (vector_of (lexemes source.entry) numbers.now letters.now) [] (map entry_of stmts.now)) }
 {
     let form = VectorForm {
         source,
@@ -217,7 +219,8 @@ pub fn read_burst<'a>(
     stmt: &Stmt,
 ) -> Result<&'a [u8], FormFault>
     ensures { MatchResult result (λ name. burst_of (lexemes source.entry) pattern.now (entry_of stmt.now) ≡ Ok name.now)
-        (λ fault. (fault ≡ not_thin) × (burst_of (lexemes source.entry) pattern.now (entry_of stmt.now) ≡ Err not_thin)) }
+        (λ fault. (fault ≡ not_thin)
+        × (burst_of (lexemes source.entry) pattern.now (entry_of stmt.now) ≡ Err not_thin)) }
 {
     let Some(name) = name_behind(b"PatternBurst", head(source, stmt)) else {
         return Err(NOT_THIN);
@@ -239,7 +242,8 @@ fn runs_alone(burst: &[u8], source: Source, stmts: &[Stmt]) -> bool
 }
 
 fn name_both(timing: &[u8], burst: &[u8], source: Source, first: &Stmt, second: &Stmt) -> bool
-    ensures { result ≡ name_both timing.now burst.now (lexemes source.entry) (entry_of first.now) (entry_of second.now) }
+    ensures { result
+        ≡ name_both timing.now burst.now (lexemes source.entry) (entry_of first.now) (entry_of second.now) }
 {
     names(b"Timing", timing, source, first) && names(b"PatternBurst", burst, source, second)
 }

@@ -1,6 +1,7 @@
 //! The reader of thin texts: tokens, statements, and the blocks by their forms.
 
 ghost use Rattle.std.specs.Prelude.{◌≡◌, ◌≤◌, ◌&&◌, ◌==◌, Ok, IfOk, MatchResult, length, map};
+ghost use Rattle.text_bytes.specs.Limits.{most_bytes};
 ghost use Rattle.stil_tree.specs.Trees.{entry_of};
 ghost use Rattle.stil_form.specs.Lexeme.{lexemes, lexemes_of};
 ghost use Rattle.stil_form.specs.Reading.{Answers};
@@ -15,7 +16,7 @@ use crate::signals::read_signals;
 use crate::table::read_timing;
 use crate::thin::{ThinFault, ThinText};
 use std::alloc::Global;
-use stil_form::{FormFault, Mark, Part, Source, body, head, is_word, part_of};
+use stil_form::{FormFault, Part, SignKind, Source, body, head, is_word, part_of};
 use stil_lex::{LexFault, Token, lex};
 use stil_tree::{Stmt, TreeFault, forest};
 
@@ -26,7 +27,7 @@ fn is_stil_1_0(head: Source) -> bool
         return false;
     };
     match part_of(head.bytes, dot) {
-        Part::Sign(Mark::Dot) => {
+        Part::Sign(SignKind::Dot) => {
             is_word(&part_of(head.bytes, stil), b"STIL")
                 && is_word(&part_of(head.bytes, major), b"1")
                 && is_word(&part_of(head.bytes, minor), b"0")
@@ -113,9 +114,10 @@ fn read_tree<'a>(
 
 /// The thin text that the bytes are.
 pub fn read(alloc: Global, bytes: &[u8]) -> Result<ThinText, ThinFault>
-    requires { length bytes.now ≤ 16777216 }
+    requires { length bytes.now ≤ most_bytes }
     ensures found { IfOk result (IsThin bytes.now) }
-    ensures only { (text : ThinText) → IsThin bytes.now text → MatchResult result (λ t. t ≡ text) (λ e. e ≡ ThinFault.NoMemory) }
+    ensures only { (text : ThinText) → IsThin bytes.now text
+        → MatchResult result (λ t. t ≡ text) (λ e. e ≡ ThinFault.NoMemory) }
 {
     let tokens = match lex(alloc, bytes) {
         Ok(tokens) => tokens,

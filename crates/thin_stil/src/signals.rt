@@ -13,9 +13,7 @@ use std::alloc::Global;
 use stil_form::{Form, FormFault, Part, Source, body, first_part, head, name_of, read_each};
 use stil_tree::Stmt;
 use tester_types::Items;
-
-/// The most signals.
-const MOST_SIGNALS: usize = 1024;
+use text_bytes::MOST_SIGNALS;
 
 /// Whether a signal of this direction is looked at.
 fn direction_of(word: &[u8]) -> Option<bool>

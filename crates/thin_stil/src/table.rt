@@ -98,7 +98,8 @@ fn add_group(
 
 /// Adds the waves of a signal.
 fn add_signal(alloc: Global, waves: &mut Vec<Wave>, signal: &SignalWaves) -> Result<(), AllocError>
-    ensures { OnOk result (waves.new.items ≡ waves.old.items ++ flat_map (group_waves signal.now.signal) signal.now.groups) }
+    ensures { OnOk result (waves.new.items ≡ waves.old.items
+        ++ flat_map (group_waves signal.now.signal) signal.now.groups) }
 {
     for group in signal.groups.as_slice() {
         add_group(alloc, waves, signal.signal, group)?;

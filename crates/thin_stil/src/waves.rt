@@ -4,24 +4,23 @@ ghost use Rattle.std.specs.Prelude.{◌≡◌, ◌==◌, ◌&&◌, ◌+◌, ◌*
 ghost use Rattle.std.specs.List.{list_all, list_any};
 ghost use Rattle.stil_form.specs.Lexeme.{lexeme_of, lexemes, head_of, body_of};
 ghost use Rattle.stil_form.specs.Reading.{Answers, AnswersBy};
-ghost use Rattle.thin_stil.specs.ThinForm.{kept, nanoseconds, act_of, is_slash, with_part, acts_of, last_time, fits_row, row_said, row_with, row_from, row_of, is_character, are_apart, is_given, are_letters, letters_of, group_of, wave_signal, waves_of};
+ghost use Rattle.text_bytes.specs.Bytes.{is_character};
+ghost use Rattle.thin_stil.specs.ThinForm.{kept, nanoseconds, act_of, is_slash, with_part, acts_of, last_time, fits_row, row_said, row_with, row_from, row_of, are_apart, is_given, are_wfcs, wfcs_of, group_of, wave_signal, waves_of};
 
 use crate::block::{NOT_THIN, block};
 use crate::signals::signal_number;
 use crate::thin::{EventRow, SignalWaves, ThinSignal, WaveGroup};
 use std::alloc::Global;
 use stil_form::{
-    Form, FormFault, Mark, Part, Source, body, first_part, head, is_word, name_of, number_of,
-    part_of, read_each,
+    Form, FormFault, Part, SignKind, Source, body, first_part, head, is_word, name_of, part_of,
+    read_each,
 };
 use stil_tree::Stmt;
 use tester_types::{Act, Items, Look, Push};
+use text_bytes::{MOST_EVENTS, is_character, number_by};
 
 /// Femtoseconds of a nanosecond.
 pub const NANOSECOND: u64 = 1_000_000;
-
-/// The most events of a waveform.
-const MOST_EVENTS: usize = 16;
 
 /// Digits directly followed by `ns`: a time in nanoseconds.
 pub fn nanoseconds(text: &[u8]) -> Option<u64>
@@ -29,7 +28,7 @@ pub fn nanoseconds(text: &[u8]) -> Option<u64>
 {
     let (digits, unit) = text.split_at(text.len().saturating_sub(2));
     if unit == b"ns".as_slice() {
-        number_of(digits)
+        number_by(digits)
     } else {
         None
     }
@@ -57,7 +56,7 @@ fn act_of(part: &Part) -> Option<Act>
 fn is_slash(part: &Part) -> bool
     ensures { result ≡ is_slash (lexeme_of part.now) }
 {
-    matches!(part, Part::Sign(Mark::Slash))
+    matches!(part, Part::Sign(SignKind::Slash))
 }
 
 /// Takes one more part of acts with `/` between them: a `/`, or an act.
@@ -138,7 +137,8 @@ struct RowForm<'a> {
 impl Form for RowForm<'_> {
     type Data = EventRow;
 
-    ghost judge = { λ form before e. row_of form.letters form.period before (head_of (lexemes form.source) e) (body_of e) };
+    ghost judge = { λ form before e.
+        row_of form.letters form.period before (head_of (lexemes form.source) e) (body_of e) };
 
     fn judge_one(
         &self,
@@ -178,12 +178,6 @@ fn read_row(alloc: Global, letters: usize, time: u64, head: Source) -> Result<Ev
     }
 }
 
-fn is_character(byte: u8) -> bool
-    ensures { result ≡ is_character byte }
-{
-    byte.is_ascii_alphabetic() || byte.is_ascii_digit()
-}
-
 /// Whether no character stands twice.
 fn are_apart(letters: &[u8]) -> bool
     ensures { result ≡ are_apart letters.now }
@@ -205,6 +199,7 @@ fn is_given(before: &[WaveGroup], letter: u8) -> bool
         .any(|group| group.letters.as_slice().contains(&letter))
 }
 
+/// Whether each is a waveform character.
 fn are_characters(letters: &[u8]) -> bool
     ensures { result ≡ list_all is_character letters.now }
 {
@@ -218,21 +213,22 @@ fn any_given(before: &[WaveGroup], letters: &[u8]) -> bool
 }
 
 /// Letters and digits, none of them twice for one signal.
-fn are_letters(before: &[WaveGroup], letters: &[u8]) -> bool
-    ensures { result ≡ are_letters before.now letters.now }
+fn are_wfcs(before: &[WaveGroup], letters: &[u8]) -> bool
+    ensures { result ≡ are_wfcs before.now letters.now }
 {
     are_characters(letters) && are_apart(letters) && !any_given(before, letters)
 }
 
-fn letters_of<'a>(before: &[WaveGroup], head: Source<'a>) -> Option<&'a [u8]>
-    ensures { MatchOption result (letters_of before.now (lexemes head.entry) ≡ None)
-        (λ letters. letters_of before.now (lexemes head.entry) ≡ Some letters.now) }
+/// The waveform characters that a head is.
+fn wfcs_of<'a>(before: &[WaveGroup], head: Source<'a>) -> Option<&'a [u8]>
+    ensures { MatchOption result (wfcs_of before.now (lexemes head.entry) ≡ None)
+        (λ letters. wfcs_of before.now (lexemes head.entry) ≡ Some letters.now) }
 {
     let [one] = head.tokens else {
         return None;
     };
     match part_of(head.bytes, one) {
-        Part::Word(letters) if are_letters(before, letters) => Some(letters),
+        Part::Word(letters) if are_wfcs(before, letters) => Some(letters),
         _ => None,
     }
 }
@@ -255,7 +251,7 @@ impl Form for GroupForm<'_> {
         before: &[WaveGroup],
         stmt: &Stmt,
     ) -> Result<WaveGroup, FormFault> {
-        let Some(letters) = letters_of(before, head(self.source, stmt)) else {
+        let Some(letters) = wfcs_of(before, head(self.source, stmt)) else {
             return Err(NOT_THIN);
         };
         let stmts = block(stmt)?;

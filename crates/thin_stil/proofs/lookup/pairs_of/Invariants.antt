@@ -5,5 +5,5 @@ use Rattle.thin_stil.proofs.lookup.pairs_of.Given as goal
 
 -- a character is defined where it is kept, or else in what is left
 abbrev pub invariant-loop-wave : goal.invariant-loop-wave
-invariant-loop-wave l = (signal letter : ℕ) →
-    (has_pair l.pairs signal letter || has_wave (drop l.wave-index l.waves) signal letter) ≡ has_wave l.waves signal letter
+invariant-loop-wave l = (signal letter : ℕ)
+    → (has_pair l.pairs signal letter || has_wave (drop l.wave-index l.waves) signal letter) ≡ has_wave l.waves signal letter

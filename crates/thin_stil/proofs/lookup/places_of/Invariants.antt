@@ -7,6 +7,6 @@ use Rattle.thin_stil.proofs.lookup.places_of.Given as goal
 
 -- the place of a name is that which is kept, or else its first one in what is left
 abbrev pub invariant-loop-place : goal.invariant-loop-place
-invariant-loop-place l = (called : List ℕ) →
-    option_or (place_in l.places called) (position_from (has_name called) l.place (drop l.place l.signals))
+invariant-loop-place l = (called : List ℕ)
+    → option_or (place_in l.places called) (position_from (has_name called) l.place (drop l.place l.signals))
     ≡ position (has_name called) l.signals

@@ -1,7 +1,7 @@
 use Rattle.std.proofs.Common.{◌≡◌, map, drop}
 use Rattle.stil_tree.specs.Trees.{entry_of}
 use Rattle.stil_form.specs.Lexeme.{lexemes, head_of, body_of}
-use Rattle.stil_form.specs.Reading.{reading}
+use Rattle.first_fault.specs.Reading.{reading}
 use Rattle.thin_stil.specs.ThinForm.{kept}
 use Rattle.thin_stil.specs.ThinBlocks.{given_of}
 use Rattle.thin_stil.proofs.pattern.read_given.Given as goal

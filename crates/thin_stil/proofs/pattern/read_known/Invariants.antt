@@ -1,7 +1,7 @@
 use Rattle.std.proofs.Common.{◌≡◌, map, drop, []}
 use Rattle.stil_tree.specs.Trees.{entry_of}
 use Rattle.stil_form.specs.Lexeme.{lexemes}
-use Rattle.stil_form.specs.Reading.{reading}
+use Rattle.first_fault.specs.Reading.{reading}
 use Rattle.thin_stil.specs.ThinBlocks.{vector_of}
 use Rattle.thin_stil.proofs.pattern.read_known.Given as goal
 
