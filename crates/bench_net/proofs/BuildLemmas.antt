@@ -162,11 +162,13 @@ wired forms p a n l =
     (sym (driver_at-net_of forms n (omega (arith, l, length-drivers forms))))
     (wired_for forms p a (get_or (names forms) n [])))
 
-wired_pins : (count : ℕ) (d : Driver) → IsWired count d → AreWithin count (pins_of d)
+-- what a driver of a netlist reads are its nets
+pub wired_pins : (count : ℕ) (d : Driver) → IsWired count d → AreWithin count (pins_of d)
 wired_pins count Input h = All-nil (λ p. p < count)
 wired_pins count (Dff d) h = All-nil (λ p. p < count)
 wired_pins count (Gate k pins) h = h.3
 
+-- so are what all their gates read
 pub within-wired : (drivers : List Driver)
     → ((n : ℕ) → n < length drivers → IsWired (length drivers) (driver_at drivers n)) → (n : ℕ)
     → n < length drivers → AreWithin (length drivers) (pins_at drivers n)

@@ -11,8 +11,8 @@ use Rattle.bench_net.specs.declared.gate.GateKind.TheVariants.{And, Nand, Or, No
 use Rattle.bench_net.specs.declared.gate.Function.{Function}
 use Rattle.bench_net.specs.declared.gate.Function.TheVariants.{Logic, Register}
 use Rattle.bench_net.specs.declared.line.Line.{Line}
-use Rattle.bench_net.specs.declared.line.Mark.TheVariants.{Open, Close, Comma, Equals}
-use Rattle.bench_net.specs.Line.{Lexeme, word, mark, Form, nothing, input, output, gate, is_net, is_keyword, listed, Writes, Says, Spells}
+use Rattle.bench_net.specs.declared.line.Delimiter.TheVariants.{Open, Close, Comma, Equals}
+use Rattle.bench_net.specs.Line.{Lexeme, word, delimiter, Form, nothing, input, output, gate, is_net, is_keyword, listed, Writes, Says, Spells}
 use Rattle.bench_net.specs.Step.{function_named, function_of, enclosed_of, last_pin, pins_read, call_of, declared_of, after_word, line_of}
 use Rattle.bench_net.specs.Views.{form_of}
 use Rattle.bench_net.proofs.LineLemmas.{one_spelling}
@@ -84,19 +84,19 @@ line_of-Writes (gate n f pins) ps h =
 -- what a net read in parentheses says of the parts
 abbrev EnclosedIs : List Lexeme → Option (List ℕ) → Type 0
 EnclosedIs ps None = Unit {0}
-EnclosedIs ps (Some n) = (is_net n ≡ true) × (ps ≡ word n ∷ mark Close ∷ [])
+EnclosedIs ps (Some n) = (is_net n ≡ true) × (ps ≡ word n ∷ delimiter Close ∷ [])
 
 enclosed_is : (ps : List Lexeme) → EnclosedIs ps (enclosed_of ps)
 enclosed_is [] = tt
-enclosed_is (mark m ∷ ps) = tt
+enclosed_is (delimiter m ∷ ps) = tt
 enclosed_is (word n ∷ []) = tt
 enclosed_is (word n ∷ word v ∷ ps) = tt
-enclosed_is (word n ∷ mark Open ∷ ps) = tt
-enclosed_is (word n ∷ mark Comma ∷ ps) = tt
-enclosed_is (word n ∷ mark Equals ∷ ps) = tt
-enclosed_is (word n ∷ mark Close ∷ []) = cond_both (is_net n) _ _
-    (EnclosedIs (word n ∷ mark Close ∷ [])) (λ e. (e, refl)) (λ _. tt)
-enclosed_is (word n ∷ mark Close ∷ p ∷ ps) = tt
+enclosed_is (word n ∷ delimiter Open ∷ ps) = tt
+enclosed_is (word n ∷ delimiter Comma ∷ ps) = tt
+enclosed_is (word n ∷ delimiter Equals ∷ ps) = tt
+enclosed_is (word n ∷ delimiter Close ∷ []) = cond_both (is_net n) _ _
+    (EnclosedIs (word n ∷ delimiter Close ∷ [])) (λ e. (e, refl)) (λ _. tt)
+enclosed_is (word n ∷ delimiter Close ∷ p ∷ ps) = tt
 
 -- what a list of pins read says of the parts
 abbrev PinsAre : List Lexeme → Option (List (List ℕ)) → Type 0
@@ -104,18 +104,18 @@ PinsAre ps None = Unit {0}
 PinsAre ps (Some ns) = (0 < length ns) × AllPass is_net ns × (ps ≡ listed ns)
 
 first_pin : (n : List ℕ) (ps : List Lexeme) → is_net n ≡ true → (o : Option (List (List ℕ)))
-    → PinsAre ps o → PinsAre (word n ∷ mark Comma ∷ ps) (option_map (λ ns. n ∷ ns) o)
+    → PinsAre ps o → PinsAre (word n ∷ delimiter Comma ∷ ps) (option_map (λ ns. n ∷ ns) o)
 first_pin n ps e None h = tt
 first_pin n ps e (Some []) h = absurd (omega (arith, h.0))
 first_pin n ps e (Some (m ∷ ns)) h = (
   omega arith,
   All-cons (λ x. is_net x
       ≡ true) n (m ∷ ns) e h.1,
-  ap (λ t. word n ∷ mark Comma ∷ t) h.2,
+  ap (λ t. word n ∷ delimiter Comma ∷ t) h.2,
 )
 
 last_pin_is : (n : List ℕ) → is_net n ≡ true → (ps : List Lexeme)
-    → PinsAre (word n ∷ mark Close ∷ ps) (option_map (λ ns. n ∷ ns) (last_pin ps))
+    → PinsAre (word n ∷ delimiter Close ∷ ps) (option_map (λ ns. n ∷ ns) (last_pin ps))
 last_pin_is n e [] = (
   omega arith,
   All-cons (λ x. is_net x ≡ true) n [] e
@@ -126,16 +126,16 @@ last_pin_is n e (p ∷ ps) = tt
 
 pins_are : (ps : List Lexeme) → PinsAre ps (pins_read ps)
 pins_are [] = tt
-pins_are (mark m ∷ ps) = tt
+pins_are (delimiter m ∷ ps) = tt
 pins_are (word n ∷ []) = tt
 pins_are (word n ∷ word v ∷ ps) = tt
-pins_are (word n ∷ mark Open ∷ ps) = tt
-pins_are (word n ∷ mark Equals ∷ ps) = tt
-pins_are (word n ∷ mark Comma ∷ ps) =
-    cond_both (is_net n) _ _ (PinsAre (word n ∷ mark Comma ∷ ps))
+pins_are (word n ∷ delimiter Open ∷ ps) = tt
+pins_are (word n ∷ delimiter Equals ∷ ps) = tt
+pins_are (word n ∷ delimiter Comma ∷ ps) =
+    cond_both (is_net n) _ _ (PinsAre (word n ∷ delimiter Comma ∷ ps))
     (λ e. first_pin n ps e (pins_read ps) (pins_are ps)) (λ _. tt)
-pins_are (word n ∷ mark Close ∷ ps) =
-    cond_both (is_net n) _ _ (PinsAre (word n ∷ mark Close ∷ ps)) (λ e. last_pin_is n e ps)
+pins_are (word n ∷ delimiter Close ∷ ps) =
+    cond_both (is_net n) _ _ (PinsAre (word n ∷ delimiter Close ∷ ps)) (λ e. last_pin_is n e ps)
     (λ _. tt)
 
 -- what a form read says of the parts
@@ -145,59 +145,59 @@ FormIs ps (Some f) = Writes f ps
 
 input_is : (w : List ℕ) (ps : List Lexeme) → str_eq_ignore_ascii_case w (codes "INPUT") ≡ true
     → (o : Option (List ℕ)) → EnclosedIs ps o
-    → FormIs (word w ∷ mark Open ∷ ps) (option_map input o)
+    → FormIs (word w ∷ delimiter Open ∷ ps) (option_map input o)
 input_is w ps e None h = tt
-input_is w ps e (Some n) h = (w, e, h.0, ap (λ t. word w ∷ mark Open ∷ t) h.1)
+input_is w ps e (Some n) h = (w, e, h.0, ap (λ t. word w ∷ delimiter Open ∷ t) h.1)
 
 output_is : (w : List ℕ) (ps : List Lexeme) → str_eq_ignore_ascii_case w (codes "OUTPUT") ≡ true
     → (o : Option (List ℕ)) → EnclosedIs ps o
-    → FormIs (word w ∷ mark Open ∷ ps) (option_map output o)
+    → FormIs (word w ∷ delimiter Open ∷ ps) (option_map output o)
 output_is w ps e None h = tt
-output_is w ps e (Some n) h = (w, e, h.0, ap (λ t. word w ∷ mark Open ∷ t) h.1)
+output_is w ps e (Some n) h = (w, e, h.0, ap (λ t. word w ∷ delimiter Open ∷ t) h.1)
 
 gate_is : (n w : List ℕ) (ps : List Lexeme) → is_net n ≡ true → (f : Function) → is_keyword f w
     ≡ true → (o : Option (List (List ℕ))) → PinsAre ps o
-    → FormIs (word n ∷ mark Equals ∷ word w ∷ mark Open ∷ ps) (option_map (gate n f) o)
+    → FormIs (word n ∷ delimiter Equals ∷ word w ∷ delimiter Open ∷ ps) (option_map (gate n f) o)
 gate_is n w ps e f k None h = tt
 gate_is n w ps e f k (Some pins) h =
-    (w, k, e, h.0, h.1, ap (λ t. word n ∷ mark Equals ∷ word w ∷ mark Open ∷ t) h.2)
+    (w, k, e, h.0, h.1, ap (λ t. word n ∷ delimiter Equals ∷ word w ∷ delimiter Open ∷ t) h.2)
 
 function_then : (n w : List ℕ) (ps : List Lexeme) → is_net n ≡ true → (o : Option Function)
-    → FunctionIs w o → FormIs (word n ∷ mark Equals ∷ word w ∷ mark Open ∷ ps)
+    → FunctionIs w o → FormIs (word n ∷ delimiter Equals ∷ word w ∷ delimiter Open ∷ ps)
     (option_and_then (λ f. option_map (gate n f) (pins_read ps)) o)
 function_then n w ps e None h = tt
 function_then n w ps e (Some f) h = gate_is n w ps e f h (pins_read ps) (pins_are ps)
 
 call_is : (n : List ℕ) → is_net n ≡ true → (ps : List Lexeme)
-    → FormIs (word n ∷ mark Equals ∷ ps) (call_of n ps)
+    → FormIs (word n ∷ delimiter Equals ∷ ps) (call_of n ps)
 call_is n e [] = tt
-call_is n e (mark m ∷ ps) = tt
+call_is n e (delimiter m ∷ ps) = tt
 call_is n e (word w ∷ []) = tt
 call_is n e (word w ∷ word v ∷ ps) = tt
-call_is n e (word w ∷ mark Close ∷ ps) = tt
-call_is n e (word w ∷ mark Comma ∷ ps) = tt
-call_is n e (word w ∷ mark Equals ∷ ps) = tt
-call_is n e (word w ∷ mark Open ∷ ps) = function_then n w ps e (function_of w) (function_is w)
+call_is n e (word w ∷ delimiter Close ∷ ps) = tt
+call_is n e (word w ∷ delimiter Comma ∷ ps) = tt
+call_is n e (word w ∷ delimiter Equals ∷ ps) = tt
+call_is n e (word w ∷ delimiter Open ∷ ps) = function_then n w ps e (function_of w) (function_is w)
 
-declared_is : (w : List ℕ) (ps : List Lexeme) → FormIs (word w ∷ mark Open ∷ ps) (declared_of w ps)
+declared_is : (w : List ℕ) (ps : List Lexeme) → FormIs (word w ∷ delimiter Open ∷ ps) (declared_of w ps)
 declared_is w ps =
-    cond_both (str_eq_ignore_ascii_case w (codes "INPUT")) _ _ (FormIs (word w ∷ mark Open ∷ ps))
+    cond_both (str_eq_ignore_ascii_case w (codes "INPUT")) _ _ (FormIs (word w ∷ delimiter Open ∷ ps))
     (λ e. input_is w ps e (enclosed_of ps) (enclosed_is ps)) (λ _.
-    cond_both (str_eq_ignore_ascii_case w (codes "OUTPUT")) _ _ (FormIs (word w ∷ mark Open ∷ ps))
+    cond_both (str_eq_ignore_ascii_case w (codes "OUTPUT")) _ _ (FormIs (word w ∷ delimiter Open ∷ ps))
     (λ e. output_is w ps e (enclosed_of ps) (enclosed_is ps)) (λ _. tt))
 
 after_is : (w : List ℕ) (ps : List Lexeme) → FormIs (word w ∷ ps) (after_word w ps)
 after_is w [] = tt
 after_is w (word v ∷ ps) = tt
-after_is w (mark Open ∷ ps) = declared_is w ps
-after_is w (mark Close ∷ ps) = tt
-after_is w (mark Comma ∷ ps) = tt
-after_is w (mark Equals ∷ ps) = cond_both (is_net w) _ _ (FormIs (word w ∷ mark Equals ∷ ps))
+after_is w (delimiter Open ∷ ps) = declared_is w ps
+after_is w (delimiter Close ∷ ps) = tt
+after_is w (delimiter Comma ∷ ps) = tt
+after_is w (delimiter Equals ∷ ps) = cond_both (is_net w) _ _ (FormIs (word w ∷ delimiter Equals ∷ ps))
     (λ e. call_is w e ps) (λ _. tt)
 
 form_is : (ps : List Lexeme) → FormIs ps (line_of ps)
 form_is [] = refl
-form_is (mark m ∷ ps) = tt
+form_is (delimiter m ∷ ps) = tt
 form_is (word w ∷ ps) = after_is w ps
 
 -- what the code takes the parts to say is what they say

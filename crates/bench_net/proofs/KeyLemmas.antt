@@ -6,6 +6,7 @@ use Rattle.std.specs.Str.{bytes_eq}
 use Rattle.std.specs.Cmp.Lexicographic.{bytes_decides}
 use Rattle.std.proofs.lemmas.List.{map-append, take_rest}
 use Rattle.std.proofs.lemmas.List.Folds.{list_any-append}
+use Rattle.text_bytes.proofs.BoolLemmas.{or_false}
 use Rattle.bench_net.specs.declared.line.Line.{Line}
 use Rattle.bench_net.specs.Line.{Form}
 use Rattle.bench_net.specs.Net.{added, used, shown}
@@ -60,6 +61,7 @@ find_append_some p (y ∷ xs) ys x h =
       | inr e ↦ rw (e) (find_append_some p xs ys x (rw (e) at h))
     ]
 
+-- where none of the first list passes, the second decides
 pub find_append_none : {X : Type 0} (p : X → Bool) (xs ys : List X) → None ≡ find p xs
     → find p (xs ++ ys) ≡ find p ys
 find_append_none p [] ys h = refl
@@ -83,10 +85,7 @@ find_rest p (z ∷ zs) y some at h =
     ∙ sym (find_append_none p (used (form_of z)) (flat_map used (map form_of zs))
     (subst (λ (l : Line). None ≡ find p (used (form_of l))) at h))
 
-or_false : (b : Bool) → (b || false) ≡ b
-or_false true = refl
-or_false false = refl
-
+-- three truth values, whichever two come first
 or_assoc : (a b c : Bool) → (a || (b || c)) ≡ ((a || b) || c)
 or_assoc true b c = refl
 or_assoc false b c = refl
@@ -120,6 +119,7 @@ any-inserted f keys keys' k name put =
           ∙ or_false (list_any (bytes_eq name) (map f keys))
     ]
 
+-- an output that is put among the keys shows its line
 pub ShowsLine-inserted : {X : Type 0} (f : X → List ℕ) (keys keys' : List X) (k : X) (form : Form)
     → Some (f k) ≡ shown form → keys'
     ≡ cond (list_any (λ j. bytes_eq (f k) (f j)) keys) keys (keys ++ k ∷ [])

@@ -6,43 +6,43 @@ use Rattle.std.proofs.lemmas.List.{take_at, drop_at, append-nil}
 use Rattle.std.proofs.lemmas.List.Elements.{All-nil, All-cons, All-head, All-tail}
 use Rattle.std.proofs.lemmas.Bool.{cases_Bool, cond_both, eqb-true}
 use Rattle.std.proofs.lemmas.Grind.{common_steps}
-use Rattle.bench_net.specs.declared.line.Mark.{Mark}
-use Rattle.bench_net.specs.declared.line.Mark.TheVariants.{Open, Close, Comma, Equals}
-use Rattle.bench_net.specs.Line.{is_blank, is_name_byte, Lexeme, word, mark, written, goes_on, mark_byte, IsPart, IsComment, Ends, Begins, Spells}
-use Rattle.bench_net.specs.Step.{skipped, name_len, Step, ends, bad, begins, sign_step, front_step, pins_read}
+use Rattle.bench_net.specs.declared.line.Delimiter.{Delimiter}
+use Rattle.bench_net.specs.declared.line.Delimiter.TheVariants.{Open, Close, Comma, Equals}
+use Rattle.bench_net.specs.Line.{is_gap, is_name_byte, Lexeme, word, delimiter, written, goes_on, delimiter_byte, IsPart, IsComment, Ends, Begins, Spells}
+use Rattle.bench_net.specs.Step.{skipped, name_len, Step, ends, bad, begins, delimiter_step, front_step, pins_read}
 
 -- the blanks in front
 abbrev gap_of : List ℕ → List ℕ
 gap_of [] = []
-gap_of (b ∷ bs) = cond (is_blank b) (b ∷ gap_of bs) []
+gap_of (b ∷ bs) = cond (is_gap b) (b ∷ gap_of bs) []
 
 gap_of-skipped : (text : List ℕ) → text ≡ gap_of text ++ skipped text
 gap_of-skipped [] = refl
 gap_of-skipped (b ∷ bs) =
-    elim (cases_Bool (is_blank b)) [
+    elim (cases_Bool (is_gap b)) [
       | inl e ↦ rw (e) (ap (λ t. b ∷ t) (gap_of-skipped bs))
       | inr e ↦ rw (e) refl
     ]
 
-gap_of-blank : (text : List ℕ) → AllPass is_blank (gap_of text)
-gap_of-blank [] = All-nil (λ b. is_blank b ≡ true)
+gap_of-blank : (text : List ℕ) → AllPass is_gap (gap_of text)
+gap_of-blank [] = All-nil (λ b. is_gap b ≡ true)
 gap_of-blank (b ∷ bs) =
-    elim (cases_Bool (is_blank b)) [
-      | inl e ↦ rw (e) (All-cons (λ x. is_blank x ≡ true) b (gap_of bs) e (gap_of-blank bs))
-      | inr e ↦ rw (e) (All-nil (λ x. is_blank x ≡ true))
+    elim (cases_Bool (is_gap b)) [
+      | inl e ↦ rw (e) (All-cons (λ x. is_gap x ≡ true) b (gap_of bs) e (gap_of-blank bs))
+      | inr e ↦ rw (e) (All-nil (λ x. is_gap x ≡ true))
     ]
 
-skipped-gap : (gap rest : List ℕ) → AllPass is_blank gap → skipped (gap ++ rest) ≡ skipped rest
+skipped-gap : (gap rest : List ℕ) → AllPass is_gap gap → skipped (gap ++ rest) ≡ skipped rest
 skipped-gap [] rest h = refl
 skipped-gap (b ∷ bs) rest h =
-    let e = All-head (λ x. is_blank x ≡ true) b bs h in
-    rw (e) (skipped-gap bs rest (All-tail (λ x. is_blank x ≡ true) b bs h))
+    let e = All-head (λ x. is_gap x ≡ true) b bs h in
+    rw (e) (skipped-gap bs rest (All-tail (λ x. is_gap x ≡ true) b bs h))
 
-skipped-none : (b : ℕ) (bs : List ℕ) → is_blank b ≡ false → skipped (b ∷ bs) ≡ b ∷ bs
+skipped-none : (b : ℕ) (bs : List ℕ) → is_gap b ≡ false → skipped (b ∷ bs) ≡ b ∷ bs
 skipped-none b bs e = rw (e) refl
 
 -- a byte of a name is no blank
-name_byte-blank : (b : ℕ) → is_name_byte b ≡ true → is_blank b ≡ false
+name_byte-blank : (b : ℕ) → is_name_byte b ≡ true → is_gap b ≡ false
 name_byte-blank b h = grind (arith, common_steps)
 
 -- the parts so far, and those of the rest, are those of the line; and a line that is made of parts
@@ -104,11 +104,11 @@ word-step (b ∷ w) rest h =
     ∙ ap (λ t. begins (word t) (drop (length (b ∷ w)) ((b ∷ w) ++ rest))) (take-name (b ∷ w) rest)
     ∙ ap (λ t. begins (word (b ∷ w)) t) (drop-name (b ∷ w) rest)
 
-mark-step : (m : Mark) (rest : List ℕ) → front_step (mark_byte m ∷ rest) ≡ begins (mark m) rest
-mark-step Open rest = refl
-mark-step Close rest = refl
-mark-step Comma rest = refl
-mark-step Equals rest = refl
+delimiter-step : (m : Delimiter) (rest : List ℕ) → front_step (delimiter_byte m ∷ rest) ≡ begins (delimiter m) rest
+delimiter-step Open rest = refl
+delimiter-step Close rest = refl
+delimiter-step Comma rest = refl
+delimiter-step Equals rest = refl
 
 -- what is written begins with no blank
 skipped-written : (p : Lexeme) (rest : List ℕ) → IsPart p rest → skipped (written p ++ rest)
@@ -116,15 +116,15 @@ skipped-written : (p : Lexeme) (rest : List ℕ) → IsPart p rest → skipped (
 skipped-written (word []) rest h = absurd (omega (arith, h.0))
 skipped-written (word (b ∷ w)) rest h = skipped-none b (w
     ++ rest) (name_byte-blank b (All-head (λ x. is_name_byte x ≡ true) b w h.1))
-skipped-written (mark Open) rest h = refl
-skipped-written (mark Close) rest h = refl
-skipped-written (mark Comma) rest h = refl
-skipped-written (mark Equals) rest h = refl
+skipped-written (delimiter Open) rest h = refl
+skipped-written (delimiter Close) rest h = refl
+skipped-written (delimiter Comma) rest h = refl
+skipped-written (delimiter Equals) rest h = refl
 
 written-step : (p : Lexeme) (rest : List ℕ) → IsPart p rest → front_step (written p ++ rest)
     ≡ begins p rest
 written-step (word w) rest h = word-step w rest h
-written-step (mark m) rest h = mark-step m rest
+written-step (delimiter m) rest h = delimiter-step m rest
 
 -- a part that the text begins with is what the code finds there
 pub step-Begins : (p : Lexeme) (text rest : List ℕ) → Begins p text rest → front_step (skipped text)
@@ -151,7 +151,7 @@ StepIs text ends = IsComment text
 StepIs text bad = Unit {0}
 StepIs text (begins p rest) = Starts p text rest
 
-sign_is : (b : ℕ) (bs : List ℕ) → StepIs (b ∷ bs) (sign_step b bs)
+sign_is : (b : ℕ) (bs : List ℕ) → StepIs (b ∷ bs) (delimiter_step b bs)
 sign_is b bs =
     cond_both (eqb b 35) _ _ (StepIs (b ∷ bs)) (λ e. eqb-true b 35 e) (λ _.
     cond_both (eqb b 40) _ _ (StepIs (b ∷ bs))
@@ -261,7 +261,7 @@ front-shorter p rest more e =
   where
     written_some : (p : Lexeme) (more : List ℕ) → IsPart p more → 0 < length (written p)
     written_some (word w) more h = h.0
-    written_some (mark m) more h = omega arith
+    written_some (delimiter m) more h = omega arith
 
 -- a line is made of parts in one way at most
 pub one_spelling : (ps qs : List Lexeme) (text : List ℕ) → Spells ps text → Spells qs text → ps ≡ qs

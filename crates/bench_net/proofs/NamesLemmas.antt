@@ -10,6 +10,7 @@ use Rattle.std.proofs.lemmas.List.Elements.{All-nil, All-cons, All-head, All-tai
 use Rattle.std.proofs.lemmas.List.Folds.{list_any-append, position_or_len_push}
 use Rattle.std.proofs.lemmas.Option.{slice_get_past}
 use Rattle.std.proofs.lemmas.Bool.{cases_Bool, cases_lt, eq-eqb, ne_eqb, lt-ltb, le-ltb}
+use Rattle.text_bytes.proofs.BoolLemmas.{or_left}
 use Rattle.bench_net.specs.declared.gate.Driver.{Driver}
 use Rattle.bench_net.specs.declared.gate.Driver.TheVariants.{Input}
 use Rattle.bench_net.specs.Line.{Form, nothing, input, output, gate}
@@ -53,9 +54,6 @@ added_there ks n =
           ∙ list_any-append (bytes_eq n) ks (n ∷ [])
           ∙ ap (λ b. b || (bytes_eq n n || false)) e ∙ ap (λ b. b || false) (same_bytes n)
     ]
-
-or_left : (a b : Bool) → a ≡ true → (a || b) ≡ true
-or_left a b e = ap (λ x. x || b) e
 
 added_stays : (ks : List (List ℕ)) (n m : List ℕ) → list_any (bytes_eq m) ks ≡ true
     → list_any (bytes_eq m) (added ks n) ≡ true

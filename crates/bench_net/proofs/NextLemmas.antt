@@ -7,6 +7,7 @@ use Rattle.std.proofs.lemmas.List.Sums.{sum_by-cons, sum_by-set, sum_by-append}
 use Rattle.std.proofs.lemmas.List.Folds.{list_any-append, list_any_none}
 use Rattle.std.proofs.lemmas.List.Elements.{All-from_get_or}
 use Rattle.std.proofs.lemmas.Bool.{cases_Bool, cases_lt, cases_eq, eqb-true, eq-eqb, ne_eqb, and_parts}
+use Rattle.text_bytes.proofs.BoolLemmas.{at_most_one}
 use Rattle.bench_net.specs.declared.gate.Driver.{Driver}
 use Rattle.bench_net.specs.Wiring.{gate_at, pins_at, driver_at, is_settled, AreReaders}
 use Rattle.bench_net.specs.Sorting.{AreWithin, times, waiting, is_ready, IsSorted, lowered, joined, walked, CanSettle}
@@ -91,10 +92,6 @@ not_before order at l once =
     ≡ 1 = ap (λ b. cond {A = ℕ} b 1 0) (eq-eqb net net refl) in
     list_any_none (λ g. eqb g net) (take at order)
     (zero_count (λ g. eqb g net) (take at order) (omega (arith, split, whole, more, one, once)))
-
-at_most_one : (b : Bool) (n : ℕ) → n ≡ cond {A = ℕ} b 1 0 → n ≤ 1
-at_most_one true n e = omega (arith, e)
-at_most_one false n e = omega (arith, e)
 
 pub Walk-next : (drivers : List Driver) (readers : List (List ℕ)) (left order : List ℕ) (at : ℕ)
     → at < length order → AreReaders drivers readers → Walk drivers left order (take at order) []

@@ -9,7 +9,7 @@ use Rattle.std.proofs.lemmas.Bool.{cases_Bool, cases_lt, eqb-true, eq-eqb, ne_eq
 use Rattle.bench_net.specs.declared.gate.Driver.{Driver}
 use Rattle.bench_net.specs.Wiring.{gate_at, pins_at, is_settled, IsClosed, IsReached, IsUnreached, IsOrder}
 use Rattle.bench_net.specs.Sorting.{AreWithin, times, is_ready, IsSorted}
-use Rattle.bench_net.proofs.ReaderLemmas.{and_true}
+use Rattle.text_bytes.proofs.BoolLemmas.{and_true}
 use Rattle.bench_net.proofs.SortLemmas.{times-cons, times-there, gate_within}
 
 -- a net among those in front of a place, all of which are in a set, is in it

@@ -15,13 +15,15 @@ use Rattle.bench_net.proofs.NamesLemmas.{numbers_within, number-within}
 use Rattle.bench_net.proofs.TextLemmas.{one_reading, no_bad_line, one_bad_line}
 
 -- a text names one net list at most
-one_net : (bytes : List ℕ) (m n : Net) → IsNet bytes m → IsNet bytes n → m ≡ n
+pub one_net : (bytes : List ℕ) (m n : Net) → IsNet bytes m → IsNet bytes n → m ≡ n
 one_net bytes m n h k = h.net_is ∙ ap net_of (one_reading bytes h.forms k.forms h.reads k.reads)
     ∙ sym k.net_is
 
+-- what is absent isn't there
 apart : {A : Type 0} (o : Option A) (x : A) → o ≡ None → o ≡ Some x → ⊥
 apart o x e h = cc
 
+-- what is there is one thing
 same_some : {A : Type 0} (o : Option A) (x y : A) → o ≡ Some x → o ≡ Some y → x ≡ y
 same_some o x y e h = cc
 
@@ -77,13 +79,14 @@ of_lines bytes (Loop n) forms r h = subst (λ (fs : List Form). IsRefusal fs (Lo
     (one_reading bytes h.0 forms h.1 r) h.2
 
 -- a text that names a net list is not refused
-no_fault_where_net : (bytes : List ℕ) (net : Net) (f : NetFault) → IsNet bytes net → IsFault bytes f
+pub no_fault_where_net : (bytes : List ℕ) (net : Net) (f : NetFault) → IsNet bytes net → IsFault bytes f
     → ⊥
 no_fault_where_net bytes net f n h =
     no_refusal n.forms f (of_lines bytes f n.forms n.reads h) n.driven_once
     (λ k l. subst (λ (m : Net). IsReached m.drivers k) n.net_is
     (n.reached k (subst (λ (m : Net). k < length m.names) (sym n.net_is) l)))
 
+-- the net of a line of a loop is the line's
 same_name : (forms : List Form) (f : Form) (m n : List ℕ) → IsLoopLine forms f m
     → IsLoopLine forms f n → m ≡ n
 same_name forms nothing m n h k = absurd h
@@ -91,6 +94,7 @@ same_name forms (input x) m n h k = absurd h
 same_name forms (output x) m n h k = absurd h
 same_name forms (gate x f pins) m n h k = h.0 ∙ sym k.0
 
+-- the first line of a loop has one net
 one_loop : (forms : List Form) (m n : List ℕ) → IsFirstLoop forms m → IsFirstLoop forms n → m ≡ n
 one_loop forms m n h k =
     elim (cases_order h.place k.place) [
@@ -145,7 +149,7 @@ one_refusal forms (Loop m) (Missing n) h k = absurd (apart _ n h.0.all k.3)
 one_refusal forms (Loop m) (Loop n) h k = ap Loop (one_loop forms m n h.1 k.1)
 
 -- a text is refused in one way at most
-one_fault : (bytes : List ℕ) (f g : NetFault) → IsFault bytes f → IsFault bytes g → f ≡ g
+pub one_fault : (bytes : List ℕ) (f g : NetFault) → IsFault bytes f → IsFault bytes g → f ≡ g
 one_fault bytes NoMemory g h k = absurd h
 one_fault bytes (Line m) NoMemory h k = absurd k
 one_fault bytes (Line m) (Line n) h k = ap Line (one_bad_line bytes m n h k)
@@ -160,6 +164,7 @@ one_fault bytes (Twice m) g h k = one_refusal h.0 (Twice m) g h.2 (of_lines byte
 one_fault bytes (Missing m) g h k = one_refusal h.0 (Missing m) g h.2 (of_lines bytes g h.0 h.1 k)
 one_fault bytes (Loop m) g h k = one_refusal h.0 (Loop m) g h.2 (of_lines bytes g h.0 h.1 k)
 
+-- an answer for a text that names a net list
 pub only_net : (bytes : List ℕ) (r : Result Circuit NetFault) → IfOk r (λ n. IsNet bytes n.net)
     → IfErr r (λ e. (e ≡ NoMemory) ⊎ IsFault bytes e) → (net : Net) → IsNet bytes net
     → MatchResult r (λ n. n.net ≡ net) (λ e. e ≡ NoMemory)
@@ -169,6 +174,7 @@ only_net bytes (Err e) found fault net h = elim fault [
   | inr f ↦ absurd (no_fault_where_net bytes net e h f)
 ]
 
+-- an answer for a text that has a fault
 pub only_refused : (bytes : List ℕ) (r : Result Circuit NetFault) → IfOk r (λ n. IsNet bytes n.net)
     → IfErr r (λ e. (e ≡ NoMemory) ⊎ IsFault bytes e) → (f : NetFault) → IsFault bytes f
     → MatchResult r (λ _. ⊥) (λ e. (e ≡ NoMemory) ⊎ (e ≡ f))

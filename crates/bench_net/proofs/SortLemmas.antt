@@ -9,7 +9,8 @@ use Rattle.std.proofs.lemmas.Bool.{cases_Bool, cases_order, cases_lt, cases_eq, 
 use Rattle.bench_net.specs.declared.gate.Driver.{Driver}
 use Rattle.bench_net.specs.declared.gate.Driver.TheVariants.{Input, Dff, Gate}
 use Rattle.bench_net.specs.Wiring.{is_gate, pins_of, gate_at}
-use Rattle.bench_net.proofs.ReaderLemmas.{and_true, and_false}
+use Rattle.bench_net.proofs.ReaderLemmas.{and_false}
+use Rattle.text_bytes.proofs.BoolLemmas.{and_true}
 use Rattle.bench_net.specs.Sorting.{AreWithin, times, is_ready, with_ready, AreReadyBelow, lowered, joined, walked, CanSettle}
 
 -- of each net once more
@@ -17,10 +18,12 @@ pub times-cons : (n m : ℕ) (xs : List ℕ) → times n (m ∷ xs)
     ≡ cond {A = ℕ} (eqb m n) 1 0 + times n xs
 times-cons n m xs = sum_by-cons (λ x. cond {A = ℕ} (eqb x n) 1 0) m xs
 
+-- of each net once more, behind the others
 pub times_push : (n m : ℕ) (xs : List ℕ) → times n (xs ++ m ∷ [])
     ≡ times n xs + cond {A = ℕ} (eqb m n) 1 0
 times_push n m xs = sum_by_push (λ x. cond {A = ℕ} (eqb x n) 1 0) xs m
 
+-- what stands in a list stands there once at least
 pub times-there : (xs : List ℕ) (k : ℕ) → k < length xs → 0 < times (get_or xs k 0) xs
 times-there xs k l =
     let at = get_or-le-sum_by (λ x. cond {A = ℕ} (eqb x (get_or xs k 0)) 1 0) xs k 0 l in
@@ -28,6 +31,7 @@ times-there xs k l =
     ≡ 1 = ap (λ b. cond {A = ℕ} b 1 0) (eq-eqb (get_or xs k 0) (get_or xs k 0) refl) in
     omega (arith, at, one)
 
+-- a net that a gate drives is one of the nets
 pub gate_within : (drivers : List Driver) (g : ℕ) → gate_at drivers g ≡ true → g < length drivers
 gate_within drivers g e =
     elim (cases_lt g (length drivers)) [
@@ -36,6 +40,7 @@ gate_within drivers g e =
           (ap is_gate (get_or_past drivers g Input l)) e)
     ]
 
+-- what is no gate reads no net at once
 pub pins_none : (d : Driver) → is_gate d ≡ false → pins_of d ≡ []
 pins_none Input e = refl
 pins_none (Dff d) e = refl

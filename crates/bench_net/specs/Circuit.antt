@@ -2,6 +2,7 @@
 use Rattle.std.specs.Prelude.{◌≡◌, ℕ, ◌<◌, ◌≤◌, Bool, List, [], length, slice_index_or}
 use Rattle.std.specs.List.{position_or_len}
 use Rattle.std.specs.Str.{bytes_eq}
+use Rattle.text_bytes.specs.Limits.{most_nets}
 use Rattle.bench_net.specs.declared.gate.Driver.{Driver}
 use Rattle.bench_net.specs.Wiring.{driver_at, IsWired, IsOrder, AreReaders}
 
@@ -23,7 +24,7 @@ number names name = position_or_len (bytes_eq name) names
 
 -- what each netlist keeps
 pub record IsWhole (c : Circuit) : Type 0 where
-  pub small : length c.net.names ≤ 65536
+  pub small : length c.net.names ≤ most_nets
   pub drivers : length c.net.drivers ≡ length c.net.names
   pub outputs : length c.net.outputs ≡ length c.net.names
   pub apart : (n : ℕ) → n < length c.net.names

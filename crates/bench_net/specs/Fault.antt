@@ -1,6 +1,7 @@
 -- The first refusal of a bench text, in the order Line, OutOfRange, Arity, Twice, Missing, Loop.
 use Rattle.std.specs.Prelude.{◌≡◌, ℕ, ◌<◌, ◌≤◌, ◌+◌, List, [], length, Some, None, slice_index_or}
 use Rattle.std.specs.Str.Lines.{lines}
+use Rattle.text_bytes.specs.Limits.{most_nets}
 use Rattle.bench_net.specs.declared.fault.NetFault.{NetFault}
 use Rattle.bench_net.specs.declared.fault.NetFault.TheVariants.{NoMemory, Line, OutOfRange, Arity, Twice, Missing, Loop}
 use Rattle.bench_net.specs.Wiring.{IsReached, IsUnreached}
@@ -43,11 +44,11 @@ pub record IsFirstLoop (forms : List Form) (name : List ℕ) : Type 0 where
 abbrev pub IsRefusal : List Form → NetFault → Type 0
 IsRefusal forms NoMemory = ⊥
 IsRefusal forms (Line n) = ⊥
-IsRefusal forms OutOfRange = 65536 < length (names forms)
-IsRefusal forms (Arity name) = (length (names forms) ≤ 65536) × (arity_fault forms ≡ Some name)
-IsRefusal forms (Twice name) = (length (names forms) ≤ 65536) × (arity_fault forms ≡ None)
+IsRefusal forms OutOfRange = most_nets < length (names forms)
+IsRefusal forms (Arity name) = (length (names forms) ≤ most_nets) × (arity_fault forms ≡ Some name)
+IsRefusal forms (Twice name) = (length (names forms) ≤ most_nets) × (arity_fault forms ≡ None)
     × (twice_fault forms ≡ Some name)
-IsRefusal forms (Missing name) = (length (names forms) ≤ 65536) × (arity_fault forms ≡ None)
+IsRefusal forms (Missing name) = (length (names forms) ≤ most_nets) × (arity_fault forms ≡ None)
     × (twice_fault forms ≡ None) × (missing_fault forms ≡ Some name)
 IsRefusal forms (Loop name) = IsDriven forms × IsFirstLoop forms name
 

@@ -4,6 +4,7 @@ pub mod Inside
 pub mod Line
 pub mod Net
 pub mod Fault
+pub mod FaultText
 pub mod Givers
 pub mod Sorting
 pub mod Step

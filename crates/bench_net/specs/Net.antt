@@ -4,6 +4,7 @@ use Rattle.std.specs.List.{list_any, flat_map, filter_map, find, AllZip}
 use Rattle.std.specs.Option.{option_map_or}
 use Rattle.std.specs.Str.{bytes_eq}
 use Rattle.std.specs.Str.Lines.{lines}
+use Rattle.text_bytes.specs.Limits.{most_nets, most_inputs}
 use Rattle.bench_net.specs.declared.gate.Function.{Function}
 use Rattle.bench_net.specs.declared.gate.Function.TheVariants.{Logic, Register}
 use Rattle.bench_net.specs.declared.gate.Driver.{Driver}
@@ -85,7 +86,7 @@ net_of forms = record {
 -- whether a function can't take so many nets: NOT, BUF, BUFF and DFF take one, any other at most
 -- 1,024
 abbrev pub takes_not : Function → ℕ → Bool
-takes_not (Logic kind) pins = if is_single kind then not (pins == 1) else nat_lt 1024 pins
+takes_not (Logic kind) pins = if is_single kind then not (pins == 1) else nat_lt most_inputs pins
 takes_not Register pins = not (pins == 1)
 
 -- the net of a line whose function can't take so many nets
@@ -124,7 +125,7 @@ missing_fault forms = find (is_missing forms) (flat_map used forms)
 
 -- the lines name at most 65,536 nets, and each net has one driver, of as many nets as it takes
 pub record IsDriven (forms : List Form) : Type 0 where
-  pub in_range : length (names forms) ≤ 65536
+  pub in_range : length (names forms) ≤ most_nets
   pub arity : arity_fault forms ≡ None
   pub once : twice_fault forms ≡ None
   pub all : missing_fault forms ≡ None

@@ -2,24 +2,24 @@
 use Rattle.std.specs.Prelude.{ℕ, Vec, List, map}
 use Rattle.std.specs.declared.alloc.Global.{Global}
 use Rattle.std.specs.Borrow.{Bor}
-use Rattle.bench_net.specs.declared.line.Mark.{Mark}
+use Rattle.bench_net.specs.declared.line.Delimiter.{Delimiter}
 use Rattle.bench_net.specs.declared.line.Part.{Part}
 use Rattle.bench_net.specs.declared.line.Part.TheVariants as parts
 use Rattle.bench_net.specs.declared.line.Front.{Front}
 use Rattle.bench_net.specs.declared.line.Front.TheVariants as fronts
 use Rattle.bench_net.specs.declared.line.Line.{Line}
 use Rattle.bench_net.specs.declared.line.Line.TheVariants as lines
-use Rattle.bench_net.specs.Line.{Lexeme, word, mark, Form, nothing, input, output, gate}
+use Rattle.bench_net.specs.Line.{Lexeme, word, delimiter, Form, nothing, input, output, gate}
 use Rattle.bench_net.specs.Step.{Step, ends, bad, begins}
 
--- a mark as a part
-abbrev pub mark_part : Mark → Lexeme
-mark_part m = mark m
+-- a delimiter as a part
+abbrev pub delimiter_part : Delimiter → Lexeme
+delimiter_part m = delimiter m
 
 -- a part
 abbrev pub lexeme_of : Part → Lexeme
 lexeme_of (parts.Word w) = word w.now
-lexeme_of (parts.Sign m) = mark m
+lexeme_of (parts.Delimiter m) = delimiter m
 
 -- what stands at the front of a text
 abbrev pub step_of_front : Front → Step

@@ -3,6 +3,7 @@
 -- an order of the gates, and the gates that read each net. A net is its number.
 use Rattle.std.specs.Prelude.{◌≡◌, ◌==◌, ℕ, ◌<◌, ◌≤◌, Bool, true, false, not, ◌||◌, cond, List, [], length, take, slice_index, slice_index_or, All, count_by}
 use Rattle.std.specs.List.{list_any}
+use Rattle.text_bytes.specs.Limits.{most_inputs}
 use Rattle.bench_net.specs.declared.gate.GateKind.{GateKind}
 use Rattle.bench_net.specs.declared.gate.GateKind.TheVariants.{And, Nand, Or, Nor, Xor, Xnor, Not, Buf}
 use Rattle.bench_net.specs.declared.gate.Driver.{Driver}
@@ -47,7 +48,7 @@ is_single Buf = true
 abbrev pub IsWired : ℕ → Driver → Type 0
 IsWired nets Input = Unit {0}
 IsWired nets (Dff d) = d < nets
-IsWired nets (Gate kind pins) = (0 < length pins) × (length pins ≤ 1024)
+IsWired nets (Gate kind pins) = (0 < length pins) × (length pins ≤ most_inputs)
     × (is_single kind ≡ true → length pins ≡ 1) × All (λ p. p < nets) pins
 
 -- a set of nets, as a test, that holds all inputs and all flip-flops' nets, and each gate's net

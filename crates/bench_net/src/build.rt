@@ -3,6 +3,7 @@ ghost use Rattle.std.specs.Prelude.{◌≡◌, ◌==◌, ℕ, not, slice_index, 
 ghost use Rattle.std.specs.Option.{option_map};
 ghost use Rattle.std.specs.List.{find, filter_map, list_any, flat_map};
 ghost use Rattle.std.specs.Str.{bytes_eq};
+ghost use Rattle.text_bytes.specs.Limits.{most_nets};
 ghost use Rattle.bench_net.specs.Wiring.{is_single};
 ghost use Rattle.bench_net.specs.Net.{takes_not, named, added, names, driven, used, shown, wrong_arity, first_repeat, arity_fault, twice_fault, missing_fault};
 ghost use Rattle.bench_net.specs.Givers.{is_no, GivesLine, GivesTwice, AreGivers, IsTwiceFault, ShowsLine, AreShown, looped, loop_fault};
@@ -16,9 +17,7 @@ use crate::line::Line;
 use crate::table::number;
 use indexmap::IndexSet;
 use std::alloc::{AllocError, Global};
-
-/// The most nets of a gate.
-const MAX_PINS: usize = 1024;
+use text_bytes::MOST_INPUTS;
 
 /// Puts a name behind the others, unless it is one of them.
 fn add(alloc: Global, names: &mut IndexSet<Vec<u8>>, name: &[u8]) -> Result<(), AllocError>
@@ -86,7 +85,7 @@ fn takes_not(function: Function, pins: usize) -> bool
 {
     match function {
         Function::Logic(kind) if is_single(kind) => pins != 1,
-        Function::Logic(_) => pins > MAX_PINS,
+        Function::Logic(_) => pins > MOST_INPUTS,
         Function::Register => pins != 1,
     }
 }
@@ -267,7 +266,7 @@ pub(crate) fn shown_nets<'a>(
 
 /// The net of a line whose gate waits for a gate in the end.
 fn looped<'a>(names: &IndexSet<Vec<u8>>, left: &[usize], line: &Line<'a>) -> Option<&'a [u8]>
-    requires { length names.now.keys ≤ 65536 }
+    requires { length names.now.keys ≤ most_nets }
     ensures { option_map (λ n. n.now) result
         ≡ looped (key_texts names.now.keys) left.now (form_of line.now) }
 {
@@ -279,7 +278,7 @@ fn looped<'a>(names: &IndexSet<Vec<u8>>, left: &[usize], line: &Line<'a>) -> Opt
 
 /// Whether the gate of a net waits for a gate.
 fn waits(names: &IndexSet<Vec<u8>>, left: &[usize], net: &[u8]) -> bool
-    requires { length names.now.keys ≤ 65536 }
+    requires { length names.now.keys ≤ most_nets }
     ensures { result ≡ not (slice_index left.now (number (key_texts names.now.keys) net.now) == 0) }
 {
     let place = number(names, net) as usize;
@@ -292,7 +291,7 @@ pub(crate) fn first_loop<'a>(
     left: &[usize],
     lines: &[Line<'a>],
 ) -> Option<&'a [u8]>
-    requires { length names.now.keys ≤ 65536 }
+    requires { length names.now.keys ≤ most_nets }
     ensures { option_map (λ n. n.now) result
         ≡ loop_fault (key_texts names.now.keys) left.now (map form_of lines.now) }
 {

@@ -83,9 +83,14 @@ pub enum NetFault {
 }
 
 impl fmt::Display for NetFault {
+    ghost use Rattle.std.specs.Prelude.{Some};
+    ghost use Rattle.bench_net.specs.FaultText.{fault_text};
+
+    ghost output = { λ fault. Some (fault_text fault) };
+
     fn fmt<W: fmt::Write>(&self, f: &mut fmt::Formatter<W>) -> fmt::Result {
         match self {
-            NetFault::NoMemory => f.write_str("no memory"),
+            NetFault::NoMemory => f.write_str("out of memory"),
             NetFault::Line(line) => write!(f, "line {line} has no form of a line"),
             NetFault::OutOfRange => f.write_str("more than 65,536 nets"),
             NetFault::Arity(_) => f.write_str("a function with a wrong number of inputs"),

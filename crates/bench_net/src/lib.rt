@@ -3,6 +3,7 @@
 #![tactic(auto)]
 
 ghost use Rattle.std.specs.Prelude.{◌≡◌, ℕ, ◌≤◌, ◌⊎◌, length, IfOk, IfErr, MatchResult};
+ghost use Rattle.text_bytes.specs.Limits.{most_bytes};
 ghost use Rattle.bench_net.specs.Circuit.{Net};
 ghost use Rattle.bench_net.specs.Net.{IsNet};
 ghost use Rattle.bench_net.specs.Fault.{IsFault};
@@ -14,6 +15,7 @@ use std::alloc::Global;
 mod build;
 mod fault;
 mod gate;
+mod laws;
 mod line;
 mod netlist;
 mod nets;
@@ -23,12 +25,13 @@ mod text;
 
 pub use fault::{NetFault, NetName};
 pub use gate::{Driver, GateKind};
+pub use laws::{no_fault_in_net, one_fault, one_net};
 pub use netlist::Netlist;
 pub use nets::Nets;
 
 /// The netlist that a text in the bench form names, or the first of its faults: `Netlist::read`.
 pub fn read(alloc: Global, bytes: &[u8]) -> Result<Netlist, NetFault>
-    requires { length bytes.now ≤ 16777216 }
+    requires { length bytes.now ≤ most_bytes }
     ensures found { IfOk result (λ n. IsNet bytes.now n.net) }
     ensures only { (net : Net) → IsNet bytes.now net
         → MatchResult result (λ n. n.net ≡ net) (λ e. e ≡ NoMemory) }

@@ -2,19 +2,17 @@
 ghost use Rattle.std.specs.Prelude.{◌≡◌, ◌==◌, ℕ, ◌||◌, ◌≤◌, Some, None, List, ◌∷◌, map, length, take, drop, IfOk, MatchOption};
 ghost use Rattle.std.specs.Str.{str_eq_ignore_ascii_case};
 ghost use Rattle.std.specs.Option.{option_map};
-ghost use Rattle.bench_net.specs.Line.{is_blank, is_name_byte, is_net, Lexeme, word, Spells, Says, Form};
-ghost use Rattle.bench_net.specs.Step.{skipped, name_len, sign_step, front_step, function_of, enclosed_of, pins_read, call_of, declared_of, after_word, led_of, line_of};
-ghost use Rattle.bench_net.specs.Views.{lexeme_of, mark_part, step_of_front, texts, form_of};
+ghost use Rattle.bench_net.specs.Line.{is_gap, is_name_byte, is_net, Lexeme, word, Spells, Says, Form};
+ghost use Rattle.bench_net.specs.Step.{skipped, name_len, delimiter_step, front_step, function_of, enclosed_of, pins_read, call_of, declared_of, after_word, led_of, line_of};
+ghost use Rattle.bench_net.specs.Views.{lexeme_of, delimiter_part, step_of_front, texts, form_of};
 
 use crate::gate::{Function, GateKind};
 use std::alloc::{AllocError, Global};
+use text_bytes::LONGEST_NAME;
 
-/// The most bytes of a net's name.
-const MAX_NAME: usize = 1024;
-
-/// The marks of a line.
+/// What stands between the words of a line.
 #[derive(Debug, Clone, Copy, PartialEq, Eq)]
-pub(crate) enum Mark {
+pub(crate) enum Delimiter {
     Open,
     Close,
     Comma,
@@ -25,7 +23,7 @@ pub(crate) enum Mark {
 #[derive(Clone, Copy)]
 pub(crate) enum Part<'a> {
     Word(&'a [u8]),
-    Sign(Mark),
+    Delimiter(Delimiter),
 }
 
 /// What stands at the front of a text: nothing more, no part, or a part with the rest.
@@ -44,9 +42,9 @@ pub(crate) enum Line<'a> {
     Gate(&'a [u8], Function, Vec<&'a [u8]>),
 }
 
-/// Whether a blank, a space or a tab.
-fn is_blank(byte: u8) -> bool
-    ensures { result ≡ is_blank byte }
+/// Whether it parts words: a space or a tab.
+fn is_gap(byte: u8) -> bool
+    ensures { result ≡ is_gap byte }
 {
     byte == b' ' || byte == b'\t'
 }
@@ -58,13 +56,13 @@ fn is_name_byte(byte: u8) -> bool
     (33..=126).contains(&byte) && !matches!(byte, b'(' | b')' | b',' | b'=' | b'#')
 }
 
-/// The text without the blanks in front.
-fn skip_blanks(text: &[u8]) -> &[u8]
+/// The text without the spaces and tabs in front.
+fn skip_gap(text: &[u8]) -> &[u8]
     ensures { result.now ≡ skipped text.now }
 {
     let mut rest = text;
     while let [first, more @ ..] = rest {
-        if !is_blank(*first) {
+        if !is_gap(*first) {
             break;
         }
         rest = more;
@@ -98,20 +96,20 @@ fn split_name(text: &[u8]) -> (&[u8], &[u8])
 }
 
 /// What a byte that begins no name says, with the text behind it.
-fn sign(first: u8, rest: &[u8]) -> Front<'_>
-    ensures { step_of_front result ≡ sign_step first rest.now }
+fn front_at_delimiter(first: u8, rest: &[u8]) -> Front<'_>
+    ensures { step_of_front result ≡ delimiter_step first rest.now }
 {
     match first {
         b'#' => Front::Ends,
-        b'(' => Front::Begins(Part::Sign(Mark::Open), rest),
-        b')' => Front::Begins(Part::Sign(Mark::Close), rest),
-        b',' => Front::Begins(Part::Sign(Mark::Comma), rest),
-        b'=' => Front::Begins(Part::Sign(Mark::Equals), rest),
+        b'(' => Front::Begins(Part::Delimiter(Delimiter::Open), rest),
+        b')' => Front::Begins(Part::Delimiter(Delimiter::Close), rest),
+        b',' => Front::Begins(Part::Delimiter(Delimiter::Comma), rest),
+        b'=' => Front::Begins(Part::Delimiter(Delimiter::Equals), rest),
         _ => Front::Bad,
     }
 }
 
-/// What stands at the front of a text that begins with no blank.
+/// What stands at the front of a text that begins with no space and no tab.
 fn front_of(text: &[u8]) -> Front<'_>
     ensures { step_of_front result ≡ front_step text.now }
 {
@@ -122,7 +120,7 @@ fn front_of(text: &[u8]) -> Front<'_>
                 let (name, rest) = split_name(text);
                 Front::Begins(Part::Word(name), rest)
             } else {
-                sign(*first, rest)
+                front_at_delimiter(*first, rest)
             }
         }
     }
@@ -139,7 +137,7 @@ fn is_word(word: &[u8], keyword: &[u8]) -> bool
 fn is_net(name: &[u8]) -> bool
     ensures { result ≡ is_net name.now }
 {
-    name.len() <= MAX_NAME
+    name.len() <= LONGEST_NAME
 }
 
 /// The function of a keyword.
@@ -177,7 +175,7 @@ fn parts<'a>(alloc: Global, line: &'a [u8]) -> Result<Option<Vec<Part<'a>>>, All
     let mut parts = Vec::new(alloc);
     let mut rest = line;
     loop {
-        match front_of(skip_blanks(rest)) {
+        match front_of(skip_gap(rest)) {
             Front::Ends => return Ok(Some(parts)),
             Front::Bad => return Ok(None),
             Front::Begins(part, more) => {
@@ -193,18 +191,18 @@ fn enclosed<'a>(parts: &[Part<'a>]) -> Option<&'a [u8]>
     ensures { option_map (λ n. n.now) result ≡ enclosed_of (map lexeme_of parts.now) }
 {
     match parts {
-        [Part::Word(name), Part::Sign(mark), rest @ ..] => closed(name, *mark, rest),
+        [Part::Word(name), Part::Delimiter(delimiter), rest @ ..] => closed(name, *delimiter, rest),
         _ => None,
     }
 }
 
 /// The net, where these are the closing parenthesis and nothing more.
-fn closed<'a>(name: &'a [u8], mark: Mark, rest: &[Part<'a>]) -> Option<&'a [u8]>
+fn closed<'a>(name: &'a [u8], delimiter: Delimiter, rest: &[Part<'a>]) -> Option<&'a [u8]>
     ensures { option_map (λ n. n.now) result
-        ≡ enclosed_of (word name.now ∷ mark_part mark ∷ map lexeme_of rest.now) }
+        ≡ enclosed_of (word name.now ∷ delimiter_part delimiter ∷ map lexeme_of rest.now) }
 {
-    match mark {
-        Mark::Close if rest.is_empty() && is_net(name) => Some(name),
+    match delimiter {
+        Delimiter::Close if rest.is_empty() && is_net(name) => Some(name),
         _ => None,
     }
 }
@@ -216,14 +214,14 @@ fn pins<'a>(alloc: Global, parts: &[Part<'a>]) -> Result<Option<Vec<&'a [u8]>>, 
 {
     let mut pins = Vec::new(alloc);
     let mut rest = parts;
-    while let [Part::Word(pin), Part::Sign(mark), more @ ..] = rest {
+    while let [Part::Word(pin), Part::Delimiter(delimiter), more @ ..] = rest {
         if !is_net(pin) {
             return Ok(None);
         }
         pins.push(*pin)?;
-        match mark {
-            Mark::Comma => rest = more,
-            Mark::Close if more.is_empty() => return Ok(Some(pins)),
+        match delimiter {
+            Delimiter::Comma => rest = more,
+            Delimiter::Close if more.is_empty() => return Ok(Some(pins)),
             _ => return Ok(None),
         }
     }
@@ -238,7 +236,12 @@ fn call<'a>(
 ) -> Result<Option<Line<'a>>, AllocError>
     ensures { IfOk result (λ found. option_map form_of found ≡ call_of net.now (map lexeme_of parts.now)) }
 {
-    let [Part::Word(word), Part::Sign(Mark::Open), rest @ ..] = parts else {
+    let [
+        Part::Word(word),
+        Part::Delimiter(Delimiter::Open),
+        rest @ ..,
+    ] = parts
+    else {
         return Ok(None);
     };
     let Some(function) = function_of(word) else {
@@ -263,19 +266,19 @@ fn declared<'a>(word: &[u8], parts: &[Part<'a>]) -> Option<Line<'a>>
     }
 }
 
-/// What stands behind the first word and a mark.
+/// What stands behind the first word and a delimiter.
 fn behind<'a>(
     alloc: Global,
     word: &'a [u8],
-    mark: Mark,
+    delimiter: Delimiter,
     rest: &[Part<'a>],
 ) -> Result<Option<Line<'a>>, AllocError>
     ensures { IfOk result (λ found. option_map form_of found
-        ≡ after_word word.now (mark_part mark ∷ map lexeme_of rest.now)) }
+        ≡ after_word word.now (delimiter_part delimiter ∷ map lexeme_of rest.now)) }
 {
-    match mark {
-        Mark::Open => Ok(declared(word, rest)),
-        Mark::Equals if is_net(word) => call(alloc, word, rest),
+    match delimiter {
+        Delimiter::Open => Ok(declared(word, rest)),
+        Delimiter::Equals if is_net(word) => call(alloc, word, rest),
         _ => Ok(None),
     }
 }
@@ -285,7 +288,9 @@ fn led<'a>(alloc: Global, parts: &[Part<'a>]) -> Result<Option<Line<'a>>, AllocE
     ensures { IfOk result (λ found. option_map form_of found ≡ led_of (map lexeme_of parts.now)) }
 {
     match parts {
-        [Part::Word(word), Part::Sign(mark), rest @ ..] => behind(alloc, word, *mark, rest),
+        [Part::Word(word), Part::Delimiter(delimiter), rest @ ..] => behind(
+            alloc, word, *delimiter, rest,
+        ),
         _ => Ok(None),
     }
 }

@@ -1,5 +1,6 @@
 //! The netlist that a text names.
 ghost use Rattle.std.specs.Prelude.{◌≡◌, ℕ, ◌<◌, ◌≤◌, ◌≢◌, ◌↔◌, ◌⊎◌, [], length, IsTrue, IfSome, IfNone, IfOk, IfErr, MatchResult, Some, None, true, slice_get, slice_index_or, map, All};
+ghost use Rattle.text_bytes.specs.Limits.{most_bytes};
 ghost use Rattle.bench_net.specs.Wiring.{driver_at};
 ghost use Rattle.bench_net.specs.Circuit.{Circuit, Net, IsWhole};
 ghost use Rattle.bench_net.specs.Net.{names, net_of, IsDriven, IsNet};
@@ -22,9 +23,7 @@ use crate::text::read_lines;
 use indexmap::IndexSet;
 use std::alloc::{AllocError, Global};
 use std::marker::Model;
-
-/// The most nets of a netlist.
-const MAX_NETS: usize = 65_536;
+use text_bytes::MOST_NETS;
 
 /// A netlist without gate loops. Its nets are numbered from 0 in the order in which the text first
 /// names them.
@@ -52,7 +51,7 @@ impl Model for Netlist {
 impl Netlist {
     /// The netlist that a text in the bench form names, or the first of its faults.
     pub fn read(alloc: Global, bytes: &[u8]) -> Result<Self, NetFault>
-        requires { length bytes.now ≤ 16777216 }
+        requires { length bytes.now ≤ most_bytes }
         ensures found { IfOk result (λ n. IsNet bytes.now n.net) }
         ensures only { (net : Net) → IsNet bytes.now net
             → MatchResult result (λ n. n.net ≡ net) (λ e. e ≡ NoMemory) }
@@ -134,7 +133,7 @@ impl Netlist {
 
 /// The netlist of a text.
 fn read_text(alloc: Global, bytes: &[u8]) -> Result<Netlist, NetFault>
-    requires { length bytes.now ≤ 16777216 }
+    requires { length bytes.now ≤ most_bytes }
     ensures found { IfOk result (λ n. IsNet bytes.now n.net) }
     ensures fault { IfErr result (λ e. (e ≡ NoMemory) ⊎ IsFault bytes.now e) }
 {
@@ -214,7 +213,7 @@ fn checked<'a>(
     ensures found { IfOk result (λ given. IsChecked (map form_of lines.now) (texts given.0.keys) given.1.items) }
     ensures fault { IfErr result (λ e. (e ≡ NoMemory) ⊎ IsRefusal (map form_of lines.now) e) }
 {
-    if all.len() > MAX_NETS {
+    if all.len() > MOST_NETS {
         return Err(NetFault::OutOfRange);
     }
     if let Some(net) = first_wrong_arity(lines) {

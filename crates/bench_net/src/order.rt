@@ -1,6 +1,7 @@
 //! The gates that read each net, and the gates in an order in which each comes after the gates that
 //! it reads.
 ghost use Rattle.std.specs.Prelude.{◌≡◌, ◌==◌, ℕ, ◌<◌, ◌≤◌, ◌+◌, ◌^◌, List, [], map, length, slice_index, slice_index_or, All, count_by, take, drop, IfOk, OnOk, replicate};
+ghost use Rattle.text_bytes.specs.Limits.{most_nets};
 ghost use Rattle.bench_net.specs.Wiring.{driver_at, gate_at, pins_at, pins_of, is_gate, AreReaders, IsOrder};
 ghost use Rattle.bench_net.specs.Sorting.{AreWithin, AddsReader, AddsReaders, IsSorted, AreCounts, AreReadyBelow, with_ready, CanSettle, lowered, joined, walked};
 
@@ -73,7 +74,7 @@ fn no_readers(alloc: Global, count: usize) -> Result<Vec<Nets>, AllocError>
 
 /// For each net the gates that read it, a gate as often as it does.
 pub(crate) fn readers(alloc: Global, drivers: &[Driver]) -> Result<Vec<Nets>, AllocError>
-    requires few { length drivers.now ≤ 65536 }
+    requires few { length drivers.now ≤ most_nets }
     requires within { (n : ℕ) → n < length drivers.now → AreWithin (length drivers.now) (pins_at drivers.now n) }
     ensures { IfOk result (λ readers. AreReaders drivers.now readers.items) }
 {
@@ -130,7 +131,7 @@ fn add_ready(
 
 /// The gates that wait for none.
 fn ready_gates(alloc: Global, drivers: &[Driver], left: &[usize]) -> Result<Vec<u32>, AllocError>
-    requires few { length drivers.now ≤ 65536 }
+    requires few { length drivers.now ≤ most_nets }
     requires same { length left.now ≡ length drivers.now }
     ensures { IfOk result (λ order. AreReadyBelow drivers.now left.now order.items (length drivers.now)) }
 {
@@ -186,7 +187,7 @@ pub(crate) fn sorted(
     drivers: &[Driver],
     readers: &[Nets],
 ) -> Result<(Vec<u32>, Vec<usize>), AllocError>
-    requires few { length drivers.now ≤ 65536 }
+    requires few { length drivers.now ≤ most_nets }
     requires within { (n : ℕ) → n < length drivers.now → AreWithin (length drivers.now) (pins_at drivers.now n) }
     requires readers { AreReaders drivers.now readers.now }
     ensures { IfOk result (λ sorted. IsSorted drivers.now sorted.1.items sorted.0.items) }

@@ -3,6 +3,7 @@ ghost use Rattle.std.specs.Prelude.{◌≡◌, ℕ, ◌<◌, ◌≤◌, None, So
 ghost use Rattle.std.specs.Option.{option_and_then};
 ghost use Rattle.std.specs.List.{position, list_any};
 ghost use Rattle.std.specs.Str.{bytes_eq};
+ghost use Rattle.text_bytes.specs.Limits.{most_nets};
 ghost use Rattle.bench_net.specs.Circuit.{number};
 ghost use Rattle.bench_net.specs.Net.{function_driver, driver_of};
 ghost use Rattle.bench_net.specs.Givers.{given_driver};
@@ -34,7 +35,7 @@ fn place_in(names: &IndexSet<Vec<u8>>, name: &[u8]) -> Option<usize>
 /// The number of a net, or how many there are where none has the name.
 #[tactic(auto, using(crate::proofs::NetLemmas::number_from_some, crate::proofs::NetLemmas::number_from_none))]
 pub(crate) fn number(names: &IndexSet<Vec<u8>>, name: &[u8]) -> u32
-    requires { length names.now.keys ≤ 65536 }
+    requires { length names.now.keys ≤ most_nets }
     ensures { result ≡ number (key_texts names.now.keys) name.now }
 {
     match place_in(names, name) {
@@ -45,7 +46,7 @@ pub(crate) fn number(names: &IndexSet<Vec<u8>>, name: &[u8]) -> u32
 
 /// The numbers of nets.
 fn numbers(alloc: Global, names: &IndexSet<Vec<u8>>, pins: &[&[u8]]) -> Result<Nets, AllocError>
-    requires { length names.now.keys ≤ 65536 }
+    requires { length names.now.keys ≤ most_nets }
     ensures { IfOk result (λ nets. nets ≡ map (number (key_texts names.now.keys)) (texts pins.now)) }
 {
     let mut nets = Vec::new(alloc);
@@ -59,7 +60,7 @@ fn numbers(alloc: Global, names: &IndexSet<Vec<u8>>, pins: &[&[u8]]) -> Result<N
 
 /// The flip-flop of the first of these nets.
 fn flip_flop(names: &IndexSet<Vec<u8>>, pins: &[&[u8]]) -> Driver
-    requires { length names.now.keys ≤ 65536 }
+    requires { length names.now.keys ≤ most_nets }
     ensures { result ≡ function_driver Register (map (number (key_texts names.now.keys)) (texts pins.now)) }
 {
     match pins {
@@ -74,7 +75,7 @@ fn driver_of(
     names: &IndexSet<Vec<u8>>,
     line: &Line<'_>,
 ) -> Result<Driver, AllocError>
-    requires { length names.now.keys ≤ 65536 }
+    requires { length names.now.keys ≤ most_nets }
     ensures { IfOk result (λ driver. driver ≡ driver_of (key_texts names.now.keys) (form_of line.now)) }
 {
     match line {
@@ -97,7 +98,7 @@ fn driver_for(
     places: &[usize],
     name: &[u8],
 ) -> Result<Driver, AllocError>
-    requires { length names.now.keys ≤ 65536 }
+    requires { length names.now.keys ≤ most_nets }
     ensures { IfOk result (λ driver. driver
         ≡ given_driver (key_texts names.now.keys) (map form_of lines.now)
         (texts nets.now.keys) places.now name.now) }
@@ -129,7 +130,7 @@ pub(crate) fn drivers(
     nets: &IndexSet<&[u8]>,
     places: &[usize],
 ) -> Result<Vec<Driver>, AllocError>
-    requires { length names.now.keys ≤ 65536 }
+    requires { length names.now.keys ≤ most_nets }
     ensures { IfOk result (λ drivers. drivers.items
         ≡ map (given_driver (key_texts names.now.keys) (map form_of lines.now)
         (texts nets.now.keys) places.now) (key_texts names.now.keys)) }

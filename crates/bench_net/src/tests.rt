@@ -1,5 +1,6 @@
 //! Known texts.
 ghost use Rattle.std.specs.Prelude.{◌≤◌, length};
+ghost use Rattle.text_bytes.specs.Limits.{most_bytes};
 
 use crate::{Driver, GateKind, NetFault, Netlist, read};
 use std::alloc::Global;
@@ -86,7 +87,7 @@ fn s27_has_its_gates(rt: HostRuntime) -> Result<(), NetFault> {
 
 /// What a text is refused by, with the name of the net; a line counts from 100, and 0 is a netlist.
 fn refusal(alloc: Global, text: &[u8]) -> (u32, Vec<u8>)
-    requires { length text.now ≤ 16777216 }
+    requires { length text.now ≤ most_bytes }
 {
     match read(alloc, text) {
         Ok(_) => (0, Vec::new(alloc)),
@@ -102,7 +103,7 @@ fn refusal(alloc: Global, text: &[u8]) -> (u32, Vec<u8>)
 
 /// Whether the text is refused by this, with this net.
 fn refuses(alloc: Global, text: &[u8], kind: u32, net: &[u8]) -> bool
-    requires { length text.now ≤ 16777216 }
+    requires { length text.now ≤ most_bytes }
 {
     let (own, name) = refusal(alloc, text);
     own == kind && name.as_slice() == net

@@ -2,6 +2,7 @@
 ghost use Rattle.std.specs.Prelude.{◌≡◌, ◌==◌, ℕ, ◌<◌, ◌≤◌, ◌∷◌, ◌⊎◌, map, length, take, drop, IfOk, IfErr};
 ghost use Rattle.std.specs.List.{position};
 ghost use Rattle.std.specs.Str.Lines.{lines, strip_carriage_return};
+ghost use Rattle.text_bytes.specs.Limits.{most_bytes};
 ghost use Rattle.bench_net.specs.Net.{Reads};
 ghost use Rattle.bench_net.specs.Fault.{IsFault};
 ghost use Rattle.bench_net.specs.Views.{form_of};
@@ -42,7 +43,7 @@ fn first_line(text: &[u8]) -> (&[u8], &[u8])
 
 /// What each line of a text says, or the first line that has no form of a line.
 pub(crate) fn read_lines(alloc: Global, bytes: &[u8]) -> Result<Vec<Line<'_>>, NetFault>
-    requires { length bytes.now ≤ 16777216 }
+    requires { length bytes.now ≤ most_bytes }
     ensures found { IfOk result (λ read. Reads bytes.now (map form_of read.items)) }
     ensures fault { IfErr result (λ e. (e ≡ NoMemory) ⊎ IsFault bytes.now e) }
 {
