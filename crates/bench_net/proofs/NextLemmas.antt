@@ -7,20 +7,17 @@ use Rattle.std.proofs.lemmas.List.Sums.{sum_by-cons, sum_by-set, sum_by-append}
 use Rattle.std.proofs.lemmas.List.Folds.{list_any-append, list_any_none}
 use Rattle.std.proofs.lemmas.List.Elements.{All-from_get_or}
 use Rattle.std.proofs.lemmas.Bool.{cases_Bool, cases_lt, cases_eq, eqb-true, eq-eqb, ne_eqb, and_parts}
-use Rattle.text_bytes.proofs.BoolLemmas.{at_most_one}
+use Rattle.text_bytes.proofs.BoolLemmas.{or_true, at_most_one}
 use Rattle.bench_net.specs.declared.gate.Driver.{Driver}
 use Rattle.bench_net.specs.Wiring.{gate_at, pins_at, driver_at, is_settled, AreReaders}
 use Rattle.bench_net.specs.Sorting.{AreWithin, times, waiting, is_ready, IsSorted, lowered, joined, walked, CanSettle}
 use Rattle.bench_net.proofs.SortLemmas.{times-cons, times-there, gate_within, pins_none}
 use Rattle.bench_net.proofs.WalkLemmas.{Walk, Walk-walked, zero_count, is_ready-there}
 
+-- false adds nothing, twice
 or_nothing : (b : Bool) → (b || (false || false)) ≡ b
 or_nothing true = refl
 or_nothing false = refl
-
-or_true : (b : Bool) → (b || (true || false)) ≡ true
-or_true true = refl
-or_true false = refl
 
 -- a pin of the net is settled by it, and no other
 pin_settled : (drivers : List Driver) (front : List ℕ) (net p : ℕ) → gate_at drivers net ≡ true

@@ -6,7 +6,7 @@ use Rattle.std.proofs.lemmas.Bool.{cases_eq, cases_lt}
 use Rattle.std.proofs.lemmas.Nat.Bits.{bit_at_set_same, bit_at_set_other, bit_at_clear_same, bit_at_clear_other, bit_at-zero, bit_at-lt, bit_at_and, bit_at_mask_below, bit_at_mask_inside, ones_shl}
 use Rattle.std.specs.Prelude.{bit_and, bit_or}
 use Rattle.std.specs.Int.{bit_at, bit_not}
-use Rattle.die_sim.specs.Marks.{bit_of, bits_of}
+use Rattle.die_sim.specs.Pending.{bit_of, bits_of}
 
 pub length-bits_of : (words : List ℕ) → length (bits_of words) ≡ 64 * length words
 unfolding bits_of
@@ -102,7 +102,8 @@ cut-below word from k l b =
     ap (λ m. bit_at (bit_and word m) k) (ones_shl 64 from (omega arith)) ∙ bit_at_and word (2 ^ 64 - 2 ^ from) k
     ∙ ap (min (bit_at word k)) (bit_at_mask_below from 64 k b) ∙ min_none (bit_at word k)
 
-pub cut-above : (word from k : ℕ) → from < 64 → from ≤ k → k < 64 → bit_at (bit_and word (18446744073709551615 * 2 ^ from % 18446744073709551616)) k ≡ bit_at word k
+pub cut-above : (word from k : ℕ) → from < 64 → from ≤ k → k < 64
+    → bit_at (bit_and word (18446744073709551615 * 2 ^ from % 18446744073709551616)) k ≡ bit_at word k
 cut-above word from k l a b =
     ap (λ m. bit_at (bit_and word m) k) (ones_shl 64 from (omega arith)) ∙ bit_at_and word (2 ^ 64 - 2 ^ from) k
     ∙ ap (min (bit_at word k)) (bit_at_mask_inside from 64 k a b) ∙ min_one (bit_at word k) (bit_at-lt word k)
@@ -114,7 +115,8 @@ skipped-bits_of words all k is none = subst (λ (l : List Bool). get_or l k fals
   | inr l ↦ bits_of-past words k l
 ])
 
-pub found-bits_of : (words : List ℕ) (all : List Bool) (k : ℕ) → bits_of words ≡ all → k < length all → (k < 64 * length words → bit_of words k ≡ true) → get_or all k false ≡ true
+pub found-bits_of : (words : List ℕ) (all : List Bool) (k : ℕ) → bits_of words ≡ all → k < length all
+    → (k < 64 * length words → bit_of words k ≡ true) → get_or all k false ≡ true
 found-bits_of words all k is l one = subst (λ (a : List Bool). get_or a k false ≡ true) is (
     let within : k < 64 * length words = omega (arith, l, length-bits_of words, ap (λ (a : List Bool). length a) is) in
     get_or-bits_of words k within ∙ one within)

@@ -80,14 +80,18 @@ CapturedTo-none drivers e before old nets = record {
 }
 
 -- one more has
-module _ (drivers : List Driver) (e : Edge) (before old cur : List Level) (nets : List ℕ) (i n : ℕ) (x : Level) (n_is : n ≡ get_or nets i 0) (within : n < length cur) (x_is : x ≡ captured (driver_at drivers n) e (level_at cur n) before) (h : CapturedTo drivers e before old cur nets i) where
+module _ (drivers : List Driver) (e : Edge) (before old cur : List Level) (nets : List ℕ) (i n : ℕ) (x : Level)
+    (n_is : n ≡ get_or nets i 0) (within : n < length cur)
+    (x_is : x ≡ captured (driver_at drivers n) e (level_at cur n) before)
+    (h : CapturedTo drivers e before old cur nets i) where
   here : level_at (set cur n x) n ≡ captured (driver_at drivers n) e (level_at old n) before
   here = get_or-set_same cur n x Zero within ∙ x_is ∙ elim (h.either n) [
     | inl was ↦ ap (λ (l : Level). captured (driver_at drivers n) e l before) was
     | inr now ↦ ap (λ (l : Level). captured (driver_at drivers n) e l before) now ∙ captured-twice (driver_at drivers n) e (level_at old n) before
   ]
 
-  kept : (m : ℕ) → level_at cur m ≡ captured (driver_at drivers m) e (level_at old m) before → level_at (set cur n x) m ≡ captured (driver_at drivers m) e (level_at old m) before
+  kept : (m : ℕ) → level_at cur m ≡ captured (driver_at drivers m) e (level_at old m) before
+      → level_at (set cur n x) m ≡ captured (driver_at drivers m) e (level_at old m) before
   kept m was = elim (cases_eq m n) [
     | inl q ↦ subst (λ (a : ℕ). level_at (set cur n x) a ≡ captured (driver_at drivers a) e (level_at old a) before) (sym q) here
     | inr ne ↦ get_or-set_other cur n m x Zero ne ∙ was
@@ -114,7 +118,9 @@ is_keeps Doubts = inr (λ q. cc)
 is_keeps Keeps = inl refl
 
 -- when each of them has, all flip-flops have captured
-pub CapturedTo-all : (drivers : List Driver) (e : Edge) (before old new : List Level) (nets : List ℕ) (i : ℕ) → length nets ≤ i → MayCapture drivers e nets → CapturedTo drivers e before old new nets i → Captures drivers e before old new
+pub CapturedTo-all : (drivers : List Driver) (e : Edge) (before old new : List Level) (nets : List ℕ) (i : ℕ)
+    → length nets ≤ i → MayCapture drivers e nets → CapturedTo drivers e before old new nets i
+    → Captures drivers e before old new
 CapturedTo-all drivers e before old new nets i l may h = record {
   count = h.count;
   each = λ n within. elim (is_keeps e) [
@@ -129,7 +135,8 @@ CapturedTo-all drivers e before old new nets i l may h = record {
   ];
 }
   where
-    unchanged : (n : ℕ) → captured (driver_at drivers n) e (level_at old n) before ≡ level_at old n → level_at new n ≡ captured (driver_at drivers n) e (level_at old n) before
+    unchanged : (n : ℕ) → captured (driver_at drivers n) e (level_at old n) before ≡ level_at old n
+        → level_at new n ≡ captured (driver_at drivers n) e (level_at old n) before
     unchanged n q = elim (h.either n) [
       | inl was ↦ was ∙ sym q
       | inr now ↦ now
@@ -153,7 +160,9 @@ stands_last n xs = record {
   is = get_or_push xs n 0 (length xs) refl;
 }
 
-pub AreFlipFlops-more : (drivers : List Driver) (old new : List ℕ) (n : ℕ) → new ≡ cond (is_flip_flop (driver_at drivers n)) (old ++ n ∷ []) old → AreFlipFlops drivers old n → AreFlipFlops drivers new (n + 1)
+pub AreFlipFlops-more : (drivers : List Driver) (old new : List ℕ) (n : ℕ)
+    → new ≡ cond (is_flip_flop (driver_at drivers n)) (old ++ n ∷ []) old → AreFlipFlops drivers old n
+    → AreFlipFlops drivers new (n + 1)
 AreFlipFlops-more drivers old new n e h = elim (cases_Bool (is_flip_flop (driver_at drivers n))) [
   | inl t ↦
       let is : new ≡ old ++ n ∷ [] = e ∙ ap (λ (b : Bool). cond b (old ++ n ∷ []) old) t in
@@ -196,7 +205,8 @@ put_at-other (bind.Input m) d held n = elim (cases_eq n m) [
 put_at-other (bind.Output m) d held n = inl refl
 
 -- what isn't driven stays
-pub put_all-other : (binds : List Bind) (drives : List (ℕ × Drive)) (held : List Level) (n : ℕ) → (level_at (put_all binds held drives) n ≡ level_at held n) ⊎ IsDriven binds drives n
+pub put_all-other : (binds : List Bind) (drives : List (ℕ × Drive)) (held : List Level) (n : ℕ)
+    → (level_at (put_all binds held drives) n ≡ level_at held n) ⊎ IsDriven binds drives n
 put_all-other binds [] held n = inl refl
 put_all-other binds (d ∷ drives) held n = elim (put_all-other binds drives (put_at (bind_at binds d.0) d.1 held) n) [
   | inl same ↦ elim (put_at-other (bind_at binds d.0) d.1 held n) [

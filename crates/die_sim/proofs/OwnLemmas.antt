@@ -23,7 +23,8 @@ pub AreOwn-none : (drivers : List Driver) → AreOwn drivers [] 0
 AreOwn-none drivers = record { count = refl; each = λ n l. absurd (omega arith) }
 
 -- one more net is bound
-pub AreOwn-more : (drivers : List Driver) (binds : List Bind) (n : ℕ) (b : Bind) → b ≡ own_bind drivers n → AreOwn drivers binds n → AreOwn drivers (binds ++ b ∷ []) (n + 1)
+pub AreOwn-more : (drivers : List Driver) (binds : List Bind) (n : ℕ) (b : Bind) → b ≡ own_bind drivers n
+    → AreOwn drivers binds n → AreOwn drivers (binds ++ b ∷ []) (n + 1)
 AreOwn-more drivers binds n b is h = record {
   count = length-append binds (b ∷ []) ∙ omega (arith, h.count);
   each = λ m l. elim (cases_eq m n) [
@@ -61,7 +62,9 @@ module _ (drivers : List Driver) (n : ℕ) where
   ]
 
 -- the image is sound
-pub IsSound-own : (i : Image) → AreOwn i.circuit.net.drivers i.binds (length i.circuit.net.drivers) → length i.faults ≤ 1 → ((d : StuckAt) → 0 < length i.faults → (get_or i.faults 0 d).net < length i.circuit.net.drivers) → IsSound i
+pub IsSound-own : (i : Image) → AreOwn i.circuit.net.drivers i.binds (length i.circuit.net.drivers)
+    → length i.faults ≤ 1 → ((d : StuckAt) → 0 < length i.faults
+    → (get_or i.faults 0 d).net < length i.circuit.net.drivers) → IsSound i
 IsSound-own i own one fault = record {
   bound = λ s l. let b : s < length i.circuit.net.drivers = omega (arith, l, own.count) in
       subst (λ (x : Bind). IsNetBind i.circuit.net.drivers x) (sym (own.each s b)) (own_net i.circuit.net.drivers s b);
@@ -79,7 +82,8 @@ pub bound_own : (c : Circuit) (clock : ℕ) (d : Device) → IsOwnDevice c clock
 bound_own c clock d h n l = subst (λ (b : Bind). IsBoundTo b) (sym (h.own.each n l)) (own_bound c.net.drivers n)
 
 -- drives of inputs and of the clock are drives of the die
-pub AreDrives-own : (c : Circuit) (clock : ℕ) (d : Device) (drives : List (ℕ × Drive)) → IsOwnDevice c clock d → AreOwnDrives c.net.drivers clock drives → AreDrives d drives
+pub AreDrives-own : (c : Circuit) (clock : ℕ) (d : Device) (drives : List (ℕ × Drive)) → IsOwnDevice c clock d
+    → AreOwnDrives c.net.drivers clock drives → AreDrives d drives
 AreDrives-own c clock d drives h own = record {
   rising = own.rising;
   each = λ k a l. elim (own.each k a l) [
@@ -92,7 +96,8 @@ AreDrives-own c clock d drives h own = record {
 pub IsOwnDevice-of : (number : ℕ) (i : Image) → IsOwnImage number i → IsOwnDevice i.circuit number (device_of i)
 IsOwnDevice-of number i h = record { circuit = refl; clock = h.clock; own = h.own }
 
-pub AreDrives-of : (number : ℕ) (i : Image) (drives : List (ℕ × Drive)) → IsOwnImage number i → AreOwnDrives i.circuit.net.drivers number drives → AreDrives (device_of i) drives
+pub AreDrives-of : (number : ℕ) (i : Image) (drives : List (ℕ × Drive)) → IsOwnImage number i
+    → AreOwnDrives i.circuit.net.drivers number drives → AreDrives (device_of i) drives
 AreDrives-of number i drives h own = AreDrives-own i.circuit number (device_of i) drives (IsOwnDevice-of number i h) own
 
 pub bound_of : (number : ℕ) (i : Image) → IsOwnImage number i → (n : ℕ) → n < length i.circuit.net.drivers → IsBoundTo (bind_at (device_of i).binds n)
@@ -100,7 +105,8 @@ bound_of number i h n l = bound_own i.circuit number (device_of i) (IsOwnDevice-
 
 -- one more drive fits
 pub AreOwnDrives-more : (drivers : List Driver) (clock : ℕ) (drives : List (ℕ × Drive)) (place : ℕ) (d : ℕ × Drive) → place < length drives
-    → (is_clock (Some clock) (get_or drives place d).0 ≡ true) ⊎ (((get_or drives place d).0 < length drivers) × (is_input (driver_at drivers (get_or drives place d).0) ≡ true))
+    → (is_clock (Some clock) (get_or drives place d).0 ≡ true)
+    ⊎ (((get_or drives place d).0 < length drivers) × (is_input (driver_at drivers (get_or drives place d).0) ≡ true))
     → ((k : ℕ) (a b : ℕ × Drive) → k + 1 ≡ place → (get_or drives k a).0 < (get_or drives place b).0)
     → AreOwnDrives drivers clock (take place drives) → AreOwnDrives drivers clock (take (place + 1) drives)
 AreOwnDrives-more drivers clock drives place d l fits behind h = record {
@@ -119,7 +125,10 @@ AreOwnDrives-more drivers clock drives place d l fits behind h = record {
           omega (arith, h.rising k a b (omega (arith, inside, length-take-le place drives (omega arith))), ap (λ (e : ℕ × Drive). e.0) (front k a (omega arith)), ap (λ (e : ℕ × Drive). e.0) (front (k + 1) b inside))
     ]
 
-    each : (k : ℕ) (a : ℕ × Drive) → k < place + 1 → (is_clock (Some clock) (get_or (take (place + 1) drives) k a).0 ≡ true) ⊎ (((get_or (take (place + 1) drives) k a).0 < length drivers) × (is_input (driver_at drivers (get_or (take (place + 1) drives) k a).0) ≡ true))
+    each : (k : ℕ) (a : ℕ × Drive) → k < place + 1
+        → (is_clock (Some clock) (get_or (take (place + 1) drives) k a).0 ≡ true)
+        ⊎ (((get_or (take (place + 1) drives) k a).0 < length drivers)
+        × (is_input (driver_at drivers (get_or (take (place + 1) drives) k a).0) ≡ true))
     each k a kl = elim (cases_eq k place) [
       | inl q ↦ subst (λ (e : ℕ × Drive). (is_clock (Some clock) e.0 ≡ true) ⊎ ((e.0 < length drivers) × (is_input (driver_at drivers e.0) ≡ true)))
           (get_or_default drives place d a l ∙ ap (λ (i : ℕ). get_or drives i a) (sym q) ∙ sym (get_or-take (place + 1) drives k a kl)) fits

@@ -1,4 +1,4 @@
--- The event-driven walk: a write keeps each net that doesn't read the written one, and marks those that do.
+-- The event-driven walk: a write keeps each net that doesn't read the written one, and those that do are pending.
 use Rattle.std.proofs.Common.{◌≡◌, ◌≢◌, ℕ, ◌+◌, ◌<◌, ◌≤◌, ◌⊎◌, Bool, true, false, cond, List, [], length, get_or, take, set, refl, sym, ap, ◌∙◌, subst, arith, inl, inr, Option, None, length-set}
 use Rattle.std.specs.Prelude.{count_by, All, slice_index_or, unwrap_or}
 use Rattle.std.proofs.lemmas.List.{get_or-set_same, get_or-set_other, take-take, get_or-take, length-take-le, get_or_default}
@@ -13,12 +13,14 @@ use Rattle.die_sim.specs.Gates.{level_at}
 use Rattle.tester_types.specs.declared.level.Drive.{Drive}
 use Rattle.die_sim.specs.declared.image.Bind.{Bind}
 use Rattle.die_sim.specs.declared.image.Bind.TheVariants as bind
-use Rattle.die_sim.specs.Die.{driven, wanted, Settled, bind_at}
+use Rattle.die_sim.specs.Die.{own_level, driven, wanted, Settled, bind_at}
 use Rattle.die_sim.specs.Spread.{Reads}
-use Rattle.die_sim.specs.Marks.{MarkState, mark_at, MarksReaders}
-use Rattle.die_sim.specs.Walk.{same_level, Puts, Waits, own_level, HasCause, before, by, Refreshes, HaveLevels, HasLevel, HaveDriven, Carries, Visits, WalkedTo}
+use Rattle.die_sim.specs.Pending.{PendingGates, is_pending, ActivatesReaders}
+use Rattle.die_sim.specs.Walk.{same_level, Puts, Waits, HasCause, before, by, Refreshes, HaveLevels, HasLevel, HaveDriven, Carries, Visits, WalkedTo}
 use Rattle.die_sim.proofs.GateLemmas.{wanted-same}
-use Rattle.die_sim.proofs.OrderLemmas.{times, All-times, reader_is_gate, pins-none, gate_within, place_of, gate_in_order, later, not_itself}
+use Rattle.bench_net.specs.Sorting.{times}
+use Rattle.bench_net.proofs.SortLemmas.{gate_within, pins_none}
+use Rattle.die_sim.proofs.OrderLemmas.{All-times, reader_is_gate, place_of, gate_in_order, later, not_itself}
 
 -- two levels are one where the test says so, and the other way round
 pub same_level-true : (a b : Level) → same_level a b ≡ true → a ≡ b
@@ -49,57 +51,65 @@ pub same_level-from : (a b : Level) → a ≡ b → same_level a b ≡ true
 same_level-from a b e = subst (λ (c : Level). same_level a c ≡ true) e (same_level-self a)
 
 -- a level that was there already
-pub Puts-same : (drivers : List Driver) (n : ℕ) (x : Level) (levels : List Level) (marks : MarkState) → same_level (level_at levels n) x ≡ true → Puts drivers n x levels levels marks marks
-Puts-same drivers n x levels marks e = record {
+pub Puts-same : (drivers : List Driver) (n : ℕ) (x : Level) (levels : List Level) (pending : PendingGates)
+    → same_level (level_at levels n) x ≡ true → Puts drivers n x levels levels pending pending
+Puts-same drivers n x levels pending e = record {
   count = refl;
   here = same_level-true (level_at levels n) x e;
   others = λ m ne. refl;
   keeps = λ g m. m;
   read = λ f. absurd (both_ways (same_level (level_at levels n) x) f e);
-  only = λ g a b. absurd (both_ways (mark_at marks g) b a);
+  only = λ g a b. absurd (both_ways (is_pending pending g) b a);
 }
 
 -- another level than before
-pub Puts-other : (drivers : List Driver) (n : ℕ) (x : Level) (levels : List Level) (marks marks' : MarkState) → n < length levels → same_level (level_at levels n) x ≡ false → MarksReaders drivers n marks marks' → Puts drivers n x levels (set levels n x) marks marks'
-Puts-other drivers n x levels marks marks' l e h = record {
+pub Puts-other : (drivers : List Driver) (n : ℕ) (x : Level) (levels : List Level) (pending pending' : PendingGates)
+    → n < length levels → same_level (level_at levels n) x ≡ false → ActivatesReaders drivers n pending pending'
+    → Puts drivers n x levels (set levels n x) pending pending'
+Puts-other drivers n x levels pending pending' l e h = record {
   count = length-set levels n x;
   here = get_or-set_same levels n x Zero l;
   others = λ m ne. get_or-set_other levels n m x Zero ne;
   keeps = λ g m. elim (cases_lt 0 (times n (pins_at drivers g))) [
-    | inl r ↦ h.marked g r
+    | inl r ↦ h.active g r
     | inr r ↦ h.others g (λ q. omega (arith, q, r)) ∙ m
   ];
-  read = λ f g r. h.marked g r;
+  read = λ f g r. h.active g r;
   only = λ g a b. (
     e,
     elim (cases_lt 0 (times n (pins_at drivers g))) [
       | inl r ↦ r
-      | inr r ↦ absurd (both_ways (mark_at marks g) b (sym (h.others g (λ q. omega (arith, q, r))) ∙ a))
+      | inr r ↦ absurd (both_ways (is_pending pending g) b (sym (h.others g (λ q. omega (arith, q, r))) ∙ a))
     ],
   );
 }
 
-module _ (drivers : List Driver) (n : ℕ) (x : Level) (old new : List Level) (marks marks' : MarkState) (p : Puts drivers n x old new marks marks') where
-  -- a mark that isn't there now wasn't there before
-  unmarked : (g : ℕ) → mark_at marks' g ≡ false → mark_at marks g ≡ false
-  unmarked g f = elim (cases_Bool (mark_at marks g)) [
-    | inl t ↦ absurd (both_ways (mark_at marks' g) f (p.keeps g t))
+module _ (drivers : List Driver) (n : ℕ) (x : Level) (old new : List Level) (pending pending' : PendingGates)
+    (p : Puts drivers n x old new pending pending') where
+  -- a gate that isn't pending now wasn't before
+  inactive : (g : ℕ) → is_pending pending' g ≡ false → is_pending pending g ≡ false
+  inactive g f = elim (cases_Bool (is_pending pending g)) [
+    | inl t ↦ absurd (both_ways (is_pending pending' g) f (p.keeps g t))
     | inr e ↦ e
   ]
 
-  -- the nets that an unmarked gate reads are as before
-  pins_kept : (g : ℕ) → mark_at marks' g ≡ false → All (λ q. level_at new q ≡ level_at old q) (pins_at drivers g)
+  -- the nets that an inactive gate reads are as before
+  pins_kept : (g : ℕ) → is_pending pending' g ≡ false → All (λ q. level_at new q ≡ level_at old q) (pins_at drivers g)
   pins_kept g f = All-times (λ q. level_at new q ≡ level_at old q) (pins_at drivers g) (λ q r. elim (cases_eq q n) [
     | inl e ↦ elim (cases_Bool (same_level (level_at old n) x)) [
       | inl t ↦ ap (level_at new) e ∙ p.here ∙ sym (same_level-true (level_at old n) x t) ∙ ap (level_at old) (sym e)
-      | inr d ↦ absurd (both_ways (mark_at marks' g) f (p.read d g (subst (λ (m : ℕ). Reads drivers g m) e r)))
+      | inr d ↦ absurd (both_ways (is_pending pending' g) f (p.read d g (subst (λ (m : ℕ). Reads drivers g m) e r)))
     ]
     | inr ne ↦ p.others q ne
   ])
 
-sources_kept : (drivers : List Driver) (fixed : List (Option Level)) (held v w : List Level) (n : ℕ) → gate_at drivers n ≡ false → IsWired (length drivers) (driver_at drivers n) → wanted drivers fixed held v n ≡ wanted drivers fixed held w n
+sources_kept : (drivers : List Driver) (fixed : List (Option Level)) (held v w : List Level) (n : ℕ)
+    → gate_at drivers n ≡ false → IsWired (length drivers) (driver_at drivers n)
+    → wanted drivers fixed held v n ≡ wanted drivers fixed held w n
 sources_kept drivers fixed held v w n e wired =
-    wanted-same drivers fixed held v w n wired (subst (λ (ps : List ℕ). All (λ q. level_at v q ≡ level_at w q) ps) (sym (pins-none (driver_at drivers n) e)) (All-times (λ q. level_at v q ≡ level_at w q) [] (λ q r. absurd (omega (arith, r)))))
+    wanted-same drivers fixed held v w n wired
+    (subst (λ (ps : List ℕ). All (λ q. level_at v q ≡ level_at w q) ps) (sym (pins_none (driver_at drivers n) e))
+    (All-times (λ q. level_at v q ≡ level_at w q) [] (λ q r. absurd (omega (arith, r)))))
 
 driven_source : (d : Driver) (own : Level) (v : List Level) → is_gate d ≡ false → driven d own v ≡ own
 driven_source Input own v e = refl
@@ -107,34 +117,37 @@ driven_source (Dff p) own v e = refl
 driven_source (Gate kind pins) own v e = cc
 
 -- what an input or a flip-flop must have
-pub wanted_source : (drivers : List Driver) (fixed : List (Option Level)) (held v : List Level) (n : ℕ) → gate_at drivers n ≡ false → wanted drivers fixed held v n ≡ own_level fixed held n
+pub wanted_source : (drivers : List Driver) (fixed : List (Option Level)) (held v : List Level) (n : ℕ)
+    → gate_at drivers n ≡ false → wanted drivers fixed held v n ≡ own_level fixed held n
 wanted_source drivers fixed held v n e = ap (unwrap_or (slice_index_or fixed n None)) (driven_source (driver_at drivers n) (level_at held n) v e)
 
--- the gates that aren't marked still fit where one input or flip-flop got another level
-module _ (drivers : List Driver) (wired : (n : ℕ) → n < length drivers → IsWired (length drivers) (driver_at drivers n)) (fixed : List (Option Level)) (held old new : List Level) (marks marks' : MarkState) (i : ℕ) (x : Level)
-    (source : gate_at drivers i ≡ false) (h : Waits drivers fixed held old marks) (p : Puts drivers i x old new marks marks') where
-  waits_after : Waits drivers fixed held new marks'
+-- the gates that aren't pending still fit where one input or flip-flop got another level
+module _ (drivers : List Driver) (wired : (n : ℕ) → n < length drivers
+    → IsWired (length drivers) (driver_at drivers n)) (fixed : List (Option Level)) (held old new : List Level)
+    (pending pending' : PendingGates) (i : ℕ) (x : Level)
+    (source : gate_at drivers i ≡ false) (h : Waits drivers fixed held old pending) (p : Puts drivers i x old new pending pending') where
+  waits_after : Waits drivers fixed held new pending'
   waits_after = record {
     levels_count = p.count ∙ h.levels_count;
-    gates_only = λ g m. elim (cases_Bool (mark_at marks g)) [
+    gates_only = λ g m. elim (cases_Bool (is_pending pending g)) [
       | inl t ↦ h.gates_only g t
       | inr f ↦ reader_is_gate drivers g i (p.only g m f).1
     ];
     fits = λ g l e f.
         p.others g (λ q. both_ways (gate_at drivers i) source (subst (λ (m : ℕ). gate_at drivers m ≡ true) q e))
-        ∙ h.fits g l e (unmarked drivers i x old new marks marks' p g f)
-        ∙ sym (wanted-same drivers fixed held new old g (wired g l) (pins_kept drivers i x old new marks marks' p g f));
+        ∙ h.fits g l e (inactive drivers i x old new pending pending' p g f)
+        ∙ sym (wanted-same drivers fixed held new old g (wired g l) (pins_kept drivers i x old new pending pending' p g f));
   }
 
   -- an input or a flip-flop got its level
-  pub Refreshes-one : x ≡ own_level fixed held i → Refreshes drivers fixed held old new marks marks'
+  pub Refreshes-one : x ≡ own_level fixed held i → Refreshes drivers fixed held old new pending pending'
   Refreshes-one is = record {
     waits = waits_after;
     sources = λ n. elim (cases_eq n i) [
       | inl q ↦ inr (ap (level_at new) q ∙ p.here ∙ is ∙ ap (own_level fixed held) (sym q))
       | inr ne ↦ inl (p.others n ne)
     ];
-    cause = λ g m. elim (cases_Bool (mark_at marks g)) [
+    cause = λ g m. elim (cases_Bool (is_pending pending g)) [
       | inl t ↦ before t
       | inr f ↦
           let o = p.only g m f in
@@ -143,44 +156,50 @@ module _ (drivers : List Driver) (wired : (n : ℕ) → n < length drivers → I
   }
 
 -- no input and no flip-flop got another level
-pub Refreshes-none : (drivers : List Driver) (fixed : List (Option Level)) (held levels : List Level) (marks : MarkState) → Waits drivers fixed held levels marks → Refreshes drivers fixed held levels levels marks marks
-Refreshes-none drivers fixed held levels marks h = record {
+pub Refreshes-none : (drivers : List Driver) (fixed : List (Option Level)) (held levels : List Level)
+    (pending : PendingGates) → Waits drivers fixed held levels pending
+    → Refreshes drivers fixed held levels levels pending pending
+Refreshes-none drivers fixed held levels pending h = record {
   waits = h;
   sources = λ n. inl refl;
   cause = λ g m. before m;
 }
 
 -- what has its level keeps it
-pub Refreshes-keeps : (drivers : List Driver) (fixed : List (Option Level)) (held old new : List Level) (marks marks' : MarkState) → Refreshes drivers fixed held old new marks marks' → (n : ℕ) → level_at old n ≡ own_level fixed held n → level_at new n ≡ own_level fixed held n
-Refreshes-keeps drivers fixed held old new marks marks' h n e = elim (h.sources n) [
+pub Refreshes-keeps : (drivers : List Driver) (fixed : List (Option Level)) (held old new : List Level)
+    (pending pending' : PendingGates) → Refreshes drivers fixed held old new pending pending' → (n : ℕ)
+    → level_at old n ≡ own_level fixed held n → level_at new n ≡ own_level fixed held n
+Refreshes-keeps drivers fixed held old new pending pending' h n e = elim (h.sources n) [
   | inl same ↦ same ∙ e
   | inr own ↦ own
 ]
 
 -- one refresh after another
-module _ (drivers : List Driver) (fixed : List (Option Level)) (held start old new : List Level) (marks mid marks' : MarkState) (a : Refreshes drivers fixed held start old marks mid) (b : Refreshes drivers fixed held old new mid marks') where
+module _ (drivers : List Driver) (fixed : List (Option Level)) (held start old new : List Level)
+    (pending mid pending' : PendingGates) (a : Refreshes drivers fixed held start old pending mid)
+    (b : Refreshes drivers fixed held old new mid pending') where
   -- a level that differed from the first still does
   still : (n : ℕ) → level_at start n ≢ level_at old n → level_at start n ≢ level_at new n
   still n ne e = elim (a.sources n) [
     | inl same ↦ ne (sym same)
-    | inr own ↦ ne (e ∙ Refreshes-keeps drivers fixed held old new mid marks' b n own ∙ sym own)
+    | inr own ↦ ne (e ∙ Refreshes-keeps drivers fixed held old new mid pending' b n own ∙ sym own)
   ]
 
   later_change : (n : ℕ) → level_at old n ≢ level_at new n → level_at start n ≢ level_at new n
   later_change n ne e = elim (a.sources n) [
     | inl same ↦ ne (same ∙ e)
-    | inr own ↦ ne (own ∙ sym (Refreshes-keeps drivers fixed held old new mid marks' b n own))
+    | inr own ↦ ne (own ∙ sym (Refreshes-keeps drivers fixed held old new mid pending' b n own))
   ]
 
-  first_cause : (g : ℕ) → HasCause drivers start old marks g → HasCause drivers start new marks g
+  first_cause : (g : ℕ) → HasCause drivers start old pending g → HasCause drivers start new pending g
   first_cause g (before m) = before m
   first_cause g (by n r e ne) = by n r e (still n ne)
 
-  any_cause : (g : ℕ) → HasCause drivers old new mid g → HasCause drivers start new marks g
+  any_cause : (g : ℕ) → HasCause drivers old new mid g → HasCause drivers start new pending g
   any_cause g (before m) = first_cause g (a.cause g m)
   any_cause g (by n r e ne) = by n r e (later_change n ne)
 
-  pub Refreshes-then : Refreshes drivers fixed held start new marks marks'
+  pub Refreshes-then : Refreshes drivers fixed held start new pending pending'
   Refreshes-then = record {
     waits = b.waits;
     sources = λ n. elim (b.sources n) [
@@ -194,8 +213,10 @@ module _ (drivers : List Driver) (fixed : List (Option Level)) (held start old n
   }
 
 -- nothing is walked yet
-pub WalkedTo-none : (drivers : List Driver) (fixed : List (Option Level)) (held : List Level) (order : List ℕ) (levels : List Level) (marks : MarkState) → Waits drivers fixed held levels marks → WalkedTo drivers fixed held order levels levels marks marks 0 0
-WalkedTo-none drivers fixed held order levels marks h = record {
+pub WalkedTo-none : (drivers : List Driver) (fixed : List (Option Level)) (held : List Level) (order : List ℕ)
+    (levels : List Level) (pending : PendingGates) → Waits drivers fixed held levels pending
+    → WalkedTo drivers fixed held order levels levels pending pending 0 0
+WalkedTo-none drivers fixed held order levels pending h = record {
   waits = h;
   kept = λ n e. refl;
   done = λ j l. absurd (omega arith);
@@ -204,18 +225,19 @@ WalkedTo-none drivers fixed held order levels marks h = record {
   carried = λ set c. c.start;
 }
 
-module _ (drivers : List Driver) (wired : (n : ℕ) → n < length drivers → IsWired (length drivers) (driver_at drivers n)) (order : List ℕ) (o : IsOrder drivers order)
-    (fixed : List (Option Level)) (held start old new : List Level) (marks mid marks' : MarkState) (k count : ℕ) (within : k < length order)
-    (h : WalkedTo drivers fixed held order start old marks mid k count) where
-  module _ (v : Visits drivers fixed held (get_or order k 0) old new mid marks') where
+module _ (drivers : List Driver) (wired : (n : ℕ) → n < length drivers
+    → IsWired (length drivers) (driver_at drivers n)) (order : List ℕ) (o : IsOrder drivers order)
+    (fixed : List (Option Level)) (held start old new : List Level) (pending mid pending' : PendingGates) (k count : ℕ) (within : k < length order)
+    (h : WalkedTo drivers fixed held order start old pending mid k count) where
+  module _ (v : Visits drivers fixed held (get_or order k 0) old new mid pending') where
     gate_here : gate_at drivers (get_or order k 0) ≡ true
     gate_here = gate_in_order drivers order o k within
 
-    -- a mark of another gate was there before, or it reads this one
-    other_mark : (m : ℕ) → mark_at marks' m ≡ true → (mark_at mid m ≡ true) × (m ≢ get_or order k 0) ⊎ Reads drivers m (get_or order k 0)
-    other_mark m t = elim (cases_Bool (mark_at v.cleared m)) [
+    -- another gate that is pending was so before, or it reads this one
+    other_gate : (m : ℕ) → is_pending pending' m ≡ true → (is_pending mid m ≡ true) × (m ≢ get_or order k 0) ⊎ Reads drivers m (get_or order k 0)
+    other_gate m t = elim (cases_Bool (is_pending v.cleared m)) [
       | inl c ↦ elim (cases_eq m (get_or order k 0)) [
-        | inl q ↦ absurd (both_ways (mark_at v.cleared m) (ap (mark_at v.cleared) q ∙ v.clear) c)
+        | inl q ↦ absurd (both_ways (is_pending v.cleared m) (ap (is_pending v.cleared) q ∙ v.clear) c)
         | inr ne ↦ inl (sym (v.rest m ne) ∙ c, ne)
       ]
       | inr c ↦ inr (v.puts.only m t c).1
@@ -229,51 +251,51 @@ module _ (drivers : List Driver) (wired : (n : ℕ) → n < length drivers → I
     own_pins = All-times (λ q. level_at new q ≡ level_at old q) (pins_at drivers (get_or order k 0)) (λ q r.
         v.puts.others q (λ e. not_itself drivers order o k within (subst (λ (m : ℕ). Reads drivers (get_or order k 0) m) e r)))
 
-    fits_after : (g : ℕ) → g < length drivers → gate_at drivers g ≡ true → mark_at marks' g ≡ false → level_at new g ≡ wanted drivers fixed held new g
+    fits_after : (g : ℕ) → g < length drivers → gate_at drivers g ≡ true → is_pending pending' g ≡ false → level_at new g ≡ wanted drivers fixed held new g
     fits_after g l e f = elim (cases_eq g (get_or order k 0)) [
       | inl q ↦
           let here' : level_at new (get_or order k 0) ≡ wanted drivers fixed held new (get_or order k 0) =
           v.puts.here ∙ sym (wanted-same drivers fixed held new old (get_or order k 0) (wired (get_or order k 0) (gate_within drivers (get_or order k 0) gate_here)) own_pins) in
           subst (λ (m : ℕ). level_at new m ≡ wanted drivers fixed held new m) (sym q) here'
       | inr ne ↦
-          let was : mark_at v.cleared g ≡ false = unmarked drivers (get_or order k 0) (wanted drivers fixed held old (get_or order k 0)) old new v.cleared marks' v.puts g f in
+          let was : is_pending v.cleared g ≡ false = inactive drivers (get_or order k 0) (wanted drivers fixed held old (get_or order k 0)) old new v.cleared pending' v.puts g f in
           v.puts.others g ne ∙ h.waits.fits g l e (sym (v.rest g ne) ∙ was)
-          ∙ sym (wanted-same drivers fixed held new old g (wired g l) (pins_kept drivers (get_or order k 0) (wanted drivers fixed held old (get_or order k 0)) old new v.cleared marks' v.puts g f))
+          ∙ sym (wanted-same drivers fixed held new old g (wired g l) (pins_kept drivers (get_or order k 0) (wanted drivers fixed held old (get_or order k 0)) old new v.cleared pending' v.puts g f))
     ]
 
-    gates_after : (g : ℕ) → mark_at marks' g ≡ true → gate_at drivers g ≡ true
-    gates_after g t = elim (other_mark g t) [
+    gates_after : (g : ℕ) → is_pending pending' g ≡ true → gate_at drivers g ≡ true
+    gates_after g t = elim (other_gate g t) [
       | inl a ↦ h.waits.gates_only g a.0
       | inr r ↦ reader_is_gate drivers g (get_or order k 0) r
     ]
 
-    done_after : (j : ℕ) → j < k + 1 → j < length order → mark_at marks' (get_or order j 0) ≡ false
-    done_after j l jl = elim (cases_Bool (mark_at marks' (get_or order j 0))) [
+    done_after : (j : ℕ) → j < k + 1 → j < length order → is_pending pending' (get_or order j 0) ≡ false
+    done_after j l jl = elim (cases_Bool (is_pending pending' (get_or order j 0))) [
       | inr f ↦ f
-      | inl t ↦ absurd (elim (other_mark (get_or order j 0) t) [
+      | inl t ↦ absurd (elim (other_gate (get_or order j 0) t) [
         | inl a ↦ elim (cases_eq j k) [
           | inl q ↦ a.1 (ap (λ i. get_or order i 0) q)
-          | inr ne ↦ both_ways (mark_at mid (get_or order j 0)) (h.done j (omega (arith, l, ne)) jl) a.0
+          | inr ne ↦ both_ways (is_pending mid (get_or order j 0)) (h.done j (omega (arith, l, ne)) jl) a.0
         ]
         | inr r ↦ let b = later drivers order o j k jl within r in omega (arith, b, l)
       ])
     ]
 
-    carried_after : (set : ℕ → Bool) → Carries drivers marks set → (g : ℕ) → mark_at marks' g ≡ true → set g ≡ true
-    carried_after set c g t = elim (other_mark g t) [
+    carried_after : (set : ℕ → Bool) → Carries drivers pending set → (g : ℕ) → is_pending pending' g ≡ true → set g ≡ true
+    carried_after set c g t = elim (other_gate g t) [
       | inl a ↦ h.carried set c g a.0
       | inr r ↦ c.onward g (get_or order k 0) r gate_here (h.carried set c (get_or order k 0) v.was)
     ]
 
-    bound_after : (set : ℕ → Bool) → Carries drivers marks set → count + 1 ≤ count_by set (take (k + 1) order)
+    bound_after : (set : ℕ → Bool) → Carries drivers pending set → count + 1 ≤ count_by set (take (k + 1) order)
     bound_after set c =
         let b = h.bound set c in
         let m = sum_by_more (λ x. cond {A = ℕ} (set x) 1 0) order k 0 within in
         let one : cond {A = ℕ} (set (get_or order k 0)) 1 0 ≡ 1 = ap (λ t. cond {A = ℕ} t 1 0) (h.carried set c (get_or order k 0) v.was) in
         omega (arith, b, m, one)
 
-    -- a marked gate had its turn
-    pub visited : WalkedTo drivers fixed held order start new marks marks' (k + 1) (count + 1)
+    -- a pending gate had its turn
+    pub visited : WalkedTo drivers fixed held order start new pending pending' (k + 1) (count + 1)
     visited = record {
       waits = record {
         levels_count = v.puts.count ∙ h.waits.levels_count;
@@ -294,9 +316,13 @@ count-take-le set order j k l =
     let front : count_by set (take j (take k order)) ≡ count_by set (take j order) = ap (count_by set) (take-take j k order l) in
     omega (arith, split, front)
 
--- the gates up to the next marked one had their turn
-pub WalkedTo-on : (drivers : List Driver) (fixed : List (Option Level)) (held : List Level) (order : List ℕ) (start levels : List Level) (marks marks' : MarkState) (j k count : ℕ) → j ≤ k → ((i : ℕ) → j ≤ i → i < k → i < length order → mark_at marks' (get_or order i 0) ≡ false) → WalkedTo drivers fixed held order start levels marks marks' j count → WalkedTo drivers fixed held order start levels marks marks' k count
-WalkedTo-on drivers fixed held order start levels marks marks' j k count l clear h = record {
+-- the gates up to the next pending one had their turn
+pub WalkedTo-on : (drivers : List Driver) (fixed : List (Option Level)) (held : List Level) (order : List ℕ)
+    (start levels : List Level) (pending pending' : PendingGates) (j k count : ℕ) → j ≤ k
+    → ((i : ℕ) → j ≤ i → i < k → i < length order → is_pending pending' (get_or order i 0) ≡ false)
+    → WalkedTo drivers fixed held order start levels pending pending' j count
+    → WalkedTo drivers fixed held order start levels pending pending' k count
+WalkedTo-on drivers fixed held order start levels pending pending' j k count l clear h = record {
   waits = h.waits;
   kept = h.kept;
   done = λ i il within. elim (cases_lt i j) [
@@ -308,27 +334,40 @@ WalkedTo-on drivers fixed held order start levels marks marks' j k count l clear
   carried = h.carried;
 }
 
--- after the last gate no mark is left, and all nets fit
-pub WalkedTo-clear : (drivers : List Driver) (order : List ℕ) → IsOrder drivers order → (fixed : List (Option Level)) (held start levels : List Level) (marks marks' : MarkState) (k count : ℕ) → length order ≤ k → WalkedTo drivers fixed held order start levels marks marks' k count → (n : ℕ) → mark_at marks' n ≡ false
-WalkedTo-clear drivers order o fixed held start levels marks marks' k count l h n = elim (cases_Bool (mark_at marks' n)) [
+-- after the last gate none is pending, and all nets fit
+pub WalkedTo-clear : (drivers : List Driver) (order : List ℕ) → IsOrder drivers order
+    → (fixed : List (Option Level)) (held start levels : List Level) (pending pending' : PendingGates) (k count : ℕ)
+    → length order ≤ k → WalkedTo drivers fixed held order start levels pending pending' k count → (n : ℕ)
+    → is_pending pending' n ≡ false
+WalkedTo-clear drivers order o fixed held start levels pending pending' k count l h n = elim (cases_Bool (is_pending pending' n)) [
   | inr f ↦ f
   | inl t ↦
       let s = place_of drivers order o n (h.waits.gates_only n t) in
-      subst (λ (m : ℕ). mark_at marks' m ≡ false) s.is (h.done s.place (let w = s.within in omega (arith, w, l)) s.within)
+      subst (λ (m : ℕ). is_pending pending' m ≡ false) s.is (h.done s.place (let w = s.within in omega (arith, w, l)) s.within)
 ]
 
-pub WalkedTo-settled : (drivers : List Driver) → ((n : ℕ) → n < length drivers → IsWired (length drivers) (driver_at drivers n)) → (order : List ℕ) → IsOrder drivers order → (fixed : List (Option Level)) (held start levels : List Level) (marks marks' : MarkState) (k count : ℕ) → length order ≤ k → WalkedTo drivers fixed held order start levels marks marks' k count → ((n : ℕ) → n < length drivers → gate_at drivers n ≡ false → level_at start n ≡ own_level fixed held n) → Settled drivers fixed held levels
-WalkedTo-settled drivers wired order o fixed held start levels marks marks' k count l h sources = record {
+pub WalkedTo-settled : (drivers : List Driver)
+    → ((n : ℕ) → n < length drivers → IsWired (length drivers) (driver_at drivers n)) → (order : List ℕ)
+    → IsOrder drivers order → (fixed : List (Option Level)) (held start levels : List Level)
+    (pending pending' : PendingGates) (k count : ℕ) → length order ≤ k
+    → WalkedTo drivers fixed held order start levels pending pending' k count
+    → ((n : ℕ) → n < length drivers → gate_at drivers n ≡ false → level_at start n ≡ own_level fixed held n)
+    → Settled drivers fixed held levels
+WalkedTo-settled drivers wired order o fixed held start levels pending pending' k count l h sources = record {
   one_each = h.waits.levels_count;
   fits = λ n in'. elim (cases_Bool (gate_at drivers n)) [
-    | inl e ↦ h.waits.fits n in' e (WalkedTo-clear drivers order o fixed held start levels marks marks' k count l h n)
+    | inl e ↦ h.waits.fits n in' e (WalkedTo-clear drivers order o fixed held start levels pending pending' k count l h n)
     | inr e ↦ h.kept n e ∙ sources n in' e ∙ sym (wanted_source drivers fixed held levels n e)
   ];
 }
 
 -- one more of these nets has its level
-pub HaveLevels-more : (drivers : List Driver) (fixed : List (Option Level)) (held old new : List Level) (marks marks' : MarkState) (nets : List ℕ) (i : ℕ) → i < length nets → Refreshes drivers fixed held old new marks marks' → level_at new (get_or nets i 0) ≡ own_level fixed held (get_or nets i 0) → HaveLevels fixed held old (take i nets) → HaveLevels fixed held new (take (i + 1) nets)
-HaveLevels-more drivers fixed held old new marks marks' nets i l r here h = record {
+pub HaveLevels-more : (drivers : List Driver) (fixed : List (Option Level)) (held old new : List Level)
+    (pending pending' : PendingGates) (nets : List ℕ) (i : ℕ) → i < length nets
+    → Refreshes drivers fixed held old new pending pending'
+    → level_at new (get_or nets i 0) ≡ own_level fixed held (get_or nets i 0) → HaveLevels fixed held old (take i nets)
+    → HaveLevels fixed held new (take (i + 1) nets)
+HaveLevels-more drivers fixed held old new pending pending' nets i l r here h = record {
   each = λ k kl.
       let below : k < i + 1 = omega (arith, kl, length-take-le (i + 1) nets (omega arith)) in
       subst (λ (n : ℕ). level_at new n ≡ own_level fixed held n) (sym (get_or-take (i + 1) nets k 0 below)) (elim (cases_eq k i) [
@@ -336,19 +375,25 @@ HaveLevels-more drivers fixed held old new marks marks' nets i l r here h = reco
         | inr ne ↦
             let front : k < i = omega (arith, below, ne) in
             let was = h.each k (omega (arith, front, length-take-le i nets (omega arith))) in
-            Refreshes-keeps drivers fixed held old new marks marks' r (get_or nets k 0) (subst (λ (n : ℕ). level_at old n ≡ own_level fixed held n) (get_or-take i nets k 0 front) was)
+            Refreshes-keeps drivers fixed held old new pending pending' r (get_or nets k 0) (subst (λ (n : ℕ). level_at old n ≡ own_level fixed held n) (get_or-take i nets k 0 front) was)
       ]);
 }
 
 -- an input that has its level keeps it
-HasLevel-keeps : (drivers : List Driver) (fixed : List (Option Level)) (held old new : List Level) (marks marks' : MarkState) → Refreshes drivers fixed held old new marks marks' → (b : Bind) → HasLevel fixed held old b → HasLevel fixed held new b
-HasLevel-keeps drivers fixed held old new marks marks' r bind.Free h = tt
-HasLevel-keeps drivers fixed held old new marks marks' r (bind.Input n) h = Refreshes-keeps drivers fixed held old new marks marks' r n h
-HasLevel-keeps drivers fixed held old new marks marks' r (bind.Output n) h = tt
+HasLevel-keeps : (drivers : List Driver) (fixed : List (Option Level)) (held old new : List Level)
+    (pending pending' : PendingGates) → Refreshes drivers fixed held old new pending pending' → (b : Bind)
+    → HasLevel fixed held old b → HasLevel fixed held new b
+HasLevel-keeps drivers fixed held old new pending pending' r bind.Free h = tt
+HasLevel-keeps drivers fixed held old new pending pending' r (bind.Input n) h = Refreshes-keeps drivers fixed held old new pending pending' r n h
+HasLevel-keeps drivers fixed held old new pending pending' r (bind.Output n) h = tt
 
 -- one more of the driven inputs has its level
-pub HaveDriven-more : (drivers : List Driver) (fixed : List (Option Level)) (held old new : List Level) (marks marks' : MarkState) (binds : List Bind) (drives : List (ℕ × Drive)) (d : ℕ × Drive) (i : ℕ) → i < length drives → Refreshes drivers fixed held old new marks marks' → HasLevel fixed held new (bind_at binds (get_or drives i d).0) → HaveDriven fixed held old binds (take i drives) → HaveDriven fixed held new binds (take (i + 1) drives)
-HaveDriven-more drivers fixed held old new marks marks' binds drives d i l r here h = record {
+pub HaveDriven-more : (drivers : List Driver) (fixed : List (Option Level)) (held old new : List Level)
+    (pending pending' : PendingGates) (binds : List Bind) (drives : List (ℕ × Drive)) (d : ℕ × Drive) (i : ℕ)
+    → i < length drives → Refreshes drivers fixed held old new pending pending'
+    → HasLevel fixed held new (bind_at binds (get_or drives i d).0) → HaveDriven fixed held old binds (take i drives)
+    → HaveDriven fixed held new binds (take (i + 1) drives)
+HaveDriven-more drivers fixed held old new pending pending' binds drives d i l r here h = record {
   each = λ k e kl.
       let below : k < i + 1 = omega (arith, kl, length-take-le (i + 1) drives (omega arith)) in
       subst (λ (a : ℕ × Drive). HasLevel fixed held new (bind_at binds a.0)) (sym (get_or-take (i + 1) drives k e below)) (elim (cases_eq k i) [
@@ -357,6 +402,6 @@ HaveDriven-more drivers fixed held old new marks marks' binds drives d i l r her
         | inr ne ↦
             let front : k < i = omega (arith, below, ne) in
             let was = h.each k e (omega (arith, front, length-take-le i drives (omega arith))) in
-            HasLevel-keeps drivers fixed held old new marks marks' r (bind_at binds (get_or drives k e).0) (subst (λ (a : ℕ × Drive). HasLevel fixed held old (bind_at binds a.0)) (get_or-take i drives k e front) was)
+            HasLevel-keeps drivers fixed held old new pending pending' r (bind_at binds (get_or drives k e).0) (subst (λ (a : ℕ × Drive). HasLevel fixed held old (bind_at binds a.0)) (get_or-take i drives k e front) was)
       ]);
 }

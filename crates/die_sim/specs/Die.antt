@@ -1,5 +1,5 @@
 -- A die: a circuit, how signals are bound to its nets, the nets that faults fix, and the levels that all nets settle to.
-use Rattle.std.specs.Prelude.{◌≡◌, ◌==◌, ℕ, ◌<◌, Bool, true, false, Option, Some, None, List, length, fold, replicate, slice_index_or, slice_set, unwrap_or}
+use Rattle.std.specs.Prelude.{◌≡◌, ◌==◌, ℕ, ◌<◌, ◌≤◌, Bool, true, false, Option, Some, None, List, length, fold, replicate, slice_index_or, slice_set, unwrap_or}
 use Rattle.tester_types.specs.declared.level.Level.{Level}
 use Rattle.tester_types.specs.declared.level.Level.TheVariants.{Zero, One, X}
 use Rattle.bench_net.specs.declared.gate.Driver.{Driver}
@@ -51,7 +51,14 @@ fixed_of nets faults = fold with_fault (replicate nets None) faults
 
 -- the die that an image gives
 abbrev pub device_of : Image → Device
-device_of i = record { circuit = i.circuit; clock = i.clock; binds = i.binds; fixed = fixed_of (length i.circuit.net.names) i.faults }
+device_of i =
+    record {
+      circuit = i.circuit;
+      clock = i.clock;
+      binds = i.binds;
+      fixed = fixed_of
+          (length i.circuit.net.names) i.faults;
+    }
 
 -- what a net's own driver gives it: an input or a flip-flop its own level, a gate its function of the nets that it reads
 abbrev pub driven : Driver → Level → List Level → Level
@@ -59,9 +66,14 @@ driven Input own v = own
 driven (Dff d) own v = own
 driven (Gate kind pins) own v = gate_of kind v pins
 
+-- the level that an input or a flip-flop must have
+abbrev pub own_level : List (Option Level) → List Level → ℕ → Level
+own_level fixed held n = unwrap_or (slice_index_or fixed n None) (level_at held n)
+
 -- the level that a net must have: that of its fault, else what its driver gives
 abbrev pub wanted : List Driver → List (Option Level) → List Level → List Level → ℕ → Level
-wanted drivers fixed held v n = unwrap_or (slice_index_or fixed n None) (driven (driver_at drivers n) (level_at held n) v)
+wanted drivers fixed held v n =
+    unwrap_or (slice_index_or fixed n None) (driven (driver_at drivers n) (level_at held n) v)
 
 -- these levels fit all nets at once
 pub record Settled (drivers : List Driver) (fixed : List (Option Level)) (held v : List Level) : Type 0 where
@@ -105,9 +117,17 @@ IsNetBind drivers (bind.Output n) = n < length drivers
 -- and no two faults have one net
 pub record IsSound (i : Image) : Type 0 where
   pub bound : (s : ℕ) → s < length i.binds → IsNetBind i.circuit.net.drivers (bind_at i.binds s)
-  pub one_driver : (s t n : ℕ) → s < length i.binds → t < length i.binds → bind_at i.binds s ≡ bind.Input n → bind_at i.binds t ≡ bind.Input n → s ≡ t
-  pub faults : (k : ℕ) (d : StuckAt) → k < length i.faults → (slice_index_or i.faults k d).net < length i.circuit.net.drivers
-  pub one_fault : (k l : ℕ) (d e : StuckAt) → k < length i.faults → l < length i.faults → (slice_index_or i.faults k d).net ≡ (slice_index_or i.faults l e).net → k ≡ l
+  pub one_driver : (s t n : ℕ) → s < length i.binds → t < length i.binds → bind_at i.binds s ≡ bind.Input n
+      → bind_at i.binds t ≡ bind.Input n → s ≡ t
+  pub faults : (k : ℕ) (d : StuckAt) → k < length i.faults
+      → (slice_index_or i.faults k d).net < length i.circuit.net.drivers
+  pub one_fault : (k l : ℕ) (d e : StuckAt) → k < length i.faults → l < length i.faults
+      → (slice_index_or i.faults k d).net ≡ (slice_index_or i.faults l e).net → k ≡ l
+
+-- there is one fault at most, of one of so many nets; so no two faults have one net
+pub record IsOneFault (nets : ℕ) (faults : List StuckAt) : Type 0 where
+  pub few : length faults ≤ 1
+  pub within : (d : StuckAt) → 0 < length faults → (slice_index_or faults 0 d).net < nets
 
 -- what a die keeps: its nets are nets of its circuit
 pub record IsDevice (d : Device) : Type 0 where

@@ -55,7 +55,8 @@ or_of zero_count one_count all = if nat_lt 0 one_count then One else (if zero_co
 
 -- XOR: unknown where one is unknown or off, else 1 where an odd number of them is 1
 abbrev pub xor_of : ℕ → ℕ → ℕ → Level
-xor_of zero_count one_count all = if zero_count + one_count == all then (if one_count % 2 == 1 then One else Zero) else X
+xor_of zero_count one_count all =
+    if zero_count + one_count == all then (if one_count % 2 == 1 then One else Zero) else X
 
 -- what a gate gives that reads these nets
 abbrev pub gate_of : GateKind → List Level → List ℕ → Level

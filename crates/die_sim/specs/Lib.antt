@@ -2,7 +2,8 @@ pub mod Gates
 pub mod Die
 pub mod Moment
 pub mod Spread
-pub mod Marks
+pub mod Stepped
+pub mod Pending
 pub mod Walk
 pub mod Socket
 pub mod Tape

@@ -100,8 +100,11 @@ IsInputBind (bind.Output n) = ⊥
 
 -- the drives of a moment: signals rise strictly, and each is bound to an input or as the clock
 pub record AreDrives (device : Device) (drives : List (ℕ × Drive)) : Type 0 where
-  pub rising : (k : ℕ) (a b : ℕ × Drive) → k + 1 < length drives → (slice_index_or drives k a).0 < (slice_index_or drives (k + 1) b).0
-  pub each : (k : ℕ) (a : ℕ × Drive) → k < length drives → (is_clock device.clock (slice_index_or drives k a).0 ≡ true) ⊎ IsInputBind (bind_at device.binds (slice_index_or drives k a).0)
+  pub rising : (k : ℕ) (a b : ℕ × Drive) → k + 1 < length drives
+      → (slice_index_or drives k a).0 < (slice_index_or drives (k + 1) b).0
+  pub each : (k : ℕ) (a : ℕ × Drive) → k < length drives
+      → (is_clock device.clock (slice_index_or drives k a).0 ≡ true)
+      ⊎ IsInputBind (bind_at device.binds (slice_index_or drives k a).0)
 
 -- the die after one moment
 pub record IsStep (device : Device) (old new : State) (drives : List (ℕ × Drive)) : Type 0 where

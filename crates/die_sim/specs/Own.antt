@@ -37,5 +37,9 @@ pub record IsOwnDevice (c : Circuit) (number : ℕ) (d : Device) : Type 0 where
 
 -- drives of inputs and of the clock, signals rising
 pub record AreOwnDrives (drivers : List Driver) (clock : ℕ) (drives : List (ℕ × Drive)) : Type 0 where
-  pub rising : (k : ℕ) (a b : ℕ × Drive) → k + 1 < length drives → (slice_index_or drives k a).0 < (slice_index_or drives (k + 1) b).0
-  pub each : (k : ℕ) (a : ℕ × Drive) → k < length drives → (is_clock (Some clock) (slice_index_or drives k a).0 ≡ true) ⊎ (((slice_index_or drives k a).0 < length drivers) × (is_input (driver_at drivers (slice_index_or drives k a).0) ≡ true))
+  pub rising : (k : ℕ) (a b : ℕ × Drive) → k + 1 < length drives
+      → (slice_index_or drives k a).0 < (slice_index_or drives (k + 1) b).0
+  pub each : (k : ℕ) (a : ℕ × Drive) → k < length drives
+      → (is_clock (Some clock) (slice_index_or drives k a).0 ≡ true)
+      ⊎ (((slice_index_or drives k a).0 < length drivers)
+      × (is_input (driver_at drivers (slice_index_or drives k a).0) ≡ true))

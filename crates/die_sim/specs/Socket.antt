@@ -1,5 +1,5 @@
 -- What a socket tells of itself: what is loaded, the die's state, the tape of its drives if it keeps one, and the count of its faults.
-use Rattle.std.specs.Prelude.{◌≡◌, ◌≢◌, ◌+◌, min, ℕ, true, Option, Some, None, List, [], ◌∷◌, ◌++◌, ◌⊎◌}
+use Rattle.std.specs.Prelude.{◌≡◌, ◌≢◌, ◌+◌, ◌-◌, ◌^◌, ◌≤◌, min, ℕ, true, Option, Some, None, List, [], ◌∷◌, ◌++◌, ◌⊎◌, length}
 use Rattle.tester_types.specs.declared.level.Level.{Level}
 use Rattle.tester_types.specs.declared.level.Level.TheVariants.{X}
 use Rattle.tester_types.specs.declared.level.Drive.{Drive}
@@ -66,11 +66,36 @@ abbrev pub Shows : Option Device → State → ℕ → Level → Type 0
 Shows None state signal level = ⊥
 Shows (Some d) state signal level = level ≡ level_of d state signal
 
+-- one more, as far as that fits
+abbrev pub one_more : ℕ → ℕ
+one_more n = min (n + 1) (2 ^ 64 - 1)
+
 -- what a socket with a tape holds
 pub record Taping : Type 0 where
   pub die : Option Die
   pub tape : TapeState
   pub count : ℕ
+
+-- what a socket with a tape tells
+abbrev pub taping_told : Taping → Told
+taping_told t = holding t.die (Some t.tape.calls) t.count
+
+-- nothing but the die is another: the tape, its room and the count of faults are as before
+pub record KeepsTape (old new : Taping) : Type 0 where
+  pub tape : new.tape ≡ old.tape
+  pub count : new.count ≡ old.count
+
+-- a drive fits the room that is left, which is less then by its drives and one
+pub record Fits (old new : Taping) (drives : List (ℕ × Drive)) : Type 0 where
+  pub left : new.tape.left + (length drives + 1) ≡ old.tape.left
+  pub count : new.count ≡ old.count
+
+-- a drive doesn't fit: the count of faults rises by one, and die, tape and room are as before
+pub record Overfills (old new : Taping) (drives : List (ℕ × Drive)) : Type 0 where
+  pub full : old.tape.left ≤ length drives
+  pub die : new.die ≡ old.die
+  pub tape : new.tape ≡ old.tape
+  pub count : new.count ≡ one_more old.count
 
 -- what a failing socket holds: the number of the call that fails, and how many calls there were
 pub record Failing : Type 0 where
@@ -83,9 +108,11 @@ pub record Failing : Type 0 where
 abbrev pub failing_told : Failing → Told
 failing_told f = holding f.die None f.count
 
--- one more, as far as that fits
-abbrev pub one_more : ℕ → ℕ
-one_more n = min (n + 1) 18446744073709551615
+-- no call is counted, and the count of faults is as before
+pub record Uncounted (old new : Failing) : Type 0 where
+  pub calls : new.calls ≡ old.calls
+  pub fails : new.fails ≡ old.fails
+  pub count : new.count ≡ old.count
 
 -- a call that passes: it is counted, and isn't the one that fails
 pub record Passes (old new : Failing) : Type 0 where

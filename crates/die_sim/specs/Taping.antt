@@ -9,4 +9,5 @@ call_of drives c = (c.at, take (c.to - c.from) (drop c.from drives))
 
 -- each entry's drives stand among so many
 pub record AreWithin (drives : ℕ) (calls : List Call) : Type 0 where
-  pub each : (k : ℕ) (d : Call) → k < length calls → ((slice_index_or calls k d).from ≤ (slice_index_or calls k d).to) × ((slice_index_or calls k d).to ≤ drives)
+  pub each : (k : ℕ) (d : Call) → k < length calls
+      → ((slice_index_or calls k d).from ≤ (slice_index_or calls k d).to) × ((slice_index_or calls k d).to ≤ drives)

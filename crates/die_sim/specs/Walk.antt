@@ -1,5 +1,5 @@
 -- What the event-driven walk keeps while it goes through the gates; no public clause cites it.
-use Rattle.std.specs.Prelude.{◌≡◌, ◌≢◌, ℕ, ◌<◌, ◌≤◌, ◌⊎◌, Bool, true, false, Option, None, List, length, take, count_by, slice_index, slice_index_or, unwrap_or}
+use Rattle.std.specs.Prelude.{◌≡◌, ◌≢◌, ℕ, ◌<◌, ◌≤◌, ◌⊎◌, Bool, true, false, Option, List, length, take, count_by, slice_index, slice_index_or}
 use Rattle.tester_types.specs.declared.level.Level.{Level}
 use Rattle.tester_types.specs.declared.level.Level.TheVariants.{Zero, One, X, Z}
 use Rattle.bench_net.specs.declared.gate.Driver.{Driver}
@@ -13,8 +13,8 @@ use Rattle.die_sim.specs.declared.moment.Edge.{Edge}
 use Rattle.die_sim.specs.declared.moment.Edge.TheVariants.{Keeps}
 use Rattle.tester_types.specs.declared.level.Drive.{Drive}
 use Rattle.die_sim.specs.Gates.{level_at, is_zero, is_one}
-use Rattle.die_sim.specs.Die.{Device, State, wanted, Settled, IsDevice, bind_at}
-use Rattle.die_sim.specs.Marks.{MarkState, mark_at, AreSeats}
+use Rattle.die_sim.specs.Die.{Device, State, own_level, wanted, Settled, IsDevice, bind_at}
+use Rattle.die_sim.specs.Pending.{PendingGates, is_pending, AreSeats}
 use Rattle.die_sim.specs.Spread.{Reads}
 
 -- whether the level is unknown
@@ -45,39 +45,42 @@ pub record AreTables (c : Circuit) (fixed : List (Option Level)) (held levels : 
   pub held_count : length held ≡ length c.net.names
   pub levels_count : length levels ≡ length c.net.names
 
--- a net has got a level; where it is another than before, the gates that read it are marked
-pub record Puts (drivers : List Driver) (n : ℕ) (x : Level) (old new : List Level) (marks marks' : MarkState) : Type 0 where
+-- a net has got a level; where it is another than before, the gates that read it are pending
+pub record Puts (drivers : List Driver) (n : ℕ) (x : Level) (old new : List Level)
+    (pending pending' : PendingGates) : Type 0 where
   pub count : length new ≡ length old
   pub here : level_at new n ≡ x
   pub others : (m : ℕ) → m ≢ n → level_at new m ≡ level_at old m
-  pub keeps : (g : ℕ) → mark_at marks g ≡ true → mark_at marks' g ≡ true
-  pub read : same_level (level_at old n) x ≡ false → (g : ℕ) → Reads drivers g n → mark_at marks' g ≡ true
-  pub only : (g : ℕ) → mark_at marks' g ≡ true → mark_at marks g ≡ false → (same_level (level_at old n) x ≡ false) × Reads drivers g n
+  pub keeps : (g : ℕ) → is_pending pending g ≡ true → is_pending pending' g ≡ true
+  pub read : same_level (level_at old n) x ≡ false → (g : ℕ) → Reads drivers g n → is_pending pending' g ≡ true
+  pub only : (g : ℕ) → is_pending pending' g ≡ true → is_pending pending g ≡ false
+      → (same_level (level_at old n) x ≡ false) × Reads drivers g n
 
--- only gates are marked, and each gate that isn't fits
-pub record Waits (drivers : List Driver) (fixed : List (Option Level)) (held levels : List Level) (marks : MarkState) : Type 0 where
+-- only gates are pending, and each gate that isn't fits
+pub record Waits (drivers : List Driver) (fixed : List (Option Level)) (held levels : List Level)
+    (pending : PendingGates) : Type 0 where
   pub levels_count : length levels ≡ length drivers
-  pub gates_only : (g : ℕ) → mark_at marks g ≡ true → gate_at drivers g ≡ true
-  pub fits : (g : ℕ) → g < length drivers → gate_at drivers g ≡ true → mark_at marks g ≡ false → level_at levels g ≡ wanted drivers fixed held levels g
+  pub gates_only : (g : ℕ) → is_pending pending g ≡ true → gate_at drivers g ≡ true
+  pub fits : (g : ℕ) → g < length drivers → gate_at drivers g ≡ true → is_pending pending g ≡ false
+      → level_at levels g ≡ wanted drivers fixed held levels g
 
--- the level that an input or a flip-flop must have
-abbrev pub own_level : List (Option Level) → List Level → ℕ → Level
-own_level fixed held n = unwrap_or (slice_index_or fixed n None) (level_at held n)
+-- a gate is pending since before, or since it reads an input or a flip-flop whose level changed
+pub data HasCause (drivers : List Driver) (start levels : List Level) (pending : PendingGates) (g : ℕ) : Type 0 where
+  before : is_pending pending g ≡ true → HasCause drivers start levels pending g
+  by : (n : ℕ) → Reads drivers g n → gate_at drivers n ≡ false → level_at start n ≢ level_at levels n
+      → HasCause drivers start levels pending g
 
--- a gate is marked since before, or since it reads an input or a flip-flop whose level changed
-pub data HasCause (drivers : List Driver) (start levels : List Level) (marks : MarkState) (g : ℕ) : Type 0 where
-  before : mark_at marks g ≡ true → HasCause drivers start levels marks g
-  by : (n : ℕ) → Reads drivers g n → gate_at drivers n ≡ false → level_at start n ≢ level_at levels n → HasCause drivers start levels marks g
-
--- inputs and flip-flops have got their levels, some of them; the gates that read one whose level changed are marked
-pub record Refreshes (drivers : List Driver) (fixed : List (Option Level)) (held start levels : List Level) (marks marks' : MarkState) : Type 0 where
-  pub waits : Waits drivers fixed held levels marks'
+-- inputs and flip-flops have got their levels, some of them; the gates that read one whose level changed are pending
+pub record Refreshes (drivers : List Driver) (fixed : List (Option Level)) (held start levels : List Level)
+    (pending pending' : PendingGates) : Type 0 where
+  pub waits : Waits drivers fixed held levels pending'
   pub sources : (n : ℕ) → (level_at levels n ≡ level_at start n) ⊎ (level_at levels n ≡ own_level fixed held n)
-  pub cause : (g : ℕ) → mark_at marks' g ≡ true → HasCause drivers start levels marks g
+  pub cause : (g : ℕ) → is_pending pending' g ≡ true → HasCause drivers start levels pending g
 
 -- these inputs and flip-flops have their levels
 pub record HaveLevels (fixed : List (Option Level)) (held levels : List Level) (nets : List ℕ) : Type 0 where
-  pub each : (k : ℕ) → k < length nets → level_at levels (slice_index nets k) ≡ own_level fixed held (slice_index nets k)
+  pub each : (k : ℕ) → k < length nets
+      → level_at levels (slice_index nets k) ≡ own_level fixed held (slice_index nets k)
 
 -- the bound input has its level
 abbrev pub HasLevel : List (Option Level) → List Level → List Level → Bind → Type 0
@@ -86,8 +89,10 @@ HasLevel fixed held levels (bind.Input n) = level_at levels n ≡ own_level fixe
 HasLevel fixed held levels (bind.Output n) = Unit {0}
 
 -- the inputs that these drives are of have their levels
-pub record HaveDriven (fixed : List (Option Level)) (held levels : List Level) (binds : List Bind) (drives : List (ℕ × Drive)) : Type 0 where
-  pub each : (k : ℕ) (d : ℕ × Drive) → k < length drives → HasLevel fixed held levels (bind_at binds (slice_index_or drives k d).0)
+pub record HaveDriven (fixed : List (Option Level)) (held levels : List Level) (binds : List Bind)
+    (drives : List (ℕ × Drive)) : Type 0 where
+  pub each : (k : ℕ) (d : ℕ × Drive) → k < length drives
+      → HasLevel fixed held levels (bind_at binds (slice_index_or drives k d).0)
 
 -- whether a flip-flop drives
 abbrev pub is_flip_flop : Driver → Bool
@@ -111,38 +116,40 @@ pub record MayCapture (drivers : List Driver) (e : Edge) (nets : List ℕ) : Typ
   pub each : (k : ℕ) → k < length nets → is_flip_flop (driver_at drivers (slice_index nets k)) ≡ true
   pub all : (n : ℕ) → n < length drivers → is_flip_flop (driver_at drivers n) ≡ true → e ≢ Keeps → StandsAt n nets
 
--- a set of nets holds the marked gates, and with a gate each gate that reads it
-pub record Carries (drivers : List Driver) (marks : MarkState) (set : ℕ → Bool) : Type 0 where
-  pub start : (g : ℕ) → mark_at marks g ≡ true → set g ≡ true
+-- a set of nets holds the pending gates, and with a gate each gate that reads it
+pub record Carries (drivers : List Driver) (pending : PendingGates) (set : ℕ → Bool) : Type 0 where
+  pub start : (g : ℕ) → is_pending pending g ≡ true → set g ≡ true
   pub onward : (g n : ℕ) → Reads drivers g n → gate_at drivers n ≡ true → set n ≡ true → set g ≡ true
 
--- a marked gate was evaluated
-pub record Visits (drivers : List Driver) (fixed : List (Option Level)) (held : List Level) (g : ℕ) (levels levels' : List Level) (marks marks' : MarkState) : Type 0 where
-  pub was : mark_at marks g ≡ true
-  pub cleared : MarkState
-  pub clear : mark_at cleared g ≡ false
-  pub rest : (m : ℕ) → m ≢ g → mark_at cleared m ≡ mark_at marks m
-  pub puts : Puts drivers g (wanted drivers fixed held levels g) levels levels' cleared marks'
+-- a pending gate was evaluated
+pub record Visits (drivers : List Driver) (fixed : List (Option Level)) (held : List Level) (g : ℕ)
+    (levels levels' : List Level) (pending pending' : PendingGates) : Type 0 where
+  pub was : is_pending pending g ≡ true
+  pub cleared : PendingGates
+  pub clear : is_pending cleared g ≡ false
+  pub rest : (m : ℕ) → m ≢ g → is_pending cleared m ≡ is_pending pending m
+  pub puts : Puts drivers g (wanted drivers fixed held levels g) levels levels' cleared pending'
 
 -- the gates in front of a place of the order have had their turn
-pub record WalkedTo (drivers : List Driver) (fixed : List (Option Level)) (held : List Level) (order : List ℕ) (start levels : List Level) (marks marks' : MarkState) (k count : ℕ) : Type 0 where
-  pub waits : Waits drivers fixed held levels marks'
+pub record WalkedTo (drivers : List Driver) (fixed : List (Option Level)) (held : List Level) (order : List ℕ)
+    (start levels : List Level) (pending pending' : PendingGates) (k count : ℕ) : Type 0 where
+  pub waits : Waits drivers fixed held levels pending'
   pub kept : (n : ℕ) → gate_at drivers n ≡ false → level_at levels n ≡ level_at start n
-  pub done : (j : ℕ) → j < k → j < length order → mark_at marks' (slice_index order j) ≡ false
+  pub done : (j : ℕ) → j < k → j < length order → is_pending pending' (slice_index order j) ≡ false
   pub counted : count ≤ k
-  pub bound : (set : ℕ → Bool) → Carries drivers marks set → count ≤ count_by set (take k order)
-  pub carried : (set : ℕ → Bool) → Carries drivers marks set → (g : ℕ) → mark_at marks' g ≡ true → set g ≡ true
+  pub bound : (set : ℕ → Bool) → Carries drivers pending set → count ≤ count_by set (take k order)
+  pub carried : (set : ℕ → Bool) → Carries drivers pending set → (g : ℕ) → is_pending pending' g ≡ true → set g ≡ true
 
 -- each fault is of a net
 pub record AreFaultsWithin (nets : ℕ) (faults : List StuckAt) : Type 0 where
   pub each : (k : ℕ) (d : StuckAt) → k < length faults → (slice_index_or faults k d).net < nets
 
 -- what a die keeps inside
-pub record IsKept (d : Device) (s : State) (marks : MarkState) (flip_flops : List ℕ) : Type 0 where
+pub record IsKept (d : Device) (s : State) (pending : PendingGates) (flip_flops : List ℕ) : Type 0 where
   pub whole : IsWhole d.circuit
   pub device : IsDevice d
   pub held_count : length s.held ≡ length d.circuit.net.drivers
   pub settled : Settled d.circuit.net.drivers d.fixed s.held s.levels
-  pub seats : AreSeats d.circuit.order marks
-  pub clear : (n : ℕ) → mark_at marks n ≡ false
+  pub seats : AreSeats d.circuit.order pending
+  pub clear : (n : ℕ) → is_pending pending n ≡ false
   pub all_flip_flops : AreFlipFlops d.circuit.net.drivers flip_flops (length d.circuit.net.drivers)

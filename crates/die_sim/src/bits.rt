@@ -1,7 +1,7 @@
 //! A set of places, packed into words of 64.
 ghost use Rattle.std.specs.Prelude.{◌≡◌, ℕ, ◌+◌, ◌*◌, ◌/◌, ◌%◌, ◌<◌, ◌≤◌, true, false, length, IfOk, slice_set, slice_index, slice_index_or};
 ghost use Rattle.std.specs.Int.{bit_at};
-ghost use Rattle.die_sim.specs.Marks.{bit_of};
+ghost use Rattle.die_sim.specs.Pending.{bit_of};
 
 use std::alloc::{AllocError, Global};
 use std::marker::Model;
@@ -14,7 +14,7 @@ pub(crate) struct Bits {
 
 impl Model for Bits {
     ghost use Rattle.std.specs.Prelude.{List, Bool, ◌≤◌, length};
-    ghost use Rattle.die_sim.specs.Marks.{bits_of};
+    ghost use Rattle.die_sim.specs.Pending.{bits_of};
 
     ghost Value = { List Bool };
 

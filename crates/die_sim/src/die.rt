@@ -8,8 +8,8 @@ ghost use Rattle.die_sim.specs.Spread.{IsSpread};
 ghost use Rattle.die_sim.specs.Walk.{AreFaultsWithin};
 
 use crate::image::{Bind, Binding, DieImage, StuckAt};
-use crate::marks::Marks;
 use crate::moment::{capture_each, capturing, clock_after, clock_edge, flip_flops, put_all};
+use crate::pending::Pending;
 use crate::settle::{refresh_driven, refresh_each, walk};
 use crate::steps::Steps;
 use bench_net::Netlist;
@@ -27,7 +27,7 @@ pub struct DieState {
     clock: Level,
     held: Vec<Level>,
     levels: Vec<Level>,
-    marks: Marks,
+    pending: Pending,
     flip_flops: Vec<u32>,
 }
 
@@ -38,9 +38,26 @@ impl Model for DieState {
 
     ghost Value = { Die };
 
-    ghost view = { λ d. record { device = record { circuit = arc_value d.net; clock = (arc_value d.bind).clock; binds = (arc_value d.bind).nets; fixed = d.fixed.items }; state = record { clock = d.clock; held = d.held.items; levels = d.levels.items } } };
+    ghost view = { λ d. record {
+      device = record {
+        circuit = arc_value d.net;
+        clock = (arc_value d.bind).clock;
+        binds =
+            (arc_value d.bind).nets;
+        fixed = d.fixed.items;
+      };
+      state = record
+          { clock = d.clock; held = d.held.items; levels = d.levels.items };
+    } };
 
-    ghost invariant = { λ d. IsKept (record { circuit = arc_value d.net; clock = (arc_value d.bind).clock; binds = (arc_value d.bind).nets; fixed = d.fixed.items }) (record { clock = d.clock; held = d.held.items; levels = d.levels.items }) d.marks d.flip_flops.items };
+    ghost invariant = { λ d. IsKept (record {
+      circuit = arc_value d.net;
+      clock = (arc_value d.bind).clock;
+      binds =
+          (arc_value d.bind).nets;
+      fixed = d.fixed.items;
+    })
+        (record { clock = d.clock; held = d.held.items; levels = d.levels.items }) d.pending d.flip_flops.items };
 }
 
 impl DieState {
@@ -54,14 +71,14 @@ impl DieState {
         let fixed = fixed_levels(alloc, nets, die.faults.as_slice())?;
         let held = unknown_levels(alloc, nets)?;
         let mut levels = first_levels(alloc, fixed.as_slice())?;
-        let mut marks = Marks::all(alloc, &net)?;
+        let mut pending = Pending::all(alloc, &net)?;
         let flip_flops = flip_flops(alloc, &net)?;
         walk(
             &net,
             fixed.as_slice(),
             held.as_slice(),
             &mut levels,
-            &mut marks,
+            &mut pending,
         );
         Ok(DieState {
             net,
@@ -70,7 +87,7 @@ impl DieState {
             clock: Level::X,
             held,
             levels,
-            marks,
+            pending,
             flip_flops,
         })
     }
@@ -81,8 +98,11 @@ impl DieState {
         requires { AreDrives self.old.device drives.now }
         ensures device { self.new.device ≡ self.old.device }
         ensures step { IsStep self.old.device self.old.state self.new.state drives.now }
+        ensures rises { steps.old ≤ steps.new }
         // The gates reachable from the inputs and flip-flops whose levels changed are the least such set.
-        ensures bound { (set : ℕ → Bool) → IsSpread self.old.device.circuit.net.drivers self.old.state.levels self.new.state.levels set → steps.new ≤ steps.old + count_by set self.old.device.circuit.order }
+        ensures bound { (set : ℕ → Bool)
+            → IsSpread self.old.device.circuit.net.drivers self.old.state.levels self.new.state.levels set
+            → steps.new ≤ steps.old + count_by set self.old.device.circuit.order }
     {
         let evaluations = self.step(drives);
         steps.add(evaluations);
@@ -92,7 +112,9 @@ impl DieState {
     fn step(&mut self, drives: &[(u16, Drive)]) -> usize
         ensures device { self.new.device ≡ self.old.device }
         ensures step { IsStep self.old.device self.old.state self.new.state drives.now }
-        ensures bound { (set : ℕ → Bool) → IsSpread self.old.device.circuit.net.drivers self.old.state.levels self.new.state.levels set → result ≤ count_by set self.old.device.circuit.order }
+        ensures bound { (set : ℕ → Bool)
+            → IsSpread self.old.device.circuit.net.drivers self.old.state.levels self.new.state.levels set
+            → result ≤ count_by set self.old.device.circuit.order }
     {
         let net: &Netlist = &self.net;
         let fixed = self.fixed.as_slice();
@@ -104,17 +126,17 @@ impl DieState {
         put_all(&mut self.held, bind, drives);
         self.clock = clock;
         let held = self.held.as_slice();
-        refresh_each(net, fixed, held, &mut self.levels, &mut self.marks, nets);
+        refresh_each(net, fixed, held, &mut self.levels, &mut self.pending, nets);
         refresh_driven(
             net,
             fixed,
             held,
             &mut self.levels,
-            &mut self.marks,
+            &mut self.pending,
             bind,
             drives,
         );
-        walk(net, fixed, held, &mut self.levels, &mut self.marks)
+        walk(net, fixed, held, &mut self.levels, &mut self.pending)
     }
 
     /// The level of a signal that is bound to a net, or is the clock.

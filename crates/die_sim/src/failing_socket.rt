@@ -1,7 +1,7 @@
 //! A socket that loses contact at one call.
 ghost use Rattle.std.specs.Prelude.{◌≡◌, ◌≤◌, None, OnOk, OnErr, IfOk};
 ghost use Rattle.tester_types.specs.Outside.{HasRisen};
-ghost use Rattle.die_sim.specs.Socket.{Failing, CanDrive, CanSense, IsLoaded, Moves, Shows, taped, failing_told, Passes, Fails};
+ghost use Rattle.die_sim.specs.Socket.{Failing, CanDrive, CanSense, IsLoaded, Moves, Shows, taped, failing_told, Uncounted, Passes, Fails};
 ghost use Rattle.die_sim.specs.declared.socket.SocketFault.TheVariants as SocketFault;
 
 use crate::die::DieState;
@@ -69,7 +69,8 @@ impl Socket for FailingSocket {
         ensures none { OnErr result ((failing_told self.new).loaded ≡ None) }
         ensures tape { (failing_told self.new).tape ≡ (failing_told self.old).tape }
         ensures count { (failing_told self.old).count ≤ (failing_told self.new).count }
-        ensures cause { result ≡ Err SocketFault.Contact → HasRisen (failing_told self.old).count (failing_told self.new).count }
+        ensures cause { result ≡ Err SocketFault.Contact
+            → HasRisen (failing_told self.old).count (failing_told self.new).count }
         ensures passes { OnOk result (Passes self.old self.new) }
         ensures fails { result ≡ Err SocketFault.Contact → Fails self.old self.new }
         ensures else_passes { result ≡ Err SocketFault.NoMemory → Passes self.old self.new }
@@ -85,7 +86,8 @@ impl Socket for FailingSocket {
 
     fn drive(&mut self, _at: u128, drives: &[(u16, Drive)]) -> Result<(), Contact>
         requires { CanDrive (failing_told self.old).loaded drives.now }
-        ensures moves { OnOk result (Moves (failing_told self.old).loaded (failing_told self.old).state (failing_told self.new).state drives.now) }
+        ensures moves { OnOk result (Moves (failing_told self.old).loaded (failing_told self.old).state
+            (failing_told self.new).state drives.now) }
         ensures tape { OnOk result ((failing_told self.new).tape ≡ taped (failing_told self.old).tape _at drives.now) }
         ensures kept { OnErr result ((failing_told self.new).tape ≡ (failing_told self.old).tape) }
         ensures loaded { (failing_told self.new).loaded ≡ (failing_told self.old).loaded }
@@ -101,7 +103,8 @@ impl Socket for FailingSocket {
 
     fn sense(&mut self, signal: u16) -> Result<Level, Contact>
         requires { CanSense (failing_told self.old).loaded signal }
-        ensures shows { IfOk result (λ level. Shows (failing_told self.old).loaded (failing_told self.old).state signal level) }
+        ensures shows { IfOk result (λ level. Shows (failing_told self.old).loaded
+            (failing_told self.old).state signal level) }
         ensures kept { OnOk result ((failing_told self.new).state ≡ (failing_told self.old).state) }
         ensures tape { (failing_told self.new).tape ≡ (failing_told self.old).tape }
         ensures loaded { (failing_told self.new).loaded ≡ (failing_told self.old).loaded }
@@ -114,7 +117,12 @@ impl Socket for FailingSocket {
         Ok(sense_die(&self.die, signal))
     }
 
-    fn unload(&mut self) {
+    fn unload(&mut self)
+        ensures none { (failing_told self.new).loaded ≡ None }
+        ensures tape { (failing_told self.new).tape ≡ (failing_told self.old).tape }
+        ensures count { (failing_told self.old).count ≤ (failing_told self.new).count }
+        ensures uncounted { Uncounted self.old self.new }
+    {
         self.die = None;
     }
 

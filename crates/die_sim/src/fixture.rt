@@ -2,11 +2,12 @@
 ghost use Rattle.std.specs.Prelude.{◌≡◌, ℕ, ◌+◌, ◌<◌, ◌≤◌, ◌⊎◌, true, Some, [], ◌∷◌, length, IfOk, IfSome, slice_index_or};
 ghost use Rattle.tester_types.specs.declared.level.Drive.{Drive};
 ghost use Rattle.bench_net.specs.Wiring.{driver_at};
+ghost use Rattle.text_bytes.specs.Limits.{most_bytes};
 ghost use Rattle.die_sim.specs.Die.{is_clock, IsBoundTo, bind_at, device_of};
 ghost use Rattle.die_sim.specs.Moment.{AreDrives};
 ghost use Rattle.die_sim.specs.Own.{is_input, own_bind, AreOwn, IsOwnImage, AreOwnDrives};
 
-use crate::{Bind, BindList, Binding, DieImage, DieState, FaultList, Steps, StuckAt};
+use crate::{Bind, BindList, Binding, DieImage, DieState, FaultList, Steps, StuckAt, is_one_fault};
 use bench_net::{Driver, NetFault, Netlist};
 use std::alloc::{AllocError, Global};
 use std::marker::Model;
@@ -40,7 +41,7 @@ impl Fixture {
         clock: &[u8],
         faults: Vec<StuckAt>,
     ) -> Result<Fixture, NetFault>
-        requires { length text.now ≤ 16777216 }
+        requires { length text.now ≤ most_bytes }
     {
         let net = bench_net::read(alloc, text)?;
         if net.nets() > 1000 {
@@ -143,17 +144,6 @@ fn own_binds(alloc: Global, net: &Netlist) -> Result<Vec<Bind>, AllocError>
     Ok(binds)
 }
 
-/// Whether there is one fault at most, of a net of the netlist.
-fn is_one_fault(net: &Netlist, faults: &[StuckAt]) -> bool
-    ensures { result ≡ true → (length faults.now ≤ 1) × ((d : StuckAt) → 0 < length faults.now → (slice_index_or faults.now 0 d).net < length net.now.net.drivers) }
-{
-    match faults {
-        [] => true,
-        [fault] => fault.net < net.nets(),
-        _ => false,
-    }
-}
-
 /// The image of a netlist with one fault at most.
 pub(crate) fn own_image(
     alloc: Global,
@@ -179,7 +169,8 @@ pub(crate) fn own_image(
 
 /// Whether the signal is an input's or the clock.
 fn can_drive(net: &Netlist, clock: u16, signal: u16) -> bool
-    ensures { result ≡ true → (is_clock (Some clock) signal ≡ true) ⊎ ((signal < length net.now.net.drivers) × (is_input (driver_at net.now.net.drivers signal) ≡ true)) }
+    ensures { result ≡ true → (is_clock (Some clock) signal ≡ true)
+        ⊎ ((signal < length net.now.net.drivers) × (is_input (driver_at net.now.net.drivers signal) ≡ true)) }
 {
     if signal == clock {
         return true;
@@ -190,7 +181,8 @@ fn can_drive(net: &Netlist, clock: u16, signal: u16) -> bool
 /// Whether the signal of the drive at a place is behind that of the one before.
 fn is_behind(drives: &[(u16, Drive)], place: usize) -> bool
     requires { place < length drives.now }
-    ensures { result ≡ true → (k : ℕ) (a b : ℕ × Drive) → k + 1 ≡ place → (slice_index_or drives.now k a).0 < (slice_index_or drives.now place b).0 }
+    ensures { result ≡ true → (k : ℕ) (a b : ℕ × Drive) → k + 1 ≡ place
+        → (slice_index_or drives.now k a).0 < (slice_index_or drives.now place b).0 }
 {
     place == 0 || drives[place - 1].0 < drives[place].0
 }

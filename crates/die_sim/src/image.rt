@@ -1,5 +1,8 @@
 //! What is loaded into a socket: a netlist, its binding and its faults.
 
+ghost use Rattle.std.specs.Prelude.{◌↔◌, IsTrue, length};
+ghost use Rattle.die_sim.specs.Die.{IsOneFault};
+
 use bench_net::Netlist;
 use std::marker::Model;
 use std::sync::Arc;
@@ -82,6 +85,17 @@ pub struct StuckAt {
 /// Faults, no two of one net.
 pub type FaultList = Items<StuckAt>;
 
+/// Whether there is one fault at most, of a net of the netlist. An image may have such faults.
+pub fn is_one_fault(net: &Netlist, faults: &[StuckAt]) -> bool
+    ensures { IsTrue result ↔ IsOneFault (length net.now.net.drivers) faults.now }
+{
+    match faults {
+        [] => true,
+        [fault] => fault.net < net.nets(),
+        _ => false,
+    }
+}
+
 /// A netlist with its binding and its active faults. Each net of the binding and of the faults is a net of the netlist,
 /// each net that a signal drives is an input, no two signals drive one input, and no two faults have one net.
 #[derive(Drop)]
@@ -97,7 +111,19 @@ impl Model for DieImage {
 
     ghost Value = { Image };
 
-    ghost view = { λ i. record { circuit = arc_value i.net; clock = (arc_value i.bind).clock; binds = (arc_value i.bind).nets; faults = i.faults } };
+    ghost view = { λ i. record {
+      circuit = arc_value i.net;
+      clock = (arc_value i.bind).clock;
+      binds =
+          (arc_value i.bind).nets;
+      faults = i.faults;
+    } };
 
-    ghost invariant = { λ i. IsSound (record { circuit = arc_value i.net; clock = (arc_value i.bind).clock; binds = (arc_value i.bind).nets; faults = i.faults }) };
+    ghost invariant = { λ i. IsSound (record {
+      circuit = arc_value i.net;
+      clock = (arc_value i.bind).clock;
+      binds =
+          (arc_value i.bind).nets;
+      faults = i.faults;
+    }) };
 }

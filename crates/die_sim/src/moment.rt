@@ -107,7 +107,8 @@ fn is_flip_flop(driver: &Driver) -> bool
 /// Adds a net to a list where it is a flip-flop.
 fn push_flip_flop(list: &mut Vec<u32>, net: &Netlist, n: u32) -> Result<(), AllocError>
     requires { n < length net.now.net.names }
-    ensures { OnOk result (list.new.items ≡ cond (is_flip_flop (driver_at net.now.net.drivers n)) (list.old.items ++ n ∷ []) list.old.items) }
+    ensures { OnOk result (list.new.items
+        ≡ cond (is_flip_flop (driver_at net.now.net.drivers n)) (list.old.items ++ n ∷ []) list.old.items) }
 {
     if is_flip_flop(net.driver(n)) {
         list.push(n)?;
@@ -128,7 +129,8 @@ pub(crate) fn flip_flops(alloc: Global, net: &Netlist) -> Result<Vec<u32>, Alloc
 
 /// Of these flip-flops those that may capture: all, or none where the clock's change is no edge.
 pub(crate) fn capturing(flip_flops: &[u32], edge: Edge) -> &[u32]
-    ensures { (drivers : List Driver) → AreFlipFlops drivers flip_flops.now (length drivers) → MayCapture drivers edge result.now }
+    ensures { (drivers : List Driver) → AreFlipFlops drivers flip_flops.now (length drivers)
+        → MayCapture drivers edge result.now }
 {
     match edge {
         Edge::Takes => flip_flops,

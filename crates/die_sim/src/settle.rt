@@ -3,13 +3,13 @@ ghost use Rattle.std.specs.Prelude.{◌≡◌, ℕ, ◌<◌, ◌≤◌, Bool, tr
 ghost use Rattle.bench_net.specs.Wiring.{IsWired, driver_at, gate_at};
 ghost use Rattle.bench_net.specs.Circuit.{IsWhole};
 ghost use Rattle.die_sim.specs.Gates.{level_at};
-ghost use Rattle.die_sim.specs.Die.{driven, wanted, Settled, IsNetBind, bind_at};
-ghost use Rattle.die_sim.specs.Marks.{mark_at, HasPlace, AreSeats, MarksEach, MarksReaders};
-ghost use Rattle.die_sim.specs.Walk.{same_level, is_unknown, is_off, is_flip_flop, AreTables, Puts, Waits, own_level, Refreshes, HaveLevels, HasLevel, HaveDriven, Carries, Visits};
+ghost use Rattle.die_sim.specs.Die.{driven, own_level, wanted, Settled, IsNetBind, bind_at};
+ghost use Rattle.die_sim.specs.Pending.{is_pending, HasPlace, AreSeats, ActivatesEach, ActivatesReaders};
+ghost use Rattle.die_sim.specs.Walk.{same_level, is_unknown, is_off, is_flip_flop, AreTables, Puts, Waits, Refreshes, HaveLevels, HasLevel, HaveDriven, Carries, Visits};
 
 use crate::gate::{gate_level, is_one, is_zero};
 use crate::image::{Bind, Binding};
-use crate::marks::Marks;
+use crate::pending::Pending;
 use bench_net::{Driver, Netlist};
 use tester_types::{Drive, Level};
 
@@ -67,41 +67,41 @@ fn wanted_level(
     fixed[n as usize].unwrap_or(level)
 }
 
-/// Marks each of these nets.
-fn mark_each(marks: &mut Marks, nets: &[u32])
-    requires { All (λ r. HasPlace marks.old r) nets.now }
-    ensures { MarksEach nets.now marks.old marks.new }
+/// These gates are pending.
+fn activate_each(pending: &mut Pending, nets: &[u32])
+    requires { All (λ r. HasPlace pending.old r) nets.now }
+    ensures { ActivatesEach nets.now pending.old pending.new }
 {
     for net in nets {
-        marks.set(*net);
+        pending.set(*net);
     }
 }
 
-/// Marks the gates that read a net.
-fn mark_readers(net: &Netlist, marks: &mut Marks, n: u32)
+/// The gates that read a net are pending.
+fn activate_readers(net: &Netlist, pending: &mut Pending, n: u32)
     requires whole { IsWhole net.now }
-    requires seats { AreSeats net.now.order marks.old }
+    requires seats { AreSeats net.now.order pending.old }
     requires within { n < length net.now.net.names }
-    ensures marks { MarksReaders net.now.net.drivers n marks.old marks.new }
-    ensures seats { AreSeats net.now.order marks.new }
+    ensures pending { ActivatesReaders net.now.net.drivers n pending.old pending.new }
+    ensures seats { AreSeats net.now.order pending.new }
 {
-    mark_each(marks, net.readers(n))
+    activate_each(pending, net.readers(n))
 }
 
-/// Gives a net a level, and marks the gates that read it where that is another than before.
-fn put_level(net: &Netlist, levels: &mut Vec<Level>, marks: &mut Marks, n: u32, level: Level)
+/// Gives a net a level, and the gates are pending that read it where that is another than before.
+fn put_level(net: &Netlist, levels: &mut Vec<Level>, pending: &mut Pending, n: u32, level: Level)
     requires whole { IsWhole net.now }
     requires levels { length levels.old.items ≡ length net.now.net.names }
-    requires seats { AreSeats net.now.order marks.old }
+    requires seats { AreSeats net.now.order pending.old }
     requires within { n < length net.now.net.names }
-    ensures puts { Puts net.now.net.drivers n level levels.old.items levels.new.items marks.old marks.new }
-    ensures seats { AreSeats net.now.order marks.new }
+    ensures puts { Puts net.now.net.drivers n level levels.old.items levels.new.items pending.old pending.new }
+    ensures seats { AreSeats net.now.order pending.new }
 {
     if same_level(levels[n as usize], level) {
         return;
     }
     levels[n as usize] = level;
-    mark_readers(net, marks, n);
+    activate_readers(net, pending, n);
 }
 
 /// The level that an input or a flip-flop must have.
@@ -119,41 +119,44 @@ fn refresh_net(
     fixed: &[Option<Level>],
     held: &[Level],
     levels: &mut Vec<Level>,
-    marks: &mut Marks,
+    pending: &mut Pending,
     n: u32,
 )
     requires tables { AreTables net.now fixed.now held.now levels.old.items }
-    requires waits { Waits net.now.net.drivers fixed.now held.now levels.old.items marks.old }
-    requires seats { AreSeats net.now.order marks.old }
+    requires waits { Waits net.now.net.drivers fixed.now held.now levels.old.items pending.old }
+    requires seats { AreSeats net.now.order pending.old }
     requires within { n < length net.now.net.names }
     requires source { gate_at net.now.net.drivers n ≡ false }
-    ensures refreshes { Refreshes net.now.net.drivers fixed.now held.now levels.old.items levels.new.items marks.old marks.new }
+    ensures refreshes { Refreshes net.now.net.drivers fixed.now held.now levels.old.items levels.new.items pending.old
+        pending.new }
     ensures here { level_at levels.new.items n ≡ own_level fixed.now held.now n }
-    ensures seats { AreSeats net.now.order marks.new }
+    ensures seats { AreSeats net.now.order pending.new }
 {
     let level = own_level(fixed, held, n);
-    put_level(net, levels, marks, n, level);
+    put_level(net, levels, pending, n, level);
 }
 
-/// Gives these flip-flops their levels, and marks the gates that read one whose level changed.
+/// Gives these flip-flops their levels, and the gates are pending that read one whose level changed.
 pub(crate) fn refresh_each(
     net: &Netlist,
     fixed: &[Option<Level>],
     held: &[Level],
     levels: &mut Vec<Level>,
-    marks: &mut Marks,
+    pending: &mut Pending,
     nets: &[u32],
 )
     requires tables { AreTables net.now fixed.now held.now levels.old.items }
-    requires waits { Waits net.now.net.drivers fixed.now held.now levels.old.items marks.old }
-    requires seats { AreSeats net.now.order marks.old }
-    requires nets { (k : ℕ) → k < length nets.now → is_flip_flop (driver_at net.now.net.drivers (slice_index nets.now k)) ≡ true }
-    ensures refreshes { Refreshes net.now.net.drivers fixed.now held.now levels.old.items levels.new.items marks.old marks.new }
+    requires waits { Waits net.now.net.drivers fixed.now held.now levels.old.items pending.old }
+    requires seats { AreSeats net.now.order pending.old }
+    requires nets { (k : ℕ) → k < length nets.now
+        → is_flip_flop (driver_at net.now.net.drivers (slice_index nets.now k)) ≡ true }
+    ensures refreshes { Refreshes net.now.net.drivers fixed.now held.now levels.old.items levels.new.items pending.old
+        pending.new }
     ensures each { HaveLevels fixed.now held.now levels.new.items nets.now }
-    ensures seats { AreSeats net.now.order marks.new }
+    ensures seats { AreSeats net.now.order pending.new }
 {
     for n in nets {
-        refresh_net(net, fixed, held, levels, marks, *n);
+        refresh_net(net, fixed, held, levels, pending, *n);
     }
 }
 
@@ -163,44 +166,46 @@ fn refresh_bound(
     fixed: &[Option<Level>],
     held: &[Level],
     levels: &mut Vec<Level>,
-    marks: &mut Marks,
+    pending: &mut Pending,
     bind: Bind,
 )
     requires tables { AreTables net.now fixed.now held.now levels.old.items }
-    requires waits { Waits net.now.net.drivers fixed.now held.now levels.old.items marks.old }
-    requires seats { AreSeats net.now.order marks.old }
+    requires waits { Waits net.now.net.drivers fixed.now held.now levels.old.items pending.old }
+    requires seats { AreSeats net.now.order pending.old }
     requires bind { IsNetBind net.now.net.drivers bind }
-    ensures refreshes { Refreshes net.now.net.drivers fixed.now held.now levels.old.items levels.new.items marks.old marks.new }
+    ensures refreshes { Refreshes net.now.net.drivers fixed.now held.now levels.old.items levels.new.items pending.old
+        pending.new }
     ensures here { HasLevel fixed.now held.now levels.new.items bind }
-    ensures seats { AreSeats net.now.order marks.new }
+    ensures seats { AreSeats net.now.order pending.new }
 {
     match bind {
         Bind::Free => {}
-        Bind::Input(n) => refresh_net(net, fixed, held, levels, marks, n),
+        Bind::Input(n) => refresh_net(net, fixed, held, levels, pending, n),
         Bind::Output(_) => {}
     }
 }
 
-/// Gives the inputs that are driven their levels, and marks the gates that read one whose level changed.
+/// Gives the inputs that are driven their levels, and the gates are pending that read one whose level changed.
 pub(crate) fn refresh_driven(
     net: &Netlist,
     fixed: &[Option<Level>],
     held: &[Level],
     levels: &mut Vec<Level>,
-    marks: &mut Marks,
+    pending: &mut Pending,
     bind: &Binding,
     drives: &[(u16, Drive)],
 )
     requires tables { AreTables net.now fixed.now held.now levels.old.items }
-    requires waits { Waits net.now.net.drivers fixed.now held.now levels.old.items marks.old }
-    requires seats { AreSeats net.now.order marks.old }
+    requires waits { Waits net.now.net.drivers fixed.now held.now levels.old.items pending.old }
+    requires seats { AreSeats net.now.order pending.old }
     requires binds { (s : ℕ) → IsNetBind net.now.net.drivers (bind_at bind.now.nets s) }
-    ensures refreshes { Refreshes net.now.net.drivers fixed.now held.now levels.old.items levels.new.items marks.old marks.new }
+    ensures refreshes { Refreshes net.now.net.drivers fixed.now held.now levels.old.items levels.new.items pending.old
+        pending.new }
     ensures driven { HaveDriven fixed.now held.now levels.new.items bind.now.nets drives.now }
-    ensures seats { AreSeats net.now.order marks.new }
+    ensures seats { AreSeats net.now.order pending.new }
 {
     for (signal, _) in drives {
-        refresh_bound(net, fixed, held, levels, marks, bind.bind_at(*signal));
+        refresh_bound(net, fixed, held, levels, pending, bind.bind_at(*signal));
     }
 }
 
@@ -210,48 +215,52 @@ fn visit(
     fixed: &[Option<Level>],
     held: &[Level],
     levels: &mut Vec<Level>,
-    marks: &mut Marks,
+    pending: &mut Pending,
     g: u32,
 )
     requires tables { AreTables net.now fixed.now held.now levels.old.items }
-    requires seats { AreSeats net.now.order marks.old }
+    requires seats { AreSeats net.now.order pending.old }
     requires within { g < length net.now.net.names }
     requires gate { gate_at net.now.net.drivers g ≡ true }
-    requires marked { mark_at marks.old g ≡ true }
-    ensures visits { Visits net.now.net.drivers fixed.now held.now g levels.old.items levels.new.items marks.old marks.new }
-    ensures seats { AreSeats net.now.order marks.new }
+    requires active { is_pending pending.old g ≡ true }
+    ensures visits { Visits net.now.net.drivers fixed.now held.now g levels.old.items levels.new.items pending.old
+        pending.new }
+    ensures seats { AreSeats net.now.order pending.new }
 {
     let level = wanted_level(net, fixed, held, levels.as_slice(), g);
-    marks.clear(g);
-    put_level(net, levels, marks, g, level);
+    pending.clear(g);
+    put_level(net, levels, pending, g, level);
 }
 
-/// Evaluates the gates that are marked, and those that change on the way, each once, in the netlist's order. Answers how
+/// Evaluates the gates that are pending, and those that change on the way, each once, in the netlist's order. Answers how
 /// many evaluations that took.
 pub(crate) fn walk(
     net: &Netlist,
     fixed: &[Option<Level>],
     held: &[Level],
     levels: &mut Vec<Level>,
-    marks: &mut Marks,
+    pending: &mut Pending,
 ) -> usize
     requires tables { AreTables net.now fixed.now held.now levels.old.items }
-    requires waits { Waits net.now.net.drivers fixed.now held.now levels.old.items marks.old }
-    requires seats { AreSeats net.now.order marks.old }
-    requires sources { (n : ℕ) → n < length net.now.net.drivers → gate_at net.now.net.drivers n ≡ false → level_at levels.old.items n ≡ own_level fixed.now held.now n }
+    requires waits { Waits net.now.net.drivers fixed.now held.now levels.old.items pending.old }
+    requires seats { AreSeats net.now.order pending.old }
+    requires sources { (n : ℕ) → n < length net.now.net.drivers → gate_at net.now.net.drivers n ≡ false
+        → level_at levels.old.items n ≡ own_level fixed.now held.now n }
     ensures settled { Settled net.now.net.drivers fixed.now held.now levels.new.items }
-    ensures kept { (n : ℕ) → gate_at net.now.net.drivers n ≡ false → level_at levels.new.items n ≡ level_at levels.old.items n }
-    ensures seats { AreSeats net.now.order marks.new }
-    ensures clear { (n : ℕ) → mark_at marks.new n ≡ false }
-    ensures bound { (set : ℕ → Bool) → Carries net.now.net.drivers marks.old set → result ≤ count_by set net.now.order }
+    ensures kept { (n : ℕ) → gate_at net.now.net.drivers n ≡ false
+        → level_at levels.new.items n ≡ level_at levels.old.items n }
+    ensures seats { AreSeats net.now.order pending.new }
+    ensures clear { (n : ℕ) → is_pending pending.new n ≡ false }
+    ensures bound { (set : ℕ → Bool) → Carries net.now.net.drivers pending.old set
+        → result ≤ count_by set net.now.order }
 {
     let order = net.order();
     let mut count = 0;
-    let mut place = marks.next(0);
+    let mut place = pending.next(0);
     while place < order.len() {
-        visit(net, fixed, held, levels, marks, order[place]);
+        visit(net, fixed, held, levels, pending, order[place]);
         count += 1;
-        place = marks.next(place + 1);
+        place = pending.next(place + 1);
     }
     count
 }

@@ -63,7 +63,8 @@ pub trait Socket: Drop {
     /// One moment, at an instant in femtoseconds after the start of the try. After an error the die's state is any.
     fn drive(&mut self, at: u128, drives: &[(u16, Drive)]) -> Result<(), Contact>
         requires { CanDrive (told self.old).loaded drives.now }
-        ensures moves { OnOk result (Moves (told self.old).loaded (told self.old).state (told self.new).state drives.now) }
+        ensures moves { OnOk result (Moves (told self.old).loaded (told self.old).state
+            (told self.new).state drives.now) }
         ensures tape { OnOk result ((told self.new).tape ≡ taped (told self.old).tape at drives.now) }
         ensures kept { OnErr result ((told self.new).tape ≡ (told self.old).tape) }
         ensures loaded { (told self.new).loaded ≡ (told self.old).loaded }
@@ -88,7 +89,8 @@ pub trait Socket: Drop {
 
     /// The tape, if the socket keeps one.
     fn tape(&self) -> Option<&Tape>
-        ensures { MatchOption result ((told self.now).tape ≡ None) (λ tape. (told self.now).tape ≡ Some tape.now.calls) };
+        ensures { MatchOption result ((told self.now).tape ≡ None)
+            (λ tape. (told self.now).tape ≡ Some tape.now.calls) };
 }
 
 /// A socket of any kind, which can be moved to another thread.

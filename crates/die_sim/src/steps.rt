@@ -38,7 +38,8 @@ impl<L> Steps<L> {
 
     /// Counts so many more; the count stays at the greatest number where it doesn't fit.
     pub(crate) fn add(&mut self, more: usize)
-        ensures { self.new ≤ self.old + more }
+        ensures most { self.new ≤ self.old + more }
+        ensures rises { self.old ≤ self.new }
     {
         self.count = self.count.saturating_add(more as u64);
     }

@@ -1,7 +1,8 @@
 //! A socket that keeps a tape of its drives.
-ghost use Rattle.std.specs.Prelude.{◌≡◌, ◌≤◌, ◌+◌, Some, None, [], IfOk, OnOk, OnErr, length};
+ghost use Rattle.std.specs.Prelude.{◌≡◌, ◌≤◌, [], IfOk, IfErr, OnOk, OnErr};
 ghost use Rattle.tester_types.specs.Outside.{HasRisen};
-ghost use Rattle.die_sim.specs.Socket.{Taping, holding, loaded_of, state_of, taped, CanDrive, Moves};
+ghost use Rattle.die_sim.specs.Socket.{Taping, KeepsTape, Fits, Overfills, taping_told, taped, CanDrive, CanSense, IsLoaded, Moves, Shows};
+ghost use Rattle.die_sim.specs.declared.socket.SocketFault.TheVariants as SocketFault;
 
 use crate::die::DieState;
 use crate::image::DieImage;
@@ -45,9 +46,18 @@ impl TapeSocket {
 }
 
 impl Socket for TapeSocket {
-    ghost told = { λ s. holding s.die (Some s.tape.calls) s.count };
+    ghost told = { taping_told };
 
-    fn load(&mut self, die: &DieImage) -> Result<(), SocketFault> {
+    fn load(&mut self, die: &DieImage) -> Result<(), SocketFault>
+        ensures loads { OnOk result (IsLoaded die.now (taping_told self.new)) }
+        ensures none { OnErr result ((taping_told self.new).loaded ≡ None) }
+        ensures tape { (taping_told self.new).tape ≡ (taping_told self.old).tape }
+        ensures count { (taping_told self.old).count ≤ (taping_told self.new).count }
+        ensures cause { result ≡ Err SocketFault.Contact
+            → HasRisen (taping_told self.old).count (taping_told self.new).count }
+        ensures memory { IfErr result (λ e. e ≡ SocketFault.NoMemory) }
+        ensures keeps { KeepsTape self.old self.new }
+    {
         self.die = None;
         let made = DieState::make(self.alloc, die)?;
         self.die = Some(made);
@@ -55,16 +65,17 @@ impl Socket for TapeSocket {
     }
 
     fn drive(&mut self, at: u128, drives: &[(u16, Drive)]) -> Result<(), Contact>
-        requires { CanDrive (loaded_of self.old.die) drives.now }
-        ensures moves { OnOk result (Moves (loaded_of self.old.die) (state_of self.old.die) (state_of self.new.die) drives.now) }
-        ensures tape { OnOk result (Some self.new.tape.calls ≡ taped (Some self.old.tape.calls) at drives.now) }
-        ensures kept { OnErr result (Some self.new.tape.calls ≡ Some self.old.tape.calls) }
-        ensures loaded { loaded_of self.new.die ≡ loaded_of self.old.die }
-        ensures count { self.old.count ≤ self.new.count }
-        ensures cause { OnErr result (HasRisen self.old.count self.new.count) }
+        requires { CanDrive (taping_told self.old).loaded drives.now }
+        ensures moves { OnOk result (Moves (taping_told self.old).loaded (taping_told self.old).state
+            (taping_told self.new).state drives.now) }
+        ensures tape { OnOk result ((taping_told self.new).tape ≡ taped (taping_told self.old).tape at drives.now) }
+        ensures kept { OnErr result ((taping_told self.new).tape ≡ (taping_told self.old).tape) }
+        ensures loaded { (taping_told self.new).loaded ≡ (taping_told self.old).loaded }
+        ensures count { (taping_told self.old).count ≤ (taping_told self.new).count }
+        ensures cause { OnErr result (HasRisen (taping_told self.old).count (taping_told self.new).count) }
         // Contact is lost exactly where the call doesn't fit the room that is left.
-        ensures full { OnErr result ((self.old.tape.left ≤ length drives.now) × (self.new.tape ≡ self.old.tape)) }
-        ensures fits { OnOk result ((self.new.tape.left + (length drives.now + 1) ≡ self.old.tape.left) × (self.new.count ≡ self.old.count)) }
+        ensures full { OnErr result (Overfills self.old self.new drives.now) }
+        ensures fits { OnOk result (Fits self.old self.new drives.now) }
     {
         if self.tape.left() as usize <= drives.len() {
             self.count = self.count.saturating_add(1);
@@ -75,11 +86,27 @@ impl Socket for TapeSocket {
         Ok(())
     }
 
-    fn sense(&mut self, signal: u16) -> Result<Level, Contact> {
+    fn sense(&mut self, signal: u16) -> Result<Level, Contact>
+        requires { CanSense (taping_told self.old).loaded signal }
+        ensures shows { IfOk result (λ level. Shows (taping_told self.old).loaded
+            (taping_told self.old).state signal level) }
+        ensures kept { OnOk result ((taping_told self.new).state ≡ (taping_told self.old).state) }
+        ensures tape { (taping_told self.new).tape ≡ (taping_told self.old).tape }
+        ensures loaded { (taping_told self.new).loaded ≡ (taping_told self.old).loaded }
+        ensures count { (taping_told self.old).count ≤ (taping_told self.new).count }
+        ensures cause { OnErr result (HasRisen (taping_told self.old).count (taping_told self.new).count) }
+        ensures senses { OnErr result ⊥ }
+        ensures same { self.new ≡ self.old }
+    {
         Ok(sense_die(&self.die, signal))
     }
 
-    fn unload(&mut self) {
+    fn unload(&mut self)
+        ensures none { (taping_told self.new).loaded ≡ None }
+        ensures tape { (taping_told self.new).tape ≡ (taping_told self.old).tape }
+        ensures count { (taping_told self.old).count ≤ (taping_told self.new).count }
+        ensures keeps { KeepsTape self.old self.new }
+    {
         self.die = None;
     }
 

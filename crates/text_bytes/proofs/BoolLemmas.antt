@@ -16,6 +16,11 @@ pub or_right : (a b : Bool) → b ≡ true → (a || b) ≡ true
 or_right true b h = refl
 or_right false b h = h
 
+-- true behind is enough
+pub or_true : (b : Bool) → (b || (true || false)) ≡ true
+or_true true = refl
+or_true false = refl
+
 -- true takes nothing away
 pub and_true : (b : Bool) → (b && true) ≡ b
 and_true true = refl

@@ -1,5 +1,5 @@
 use Rattle.std.proofs.Common.{◌≡◌, ℕ, ◌*◌, ◌<◌, ◌≤◌, false}
-use Rattle.die_sim.specs.Marks.{bit_of}
+use Rattle.die_sim.specs.Pending.{bit_of}
 use Rattle.die_sim.proofs.bits.first_bit.Given as goal
 
 abbrev pub invariant-loop-place : goal.invariant-loop-place

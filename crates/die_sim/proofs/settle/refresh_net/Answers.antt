@@ -3,5 +3,7 @@ use Rattle.die_sim.proofs.settle.refresh_net.Goals as goal
 
 pub returns-clause-refreshes : goal.returns-clause-refreshes
 returns-clause-refreshes c =
-    Refreshes-one c.args.net.now.net.drivers c.requires.tables.whole.wired c.args.fixed.now c.args.held.now c.args.levels.now.items c.put_level.new.levels.items c.args.marks.now c.put_level.new.marks c.args.n c.own_level-level.result
+    Refreshes-one c.args.net.now.net.drivers c.requires.tables.whole.wired c.args.fixed.now c.args.held.now
+    c.args.levels.now.items c.put_level.new.levels.items c.args.pending.now c.put_level.new.pending c.args.n
+    c.own_level-level.result
     c.requires.source c.requires.waits c.put_level.ensures.puts c.own_level-level.ensures

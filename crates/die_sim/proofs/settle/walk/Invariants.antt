@@ -1,13 +1,13 @@
 use Rattle.std.proofs.Common.{◌≡◌, ◌<◌, ◌-◌, true, length, get_or}
-use Rattle.die_sim.specs.Marks.{mark_at, AreSeats}
+use Rattle.die_sim.specs.Pending.{is_pending, AreSeats}
 use Rattle.die_sim.specs.Walk.{WalkedTo}
 use Rattle.die_sim.proofs.settle.walk.Given as goal
 
 abbrev pub invariant-loop-place : goal.invariant-loop-place
 invariant-loop-place l = record {
-  walked : WalkedTo l.net.net.drivers l.fixed l.held l.net.order l.fn.levels.items l.levels.items l.fn.marks l.marks l.place l.count;
-  marked : l.place < length l.net.order → mark_at l.marks (get_or l.net.order l.place 0) ≡ true;
-  seats : AreSeats l.net.order l.marks;
+  walked : WalkedTo l.net.net.drivers l.fixed l.held l.net.order l.fn.levels.items l.levels.items l.fn.pending l.pending l.place l.count;
+  active : l.place < length l.net.order → is_pending l.pending (get_or l.net.order l.place 0) ≡ true;
+  seats : AreSeats l.net.order l.pending;
 }
 
 abbrev pub decreases-loop-place : goal.decreases-loop-place

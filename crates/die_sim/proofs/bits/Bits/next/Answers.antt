@@ -1,5 +1,5 @@
 use Rattle.std.proofs.Common.{List, ℕ, ap, sym, ◌∙◌, length, arith}
-use Rattle.die_sim.specs.Marks.{bit_of}
+use Rattle.die_sim.specs.Pending.{bit_of}
 use Rattle.die_sim.proofs.BitLemmas.{length-bits_of, skipped-bits_of, found-bits_of}
 use Rattle.die_sim.proofs.bits.Bits.next.Goals as goal
 

@@ -22,6 +22,6 @@ walk-requires-clause-sources c =
     let all = subst (λ (d : Circuit). AreFlipFlops d.net.drivers c.as_slice.result.now (length d.net.drivers)) (sym net)
     (subst (λ (l : List ℕ). AreFlipFlops (arc_value c.self.inside.net).net.drivers l (length (arc_value c.self.inside.net).net.drivers)) (sym flip_flops) c.self.invariant.all_flip_flops) in
     sources_refreshed drivers c.as_slice-fixed.result.now c.clock_edge-edge.result c.self.inside.held.items c.capture_each.new.held.items c.as_slice-held.result.now c.self.inside.levels.items c.refresh_each.new.levels.items c.refresh_driven.new.levels.items
-    c.self.inside.marks c.refresh_each.new.marks c.refresh_driven.new.marks c.capturing-nets.result.now _ c.args.drives.now
+    c.self.inside.pending c.refresh_each.new.pending c.refresh_driven.new.pending c.capturing-nets.result.now _ c.args.drives.now
     settled captures (held ∙ c.put_all.ensures.all) (c.capturing-nets.ensures drivers all)
     c.refresh_each.ensures.refreshes c.refresh_each.ensures.each c.refresh_driven.ensures.refreshes c.refresh_driven.ensures.driven

@@ -1,4 +1,4 @@
--- Marks of gates by their places: one that is set or cleared leaves the others, and all are set where each gate has its place.
+-- Pending gates by their places: one that is set or cleared leaves the others, and all are set where each gate has its place.
 use Rattle.std.proofs.Common.{◌≡◌, ◌≢◌, ℕ, ◌+◌, ◌<◌, ◌≤◌, Bool, true, false, cond, List, [], length, get_or, take, set, replicate, refl, sym, ap, ◌∙◌, subst, arith, inl, inr, eqb, length-set}
 use Rattle.std.specs.Prelude.{All}
 use Rattle.std.proofs.lemmas.List.{get_or-set_same, get_or-set_other, get_or_past, get_or-replicate, length-replicate}
@@ -8,21 +8,24 @@ use Rattle.bench_net.specs.declared.gate.Driver.{Driver}
 use Rattle.bench_net.specs.Wiring.{gate_at, pins_at, IsOrder}
 use Rattle.bench_net.specs.Circuit.{Circuit, IsWhole}
 use Rattle.die_sim.specs.Spread.{Reads}
-use Rattle.die_sim.specs.Marks.{MarkState, place_at, mark_at, nowhere, HasPlace, AreApart, SameSeats, AreSeats, SetsMark, MarksEach, MarksReaders, SeatedTo}
-use Rattle.die_sim.proofs.OrderLemmas.{times, All-times, gate_in_order, place_of, order_apart, reader_is_gate, reads_is_times}
+use Rattle.die_sim.specs.Pending.{PendingGates, place_at, is_pending, nowhere, HasPlace, AreApart, SameSeats, AreSeats, SetsPending, ActivatesEach, ActivatesReaders, SeatedTo}
+use Rattle.bench_net.specs.Sorting.{times}
+use Rattle.die_sim.proofs.OrderLemmas.{All-times, gate_in_order, place_of, order_apart, reader_is_gate, reads_is_times}
 
 -- a net whose gate has a place is one of the nets
-pub place_within : (m : MarkState) (n : ℕ) → AreApart m → HasPlace m n → n < length m.places
+pub place_within : (m : PendingGates) (n : ℕ) → AreApart m → HasPlace m n → n < length m.places
 place_within m n h has = elim (cases_lt n (length m.places)) [
   | inl l ↦ l
   | inr l ↦ absurd (let e : place_at m n ≡ nowhere = get_or_past m.places n nowhere l in omega (arith, e, has, h.few))
 ]
 
 -- a bit is written
-pub SetsMark-set : (places : List ℕ) (bits new : List Bool) (n place : ℕ) (b : Bool) → AreApart (record { places = places; bits = bits }) → place ≡ get_or places n nowhere → place < length bits → new ≡ set bits place b
-    → SetsMark n b (record { places = places; bits = bits }) (record { places = places; bits = new })
-unfolding mark_at
-SetsMark-set places bits new n place b apart is within new_is = record {
+pub SetsPending-set : (places : List ℕ) (bits new : List Bool) (n place : ℕ) (b : Bool)
+    → AreApart (record { places = places; bits = bits }) → place ≡ get_or places n nowhere → place < length bits
+    → new ≡ set bits place b
+    → SetsPending n b (record { places = places; bits = bits }) (record { places = places; bits = new })
+unfolding is_pending
+SetsPending-set places bits new n place b apart is within new_is = record {
   here = ap (λ (p : ℕ). get_or new p false) (sym is) ∙ ap (λ (l : List Bool). get_or l place false) new_is ∙ get_or-set_same bits place b false within;
   others = λ m ne.
       let other : get_or places m nowhere ≢ place = λ e. ne (sym (apart.each n m (sym is ∙ sym e) (subst (λ (p : ℕ). p < length bits) is within))) in
@@ -31,37 +34,41 @@ SetsMark-set places bits new n place b apart is within new_is = record {
 }
 
 -- places that are apart stay so
-pub AreApart-set : (places : List ℕ) (bits new : List Bool) → length new ≡ length bits → AreApart (record { places = places; bits = bits }) → AreApart (record { places = places; bits = new })
+pub AreApart-set : (places : List ℕ) (bits new : List Bool) → length new ≡ length bits
+    → AreApart (record { places = places; bits = bits }) → AreApart (record { places = places; bits = new })
 AreApart-set places bits new e h = record { few = omega (arith, h.few, e); each = λ a b same has. h.each a b same (omega (arith, has, e)) }
 
-pub HasPlace-same : (old new : MarkState) (n : ℕ) → SameSeats old new → HasPlace old n → HasPlace new n
+pub HasPlace-same : (old new : PendingGates) (n : ℕ) → SameSeats old new → HasPlace old n → HasPlace new n
 HasPlace-same old new n s h = omega (arith, h, s.size, ap (λ (l : List ℕ). get_or l n nowhere) s.places)
 
-pub AreSeats-same : (order : List ℕ) (old new : MarkState) → SameSeats old new → AreSeats order old → AreSeats order new
+pub AreSeats-same : (order : List ℕ) (old new : PendingGates) → SameSeats old new → AreSeats order old → AreSeats order new
 AreSeats-same order old new s h = record {
   room = omega (arith, h.room, s.size);
   here = λ k l. ap (λ (p : List ℕ). get_or p (get_or order k 0) nowhere) s.places ∙ h.here k l;
 }
 
 -- each gate has a place
-pub gate_has_place : (drivers : List Driver) (order : List ℕ) → IsOrder drivers order → (m : MarkState) → AreSeats order m → (g : ℕ) → gate_at drivers g ≡ true → HasPlace m g
+pub gate_has_place : (drivers : List Driver) (order : List ℕ) → IsOrder drivers order → (m : PendingGates)
+    → AreSeats order m → (g : ℕ) → gate_at drivers g ≡ true → HasPlace m g
 gate_has_place drivers order o m s g e =
     let p = place_of drivers order o g e in
     let is : place_at m g ≡ p.place = subst (λ (n : ℕ). place_at m n ≡ p.place) p.is (s.here p.place p.within) in
     let w = p.within in
     omega (arith, is, w, s.room)
 
--- marking one more net
-pub MarksEach-none : (nets : List ℕ) (marks : MarkState) → nets ≡ [] → MarksEach nets marks marks
-MarksEach-none nets marks e = record {
-  marked = λ g l. absurd (let z : times g nets ≡ 0 = ap (times g) e in omega (arith, l, z));
+-- one more net is pending
+pub ActivatesEach-none : (nets : List ℕ) (pending : PendingGates) → nets ≡ [] → ActivatesEach nets pending pending
+ActivatesEach-none nets pending e = record {
+  active = λ g l. absurd (let z : times g nets ≡ 0 = ap (times g) e in omega (arith, l, z));
   others = λ g z. refl;
   seats = record { places = refl; size = refl };
 }
 
-pub MarksEach-more : (nets : List ℕ) (old mid new : MarkState) (i : ℕ) → i < length nets → SetsMark (get_or nets i 0) true mid new → MarksEach (take i nets) old mid → MarksEach (take (i + 1) nets) old new
-MarksEach-more nets old mid new i l p h = record {
-  marked = λ g m. marked g m;
+pub ActivatesEach-more : (nets : List ℕ) (old mid new : PendingGates) (i : ℕ) → i < length nets
+    → SetsPending (get_or nets i 0) true mid new → ActivatesEach (take i nets) old mid
+    → ActivatesEach (take (i + 1) nets) old new
+ActivatesEach-more nets old mid new i l p h = record {
+  active = λ g m. active g m;
   others = λ g z. others g z;
   seats = record { places = p.seats.places ∙ h.seats.places; size = p.seats.size ∙ h.seats.size };
 }
@@ -69,16 +76,16 @@ MarksEach-more nets old mid new i l p h = record {
     more : (g : ℕ) → times g (take (i + 1) nets) ≡ times g (take i nets) + cond {A = ℕ} (eqb (get_or nets i 0) g) 1 0
     more g = sum_by_more (λ x. cond {A = ℕ} (eqb x g) 1 0) nets i 0 l
 
-    marked : (g : ℕ) → 0 < times g (take (i + 1) nets) → mark_at new g ≡ true
-    marked g m = elim (cases_eq (get_or nets i 0) g) [
-      | inl e ↦ subst (λ (n : ℕ). mark_at new n ≡ true) e p.here
+    active : (g : ℕ) → 0 < times g (take (i + 1) nets) → is_pending new g ≡ true
+    active g m = elim (cases_eq (get_or nets i 0) g) [
+      | inl e ↦ subst (λ (n : ℕ). is_pending new n ≡ true) e p.here
       | inr ne ↦
           let z : cond {A = ℕ} (eqb (get_or nets i 0) g) 1 0 ≡ 0 = ap (λ b. cond {A = ℕ} b 1 0) (ne_eqb (get_or nets i 0) g ne) in
           let other : g ≢ get_or nets i 0 = λ q. ne (sym q) in
-          p.others g other ∙ h.marked g (omega (arith, m, more g, z))
+          p.others g other ∙ h.active g (omega (arith, m, more g, z))
     ]
 
-    others : (g : ℕ) → times g (take (i + 1) nets) ≡ 0 → mark_at new g ≡ mark_at old g
+    others : (g : ℕ) → times g (take (i + 1) nets) ≡ 0 → is_pending new g ≡ is_pending old g
     others g z = elim (cases_eq (get_or nets i 0) g) [
       | inl e ↦ absurd (let one : cond {A = ℕ} (eqb (get_or nets i 0) g) 1 0 ≡ 1 = ap (λ b. cond {A = ℕ} b 1 0) (eq-eqb (get_or nets i 0) g e) in omega (arith, z, more g, one))
       | inr ne ↦
@@ -86,10 +93,11 @@ MarksEach-more nets old mid new i l p h = record {
           p.others g other ∙ h.others g (omega (arith, z, more g))
     ]
 
--- the readers of a net are marked
-pub MarksReaders-each : (c : Circuit) (n : ℕ) (old new : MarkState) → IsWhole c → n < length c.net.names → MarksEach (get_or c.readers n []) old new → MarksReaders c.net.drivers n old new
-MarksReaders-each c n old new w l h = record {
-  marked = λ g m. h.marked g (omega (arith, m, reads_is_times c w n g l));
+-- the readers of a net are pending
+pub ActivatesReaders-each : (c : Circuit) (n : ℕ) (old new : PendingGates) → IsWhole c → n < length c.net.names
+    → ActivatesEach (get_or c.readers n []) old new → ActivatesReaders c.net.drivers n old new
+ActivatesReaders-each c n old new w l h = record {
+  active = λ g m. h.active g (omega (arith, m, reads_is_times c w n g l));
   others = λ g not. h.others g (elim (cases_lt 0 (times n (pins_at c.net.drivers g))) [
     | inl m ↦ absurd (not m)
     | inr m ↦ omega (arith, m, reads_is_times c w n g l)
@@ -104,11 +112,13 @@ SeatedTo-none order n bits = record {
     | inl l ↦ get_or-replicate n m nowhere nowhere l
     | inr l ↦ get_or_past (replicate n nowhere) m nowhere (omega (arith, l, length-replicate n nowhere))
   ]);
-  marked = λ j l. absurd (omega arith);
+  active = λ j l. absurd (omega arith);
 }
 
 -- one more has
-pub SeatedTo-more : (drivers : List Driver) (order : List ℕ) → IsOrder drivers order → (places : List ℕ) (bits : List Bool) (k : ℕ) → k < length order → get_or order k 0 < length places → k < length bits → SeatedTo order places bits k
+pub SeatedTo-more : (drivers : List Driver) (order : List ℕ) → IsOrder drivers order
+    → (places : List ℕ) (bits : List Bool) (k : ℕ) → k < length order → get_or order k 0 < length places
+    → k < length bits → SeatedTo order places bits k
     → SeatedTo order (set places (get_or order k 0) k) (set bits k true) (k + 1)
 SeatedTo-more drivers order o places bits k l in' room h = record {
   here = λ j jl. elim (cases_eq j k) [
@@ -128,14 +138,16 @@ SeatedTo-more drivers order o places bits k l in' room h = record {
           | inr has ↦ let below = has.0 in inr (omega (arith, is, below), ap (λ (i : ℕ). get_or order i 0) is ∙ has.1)
         ]
   ];
-  marked = λ j jl. elim (cases_eq j k) [
+  active = λ j jl. elim (cases_eq j k) [
     | inl e ↦ ap (λ (i : ℕ). get_or (set bits k true) i false) e ∙ get_or-set_same bits k true false room
-    | inr ne ↦ get_or-set_other bits k j true false ne ∙ h.marked j (omega (arith, jl, ne))
+    | inr ne ↦ get_or-set_other bits k j true false ne ∙ h.active j (omega (arith, jl, ne))
   ];
 }
 
--- all gates have their places, and are marked
-module _ (drivers : List Driver) (order : List ℕ) (o : IsOrder drivers order) (m : MarkState) (few : length m.bits ≤ 65600) (room : length order ≤ length m.bits) (h : SeatedTo order m.places m.bits (length order)) where
+-- all gates have their places, and are pending
+module _ (drivers : List Driver) (order : List ℕ) (o : IsOrder drivers order) (m : PendingGates)
+    (few : length m.bits ≤ 65600) (room : length order ≤ length m.bits)
+    (h : SeatedTo order m.places m.bits (length order)) where
   pub AreSeats-all : AreSeats order m
   AreSeats-all = record { room = room; here = λ k l. h.here k l }
 
@@ -151,13 +163,13 @@ module _ (drivers : List Driver) (order : List ℕ) (o : IsOrder drivers order) 
     ];
   }
 
-  pub marked_gates : (n : ℕ) → mark_at m n ≡ gate_at drivers n
-  unfolding mark_at
-  marked_gates n = elim (cases_Bool (gate_at drivers n)) [
+  pub pending_gates : (n : ℕ) → is_pending m n ≡ gate_at drivers n
+  unfolding is_pending
+  pending_gates n = elim (cases_Bool (gate_at drivers n)) [
     | inl e ↦
         let p = place_of drivers order o n e in
         let is : place_at m n ≡ p.place = subst (λ (i : ℕ). place_at m i ≡ p.place) p.is (h.here p.place p.within) in
-        ap (λ (i : ℕ). get_or m.bits i false) is ∙ h.marked p.place p.within ∙ sym e
+        ap (λ (i : ℕ). get_or m.bits i false) is ∙ h.active p.place p.within ∙ sym e
     | inr e ↦ elim (h.back n) [
       | inl none ↦ get_or_past m.bits (place_at m n) false (omega (arith, none, few)) ∙ sym e
       | inr has ↦ absurd (both_ways (gate_at drivers n) e (subst (λ (i : ℕ). gate_at drivers i ≡ true) has.1 (gate_in_order drivers order o (place_at m n) has.0)))
@@ -165,7 +177,8 @@ module _ (drivers : List Driver) (order : List ℕ) (o : IsOrder drivers order) 
   ]
 
 -- each reader of a net has a place
-pub readers_have_places : (c : Circuit) → IsWhole c → (m : MarkState) → AreSeats c.order m → (n : ℕ) → n < length c.net.names → All (λ r. HasPlace m r) (get_or c.readers n [])
+pub readers_have_places : (c : Circuit) → IsWhole c → (m : PendingGates) → AreSeats c.order m → (n : ℕ)
+    → n < length c.net.names → All (λ r. HasPlace m r) (get_or c.readers n [])
 readers_have_places c w m s n l = All-times (λ r. HasPlace m r) (get_or c.readers n []) (λ g t.
     let r : Reads c.net.drivers g n = omega (arith, t, reads_is_times c w n g l) in
     gate_has_place c.net.drivers c.order w.order m s g (reader_is_gate c.net.drivers g n r))

@@ -1,6 +1,6 @@
 use Rattle.std.proofs.Common.{◌≡◌, length}
-use Rattle.die_sim.specs.Marks.{SeatedTo}
-use Rattle.die_sim.proofs.marks.seat_all.Given as goal
+use Rattle.die_sim.specs.Pending.{SeatedTo}
+use Rattle.die_sim.proofs.pending.seat_all.Given as goal
 
 abbrev pub invariant-loop-place : goal.invariant-loop-place
 invariant-loop-place l = record {

@@ -1,8 +1,9 @@
 use Rattle.std.proofs.Common.{◌<◌, ◌+◌, ◌∙◌, ℕ, Bool, true, List, length, get_or, set, sym, subst, ap, arith, length-set}
-use Rattle.die_sim.specs.Marks.{SeatedTo}
-use Rattle.die_sim.proofs.OrderLemmas.{gate_within, gate_in_order, length-order-le}
-use Rattle.die_sim.proofs.MarkLemmas.{SeatedTo-more}
-use Rattle.die_sim.proofs.marks.seat_all.Goals as goal
+use Rattle.die_sim.specs.Pending.{SeatedTo}
+use Rattle.bench_net.proofs.SortLemmas.{gate_within}
+use Rattle.die_sim.proofs.OrderLemmas.{gate_in_order, length-order-le}
+use Rattle.die_sim.proofs.PendingLemmas.{SeatedTo-more}
+use Rattle.die_sim.proofs.pending.seat_all.Goals as goal
 
 pub overflow_cast-place : goal.overflow_cast-place
 overflow_cast-place c =
