@@ -1,13 +1,14 @@
 -- Entries that agree in all that is sensed are judged alike.
-use Rattle.std.proofs.Common.{◌≡◌, ℕ, zero, suc, ◌+◌, ◌<◌, ◌≤◌, Bool, true, false, cond, not, ◌&&◌, ◌||◌, List, [], ◌∷◌, ◌++◌, length, get_or, take, map, filter, Option, None, is_some, refl, sym, ap, subst, ◌∙◌, arith, inl, inr, zero-add}
+use Rattle.std.proofs.Common.{◌≡◌, ℕ, zero, suc, ◌+◌, ◌<◌, ◌≤◌, Bool, true, false, cond, not, ◌&&◌, ◌||◌, List, [], ◌∷◌, ◌++◌, length, get_or, take, map, Option, None, is_some, refl, sym, ap, subst, ◌∙◌, arith, inl, inr, zero-add}
 use Rattle.std.specs.List.{enumerate_from, flat_map, list_any}
 use Rattle.std.proofs.lemmas.Bool.{cases_lt}
 use Rattle.std.proofs.lemmas.List.{append-nil, get_or_past, take_more, take_all}
 use Rattle.tester_types.specs.declared.wave.Look.{Look}
 use Rattle.tester_types.specs.declared.level.Level.{Level}
+use Rattle.text_bytes.proofs.ListLemmas.{plus-suc}
 use Rattle.strobe_check.specs.Look.{is_edge, is_met}
 use Rattle.strobe_check.specs.Entry.{Entry, looks_at, level_of, fail_at}
-use Rattle.strobe_check.specs.Fails.{bound_signals, fails}
+use Rattle.strobe_check.specs.Fails.{bound_from, bound_signals, fails}
 use Rattle.strobe_check.specs.History.{open_window}
 use Rattle.strobe_check.specs.Step.{looks_of, is_watched, window_after, failed_edges, failed_window, failed, left_open}
 use Rattle.strobe_check.specs.Agree.{AreOfOneMoment, AgreeBehind, Agree, JudgedAlike}
@@ -19,12 +20,7 @@ use Rattle.strobe_check.proofs.HistoryLemmas.{get_or-open_windows}
 
 -- ---- bound signals
 
-shift : (n k : ℕ) → n + 1 + k ≡ n + suc k
-shift n k = omega arith
-
-abbrev bound_from : ℕ → List Bool → List ℕ
-bound_from n bound = map (λ (s : ℕ × Bool). s.0) (filter (λ (s : ℕ × Bool). s.1) (enumerate_from n bound))
-
+-- for each signal what a function gives where it is bound, else another thing
 abbrev where_bound : {Y : Type 0} → (ℕ → Y) → Y → ℕ → List Bool → List Y
 where_bound f d n bound = map (λ (s : ℕ × Bool). cond s.1 (f s.0) d) (enumerate_from n bound)
 
@@ -35,31 +31,33 @@ flat_map-bound_from : {Y : Type 0} (f g : ℕ → List Y) (n : ℕ) (bound : Lis
 flat_map-bound_from f g n [] same = refl
 flat_map-bound_from f g n (true ∷ bound) same =
     ap (λ l. l ++ flat_map f (bound_from (n + 1) bound)) (subst (λ (m : ℕ). f m ≡ g m) (add_none n) (same 0 refl))
-    ∙ ap (λ l. g n ++ l) (flat_map-bound_from f g (n + 1) bound (λ k is. subst (λ (m : ℕ). f m ≡ g m) (sym (shift n k)) (same (suc k) is)))
+    ∙ ap (λ l. g n ++ l) (flat_map-bound_from f g (n + 1) bound (λ k is. subst (λ (m : ℕ). f m ≡ g m) (sym (plus-suc n k)) (same (suc k) is)))
   where
     add_none : (m : ℕ) → m + 0 ≡ m
     add_none m = omega arith
 flat_map-bound_from f g n (false ∷ bound) same =
-    flat_map-bound_from f g (n + 1) bound (λ k is. subst (λ (m : ℕ). f m ≡ g m) (sym (shift n k)) (same (suc k) is))
+    flat_map-bound_from f g (n + 1) bound (λ k is. subst (λ (m : ℕ). f m ≡ g m) (sym (plus-suc n k)) (same (suc k) is))
 
+-- the same from the first signal on
 flat_map-bound : {Y : Type 0} (f g : ℕ → List Y) (bound : List Bool)
     → ((k : ℕ) → get_or bound k false ≡ true → f k ≡ g k)
     → flat_map f (bound_signals bound) ≡ flat_map g (bound_signals bound)
 flat_map-bound f g bound same =
     flat_map-bound_from f g 0 bound (λ k is. subst (λ (m : ℕ). f m ≡ g m) (sym (zero-add k)) (same k is))
 
+-- the same of what stands for each signal
 map-bound_from : {Y : Type 0} (f g : ℕ → Y) (d : Y) (n : ℕ) (bound : List Bool)
     → ((k : ℕ) → get_or bound k false ≡ true → f (n + k) ≡ g (n + k))
     → where_bound f d n bound ≡ where_bound g d n bound
 map-bound_from f g d n [] same = refl
 map-bound_from f g d n (true ∷ bound) same =
     ap (λ y. y ∷ where_bound f d (n + 1) bound) (subst (λ (m : ℕ). f m ≡ g m) (add_none n) (same 0 refl))
-    ∙ ap (λ l. g n ∷ l) (map-bound_from f g d (n + 1) bound (λ k is. subst (λ (m : ℕ). f m ≡ g m) (sym (shift n k)) (same (suc k) is)))
+    ∙ ap (λ l. g n ∷ l) (map-bound_from f g d (n + 1) bound (λ k is. subst (λ (m : ℕ). f m ≡ g m) (sym (plus-suc n k)) (same (suc k) is)))
   where
     add_none : (m : ℕ) → m + 0 ≡ m
     add_none m = omega arith
 map-bound_from f g d n (false ∷ bound) same =
-    ap (λ l. d ∷ l) (map-bound_from f g d (n + 1) bound (λ k is. subst (λ (m : ℕ). f m ≡ g m) (sym (shift n k)) (same (suc k) is)))
+    ap (λ l. d ∷ l) (map-bound_from f g d (n + 1) bound (λ k is. subst (λ (m : ℕ). f m ≡ g m) (sym (plus-suc n k)) (same (suc k) is)))
 
 -- ---- a signal that isn't sensed
 

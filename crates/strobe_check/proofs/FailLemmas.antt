@@ -9,6 +9,7 @@ use Rattle.tester_types.specs.declared.wave.Look.{Look}
 use Rattle.tester_types.specs.declared.wave.Look.TheVariants.{Low, High, Off, LowWindow, HighWindow, OffWindow, Close}
 use Rattle.tester_types.specs.declared.level.Level.{Level}
 use Rattle.tester_types.specs.declared.record.Fail.{Fail}
+use Rattle.text_bytes.proofs.BoolLemmas.{and_true}
 use Rattle.strobe_check.specs.Look.{is_edge, is_window, is_met}
 use Rattle.strobe_check.specs.Entry.{Entry, looks_at, level_of, fail_at}
 use Rattle.strobe_check.specs.Extent.{Extent, inside_last, inside_followed, extents_here, extents}
@@ -89,10 +90,6 @@ fails-grow_last signal entry (x ∷ y ∷ xs) =
 
 -- ---- and the window that it leaves
 
-and_true : {X : Type 0} (b : Bool) (x y : X) → cond (b && true) x y ≡ cond b x y
-and_true true x y = refl
-and_true false x y = refl
-
 open_in-grow : (signal : ℕ) (entry : ℕ × Entry) (x : Extent)
     → open_in signal (grow entry x) ≡ left_open (level signal entry) (open_in signal x)
 open_in-grow signal entry x = by (is_window x.look)
@@ -100,7 +97,7 @@ open_in-grow signal entry x = by (is_window x.look)
     one : (c : Bool)
         → window_if (c && (meets signal x.look entry && true)) x.look
         ≡ left_open (level signal entry) (window_if c x.look)
-    one true = and_true (meets signal x.look entry) (Some x.look) None
+    one true = ap (λ b. cond b (Some x.look) None) (and_true (meets signal x.look entry))
     one false = refl
 
     by : (b : Bool)
@@ -188,11 +185,11 @@ open-last signal entry Low = refl
 open-last signal entry High = refl
 open-last signal entry Off = refl
 open-last signal entry LowWindow =
-    and_true (is_met LowWindow (level signal entry)) (Some LowWindow) None
+    ap (λ b. cond b (Some LowWindow) None) (and_true (is_met LowWindow (level signal entry)))
 open-last signal entry HighWindow =
-    and_true (is_met HighWindow (level signal entry)) (Some HighWindow) None
+    ap (λ b. cond b (Some HighWindow) None) (and_true (is_met HighWindow (level signal entry)))
 open-last signal entry OffWindow =
-    and_true (is_met OffWindow (level signal entry)) (Some OffWindow) None
+    ap (λ b. cond b (Some OffWindow) None) (and_true (is_met OffWindow (level signal entry)))
 open-last signal entry Close = refl
 
 open-here : (signal : ℕ) (entry : ℕ × Entry) (window : Option Look) (xs : List Extent) (look : Look)

@@ -12,8 +12,7 @@ use Rattle.strobe_check.specs.Count.{HasCounted}
 use Rattle.strobe_check.specs.Sensed.{is_sensed}
 use Rattle.strobe_check.specs.Step.{is_watched}
 use Rattle.strobe_check.proofs.SensedLemmas.{is_sensed-watched}
-use Rattle.strobe_check.specs.declared.checker.TheConstants.{MOST_SIGNALS}
-use Rattle.strobe_check.specs.History.{History, numbered, fresh, all_fails, with_cycle_closed, open_window, open_windows, Held, HasSeen}
+use Rattle.strobe_check.specs.History.{History, most_numbered, numbered, fresh, all_fails, with_cycle_closed, open_window, open_windows, Held, HasSeen}
 
 -- a cycle without entries has no fails and no windows
 pub fails-none : (bound : List Bool) → fails bound [] ≡ []
@@ -58,13 +57,13 @@ get_or-open_windows bound entries k d within =
     ∙ ap (λ j. cond (get_or bound k false) (open_window j entries) None) (zero-add k)
 
 -- a list of few signals has numbers for all of them
-pub numbered-all : (bound : List Bool) → length bound ≤ MOST_SIGNALS → numbered bound ≡ bound
+pub numbered-all : (bound : List Bool) → length bound ≤ most_numbered → numbered bound ≡ bound
 unfolding numbered
-numbered-all bound few = take_all MOST_SIGNALS bound few
+numbered-all bound few = take_all most_numbered bound few
 
 pub length-numbered : (bound : List Bool) → length (numbered bound) ≤ length bound
 unfolding numbered
-length-numbered bound = rw length-take (min-le_right MOST_SIGNALS (length bound))
+length-numbered bound = rw length-take (min-le_right most_numbered (length bound))
 
 -- all fails after the open cycle is closed
 all_fails-closed : (history : History) → all_fails (with_cycle_closed history) ≡ all_fails history

@@ -2,20 +2,20 @@
 use Rattle.std.proofs.Common.{◌≡◌, ℕ, zero, suc, ◌+◌, ◌<◌, Bool, true, false, cond, List, [], ◌∷◌, ◌++◌, length, get_or, set, take, drop, Option, Some, None, refl, sym, ap, ◌∙◌, arith, add-zero}
 use Rattle.std.proofs.lemmas.List.{append_assoc, map-id, take_more, drop_more, set_at, get_or_at, length-take-le}
 use Rattle.std.proofs.lemmas.List.FromFn.{map-range_with_len_more}
+use Rattle.text_bytes.proofs.ListLemmas.{plus-suc}
 use Rattle.std.specs.List.{AllByRecursion, cons_option, enumerate_from, flat_map, range_with_len}
 
 -- ---- one more element
 
+-- the last one has the greatest number
 pub enumerate_from-push : {X : Type 0} (n : ℕ) (xs : List X) (y : X)
     → enumerate_from n (xs ++ y ∷ []) ≡ enumerate_from n xs ++ (n + length xs, y) ∷ []
 enumerate_from-push n [] y = ap (λ k. (k, y) ∷ []) (sym (add-zero n))
 enumerate_from-push n (x ∷ xs) y =
     ap (λ l. (n, x) ∷ l) (enumerate_from-push (n + 1) xs y)
-    ∙ ap (λ k. (n, x) ∷ (enumerate_from (n + 1) xs ++ (k, y) ∷ [])) (shift n (length xs))
-  where
-    shift : (m k : ℕ) → m + 1 + k ≡ m + suc k
-    shift m k = omega arith
+    ∙ ap (λ k. (n, x) ∷ (enumerate_from (n + 1) xs ++ (k, y) ∷ [])) (plus-suc n (length xs))
 
+-- what may stand in front of two lists
 pub cons_option-append : {X : Type 0} (o : Option X) (xs ys : List X)
     → cons_option o (xs ++ ys) ≡ cons_option o xs ++ ys
 cons_option-append None xs ys = refl
@@ -23,6 +23,7 @@ cons_option-append (Some x) xs ys = refl
 
 -- ---- `flat_map`
 
+-- functions that agree everywhere
 pub flat_map-same : {X Y : Type 0} (f g : X → List Y) → ((x : X) → f x ≡ g x) → (xs : List X)
     → flat_map f xs ≡ flat_map g xs
 flat_map-same f g same [] = refl
@@ -38,6 +39,7 @@ flat_map-below f g bound a (suc n) upto same =
     ap (λ l. l ++ flat_map f (range_with_len (a + 1) n)) (same a (omega arith))
     ∙ ap (λ l. g a ++ l) (flat_map-below f g bound (a + 1) n (omega arith) same)
 
+-- one number more
 pub range-push : (a n : ℕ) → range_with_len a (n + 1) ≡ range_with_len a n ++ (a + n) ∷ []
 range-push a n =
     sym (map-id (range_with_len a (n + 1))) ∙ map-range_with_len_more (λ k. k) a n (a + n) refl
@@ -45,11 +47,7 @@ range-push a n =
 
 -- ---- each element
 
-pub All-append : {X : Type 0} (P : X → Type 0) (xs ys : List X) → AllByRecursion P xs
-    → AllByRecursion P ys → AllByRecursion P (xs ++ ys)
-All-append P [] ys left right = right
-All-append P (x ∷ xs) ys left right = (left.0, All-append P xs ys left.1 right)
-
+-- what holds of each item of two lists holds of each of the chosen one
 pub All-cond : {X : Type 0} (P : X → Type 0) (b : Bool) (xs ys : List X) → AllByRecursion P xs
     → AllByRecursion P ys → AllByRecursion P (cond b xs ys)
 All-cond P true xs ys left right = left
@@ -57,10 +55,12 @@ All-cond P false xs ys left right = right
 
 -- ---- a list that another one replaces from its front on
 
+-- the first one of the second list
 seam : {X : Type 0} (xs ys : List X) (i : ℕ) (d : X) → i < length xs → length ys ≡ length xs
     → take i xs ++ drop i ys ≡ take i xs ++ get_or ys i d ∷ drop (i + 1) ys
 seam xs ys i d within long = ap (λ l. take i xs ++ l) (drop_more ys i d (omega arith))
 
+-- a front has its length
 pub front_len : {X : Type 0} (xs : List X) (i : ℕ) → i < length xs → length (take i xs) ≡ i
 front_len xs i within = length-take-le i xs (omega arith)
 
@@ -72,6 +72,7 @@ get_or-seam xs ys i d within long =
     ap (λ l. get_or l i d) (seam xs ys i d within long)
     ∙ get_or_at (take i xs) (get_or ys i d) (drop (i + 1) ys) d i (front_len xs i within)
 
+-- the front with one more
 front-more : {X : Type 0} (xs ys : List X) (i : ℕ) (d : X) → i < length xs
     → take i xs ++ get_or xs i d ∷ ys ≡ take (i + 1) xs ++ ys
 front-more xs ys i d within =

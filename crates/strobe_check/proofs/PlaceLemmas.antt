@@ -5,11 +5,12 @@ use Rattle.std.specs.List.{AllByRecursion, cons_option, enumerate_from, filter_m
 use Rattle.std.specs.Option.{option_map}
 use Rattle.tester_types.specs.declared.wave.Look.{Look}
 use Rattle.tester_types.specs.declared.record.Fail.{Fail}
+use Rattle.text_bytes.proofs.ListLemmas.{all_append, plus-suc}
 use Rattle.strobe_check.specs.Look.{is_edge, is_window}
 use Rattle.strobe_check.specs.Entry.{Entry, fail_at}
 use Rattle.strobe_check.specs.Extent.{Extent, if_none, until_look, extents_here, extents}
-use Rattle.strobe_check.specs.Fails.{meets, fail_of, fails_of}
-use Rattle.strobe_check.proofs.Lists.{All-append, All-cond}
+use Rattle.strobe_check.specs.Fails.{meets, fail_of, fails_of, bound_from}
+use Rattle.strobe_check.proofs.Lists.{All-cond}
 use Rattle.strobe_check.proofs.ExtentLemmas.{looks}
 
 abbrev pub AreInside : (ℕ × Entry → Type 0) → List Extent → Type 0
@@ -42,7 +43,7 @@ pub inside-extents : (P : ℕ × Entry → Type 0) (signal : ℕ) (entries : Lis
     → AreInside P (extents signal entries)
 inside-extents P signal [] all = tt
 inside-extents P signal (here ∷ later) all =
-    All-append _ (extents_here (looks signal here) here (until_look signal later)) (extents signal later)
+    all_append _ (extents_here (looks signal here) here (until_look signal later)) (extents signal later)
     (inside-here P (looks signal here) here (until_look signal later) all.0 (inside-until_look P signal later all.1))
     (inside-extents P signal later all.1)
 
@@ -91,3 +92,13 @@ pub fails_of-below : (signal : ℕ) (entries : List Entry)
 fails_of-below signal entries =
     let places = subst (λ n. AllByRecursion (λ entry. entry.0 < n) (enumerate_from 0 entries)) (zero-add (length entries)) (places-below 0 entries) in
     fails-places (λ place. place < length entries) signal _ (inside-extents (λ entry. entry.0 < length entries) signal _ places)
+
+-- each bound signal is one of the signals
+pub bound_from-below : (n : ℕ) (bound : List Bool)
+    → AllByRecursion (λ signal. signal < n + length bound) (bound_from n bound)
+bound_from-below n [] = tt
+bound_from-below n (true ∷ bound) =
+    (omega arith, subst (λ (m : ℕ). AllByRecursion (λ signal. signal < m) (bound_from (n + 1) bound)) (plus-suc n (length bound)) (bound_from-below (n + 1) bound))
+bound_from-below n (false ∷ bound) =
+    subst (λ (m : ℕ). AllByRecursion (λ signal. signal < m) (bound_from (n + 1) bound)) (plus-suc n (length bound))
+    (bound_from-below (n + 1) bound)

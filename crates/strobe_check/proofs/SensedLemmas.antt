@@ -7,6 +7,7 @@ use Rattle.std.specs.List.{AllByRecursion, enumerate_from, list_all, list_any, s
 use Rattle.tester_types.specs.declared.wave.Look.{Look}
 use Rattle.tester_types.specs.declared.wave.Look.TheVariants.{Low, High, Off, LowWindow, HighWindow, OffWindow, Close}
 use Rattle.tester_types.specs.declared.cycle.Moment.{Moment}
+use Rattle.text_bytes.proofs.BoolLemmas.{or_false, or_true}
 use Rattle.strobe_check.specs.Look.{is_edge, is_window}
 use Rattle.strobe_check.specs.Entry.{Entry}
 use Rattle.strobe_check.specs.Extent.{Extent, inside_last, inside_followed, extents_here, extents}
@@ -54,18 +55,12 @@ none_watching n signal (x ∷ xs) below =
 
 -- ---- a moment without looks at the signal
 
-or_false : (b : Bool) → (b || false) ≡ b
-or_false true = refl
-or_false false = refl
-
-or_true : (b : Bool) → (b || (true || false)) ≡ true
-or_true true = refl
-or_true false = refl
-
+-- true takes nothing away, twice
 and_true : (b : Bool) → (b && (true && true)) ≡ b
 and_true true = refl
 and_true false = refl
 
+-- something is there where the test passes
 some_if : (b : Bool) (look : Look) → b ≡ is_some (cond b (Some look) None)
 some_if true look = refl
 some_if false look = refl

@@ -20,8 +20,10 @@ AgreeBehind bound entries one other =
 -- two lists of entries of a cycle that agree, place by place, in everything that is sensed
 pub record Agree (bound : List Bool) (ones others : List Entry) : Type 0 where
   pub count : length ones ≡ length others
-  pub moments : (place : ℕ) (d : Entry) → place < length ones → AreOfOneMoment (slice_index_or ones place d) (slice_index_or others place d)
-  pub levels : (place : ℕ) (d : Entry) → place < length ones → AgreeBehind bound (take place ones) (slice_index_or ones place d) (slice_index_or others place d)
+  pub moments : (place : ℕ) (d : Entry) → place < length ones
+      → AreOfOneMoment (slice_index_or ones place d) (slice_index_or others place d)
+  pub levels : (place : ℕ) (d : Entry) → place < length ones
+      → AgreeBehind bound (take place ones) (slice_index_or ones place d) (slice_index_or others place d)
 
 -- they have the same fails, and leave the same windows open
 pub record JudgedAlike (bound : List Bool) (ones others : List Entry) : Type 0 where
@@ -30,4 +32,5 @@ pub record JudgedAlike (bound : List Bool) (ones others : List Entry) : Type 0 w
 
 -- the fails of a cycle hang on the levels of sensed signals alone
 abbrev pub SensedLevelsDecide : Type 0
-SensedLevelsDecide = (bound : List Bool) (ones others : List Entry) → Agree bound ones others → JudgedAlike bound ones others
+SensedLevelsDecide =
+    (bound : List Bool) (ones others : List Entry) → Agree bound ones others → JudgedAlike bound ones others

@@ -6,9 +6,8 @@ use Rattle.tester_types.specs.declared.level.Level.TheVariants.{X}
 use Rattle.tester_types.specs.declared.cycle.Moment.{Moment}
 use Rattle.tester_types.specs.declared.record.Fail.{Fail}
 
--- the moment, with the numbers of its executive and its cycle, the cycle's mark, and the levels of
--- all signals after the
--- moment's drives
+-- the moment, with the numbers of its executive and its cycle, the cycle's mark, and the levels of all signals after
+-- the moment's drives
 pub record Entry : Type 0 where
   pub exec : ℕ
   pub cycle : ℕ

@@ -1,5 +1,4 @@
--- The fails of a cycle: each look fails at the first entry inside its extent that doesn't meet it,
--- and not again.
+-- The fails of a cycle: each look fails at the first entry inside its extent that doesn't meet it, and not again.
 use Rattle.std.specs.Prelude.{ℕ, ◌==◌, Bool, not, List, map, filter, length, Option}
 use Rattle.std.specs.List.{find, filter_map, flat_map, enumerate_from, range_with_len}
 use Rattle.std.specs.Option.{option_map}
@@ -27,10 +26,13 @@ fails_of signal entries = filter_map (fail_of signal) (extents signal (enumerate
 abbrev pub at_place : ℕ → List (ℕ × Fail) → List Fail
 at_place place fails = map (λ fail. fail.1) (filter (λ fail. fail.0 == place) fails)
 
+-- the signals that are bound, of signals of which the first has this number
+abbrev pub bound_from : ℕ → List Bool → List ℕ
+bound_from n bound = map (λ signal. signal.0) (filter (λ signal. signal.1) (enumerate_from n bound))
+
 -- the signals that are bound, in declared order
 abbrev pub bound_signals : List Bool → List ℕ
-bound_signals bound =
-    map (λ signal. signal.0) (filter (λ signal. signal.1) (enumerate_from 0 bound))
+bound_signals bound = bound_from 0 bound
 
 -- the fails of a cycle by place, and at one place by signal; a signal that isn't bound has none
 unfoldable pub fails : List Bool → List Entry → List Fail

@@ -4,7 +4,6 @@ use Rattle.std.specs.List.{list_all, enumerate_from}
 use Rattle.tester_types.specs.declared.wave.Look.{Look}
 use Rattle.tester_types.specs.declared.record.Fail.{Fail}
 use Rattle.tester_types.specs.declared.cycle.Moment.{Moment}
-use Rattle.strobe_check.specs.declared.checker.TheConstants.{MOST_SIGNALS}
 use Rattle.strobe_check.specs.Look.{is_window}
 use Rattle.strobe_check.specs.Entry.{Entry}
 use Rattle.strobe_check.specs.Extent.{Extent, extents}
@@ -12,18 +11,21 @@ use Rattle.strobe_check.specs.Fails.{meets, fails}
 use Rattle.strobe_check.specs.Sensed.{is_sensed}
 use Rattle.strobe_check.specs.Count.{Count, HasCounted}
 
--- which signals are bound, how many fails are to be kept, the fails of the cycles that are closed,
--- and the entries of the
--- cycle that is open
+-- which signals are bound, how many fails are to be kept, the fails of the cycles that are closed, and the entries of
+-- the cycle that is open
 pub record History : Type 0 where
   pub bound : List Bool
   pub keep : ℕ
   pub closed : List Fail
   pub entries : List Entry
 
+-- how many signals can have a number of 16 bits
+abbrev pub most_numbered : ℕ
+most_numbered = 2 ^ 16
+
 -- the signals that have numbers of 16 bits: all of them, where there are no more than 65,536
 unfoldable pub numbered : List Bool → List Bool
-numbered bound = take MOST_SIGNALS bound
+numbered bound = take most_numbered bound
 
 -- before the first cycle
 abbrev pub fresh : List Bool → ℕ → History

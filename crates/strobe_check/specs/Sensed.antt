@@ -16,9 +16,8 @@ is_watching place signal extent =
 abbrev pub unsensed : Moment → Entry
 unsensed moment = record { exec = 0; cycle = 0; mark = 0; moment = moment; levels = [] }
 
--- after these entries of a cycle, a bound signal is sensed at a moment where some look at it has
--- this moment inside its
--- extent and hasn't failed before: an edge look of the moment, or a window that is open
+-- after these entries of a cycle, a bound signal is sensed at a moment where some look at it has this moment inside
+-- its extent and hasn't failed before: an edge look of the moment, or a window that is open
 unfoldable pub is_sensed : List Bool → List Entry → Moment → ℕ → Bool
 is_sensed bound entries moment signal =
     slice_index_or bound signal false

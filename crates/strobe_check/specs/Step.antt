@@ -1,5 +1,5 @@
 -- What the parts of the code compute. No public clause cites it.
-use Rattle.std.specs.Prelude.{ℕ, ◌==◌, Bool, not, ◌&&◌, ◌||◌, if◌then◌else◌, List, [], ◌∷◌, ◌++◌, map, filter, Option, Some, None, is_some}
+use Rattle.std.specs.Prelude.{◌≡◌, ℕ, ◌==◌, ◌+◌, ◌<◌, ◌≤◌, Bool, true, not, ◌&&◌, ◌||◌, if◌then◌else◌, List, [], ◌∷◌, ◌++◌, map, filter, Option, Some, None, is_some}
 use Rattle.std.specs.List.{list_any}
 use Rattle.tester_types.specs.declared.wave.Look.{Look}
 use Rattle.tester_types.specs.declared.level.Level.{Level}
@@ -10,6 +10,17 @@ use Rattle.strobe_check.specs.Look.{is_edge, is_window, is_met}
 -- the looks at a signal among all looks of a moment
 abbrev pub looks_of : ℕ → List (ℕ × Look) → List Look
 looks_of signal looks = map (λ look. look.1) (filter (λ look. look.0 == signal) looks)
+
+-- the looks' signals rise, not strictly, from this one on
+abbrev pub Ascends : ℕ → List (ℕ × Look) → Type 0
+Ascends least [] = Unit {0}
+Ascends least (look ∷ looks) = (least ≤ look.0) × Ascends look.0 looks
+
+-- one part of the looks has all those at a signal, and another all those at later signals, which ascends as they do
+pub record SplitsRun (sorted : Bool) (signal : ℕ) (looks own later : List (ℕ × Look)) : Type 0 where
+  pub here : (sorted ≡ true → Ascends signal looks) → looks_of signal own ≡ looks_of signal looks
+  pub behind : (sorted ≡ true → Ascends signal looks) → (k : ℕ) → signal < k → looks_of k later ≡ looks_of k looks
+  pub ascends : (sorted ≡ true → Ascends signal looks) → sorted ≡ true → Ascends (signal + 1) later
 
 -- the window that a look opens
 abbrev pub opened : Look → Option Look
@@ -43,8 +54,7 @@ abbrev pub left_open : Level → Option Look → Option Look
 left_open level None = None
 left_open level (Some look) = if is_met look level then Some look else None
 
--- the looks at a signal that fail at a moment: with the window that was open before it, and the
--- moment's looks
+-- the looks at a signal that fail at a moment: with the window that was open before it, and the moment's looks
 abbrev pub failed : Level → Option Look → List Look → List Look
 failed level window looks =
     failed_edges level looks ++ failed_window level (window_after window looks)

@@ -4,13 +4,14 @@ ghost use Rattle.std.specs.Prelude.{◌≡◌, ◌≤◌, length, IfOk};
 ghost use Rattle.strobe_check.specs.History.{HasSeen, numbered, fresh, SeesEntry, SeesEnd, Answers, sensed, total_of, kept_of};
 
 use crate::judge::{Sight, is_watched, judge};
+use crate::run::{are_sorted, split_run};
 use crate::tally::Tally;
 use std::alloc::Global;
 use std::marker::Model;
 use tester_types::{FailList, Level, Look, Moment, NoMemory};
 
 /// How many signals there can be, since their numbers have 16 bits.
-const MOST_SIGNALS: usize = 65_536;
+const MOST_NUMBERED: usize = 65_536;
 
 /// Judges the looks of one cycle after another.
 #[derive(Drop)]
@@ -22,14 +23,13 @@ pub struct Checker {
 
 impl Model for Checker {
     ghost use Rattle.std.specs.Prelude.{◌≡◌, ◌≤◌, vec_len};
-    ghost use Rattle.strobe_check.specs.declared.checker.TheConstants.{MOST_SIGNALS};
-    ghost use Rattle.strobe_check.specs.History.{Held};
+    ghost use Rattle.strobe_check.specs.History.{Held, most_numbered};
 
     ghost Value = { Held };
 
     ghost view = { λ c. record { bound = c.bound.items; windows = c.windows.items; count = c.tally } };
 
-    ghost invariant = { λ c. (vec_len c.bound ≡ vec_len c.windows) × (vec_len c.windows ≤ MOST_SIGNALS) };
+    ghost invariant = { λ c. (vec_len c.bound ≡ vec_len c.windows) × (vec_len c.windows ≤ most_numbered) };
 }
 
 impl Checker {
@@ -38,7 +38,7 @@ impl Checker {
     pub fn make(alloc: Global, bound: &[bool], keep: u16) -> Result<Checker, NoMemory>
         ensures { IfOk result (λ checker. HasSeen (fresh (numbered bound.now) keep) checker) }
     {
-        let signals = bound.len().min(MOST_SIGNALS);
+        let signals = bound.len().min(MOST_NUMBERED);
         Ok(Checker {
             bound: Vec::from_slice(alloc, &bound[..signals])?,
             windows: vec![in alloc; None; signals]?,
@@ -61,7 +61,8 @@ impl Checker {
     /// Judges the next moment of the open cycle, with one level a signal after the moment's drives. It has
     /// the numbers of its executive and its cycle, and the cycle's mark.
     ///
-    /// It goes over the moment's looks once for each bound signal, and takes no memory.
+    /// Where the looks stand in the order of their signals, it goes over them and over the signals once; else once for
+    /// each bound signal. It takes no memory.
     pub fn look(&mut self, exec: u16, cycle: u64, mark: u32, moment: &Moment, levels: &[Level])
         requires { length self.old.bound ≤ length levels.now }
         ensures same { self.new.bound ≡ self.old.bound }
@@ -69,8 +70,11 @@ impl Checker {
             (record { exec = exec; cycle = cycle; mark = mark; moment = moment.now; levels = levels.now })
             self.old self.new }
     {
-        let looks = moment.looks.as_slice();
+        let mut rest = moment.looks.as_slice();
+        let sorted = are_sorted(rest);
         for signal in 0..self.windows.len() {
+            let (looks, later) = split_run(rest, sorted, signal as u16);
+            rest = later;
             if self.bound[signal] {
                 let sight = Sight {
                     exec,

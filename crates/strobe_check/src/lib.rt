@@ -8,10 +8,11 @@ mod checker;
 mod judge;
 mod laws;
 mod look;
+mod run;
 mod tally;
 
 pub use checker::Checker;
-pub use laws::sensed_levels_decide;
+pub use laws::{sensed_levels_decide, window_extent};
 
 #[cfg(test)]
 mod tests;

@@ -1,8 +1,7 @@
 use Rattle.std.proofs.Common.{take, replicate, None, sym, ap, ◌∙◌, rules, length-take}
 use Rattle.std.proofs.Math.Nat.{min_comm}
 use Rattle.std.proofs.lemmas.List.{take_min}
-use Rattle.strobe_check.specs.declared.checker.TheConstants.{MOST_SIGNALS}
-use Rattle.strobe_check.specs.History.{numbered}
+use Rattle.strobe_check.specs.History.{most_numbered, numbered}
 use Rattle.strobe_check.proofs.HistoryLemmas.{HasSeen-fresh}
 use Rattle.strobe_check.proofs.checker.Checker.make.Goals as goal
 
@@ -12,7 +11,7 @@ returns c =
     let all = c.args.bound.now in
     let least = c.min-signals.ensures ∙ min_comm _ _ in
     let bound = c.in_ok-from_slice.ensures.items ∙ ap (λ n. take n all) least
-    ∙ take_min MOST_SIGNALS all in
+    ∙ take_min most_numbered all in
     let windows = c.in_ok-vec.ensures.items_if_clones_equal (λ y q. search rules)
-    ∙ ap (λ n. replicate n None) (least ∙ sym (length-take MOST_SIGNALS all)) in
-    HasSeen-fresh (take MOST_SIGNALS all) c.args.keep _ bound windows c.in_ok-new.ensures
+    ∙ ap (λ n. replicate n None) (least ∙ sym (length-take most_numbered all)) in
+    HasSeen-fresh (take most_numbered all) c.args.keep _ bound windows c.in_ok-new.ensures
