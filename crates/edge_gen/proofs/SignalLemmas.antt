@@ -7,6 +7,7 @@ use Rattle.std.specs.Option.{IfSome, option_map_or}
 use Rattle.tester_types.specs.declared.wave.Event.{Event}
 use Rattle.tester_types.specs.declared.wave.Wave.{Wave}
 use Rattle.tester_types.specs.declared.wave.Table.{Table}
+use Rattle.text_bytes.proofs.ListLemmas.{plus-suc}
 use Rattle.edge_gen.specs.declared.dated.Dated.{Dated}
 use Rattle.edge_gen.specs.Signals.{is_wave, wave_of, events_of, signals_of}
 use Rattle.edge_gen.specs.Step.{ArePlaces, dated, dated_at}
@@ -60,12 +61,9 @@ flat_map-dated_at waves n (letter ∷ row) [] long each = absurd (omega (arith, 
 flat_map-dated_at waves n (letter ∷ row) (place ∷ places) long each =
     let here = each zero (suc-le-suc zero-le) ∙ ap (λ s. wave_of waves s letter) (add-zero n) in
     let later = λ (k : ℕ) (lt : k < length row). each (suc k) (suc-le-suc lt)
-    ∙ ap (λ s. wave_of waves s (slice_index row k)) (shift n k) in
+    ∙ ap (λ s. wave_of waves s (slice_index row k)) (sym (plus-suc n k)) in
     ap (λ l. l ++ flat_map (dated_at waves) places) (dated_at-signal waves n letter place here)
     ∙ ap (λ l. dated_of (n, events_of waves n letter) ++ l) (flat_map-dated_at waves (n + 1) row places (omega (arith, long)) later)
-  where
-    shift : (n k : ℕ) → n + suc k ≡ n + 1 + k
-    shift n k = omega arith
 
 pub flat_map-places : (table : Table) (row places : List ℕ)
     → ArePlaces table.waves table.waves row places

@@ -13,9 +13,11 @@ use Rattle.tester_types.specs.declared.cycle.Moment.{Moment}
 use Rattle.edge_gen.specs.Signals.{events_of}
 use Rattle.edge_gen.specs.Moments.{moments_of, instants}
 
+-- an event at a time
 abbrev event : ℕ → Act → Event
 event time act = record { time = time; act = act }
 
+-- a wave of a signal and a character
 abbrev wave : ℕ → ℕ → List Event → Wave
 wave signal letter events = record { signal = signal; letter = letter; events = events }
 
@@ -27,6 +29,7 @@ table waves = record { name = []; period = 100000000; waves = waves }
 abbrev drive : ℕ → ℕ → Push → Moment
 drive at signal push = record { at = at; drives = (signal, push) ∷ []; looks = [] }
 
+-- a moment with one look
 abbrev seen : ℕ → ℕ → Look → Moment
 seen at signal look = record { at = at; drives = []; looks = (signal, look) ∷ [] }
 

@@ -9,7 +9,9 @@ use Rattle.edge_gen.specs.Step.{ArePlaces, IsUsed}
 
 -- one more wave: it is the signal's, or it changes nothing
 wave_of-push : (seen : List Wave) (wave : Wave) (signal letter : ℕ)
-    → wave_of (seen ++ wave ∷ []) signal letter ≡ cond (eqb letter 0) None (cond (is_wave signal letter wave) (Some wave) (find (is_wave signal letter) (reverse seen)))
+    → wave_of (seen ++ wave ∷ []) signal letter
+    ≡ cond (eqb letter 0) None (cond (is_wave signal letter wave) (Some wave)
+    (find (is_wave signal letter) (reverse seen)))
 wave_of-push seen wave signal letter =
     ap (λ waves. cond (eqb letter 0) None (find (is_wave signal letter) waves)) (reverse-append seen (wave ∷ []))
 

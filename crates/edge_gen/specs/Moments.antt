@@ -1,6 +1,5 @@
--- The moments of a cycle: the instants at which some signal has an event, in rising order, each
--- with the
--- drives and looks of that instant.
+-- The moments of a cycle: the instants at which some signal has an event, in rising order, each with the drives and
+-- looks of that instant.
 use Rattle.std.specs.Prelude.{◌≡◌, ℕ, ◌+◌, ◌<◌, ◌==◌, Bool, nat_lt, if◌then◌else◌, List, [], ◌∷◌, map, filter, Option, Some, None}
 use Rattle.std.specs.List.{AllByRecursion, flat_map, filter_map, fold, last_or, list_any}
 use Rattle.std.specs.Option.{option_to_list}
@@ -57,8 +56,7 @@ Rises (n ∷ ns) = AllByRecursion (λ m. n < m) ns × Rises ns
 abbrev pub is_in : ℕ → List ℕ → Bool
 is_in n ns = list_any (λ m. m == n) ns
 
--- a list has the instants of these times: it rises, and has the same numbers; there is one such
--- list
+-- a list has the instants of these times: it rises, and has the same numbers; there is one such list
 pub record AreInstants (times list : List ℕ) : Type 0 where
   pub rising : Rises list
   pub same : (time : ℕ) → is_in time list ≡ is_in time times
@@ -74,8 +72,7 @@ with_instant (first ∷ later) time =
 abbrev pub instants : List ℕ → List ℕ
 instants times = fold with_instant [] times
 
--- the moments of the cycle of a table and a row of characters, one a signal, that begins at this
--- start
+-- the moments of the cycle of a table and a row of characters, one a signal, that begins at this start
 unfoldable pub moments_of : Table → List ℕ → ℕ → List Moment
 moments_of table row start =
     let signals = signals_of table row in

@@ -1,6 +1,5 @@
--- What each signal does in one cycle: the events of the waveform that the table has for the
--- signal's
--- waveform character (IEEE 1450-1999, WaveformTable).
+-- What each signal does in one cycle: the events of the waveform that the table has for the signal's waveform
+-- character (IEEE 1450-1999, WaveformTable).
 use Rattle.std.specs.Prelude.{ℕ, ◌==◌, Bool, ◌&&◌, if◌then◌else◌, List, [], map, reverse, Option, None}
 use Rattle.std.specs.List.{find, enumerate_from}
 use Rattle.std.specs.Option.{option_map_or}
@@ -12,9 +11,8 @@ use Rattle.tester_types.specs.declared.wave.Table.{Table}
 abbrev pub is_wave : ℕ → ℕ → Wave → Bool
 is_wave signal letter wave = wave.signal == signal && wave.letter == letter
 
--- the wave of a signal with this character, which is 0 where it has none; of several waves that are
--- listed for
--- the two it is the last, since a later definition replaces an earlier one
+-- the wave of a signal with this character, which is 0 where it has none; of several waves that are listed for the two
+-- it is the last, since a later definition replaces an earlier one
 abbrev pub wave_of : List Wave → ℕ → ℕ → Option Wave
 wave_of waves signal letter =
     if letter == 0 then None else find (is_wave signal letter) (reverse waves)

@@ -11,7 +11,7 @@ use Rattle.strobe_check.specs.Entry.{Entry, looks_at, level_of, fail_at}
 use Rattle.strobe_check.specs.Fails.{fails_of, at_place, bound_signals, fails}
 use Rattle.strobe_check.specs.History.{open_window}
 use Rattle.strobe_check.specs.Step.{failed}
-use Rattle.strobe_check.proofs.Lists.{flat_map-same, flat_map-below, range-push}
+use Rattle.strobe_check.proofs.ListLemmas.{flat_map-same, flat_map-below, range-push}
 use Rattle.strobe_check.proofs.FailLemmas.{fail_here, fails_of-push}
 use Rattle.strobe_check.proofs.PlaceLemmas.{fails_of-below}
 

@@ -17,6 +17,7 @@ abbrev pub grow : ℕ × Entry → Extent → Extent
 grow entry extent =
     record { look = extent.look; inside = cond (is_window extent.look) (extent.inside ++ entry ∷ []) extent.inside }
 
+-- the last extent has one more entry inside
 abbrev pub grow_last : ℕ × Entry → List Extent → List Extent
 grow_last entry [] = []
 grow_last entry (x ∷ []) = grow entry x ∷ []
@@ -127,6 +128,7 @@ inside_last-more HighWindow here entry later = refl
 inside_last-more OffWindow here entry later = refl
 inside_last-more Close here entry later = refl
 
+-- a look with the entries inside its extent
 abbrev pub extent : Look → List (ℕ × Entry) → Extent
 extent look inside = record { look = look; inside = inside }
 

@@ -16,13 +16,14 @@ use Rattle.strobe_check.specs.Extent.{Extent, inside_last, inside_followed, exte
 use Rattle.strobe_check.specs.Fails.{meets, fail_of, fails_of}
 use Rattle.strobe_check.specs.History.{open_in, last_open, open_window}
 use Rattle.strobe_check.specs.Step.{opened, window_after, failed_edges, failed_window, failed, left_open}
-use Rattle.strobe_check.proofs.Lists.{enumerate_from-push, cons_option-append}
+use Rattle.strobe_check.proofs.ListLemmas.{enumerate_from-push, cons_option-append}
 use Rattle.strobe_check.proofs.ExtentLemmas.{looks, extent, grow, grow_last, extents-looked, extents-quiet}
 
 -- the fail of a look at an entry, with its place
 abbrev pub fail_here : ℕ → ℕ × Entry → Look → ℕ × Fail
 fail_here signal entry look = (entry.0, fail_at signal look entry.1)
 
+-- the level of a signal at an entry with its place
 abbrev pub level : ℕ → ℕ × Entry → Level
 level signal entry = level_of signal entry.1
 
@@ -30,6 +31,7 @@ level signal entry = level_of signal entry.1
 abbrev unmet : ℕ → Look → List (ℕ × Entry) → Option (ℕ × Entry)
 unmet signal look inside = find (λ e. not (meets signal look e)) inside
 
+-- the fail of a look, if there is one, in front of others
 abbrev with_fail : ℕ → Look → Option (ℕ × Entry) → List (ℕ × Fail) → List (ℕ × Fail)
 with_fail signal look entry rest = cons_option (option_map (λ e. fail_here signal e look) entry) rest
 
@@ -37,6 +39,7 @@ with_fail signal look entry rest = cons_option (option_map (λ e. fail_here sign
 abbrev window_fails : ℕ → ℕ × Entry → Option Look → List (ℕ × Fail)
 window_fails signal entry window = map (fail_here signal entry) (failed_window (level signal entry) window)
 
+-- the window of a look, if a test passes
 abbrev window_if : Bool → Look → Option Look
 window_if b look = cond b (Some look) None
 

@@ -1,5 +1,5 @@
 mod StandardFacts
-pub mod Lists
+pub mod ListLemmas
 pub mod LookLemmas
 pub mod RunLemmas
 pub mod ExtentLemmas

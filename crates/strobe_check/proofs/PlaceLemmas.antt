@@ -10,9 +10,10 @@ use Rattle.strobe_check.specs.Look.{is_edge, is_window}
 use Rattle.strobe_check.specs.Entry.{Entry, fail_at}
 use Rattle.strobe_check.specs.Extent.{Extent, if_none, until_look, extents_here, extents}
 use Rattle.strobe_check.specs.Fails.{meets, fail_of, fails_of, bound_from}
-use Rattle.strobe_check.proofs.Lists.{All-cond}
+use Rattle.strobe_check.proofs.ListLemmas.{All-cond}
 use Rattle.strobe_check.proofs.ExtentLemmas.{looks}
 
+-- what holds of each entry inside each extent
 abbrev pub AreInside : (ℕ × Entry → Type 0) → List Extent → Type 0
 AreInside P xs = AllByRecursion (λ (x : Extent). AllByRecursion P x.inside) xs
 

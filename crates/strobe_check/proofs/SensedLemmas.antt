@@ -20,6 +20,7 @@ use Rattle.strobe_check.proofs.ExtentLemmas.{looks, extent, grow, grow_last, ext
 use Rattle.strobe_check.proofs.FailLemmas.{numbered-push}
 use Rattle.strobe_check.proofs.PlaceLemmas.{AreInside, inside-extents, places-below}
 
+-- the places of these entries are below a number
 abbrev AreBelow : ℕ → List (ℕ × Entry) → Type 0
 AreBelow n entries = AllByRecursion (λ entry. entry.0 < n) entries
 

@@ -20,6 +20,7 @@ entry at looks levels = record {
   levels = levels;
 }
 
+-- a fail of a look
 abbrev fail : ℕ → ℕ → Look → Level → Fail
 fail at signal want seen =
     record { exec = 0; cycle = 7; at = at; signal = signal; want = want; seen = seen; mark = 0 }
@@ -102,6 +103,7 @@ in_order = refl
 abbrev next : List (ℕ × Look) → Moment
 next looks = record { at = 8; drives = []; looks = looks }
 
+-- entries in which a window is open
 abbrev open_since : Level → List Entry
 open_since level = entry 3 ((0, LowWindow) ∷ []) (level ∷ []) ∷ []
 

@@ -12,7 +12,7 @@ use Rattle.strobe_check.specs.Fails.{bound_signals, fails}
 use Rattle.strobe_check.specs.Count.{Count, HasCounted, Counts}
 use Rattle.strobe_check.specs.History.{History, all_fails, with_entry, open_window, open_windows, Held, HasSeen}
 use Rattle.strobe_check.specs.Step.{window_after, left_open, failed, fail_in}
-use Rattle.strobe_check.proofs.Lists.{enumerate_from-push, front_len, get_or-seam, set-seam, kept-seam}
+use Rattle.strobe_check.proofs.ListLemmas.{enumerate_from-push, front_len, get_or-seam, set-seam, kept-seam}
 use Rattle.strobe_check.proofs.CycleLemmas.{new_fails, fails-push}
 use Rattle.strobe_check.proofs.FailLemmas.{open_window-push}
 use Rattle.strobe_check.proofs.HistoryLemmas.{length-open_windows, get_or-open_windows}
@@ -68,6 +68,7 @@ sight_of signal level entry = record {
 abbrev after_entry : History → Entry → List (Option Look)
 after_entry history entry = open_windows history.bound (history.entries ++ entry ∷ [])
 
+-- the windows before it
 abbrev before_entry : History → List (Option Look)
 before_entry history = open_windows history.bound history.entries
 
