@@ -9,9 +9,14 @@ pub mod ShiftLemmas
 pub mod BodyLemmas
 pub mod FlatSteps
 pub mod FlatLemmas
+pub mod FormLemmas
+pub mod ItemLemmas
 pub mod InheritLemmas
 pub mod CheckedLemmas
 pub mod SteadyLemmas
 pub mod TreeLemmas
+pub mod GroupItems
+pub mod GroupLexemes
+pub mod GroupLemmas
 pub mod ArgumentLemmas
 pub mod ConsumedLemmas

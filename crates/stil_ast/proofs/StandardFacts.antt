@@ -5,5 +5,12 @@ pub mod Runs
 pub mod Rows
 pub mod Refusals
 pub mod Choices
+pub mod ScanText
+pub mod Forms
+pub mod Fronts
+pub mod Shifts
+pub mod Limits
+pub mod Places
+pub mod Groups
 pub mod Inherited
 pub mod Executives

@@ -7,3 +7,6 @@ pub mod Bodies
 pub mod BodiesFall
 pub mod KindName
 pub mod RefusalText
+pub mod Forms
+pub mod BlockForms
+pub mod OneText

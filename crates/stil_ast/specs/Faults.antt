@@ -9,4 +9,5 @@ pub mod PatternFaults
 pub mod ExecutiveFaults
 pub mod CodeFaults
 pub mod TextFaults
+pub mod FrontFaults
 pub mod CheckedLaws

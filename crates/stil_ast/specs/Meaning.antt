@@ -12,6 +12,7 @@ pub mod Flat
 pub mod Flattening
 pub mod Signals
 pub mod GroupText
+pub mod GroupReading
 pub mod Members
 pub mod Times
 pub mod Variables

@@ -1,7 +1,13 @@
 //! Laws of the language: what its definitions say, as a test engineer expects it.
 
 ghost use Rattle.stil_ast.specs.Faults.CheckedLaws.{CheckedIsSteady, CheckedTreeAgrees, TreesAgree, VectorsAgree, MarkIsWalked, ConsumedIsWalked, SameTreesServe, TablesAreNumbered};
+ghost use Rattle.stil_ast.specs.Meaning.GroupReading.{TermsAreSpelled};
 ghost use Rattle.stil_ast.specs.Meaning.Laws.{LoopSplits, MacroIsItsBody, CallGivesBack, ShiftIsInOrder, ShiftUsesUp, SignalKeepsCharacter, CyclesFollow, FlatTreeAgrees, LineageFollows};
+
+/// The items that are found in a group's text are those that it spells.
+pub fn group_texts_are_spelled()
+    ensures { TermsAreSpelled }
+{}
 
 /// A Loop of m + n runs is a Loop of m and then one of n.
 pub fn loop_splits()

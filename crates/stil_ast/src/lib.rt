@@ -22,8 +22,8 @@ pub use executive::{
 pub use fault::{StilFault, StilKind, StilRefusal};
 pub use laws::{
     call_gives_back, checked_is_steady, checked_tree_agrees, consumed_is_walked, cycles_follow,
-    flat_tree_agrees, lineage_follows, loop_splits, macro_is_its_body, mark_is_walked,
-    same_trees_serve, shift_is_in_order, shift_uses_up, signal_keeps_character,
+    flat_tree_agrees, group_texts_are_spelled, lineage_follows, loop_splits, macro_is_its_body,
+    mark_is_walked, same_trees_serve, shift_is_in_order, shift_uses_up, signal_keeps_character,
     tables_are_numbered, trees_agree, vectors_agree,
 };
 pub use name::{IndexRange, NameRef, Named, NamedList, Quoted, SigRef, WordList};

@@ -11,4 +11,8 @@ pub mod LexedLemmas
 pub mod ReadLemmas
 pub mod RationalLemmas
 pub mod ValueLemmas
+pub mod TimesLemmas
+pub mod NamedLemmas
+pub mod TimesFacts
+pub mod TextFacts
 pub mod StandardFacts

@@ -20,24 +20,24 @@ use Rattle.time_expr.specs.declared.expr.Expr.TheOpen.{Expr-F}
 use Rattle.time_expr.specs.declared.expr.Expr.TheFolds.{map-Expr, fold-roll-Expr, ind-Expr}
 
 -- what is known of a tree: its value, or the values of the operands so far of a least or greatest
-data Known : Type 0 where
+pub data Known : Type 0 where
   plain : Outcome → Known
   several : Bound → Ratio → List Ratio → Known
 
-abbrev closed : Known → Outcome
+abbrev pub closed : Known → Outcome
 closed (plain o) = o
 closed (several bound r rs) = best_of_all bound (Ok r) rs
 
-abbrev gathered : Bound → Outcome → Known
+abbrev pub gathered : Bound → Outcome → Known
 gathered bound (Ok r) = several bound r []
 gathered bound (Err e) = plain (Err e)
 
-abbrev more : Known → Outcome → Known
+abbrev pub more : Known → Outcome → Known
 more (plain o) v = plain o
 more (several bound r rs) (Ok s) = several bound r (rs ++ s ∷ [])
 more (several bound r rs) (Err e) = plain (Err e)
 
-abbrev known_of : List (List ℕ × Ratio) → Tree → Known
+abbrev pub known_of : List (List ℕ × Ratio) → Tree → Known
 known_of vars (number v unit) = plain (product_of v (whole (femtoseconds_of unit)))
 known_of vars (name bytes) = plain (named_of (value_of_name bytes vars))
 known_of vars (chain t) = plain (closed (known_of vars t))
@@ -47,7 +47,7 @@ known_of vars (extreme bound t) = gathered bound (closed (known_of vars t))
 known_of vars (also t u) = more (known_of vars t) (closed (known_of vars u))
 
 -- the value of a tree
-abbrev tree_value : List (List ℕ × Ratio) → Tree → Outcome
+abbrev pub tree_value : List (List ℕ × Ratio) → Tree → Outcome
 tree_value vars t = closed (known_of vars t)
 
 -- the value of an operand of a chain
@@ -108,7 +108,7 @@ gathered_rest bound (Ok r) vs = refl
 gathered_rest bound (Err e) vs = refl
 
 -- the value of an expression is that of its tree
-abbrev IsTreeValue : List (List ℕ × Ratio) → Expr → Type 0
+abbrev pub IsTreeValue : List (List ℕ × Ratio) → Expr → Type 0
 IsTreeValue vars e = value_of vars e ≡ tree_value vars (tree_of e)
 
 -- operands with what is known of them
@@ -159,7 +159,7 @@ layer vars (Expr-F.Extreme bound first rest) =
     ∙ sym (gathered_rest bound (tree_value vars (tree_of first.value.0)) (map (tree_value vars) others))
     ∙ sym (others_value vars (extreme bound (tree_of first.value.0)) others)
 
-value_is_tree_value : (vars : List (List ℕ × Ratio)) (e : Expr) → IsTreeValue vars e
+pub value_is_tree_value : (vars : List (List ℕ × Ratio)) (e : Expr) → IsTreeValue vars e
 value_is_tree_value vars = ind-Expr (IsTreeValue vars) (λ x y is.
     fold-roll-Expr Outcome (part_value vars) x ∙ subst (IsLayer vars) is (layer vars y)
     ∙ ap (tree_value vars) (sym (fold-roll-Expr Tree part_tree x)))

@@ -12,3 +12,5 @@ pub mod Spelling
 pub mod Front
 pub mod Machine
 pub mod Memory
+pub mod NamedValue
+pub mod TimesOf

@@ -1,11 +1,15 @@
 //! Laws of the definitions.
 
-ghost use Rattle.std.specs.Prelude.{◌≡◌, ◌<◌, ◌^◌, ℕ, ℤ, ◌*ℤ◌, unsigned_abs, Bool, List, Ok};
+ghost use Rattle.std.specs.Prelude.{◌≡◌, ◌<◌, ◌^◌, ℕ, ℤ, ◌*ℤ◌, unsigned_abs, Bool, List, Result, Ok};
+ghost use Rattle.stil_ast.specs.Meaning.Times.{Met, Times};
 ghost use Rattle.time_expr.specs.Ratio.{Ratio, whole, sum_of, difference_of, product_of, quotient_of, least_of, greatest_of};
 ghost use Rattle.time_expr.specs.Rational.{IsFraction, IsSum, IsDifference, IsProduct, IsRatio, IsLeast, IsGreatest};
 ghost use Rattle.time_expr.specs.Unit.{femtoseconds_of};
 ghost use Rattle.time_expr.specs.Tree.{Tree, number, tree_of};
-ghost use Rattle.time_expr.specs.Value.{value_of};
+ghost use Rattle.time_expr.specs.Value.{named_of, value_of};
+ghost use Rattle.time_expr.specs.Vars.{value_of_name};
+ghost use Rattle.time_expr.specs.NamedValue.{met_of, value_by};
+ghost use Rattle.time_expr.specs.TimesOf.{AreOfLanguage, times_of};
 ghost use Rattle.time_expr.specs.Spelling.{Spells};
 ghost use Rattle.time_expr.specs.declared.unit.Unit.{Unit};
 ghost use Rattle.time_expr.specs.declared.expr.Expr.{Expr};
@@ -15,6 +19,23 @@ pub fn one_spelling_each()
     ensures { (text : List ℕ) (tree other : Tree) (in_range also_in_range : Bool)
         → Spells text tree in_range → Spells text other also_in_range
         → (tree ≡ other) × (in_range ≡ also_in_range) }
+{}
+
+/// The evaluation that is computed from texts is that of the language.
+pub fn times_are_of_language()
+    ensures { AreOfLanguage times_of }
+{}
+
+/// There is one evaluation of the language.
+pub fn one_evaluation()
+    ensures { (times other : Times Ratio) → AreOfLanguage times → AreOfLanguage other → times ≡ other }
+{}
+
+/// Where names stand for variables or for nothing, an expression has the value that it has under the variables.
+pub fn names_are_variables()
+    ensures { (names : List ℕ → Result Ratio Met) (vars : List (List ℕ × Ratio)) (expr : Expr)
+        → ((name : List ℕ) → names name ≡ met_of (named_of (value_of_name name vars)))
+        → value_by names (tree_of expr) ≡ met_of (value_of vars expr) }
 {}
 
 /// Expressions with one tree have one value, wherever they lie in memory.

@@ -20,9 +20,9 @@ pub use expr::{Bound, Expr, Operator, value};
 pub use fault::ExprFault;
 pub use fraction::{Fraction, whole_fs};
 pub use laws::{
-    differences_are_rational, greater_is_greatest, lesser_is_least, one_spelling_each,
-    one_value_each, products_are_rational, quotients_are_rational, sums_are_rational,
-    whole_numbers_in_units,
+    differences_are_rational, greater_is_greatest, lesser_is_least, names_are_variables,
+    one_evaluation, one_spelling_each, one_value_each, products_are_rational,
+    quotients_are_rational, sums_are_rational, times_are_of_language, whole_numbers_in_units,
 };
 pub use read::read_expr;
 pub use unit::Unit;

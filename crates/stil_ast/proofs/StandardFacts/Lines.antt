@@ -35,6 +35,10 @@ line_of d =
 abbrev pub lines : Blocks → List Line
 lines blocks = map line_of (all_cycles blocks)
 
+-- the marks of all cycles
+abbrev pub marks : Blocks → List ℕ
+marks blocks = map (λ (d : Dated). d.vector.mark) (all_cycles blocks)
+
 abbrev pub cycle : ℕ → ℕ → ℕ → List ℕ → Line
 cycle number start tab text =
     record { number = number; start = start * 10 ^ 6; table = Some tab; text = text }

@@ -1,5 +1,5 @@
 -- Blocks of small texts, in few words.
-use Rattle.std.proofs.Common.{ℕ, ◌*◌, ◌^◌, List, [], ◌∷◌, Some, None, Ok, pos, take_while, codes}
+use Rattle.std.proofs.Common.{ℕ, ◌*◌, ◌^◌, List, [], ◌∷◌, ◌++◌, Some, None, Ok, pos, take_while, codes}
 use Rattle.stil_ast.specs.Data.Texts.{is_digit, number_of}
 use Rattle.stil_ast.specs.Meaning.Times.{Times}
 use Rattle.stil_ast.specs.Meaning.Statements.{Item}
@@ -11,6 +11,8 @@ use Rattle.stil_ast.specs.declared.signal.SignalDecl.{SignalDecl}
 use Rattle.stil_ast.specs.declared.signal.GroupDecl.{GroupDecl}
 use Rattle.stil_ast.specs.declared.timing.SignalWaves.{SignalWaves}
 use Rattle.stil_ast.specs.declared.timing.TableDecl.{TableDecl}
+use Rattle.stil_ast.specs.declared.scan.ChainStmt.TheVariants as stmt
+use Rattle.stil_ast.specs.declared.scan.ChainDecl.{ChainDecl}
 use Rattle.stil_ast.specs.declared.executive.BurstWord.TheVariants.{Entry}
 use Rattle.stil_ast.specs.declared.body.Assignment.{Assignment}
 use Rattle.stil_ast.specs.declared.blocks.BodyDef.{BodyDef}
@@ -97,4 +99,44 @@ text_of signals groups tables macros procedures body = record {
     burst = record { name = codes "b"; line = 16 };
     line = 16;
   } ∷ [];
+}
+
+-- a chain that ends at this signal
+abbrev pub chain_at : ℕ → List ℕ → List ℕ → ChainDecl
+chain_at line name out =
+    record { name = name; stmts = stmt.Out (record { name = out; line = line }) ∷ []; line = line }
+
+-- the same text with unnamed ScanStructures of these chains
+abbrev pub with_chains : List ChainDecl → Blocks → Blocks
+with_chains chains b = record {
+  signals = b.signals;
+  groups = b.groups;
+  specs = b.specs;
+  selectors = b.selectors;
+  timings = b.timings;
+  scans = record { name = []; chains = chains } ∷ [];
+  macros = b.macros;
+  procedures = b.procedures;
+  patterns = b.patterns;
+  bursts = b.bursts;
+  executives = b.executives;
+}
+
+-- the same text with one more pattern `q`, which runs behind the first
+abbrev pub then_pattern : Written → Blocks → Blocks
+then_pattern body b = record {
+  signals = b.signals;
+  groups = b.groups;
+  specs = b.specs;
+  selectors = b.selectors;
+  timings = b.timings;
+  scans = b.scans;
+  macros = b.macros;
+  procedures = b.procedures;
+  patterns = b.patterns ++ record { name = codes "q"; body = body } ∷ [];
+  bursts = record {
+    name = codes "b";
+    items = record { word = Entry; name = codes "p"; line = 15 } ∷ record { word = Entry; name = codes "q"; line = 15 } ∷ [];
+  } ∷ [];
+  executives = b.executives;
 }

@@ -1,5 +1,5 @@
 -- Names and numbers (IEEE 1450-1999, clause 6).
-use Rattle.std.specs.Prelude.{ℕ, zero, suc, ◌+◌, ◌-◌, ◌*◌, ◌==◌, ◌&&◌, ◌||◌, Bool, false, List, [], ◌∷◌, ◌++◌, Option, Some, None, nat_le, nat_eq, length, reverse, decimal, position, fold, if◌then◌else◌}
+use Rattle.std.specs.Prelude.{ℕ, zero, suc, ◌+◌, ◌-◌, ◌*◌, ◌==◌, ◌&&◌, ◌||◌, Bool, false, List, [], ◌∷◌, ◌++◌, Option, Some, None, nat_le, nat_eq, length, map, reverse, decimal, position, fold, if◌then◌else◌}
 use Rattle.std.specs.List.{list_all, list_any}
 use Rattle.std.specs.Cmp.Lexicographic.{pointwise}
 use Rattle.stil_ast.specs.declared.name.IndexRange.{IndexRange}
@@ -20,6 +20,14 @@ is_digit c = within 48 57 c
 -- a letter or `_`
 abbrev pub is_letter : ℕ → Bool
 is_letter c = within 65 90 c || within 97 122 c || c == 95
+
+-- a byte of a word
+abbrev pub is_word : ℕ → Bool
+is_word c = is_letter c || is_digit c
+
+-- a waveform character, an ASCII letter or digit
+abbrev pub is_wave_letter : ℕ → Bool
+is_wave_letter c = is_digit c || within 65 90 c || within 97 122 c
 
 -- space, tab, line feed, form feed and carriage return
 abbrev pub is_blank : ℕ → Bool
@@ -59,7 +67,12 @@ indices r =
 abbrev pub indexed : List ℕ → ℕ → List ℕ
 indexed name index = name ++ (91 ∷ (decimal index ++ (93 ∷ [])))
 
--- whether a list of names has this one, and where
+-- a name, or one name for each index
+abbrev pub names_with : List ℕ → Option IndexRange → List (List ℕ)
+names_with name None = name ∷ []
+names_with name (Some range) = map (indexed name) (indices range)
+
+-- whether a list of names has this one
 abbrev pub has_name : List (List ℕ) → List ℕ → Bool
 has_name names name = list_any (same name) names
 

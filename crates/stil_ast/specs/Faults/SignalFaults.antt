@@ -4,7 +4,8 @@ use Rattle.std.specs.List.{list_any}
 use Rattle.stil_ast.specs.Data.Texts.{same}
 use Rattle.stil_ast.specs.Faults.Found.{fault_at, unless, refuse_if, or_else, first_in}
 use Rattle.stil_ast.specs.Meaning.Signals.{Signal, Group, Names, names_of}
-use Rattle.stil_ast.specs.Meaning.GroupText.{Term, terms_of}
+use Rattle.stil_ast.specs.Meaning.GroupText.{Term}
+use Rattle.stil_ast.specs.Meaning.GroupReading.{terms_of}
 use Rattle.stil_ast.specs.Meaning.Members.{signal_of, group_of, text_kind}
 use Rattle.stil_ast.specs.Meaning.Statements.{Place}
 use Rattle.stil_ast.specs.declared.name.IndexRange.{IndexRange}

@@ -3,7 +3,8 @@ use Rattle.std.specs.Prelude.{ℕ, zero, suc, Bool, false, not, ◌==◌, ◌||�
 use Rattle.std.specs.List.{list_all, list_any, enumerate_from}
 use Rattle.stil_ast.specs.Data.Texts.{same, indices, indexed}
 use Rattle.stil_ast.specs.Meaning.Signals.{Group, Names}
-use Rattle.stil_ast.specs.Meaning.GroupText.{Term, terms_of}
+use Rattle.stil_ast.specs.Meaning.GroupText.{Term}
+use Rattle.stil_ast.specs.Meaning.GroupReading.{terms_of}
 use Rattle.stil_ast.specs.declared.name.IndexRange.{IndexRange}
 use Rattle.stil_ast.specs.declared.name.NameRef.{NameRef}
 use Rattle.stil_ast.specs.declared.name.SigRef.{SigRef}

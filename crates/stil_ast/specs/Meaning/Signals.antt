@@ -1,7 +1,7 @@
 -- The signals and the groups that a text declares (IEEE 1450-1999, clauses 14 and 15).
 use Rattle.std.specs.Prelude.{ℕ, List, [], ◌∷◌, Option, Some, None, map, flat_map, codes}
 use Rattle.stil_ast.specs.Meaning.Statements.{Place}
-use Rattle.stil_ast.specs.Data.Texts.{indices, indexed}
+use Rattle.stil_ast.specs.Data.Texts.{indices, indexed, names_with}
 use Rattle.stil_ast.specs.declared.name.IndexRange.{IndexRange}
 use Rattle.stil_ast.specs.declared.signal.Direction.{Direction}
 use Rattle.stil_ast.specs.declared.signal.SignalDecl.{SignalDecl}
@@ -67,3 +67,7 @@ names_of blocks = record {
   signals = flat_map declared blocks.signals;
   groups = flat_map (λ (b : GroupBlock). map (grouped b.name) b.groups) blocks.groups;
 }
+
+-- the texts of all signals in declared order, without where they were declared
+abbrev pub signal_texts : List SignalDecl → List (List ℕ)
+signal_texts declarations = flat_map (λ (d : SignalDecl). names_with d.name d.range) declarations
