@@ -13,7 +13,7 @@ use Rattle.tester_types.specs.declared.wave.Act.TheVariants.{Look}
 use Rattle.tester_types.specs.declared.wave.Look.TheVariants.{Low}
 use Rattle.time_expr.specs.Range.{divisor_of, remainders}
 use Rattle.time_expr.specs.Ratio.{lowest, lowest_signed}
-use Rattle.time_expr.specs.Bytes.{is_blank, is_digit, is_letter}
+use Rattle.text_bytes.specs.Bytes.{is_blank, is_digit, begins_name, is_word}
 use Rattle.time_expr.specs.Front.{unit_front, number_front, paren_len, short_name, word_front, sign_front, front_of, lexed}
 use Rattle.time_expr.specs.TimesOf.{times_of}
 
@@ -40,39 +40,39 @@ refused kind = Some (record { kind = kind; block = codes "Timing"; name = codes 
 
 -- a third of 10ns is no whole number of femtoseconds, and a third of 9ns is
 pub third_of_ten : first_fault (codes "10ns/3") ≡ refused NotWhole
-unfolding is_blank is_digit is_letter paren_len short_name word_front unit_front number_front sign_front front_of lexed
+unfolding is_blank is_digit begins_name is_word paren_len short_name word_front unit_front number_front sign_front front_of lexed
     lowest lowest_signed divisor_of remainders
 third_of_ten = refl
 
 pub third_of_nine : first_fault (codes "9ns/3") ≡ None
-unfolding is_blank is_digit is_letter paren_len short_name word_front unit_front number_front sign_front front_of lexed
+unfolding is_blank is_digit begins_name is_word paren_len short_name word_front unit_front number_front sign_front front_of lexed
     lowest lowest_signed divisor_of remainders
 third_of_nine = refl
 
 -- the greatest number is a time, but it isn't below the period; twice of it is out of range
 pub greatest_twice : first_fault (codes "170141183460469231731687303715884105727*2") ≡ refused OutOfRange
-unfolding is_blank is_digit is_letter paren_len short_name word_front unit_front number_front sign_front front_of lexed
+unfolding is_blank is_digit begins_name is_word paren_len short_name word_front unit_front number_front sign_front front_of lexed
     lowest lowest_signed divisor_of remainders
 greatest_twice = refl
 
 pub greatest_once : first_fault (codes "170141183460469231731687303715884105727*1") ≡ refused EventOutside
-unfolding is_blank is_digit is_letter paren_len short_name word_front unit_front number_front sign_front front_of lexed
+unfolding is_blank is_digit begins_name is_word paren_len short_name word_front unit_front number_front sign_front front_of lexed
     lowest lowest_signed divisor_of remainders
 greatest_once = refl
 
 -- a zero divisor, before a name that is unknown; and a text that is no time
 pub divisor_first : first_fault (codes "1ns/0 + x") ≡ refused ZeroDivisor
-unfolding is_blank is_digit is_letter paren_len short_name word_front unit_front number_front sign_front front_of lexed
+unfolding is_blank is_digit begins_name is_word paren_len short_name word_front unit_front number_front sign_front front_of lexed
     lowest lowest_signed divisor_of remainders
 divisor_first = refl
 
 pub no_time : first_fault (codes "1 ns") ≡ refused BadExpr
-unfolding is_blank is_digit is_letter paren_len short_name word_front unit_front number_front sign_front front_of lexed
+unfolding is_blank is_digit begins_name is_word paren_len short_name word_front unit_front number_front sign_front front_of lexed
     lowest lowest_signed divisor_of remainders
 no_time = refl
 
 -- a time before the cycle's start
 pub before_start : first_fault (codes "1ns - 2ns") ≡ refused EventOutside
-unfolding is_blank is_digit is_letter paren_len short_name word_front unit_front number_front sign_front front_of lexed
+unfolding is_blank is_digit begins_name is_word paren_len short_name word_front unit_front number_front sign_front front_of lexed
     lowest lowest_signed divisor_of remainders
 before_start = refl
