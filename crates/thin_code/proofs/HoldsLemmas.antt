@@ -3,7 +3,7 @@ use Rattle.std.proofs.Common.{◌≡◌, Bool, true, false, cond, List, [], ◌�
 use Rattle.std.specs.Prelude.{IfOk, IfSome, option_and_then, option_map}
 use Rattle.stil_tree.specs.Trees.{Entry}
 use Rattle.stil_form.specs.declared.fault.FormFault.{FormFault}
-use Rattle.stil_form.specs.Reading.{and_then, reading}
+use Rattle.first_fault.specs.Reading.{and_then, reading}
 use Rattle.thin_stil.specs.ThinForm.{kept, only}
 
 -- the second step's values have what follows from what the first step's have

@@ -11,10 +11,13 @@ use Rattle.tester_types.specs.declared.wave.Wave.{Wave}
 use Rattle.tester_types.specs.declared.wave.Event.{Event}
 use Rattle.tester_types.specs.declared.wave.Table.{Table}
 use Rattle.stil_tree.specs.Trees.{Entry, entries}
-use Rattle.stil_form.specs.declared.part.Mark.TheVariants.{Equals}
+use Rattle.stil_form.specs.declared.part.SignKind.TheVariants.{Equals}
 use Rattle.stil_form.specs.Lexeme.{Lexeme, word, name, text, sign, head_of, body_of, lexemes_of}
-use Rattle.stil_form.specs.Words.{is_keyword, named_by, begins_name, fits_name, may_name, longest_name}
-use Rattle.stil_form.specs.Reading.{and_then, reading}
+use Rattle.text_bytes.specs.Bytes as shared
+use Rattle.text_bytes.specs.Bytes.{begins_name, begins_with, is_printable}
+use Rattle.text_bytes.specs.Limits.{longest_name}
+use Rattle.stil_form.specs.Words.{is_keyword, named_by, fits_name}
+use Rattle.first_fault.specs.Reading.{and_then, reading}
 use Rattle.thin_stil.specs.declared.thin.ThinText.{ThinText}
 use Rattle.thin_stil.specs.declared.thin.ThinSignal.{ThinSignal}
 use Rattle.thin_stil.specs.declared.thin.ThinTiming.{ThinTiming}
@@ -59,19 +62,20 @@ pub record IsGood (thin : ThinText) : Type 0 where
 
 -- bytes that fit a name
 fits_is_name : (bytes : List ℕ) → fits_name bytes ≡ true → IsName bytes
+unfolding is_printable
 fits_is_name bytes is =
-    let p = and_parts (ltb 0 (length bytes) && leb (length bytes) longest_name) (list_all may_name bytes) is in
+    let p = and_parts (ltb 0 (length bytes) && leb (length bytes) longest_name) (list_all is_printable bytes) is in
     let q = and_parts (ltb 0 (length bytes)) (leb (length bytes) longest_name) p.0 in
     record { text = record { short = leb-true (length bytes) 1024 q.1; printable = p.1 }; some = q.0 }
 
 -- a name of a lexeme
 named : (l : Lexeme) → IfSome (named_by l) IsName
 named (word bytes) =
-    cond_holds (begins_name bytes && fits_name bytes) bytes IsName
-    (λ is. fits_is_name bytes (and_parts (begins_name bytes) (fits_name bytes) is).1)
+    cond_holds (begins_with begins_name bytes && fits_name bytes) bytes IsName
+    (λ is. fits_is_name bytes (and_parts (begins_with begins_name bytes) (fits_name bytes) is).1)
 named (name bytes) = cond_holds (fits_name bytes) bytes IsName (fits_is_name bytes)
 named (text bytes) = tt
-named (sign mark) = tt
+named (sign kind) = tt
 
 -- a name behind a keyword
 name_holds : (keyword : List ℕ) (head : List Lexeme)
@@ -86,11 +90,11 @@ name_is_text keyword (one ∷ called ∷ []) = where_holds (is_keyword keyword o
   where
     weaker : (l : Lexeme) → IfSome (named_by l) IsText
     weaker (word bytes) =
-        cond_holds (begins_name bytes && fits_name bytes) bytes IsText
-        (λ is. (fits_is_name bytes (and_parts (begins_name bytes) (fits_name bytes) is).1).text)
+        cond_holds (begins_with begins_name bytes && fits_name bytes) bytes IsText
+        (λ is. (fits_is_name bytes (and_parts (begins_with begins_name bytes) (fits_name bytes) is).1).text)
     weaker (name bytes) = cond_holds (fits_name bytes) bytes IsText (λ is. (fits_is_name bytes is).text)
     weaker (text bytes) = tt
-    weaker (sign mark) = tt
+    weaker (sign kind) = tt
 name_is_text keyword _ = tt
 
 -- an empty text
@@ -262,26 +266,26 @@ row_holds letters period before head block so_far =
 
 -- a group of waves as a code wants it
 record IsGroup (period : ℕ) (group : WaveGroup) : Type 0 where
-  letters : list_all form.is_character group.letters ≡ true
+  letters : list_all shared.is_character group.letters ≡ true
   rows : AreRows period group.rows
 
 -- the characters of a group
-letters_hold : (before : List WaveGroup) (head : List Lexeme)
-    → IfSome (form.letters_of before head) (λ letters. list_all form.is_character letters ≡ true)
-letters_hold before (word bytes ∷ []) =
-    cond_holds (form.are_letters before bytes) bytes (λ letters. list_all form.is_character letters ≡ true)
+wfcs_hold : (before : List WaveGroup) (head : List Lexeme)
+    → IfSome (form.wfcs_of before head) (λ letters. list_all shared.is_character letters ≡ true)
+wfcs_hold before (word bytes ∷ []) =
+    cond_holds (form.are_wfcs before bytes) bytes (λ letters. list_all shared.is_character letters ≡ true)
     (λ is.
-    let p = and_parts (list_all form.is_character bytes && form.are_apart bytes) (not (list_any (form.is_given before) bytes)) is in
-    (and_parts (list_all form.is_character bytes) (form.are_apart bytes) p.0).0)
-letters_hold before _ = tt
+    let p = and_parts (list_all shared.is_character bytes && form.are_apart bytes) (not (list_any (form.is_given before) bytes)) is in
+    (and_parts (list_all shared.is_character bytes) (form.are_apart bytes) p.0).0)
+wfcs_hold before _ = tt
 
 -- a group as a statement
 group_holds : (lexemes : List Lexeme) (period : ℕ) (before : List WaveGroup) (e : Entry)
     → IfOk (form.group_of lexemes period before e) (IsGroup period)
 group_holds lexemes period before e =
-    then_holds (form.kept (form.letters_of before (head_of lexemes e))) _ (λ letters. list_all form.is_character letters ≡ true) (IsGroup period)
-    (kept_holds (form.letters_of before (head_of lexemes e)) (λ letters. list_all form.is_character letters ≡ true)
-    (letters_hold before (head_of lexemes e)))
+    then_holds (form.kept (form.wfcs_of before (head_of lexemes e))) _ (λ letters. list_all shared.is_character letters ≡ true) (IsGroup period)
+    (kept_holds (form.wfcs_of before (head_of lexemes e)) (λ letters. list_all shared.is_character letters ≡ true)
+    (wfcs_hold before (head_of lexemes e)))
     (λ letters are. next_holds (form.kept (body_of e)) _ (IsGroup period) (λ es.
     then_holds (reading (λ rows row. form.row_of (length letters) period rows (head_of lexemes row) (body_of row)) [] es) _
     (AreRows period) (IsGroup period)
@@ -362,23 +366,24 @@ events_fit period place rows are =
     }) [] rows are.1
 
 -- characters with their places
-numbered : (n : ℕ) (letters : List ℕ) → list_all form.is_character letters ≡ true
-    → AllByRecursion (λ (letter : ℕ × ℕ). form.is_character letter.1 ≡ true) (enumerate_from n letters)
+numbered : (n : ℕ) (letters : List ℕ) → list_all shared.is_character letters ≡ true
+    → AllByRecursion (λ (letter : ℕ × ℕ). shared.is_character letter.1 ≡ true) (enumerate_from n letters)
 numbered n [] all = tt
 numbered n (c ∷ cs) all =
-    let p = and_parts (form.is_character c) (list_all form.is_character cs) all in (p.0, numbered (n + 1) cs p.1)
+    let p = and_parts (shared.is_character c) (list_all shared.is_character cs) all in (p.0, numbered (n + 1) cs p.1)
 
 -- three alternatives in another order
-reordered : (upper lower digit : Bool) → (upper || lower || digit) ≡ true
+reordered : (lower upper digit : Bool) → (lower || upper || digit) ≡ true
     → (digit || upper || lower) ≡ true
-reordered upper lower true is = refl
-reordered true lower false is = refl
-reordered false true false is = refl
+reordered lower upper true is = refl
+reordered lower true false is = refl
+reordered true false false is = refl
 reordered false false false is = is
 
 -- a character of a thin text is one of a code
-is_letter_of_code : (c : ℕ) → form.is_character c ≡ true → is_character c ≡ true
-is_letter_of_code c is = reordered (leb 65 c && leb c 90) (leb 97 c && leb c 122) (leb 48 c && leb c 57) is
+is_letter_of_code : (c : ℕ) → shared.is_character c ≡ true → is_character c ≡ true
+unfolding Rattle.text_bytes.specs.Bytes.is_character
+is_letter_of_code c is = reordered (leb 97 c && leb c 122) (leb 65 c && leb c 90) (leb 48 c && leb c 57) is
 
 -- the wave of a character of a group, by its place
 abbrev wave_at : ℕ → WaveGroup → ℕ × ℕ → Wave
@@ -390,7 +395,7 @@ group_waves_fit : (signals period signal : ℕ) (group : WaveGroup) → signal <
     → AllByRecursion (IsSaidWave signals period) (form.group_waves signal group)
 group_waves_fit signals period signal group inside is =
     all_map (wave_at signal group)
-    (λ letter. form.is_character letter.1 ≡ true) (IsSaidWave signals period)
+    (λ letter. shared.is_character letter.1 ≡ true) (IsSaidWave signals period)
     (λ letter character. record {
       signal = inside;
       letter = is_letter_of_code letter.1 character;

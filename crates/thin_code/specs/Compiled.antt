@@ -33,7 +33,11 @@ abbrev pub read_cycle : List (List ℕ) → ℕ × Cycle → Dated
 read_cycle rows cycle = record {
   number = cycle.0;
   start = cycle.1.start;
-  vector = record { table = Some cycle.1.table; letters = map letter_of (letters_of rows cycle.1.row); mark = cycle.1.mark };
+  vector = record {
+    table = Some cycle.1.table;
+    letters = map letter_of (letters_of rows cycle.1.row);
+    mark = cycle.1.mark;
+  };
 }
 
 -- the cycles of an executive of a code, read so
