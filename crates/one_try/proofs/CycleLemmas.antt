@@ -18,6 +18,7 @@ use Rattle.page_code.specs.Cycles.{period_of, timed, cycles_of}
 use Rattle.page_code.proofs.Lists.{behind_at}
 use Rattle.edge_gen.specs.Signals.{events_of, signals_of}
 use Rattle.edge_gen.specs.Moments.{push_of, acts_at, drives_of, moment_at, instants, times_of, moments_of}
+use Rattle.text_bytes.proofs.ListLemmas.{plus-suc}
 use Rattle.one_try.specs.Places.{Place, place_in, moments_in, places_in, places}
 use Rattle.tester_types.specs.declared.level.Drive.{Drive}
 use Rattle.die_sim.specs.Die.{Device}
@@ -57,11 +58,9 @@ one_between n until (Some push) later low b = record {
   below = (low, b.below);
 }
 
+-- the signals of a row, numbered from here on, each with its events
 abbrev signals_from : List Wave → ℕ → List ℕ → List (ℕ × List Event)
 signals_from waves n row = map (λ (place : ℕ × ℕ). (place.0, events_of waves place.0 place.1)) (enumerate_from n row)
-
-shift : (n k : ℕ) → n + 1 + k ≡ n + suc k
-shift n k = omega arith
 
 drives_between : (waves : List Wave) (time n : ℕ) (row : List ℕ)
     → Between n (n + length row) (flat_map (drives_of time) (signals_from waves n row))
@@ -69,7 +68,7 @@ drives_between waves time n [] = record { rises = tt; above = tt; below = tt }
 drives_between waves time n (letter ∷ row) =
     one_between n (n + length (letter ∷ row)) (last_or None (filter_map push_of (acts_at time (events_of waves n letter))))
     (flat_map (drives_of time) (signals_from waves (n + 1) row)) (omega arith)
-    (subst (λ (m : ℕ). Between (n + 1) m (flat_map (drives_of time) (signals_from waves (n + 1) row))) (shift n (length row))
+    (subst (λ (m : ℕ). Between (n + 1) m (flat_map (drives_of time) (signals_from waves (n + 1) row))) (plus-suc n (length row))
     (drives_between waves time (n + 1) row))
 
 moment_fits : (table : Table) (row : List ℕ) (start time signals : ℕ) → length row ≡ signals
@@ -124,6 +123,7 @@ places_made code number cycle table row moments table_is row_is are =
 
 -- ---- the places of many cycles
 
+-- the places of cycles that are numbered from here on
 abbrev pub places_from : Program → ℕ → List Cycle → List Place
 places_from code number cycles = flat_map (places_in code) (enumerate_from number cycles)
 
@@ -135,7 +135,7 @@ places-append code n [] ys = ap (λ (m : ℕ). places_from code m ys) (none n)
     none m = omega arith
 places-append code n (x ∷ xs) ys =
     ap (λ (l : List Place). places_in code (n, x) ++ l)
-    (places-append code (n + 1) xs ys ∙ ap (λ (m : ℕ). places_from code (n + 1) xs ++ places_from code m ys) (shift n (length xs)))
+    (places-append code (n + 1) xs ys ∙ ap (λ (m : ℕ). places_from code (n + 1) xs ++ places_from code m ys) (plus-suc n (length xs)))
     ∙ sym (append_assoc (places_in code (n, x)) (places_from code (n + 1) xs) (places_from code (n + length (x ∷ xs)) ys))
 
 front_long : (cycles : List Cycle) (i : ℕ) → i < length cycles → 0 + length (take i cycles) ≡ i
@@ -211,7 +211,7 @@ places_below code n [] = tt
 places_below code n (cycle ∷ cycles) =
     below-append (n + length (cycle ∷ cycles)) (places_in code (n, cycle)) (places_from code (n + 1) cycles)
     (below-mapped (n + length (cycle ∷ cycles)) n cycle (moments_in code cycle) (omega arith))
-    (subst (λ (m : ℕ). AllByRecursion (λ (place : Place). place.cycle < m) (places_from code (n + 1) cycles)) (shift n (length cycles))
+    (subst (λ (m : ℕ). AllByRecursion (λ (place : Place). place.cycle < m) (places_from code (n + 1) cycles)) (plus-suc n (length cycles))
     (places_below code (n + 1) cycles))
 
 -- all cycles were made

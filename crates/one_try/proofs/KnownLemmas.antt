@@ -1,5 +1,5 @@
 -- Each fail is of a signal of the binding.
-use Rattle.std.proofs.Common.{◌≡◌, ℕ, zero, suc, ◌+◌, ◌<◌, Bool, true, false, cond, not, eqb, List, [], ◌∷◌, length, take, map, filter, Option, Some, None, Result, Ok, Err, refl, sym, subst, arith, zero-add}
+use Rattle.std.proofs.Common.{◌≡◌, ℕ, zero, suc, ◌<◌, Bool, true, false, cond, not, eqb, List, [], ◌∷◌, length, take, map, filter, Option, Some, None, Result, Ok, Err, refl, sym, subst, arith, zero-add}
 use Rattle.std.specs.Prelude.{All, IfOk}
 use Rattle.std.specs.List.{AllByRecursion, cons_option, enumerate_from, filter_map, find, flat_map, range_with_len}
 use Rattle.std.specs.Option.{option_map}
@@ -13,7 +13,8 @@ use Rattle.die_sim.specs.Die.{Image, Device, device_of}
 use Rattle.strobe_check.specs.Entry.{Entry, fail_at}
 use Rattle.strobe_check.specs.Extent.{Extent, extents}
 use Rattle.strobe_check.specs.Fails.{meets, fail_of, fails_of, at_place, bound_signals, fails}
-use Rattle.strobe_check.proofs.Lists.{All-append}
+use Rattle.strobe_check.proofs.PlaceLemmas.{bound_from-below}
+use Rattle.text_bytes.proofs.ListLemmas.{all_append}
 use Rattle.one_try.specs.Run.{is_bound, bound_of, in_cycle, all_fails}
 use Rattle.one_try.specs.Trials.{IsTrial}
 use Rattle.one_try.specs.Trials.IsTrial.{unloaded, whole, cut}
@@ -30,7 +31,7 @@ all_each P (x ∷ xs) each = (each x, all_each P xs each)
 all_flat : {X Y : Type 0} (P : Y → Type 0) (f : X → List Y) (xs : List X) → AllByRecursion (λ x. AllByRecursion P (f x)) xs
     → AllByRecursion P (flat_map f xs)
 all_flat P f [] all = tt
-all_flat P f (x ∷ xs) all = All-append P (f x) (flat_map f xs) all.0 (all_flat P f xs all.1)
+all_flat P f (x ∷ xs) all = all_append P (f x) (flat_map f xs) all.0 (all_flat P f xs all.1)
 
 all_front : {X : Type 0} (P : X → Type 0) (n : ℕ) (xs : List X) → AllByRecursion P xs → AllByRecursion P (take n xs)
 all_front P zero xs all = tt
@@ -61,27 +62,13 @@ all_at_place P place (x ∷ xs) all = by (eqb x.0 place) (all_at_place P place x
     by true rest = (all.0, rest)
     by false rest = rest
 
-shift : (n k : ℕ) → n + 1 + k ≡ n + suc k
-shift n k = omega arith
-
-abbrev bound_from : ℕ → List Bool → List ℕ
-bound_from n bound = map (λ (s : ℕ × Bool). s.0) (filter (λ (s : ℕ × Bool). s.1) (enumerate_from n bound))
-
-bound_below : (n : ℕ) (bound : List Bool) → AllByRecursion (λ signal. signal < n + length bound) (bound_from n bound)
-bound_below n [] = tt
-bound_below n (true ∷ bound) =
-    (omega arith, subst (λ (m : ℕ). AllByRecursion (λ signal. signal < m) (bound_from (n + 1) bound)) (shift n (length bound)) (bound_below (n + 1) bound))
-bound_below n (false ∷ bound) =
-    subst (λ (m : ℕ). AllByRecursion (λ signal. signal < m) (bound_from (n + 1) bound)) (shift n (length bound))
-    (bound_below (n + 1) bound)
-
 -- the fails of a cycle
 fails_known : (bound : List Bool) (entries : List Entry)
     → AllByRecursion (λ fail. fail.signal < length bound) (fails bound entries)
 unfolding fails
 fails_known bound entries =
     let signals = subst (λ (m : ℕ). AllByRecursion (λ signal. signal < m) (bound_signals bound)) (zero-add (length bound))
-    (bound_below 0 bound) in
+    (bound_from-below 0 bound) in
     all_flat (λ (fail : Fail). fail.signal < length bound)
     (λ (place : ℕ). flat_map (λ signal. at_place place (fails_of signal entries)) (bound_signals bound))
     (range_with_len 0 (length entries))

@@ -1,6 +1,6 @@
 -- What is asked of a socket, and what it shows.
-use Rattle.std.proofs.Common.{◌≡◌, ℕ, ◌+◌, ◌<◌, ◌≤◌, Bool, true, false, eqb, ◌&&◌, List, [], ◌∷◌, length, get_or, set, Option, Some, None, refl, sym, ap, ◌∙◌, subst, arith, inl, inr, zero-add}
-use Rattle.std.proofs.lemmas.Bool.{cases_lt, or_cases, eqb-true}
+use Rattle.std.proofs.Common.{◌≡◌, ℕ, ◌+◌, ◌<◌, ◌≤◌, Bool, true, false, eqb, List, [], ◌∷◌, length, get_or, set, Option, Some, None, refl, sym, ap, ◌∙◌, subst, arith, inl, inr, zero-add}
+use Rattle.std.proofs.lemmas.Bool.{cases_lt, or_cases, eqb-true, and_parts}
 use Rattle.std.proofs.lemmas.List.{get_or_past, get_or-set_same, get_or-set_other}
 use Rattle.std.proofs.lemmas.List.FromFn.{get_or-map-range_with_len, length-map-range_with_len}
 use Rattle.tester_types.specs.declared.level.Level.{Level}
@@ -68,10 +68,6 @@ net_bound bind.Free e = cc
 net_bound (bind.Input n) e = tt
 net_bound (bind.Output n) e = tt
 
-first_true : (b c : Bool) → (b && c) ≡ true → b ≡ true
-first_true true c e = refl
-first_true false c e = e
-
 sensed_is_bound : (device : Device) (signal : ℕ) → get_or (bound_of device) signal false ≡ true → is_bound device signal ≡ true
 sensed_is_bound device signal e =
     elim (cases_lt signal (length device.binds)) [
@@ -97,8 +93,8 @@ can_sense (Some device) held moment signal wanted checked answers so =
     let history = checked.history in
     let is = sym (answers history checked.seen) ∙ so in
     let bound : get_or history.bound signal false ≡ true =
-    first_true _ (is_watched (open_window signal history.entries) signal moment.looks)
-    (sym (is_sensed-watched history.bound history.entries moment signal) ∙ is) in
+    (and_parts _ (is_watched (open_window signal history.entries) signal moment.looks)
+    (sym (is_sensed-watched history.bound history.entries moment signal) ∙ is)).0 in
     bound_senses device signal (sensed_is_bound device signal (ap (λ (l : List Bool). get_or l signal false) (sym checked.bound) ∙ bound))
 
 -- ---- the levels that are sensed

@@ -23,6 +23,7 @@ use Rattle.one_try.specs.Places.{Place, places}
 use Rattle.one_try.specs.Drives.{driven}
 use Rattle.one_try.specs.Run.{bound_of, entries_of, all_fails}
 
+-- a wave of one event
 abbrev wave : ℕ → ℕ → ℕ → Act → Wave
 wave signal letter time what = record { signal = signal; letter = letter; events = record { time = time; act = what } ∷ [] }
 
@@ -40,9 +41,11 @@ inverter = record {
   execs = record { name = []; chains = []; instrs = Run 0 0 0 1 ∷ Run 0 1 0 1 ∷ Done ∷ [] } ∷ [];
 }
 
+-- a place of a try
 abbrev place : ℕ → ℕ → List (ℕ × Push) → List (ℕ × Look) → Place
 place cycle at drives looks = record { cycle = cycle; mark = 0; moment = record { at = at; drives = drives; looks = looks } }
 
+-- four places
 abbrev four : List Place
 four =
     place 0 0 ((0, push.Down) ∷ []) [] ∷ place 0 40000000 [] ((1, look.High) ∷ [])

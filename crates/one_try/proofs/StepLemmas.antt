@@ -1,9 +1,8 @@
 -- One moment, some moments of a cycle, and a cycle's end.
-use Rattle.std.proofs.Common.{◌≡◌, ◌≢◌, ℕ, ◌+◌, ◌<◌, ◌≤◌, List, [], ◌∷◌, ◌++◌, length, suc, get_or, take, drop, map, Option, Some, refl, sym, ap, ◌∙◌, subst, arith}
+use Rattle.std.proofs.Common.{◌≡◌, ◌≢◌, ℕ, ◌+◌, ◌<◌, ◌≤◌, List, [], ◌∷◌, ◌++◌, length, get_or, take, drop, map, Option, Some, refl, sym, ap, ◌∙◌, subst, arith}
 use Rattle.std.specs.Prelude.{fold}
 use Rattle.std.specs.List.{AllByRecursion}
 use Rattle.std.proofs.lemmas.List.{append-nil, append_assoc, map-append, take_more, take-append-drop}
-use Rattle.std.proofs.Math.Seq.{drop-cons}
 use Rattle.tester_types.specs.declared.level.Level.{Level}
 use Rattle.tester_types.specs.declared.level.Drive.{Drive}
 use Rattle.tester_types.specs.declared.record.Fail.{Fail}
@@ -15,7 +14,7 @@ use Rattle.strobe_check.specs.Entry.{Entry}
 use Rattle.strobe_check.specs.History.{History, Held, HasSeen, SeesEntry, SeesEnd}
 use Rattle.strobe_check.specs.Agree.{JudgedAlike}
 use Rattle.strobe_check.proofs.AgreeLemmas.{alike-push}
-use Rattle.strobe_check.proofs.Lists.{All-append}
+use Rattle.text_bytes.proofs.ListLemmas.{all_append, drop-item}
 use Rattle.one_try.specs.Places.{Place}
 use Rattle.one_try.specs.Drives.{driven}
 use Rattle.one_try.specs.Run.{bound_of, entry_of, entries_of, in_cycle, all_fails}
@@ -63,7 +62,8 @@ pub moment_goes_on : (device : Device) (place : Place) (held held' : Held) (last
     → SeesEntry (sensed_entry place levels) held held'
     → last' ≡ fold after_drive last place.moment.drives
     → GoesOn device place.cycle place.cycle (place ∷ []) held last first held' last' now
-moment_goes_on device place held held' last last' handed levels count first after now of hands moves loaded1 all levels_are state2 loaded2 sees remembers keep before u =
+moment_goes_on device place held held' last last' handed levels count first after now of hands moves loaded1 all
+    levels_are state2 loaded2 sees remembers keep before u =
     record {
       start = u.start;
       states = u.states ++ after.state ∷ [];
@@ -71,7 +71,7 @@ moment_goes_on device place held held' last last' handed levels count first afte
         fresh = u.gone.fresh;
         goes = goes-push device u.start [] before u.states place after.state u.gone.goes step;
         seen = seen;
-        upto = All-append (λ (p : Place). p.cycle ≤ place.cycle) before (place ∷ []) u.gone.upto (omega arith, tt);
+        upto = all_append (λ (p : Place). p.cycle ≤ place.cycle) before (place ∷ []) u.gone.upto (omega arith, tt);
       };
       loaded = loaded2 ∙ loaded1 ∙ u.loaded;
       state = state2 ∙ sym (last_state-push u.start u.states after.state);
@@ -178,18 +178,12 @@ stops-behind device number mid ones others rest held held' held'' last last' tol
     λ keep before u. lost-among device keep before ones others rest held'' cycle instant (stops keep (before ++ ones) (goes keep before u))
 stops-behind device number mid ones others rest held held' held'' last last' told told' stop.NoMemory goes stops = tt
 
-suc-plus : (i : ℕ) → suc i ≡ i + 1
-suc-plus i = omega arith
-
 -- one of many among them
 pub map-split : {X Y : Type 0} (f : X → Y) (items : List X) (i : ℕ) (item : X) → i < length items → item ≡ get_or items i item
     → map f items ≡ map f (take i items) ++ ((f item ∷ []) ++ map f (drop (i + 1) items))
 map-split {X} {Y} f items i item within is =
-    let rest : drop i items ≡ item ∷ drop (i + 1) items =
-    drop-cons items i item within ∙ ap (λ (x : X). x ∷ drop (suc i) items) (sym is)
-    ∙ ap (λ (j : ℕ). item ∷ drop j items) (suc-plus i) in
     ap (map f) (sym (take-append-drop i items)) ∙ map-append f (take i items) (drop i items)
-    ∙ ap (λ (xs : List X). map f (take i items) ++ map f xs) rest
+    ∙ ap (λ (xs : List X). map f (take i items) ++ map f xs) (drop-item items i item within is)
 
 pub map-more : {X Y : Type 0} (f : X → Y) (items : List X) (i : ℕ) (item : X) → i < length items → item ≡ get_or items i item
     → map f (take (i + 1) items) ≡ map f (take i items) ++ f item ∷ []

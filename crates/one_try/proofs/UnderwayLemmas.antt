@@ -1,7 +1,7 @@
 -- A try goes on by one moment, by one cycle, or stops.
-use Rattle.std.proofs.Common.{◌≡◌, ℕ, suc, ◌+◌, ◌<◌, ◌≤◌, Bool, true, false, cond, eqb, ◌&&◌, List, [], ◌∷◌, ◌++◌, length, get_or, map, Option, Some, refl, sym, ap, ◌∙◌, subst, arith, inl, inr, zero-add}
+use Rattle.std.proofs.Common.{◌≡◌, ℕ, suc, ◌+◌, ◌<◌, ◌≤◌, Bool, true, false, cond, eqb, List, [], ◌∷◌, ◌++◌, length, get_or, map, Option, Some, refl, sym, ap, ◌∙◌, subst, arith, inl, inr, zero-add}
 use Rattle.std.specs.List.{AllByRecursion, flat_map, range_with_len, zip}
-use Rattle.std.proofs.lemmas.Bool.{cases_lt, eq-eqb, ne_eqb}
+use Rattle.std.proofs.lemmas.Bool.{cases_lt, eq-eqb, ne_eqb, and_parts}
 use Rattle.std.proofs.lemmas.List.{append-nil, append_assoc, map-append, get_or_past}
 use Rattle.std.proofs.lemmas.List.Concat.{flat_map-append}
 use Rattle.std.proofs.lemmas.List.Elements.{filter-append}
@@ -20,7 +20,7 @@ use Rattle.strobe_check.specs.Count.{HasCounted}
 use Rattle.strobe_check.specs.History.{History, Held, HasSeen, with_entry}
 use Rattle.strobe_check.specs.Agree.{AgreeBehind, JudgedAlike}
 use Rattle.strobe_check.proofs.SensedLemmas.{is_sensed-watched}
-use Rattle.strobe_check.proofs.Lists.{flat_map-below, range-push}
+use Rattle.strobe_check.proofs.ListLemmas.{flat_map-below, range-push}
 use Rattle.one_try.specs.Places.{Place}
 use Rattle.one_try.specs.Drives.{driven}
 use Rattle.one_try.specs.Run.{GoesThrough, is_bound, bound_of, entry_of, entries_of, in_cycle, all_fails}
@@ -134,10 +134,6 @@ alike-seen bound keep closed ones others held alike seen = record {
   count = subst (λ (l : List Fail). HasCounted keep (closed ++ l) held.count) alike.fails seen.count;
 }
 
-and_first : (b c : Bool) → (b && c) ≡ true → b ≡ true
-and_first true c e = refl
-and_first false c e = e
-
 -- a signal that is sensed is one of the binding
 sensed_below : (device : Device) (entries : List Entry) (moment : Moment) (signal : ℕ)
     → is_sensed (bound_of device) entries moment signal ≡ true → signal < length device.binds
@@ -145,12 +141,13 @@ sensed_below device entries moment signal is =
     elim (cases_lt signal (length device.binds)) [
       | inl l ↦ l
       | inr l ↦
-          let bound = and_first (get_or (bound_of device) signal false) _ (sym (is_sensed-watched (bound_of device) entries moment signal) ∙ is) in
+          let bound = (and_parts (get_or (bound_of device) signal false) _ (sym (is_sensed-watched (bound_of device) entries moment signal) ∙ is)).0 in
           let long = length-map-range_with_len (is_bound device) 0 (length device.binds) in
           let past : length (bound_of device) ≤ signal = omega (arith, long) in
           absurd (let none = get_or_past (bound_of device) signal false past in cc (none, bound))
     ]
 
+-- a place as it is judged, with these levels
 abbrev pub sensed_entry : Place → List Level → Entry
 sensed_entry place levels = record { exec = 0; cycle = place.cycle; mark = place.mark; moment = place.moment; levels = levels }
 

@@ -1,5 +1,5 @@
--- What a die is driven to at a moment. A drive P stands for the last Down or Up that an earlier moment gave its
--- signal (IEEE 1450-1999, the event P).
+-- What a die is driven to at a moment. A drive P stands for the last Down or Up that an earlier moment gave its signal
+-- (IEEE 1450-1999, the event P).
 use Rattle.std.specs.Prelude.{ℕ, ◌==◌, Bool, ◌||◌, if◌then◌else◌, List, map, filter, Option, Some, None, unwrap_or}
 use Rattle.std.specs.List.{flat_map, filter_map, last_or}
 use Rattle.tester_types.specs.declared.wave.Push.{Push}
@@ -45,4 +45,5 @@ is_driven device signal = is_clock device.clock signal || is_input (bind_at devi
 -- what the die is driven to at a moment, after the moments before it
 abbrev pub driven : Device → List Place → Moment → List (ℕ × Drive)
 driven device before moment =
-    map (λ given. (given.0, drive_of (prior before given.0) given.1)) (filter (λ given. is_driven device given.0) moment.drives)
+    map (λ given. (given.0, drive_of (prior before given.0) given.1))
+    (filter (λ given. is_driven device given.0) moment.drives)

@@ -17,7 +17,8 @@ GoesThrough device state before [] [] = Unit {0}
 GoesThrough device state before [] (next ∷ states) = ⊥
 GoesThrough device state before (place ∷ later) [] = ⊥
 GoesThrough device state before (place ∷ later) (next ∷ states) =
-    IsStep device state next (driven device before place.moment) × GoesThrough device next (before ++ place ∷ []) later states
+    IsStep device state next (driven device before place.moment)
+    × GoesThrough device next (before ++ place ∷ []) later states
 
 -- the signals that are looked at: those bound to a net, and the clock
 abbrev pub is_bound : Device → ℕ → Bool

@@ -112,7 +112,8 @@ AreLevels told held moment count levels =
 -- the checker wants some level
 abbrev pub WantsSome : Held → Moment → Type 0
 WantsSome held moment =
-    (history : History) → HasSeen history held → (signal : ℕ) × (is_sensed history.bound history.entries moment signal ≡ true)
+    (history : History) → HasSeen history held
+    → (signal : ℕ) × (is_sensed history.bound history.entries moment signal ≡ true)
 
 -- a checker that has seen moments of a die
 pub record IsCheckerOf (device : Device) (held : Held) : Type 0 where

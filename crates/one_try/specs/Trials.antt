@@ -50,7 +50,8 @@ pub record IsWholeTry (code : Program) (device : Device) (keep : ℕ) (trial : T
 -- the moment meets the die: it drives it, or some signal is sensed
 pub data Meets (device : Device) (before : List Place) (entries : List Entry) (place : Place) : Type 0 where
   drives : driven device before place.moment ≢ [] → Meets device before entries place
-  senses : (signal : ℕ) → is_sensed (bound_of device) entries place.moment signal ≡ true → Meets device before entries place
+  senses : (signal : ℕ) → is_sensed (bound_of device) entries place.moment signal ≡ true
+      → Meets device before entries place
 
 -- a try that lost contact at a moment: the moments before it count, and the cycles before its own
 pub record IsCutTry (code : Program) (device : Device) (keep : ℕ) (trial : Trial) : Type 0 where

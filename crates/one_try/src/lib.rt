@@ -38,7 +38,8 @@ pub fn run_try<K: Socket>(
     requires { length image.now.binds ≡ length code.now.signals }
     ensures trial { IfOk result (λ t. IsTrial code.now image.now keep t) }
     ensures known { IfOk result (λ t. All (λ fail. fail.signal < length code.now.signals) t.kept) }
-    ensures contact { IfOk result (λ t. IsContact t.verdict → HasRisen (K.told socket.old).count (K.told socket.new).count) }
+    ensures contact { IfOk result (λ t. IsContact t.verdict
+        → HasRisen (K.told socket.old).count (K.told socket.new).count) }
     ensures count { (K.told socket.old).count ≤ (K.told socket.new).count }
     ensures empty { (K.told socket.new).loaded ≡ None }
 {
@@ -70,7 +71,8 @@ fn run_loaded<K: Socket>(
     requires signals { length image.now.binds ≡ length code.now.signals }
     requires loaded { IsLoaded image.now (K.told socket.old) }
     ensures trial { IfOk result (λ t. IsTrial code.now image.now keep t) }
-    ensures contact { IfOk result (λ t. IsContact t.verdict → HasRisen (K.told socket.old).count (K.told socket.new).count) }
+    ensures contact { IfOk result (λ t. IsContact t.verdict
+        → HasRisen (K.told socket.old).count (K.told socket.new).count) }
     ensures count { (K.told socket.old).count ≤ (K.told socket.new).count }
 {
     let mut bench = Bench::new(alloc, image, code.signals(), keep)?;

@@ -31,9 +31,12 @@ fn make_moment<K: Socket>(
     requires drives { AreOfSignals (length image.now.binds) moment.now.drives }
     requires room { FitsBench (length image.now.binds) bench.old.last.items bench.old.levels.items }
     requires way { IsOnTheWay (device_of image.now) number bench.old.checker bench.old.last.items (K.told socket.old) }
-    ensures goes_on { OnOk result (GoesOn (device_of image.now) number number (place_in (number, cycle.now) moment.now ∷ [])
-        bench.old.checker bench.old.last.items (K.told socket.old) bench.new.checker bench.new.last.items (K.told socket.new)) }
-    ensures stops { IfErr result (λ stop. StopsAmong (device_of image.now) number (place_in (number, cycle.now) moment.now ∷ [])
+    ensures goes_on { OnOk result (GoesOn (device_of image.now) number number
+        (place_in (number, cycle.now) moment.now ∷ [])
+        bench.old.checker bench.old.last.items (K.told socket.old) bench.new.checker bench.new.last.items
+        (K.told socket.new)) }
+    ensures stops { IfErr result (λ stop. StopsAmong (device_of image.now) number
+        (place_in (number, cycle.now) moment.now ∷ [])
         bench.old.checker bench.old.last.items (K.told socket.old) bench.new.checker stop) }
     ensures room { FitsBench (length image.now.binds) bench.new.last.items bench.new.levels.items }
     ensures count { (K.told socket.old).count ≤ (K.told socket.new).count }
@@ -74,9 +77,12 @@ fn make_moments<K: Socket>(
     requires drives { All (λ moment. AreOfSignals (length image.now.binds) moment.drives) moments.now }
     requires room { FitsBench (length image.now.binds) bench.old.last.items bench.old.levels.items }
     requires way { IsOnTheWay (device_of image.now) number bench.old.checker bench.old.last.items (K.told socket.old) }
-    ensures goes_on { OnOk result (GoesOn (device_of image.now) number number (map (place_in (number, cycle.now)) moments.now)
-        bench.old.checker bench.old.last.items (K.told socket.old) bench.new.checker bench.new.last.items (K.told socket.new)) }
-    ensures stops { IfErr result (λ stop. StopsAmong (device_of image.now) number (map (place_in (number, cycle.now)) moments.now)
+    ensures goes_on { OnOk result (GoesOn (device_of image.now) number number
+        (map (place_in (number, cycle.now)) moments.now)
+        bench.old.checker bench.old.last.items (K.told socket.old) bench.new.checker bench.new.last.items
+        (K.told socket.new)) }
+    ensures stops { IfErr result (λ stop. StopsAmong (device_of image.now) number
+        (map (place_in (number, cycle.now)) moments.now)
         bench.old.checker bench.old.last.items (K.told socket.old) bench.new.checker stop) }
     ensures room { FitsBench (length image.now.binds) bench.new.last.items bench.new.levels.items }
     ensures count { (K.told socket.old).count ≤ (K.told socket.new).count }
@@ -104,9 +110,12 @@ fn make_cycle<K: Socket>(
     requires early { cycle.now.start < 2 ^ 88 }
     requires room { FitsBench (length image.now.binds) bench.old.last.items bench.old.levels.items }
     requires way { IsOnTheWay (device_of image.now) number bench.old.checker bench.old.last.items (K.told socket.old) }
-    ensures goes_on { OnOk result (GoesOn (device_of image.now) number (number + 1) (places_in code.now (number, cycle.now))
-        bench.old.checker bench.old.last.items (K.told socket.old) bench.new.checker bench.new.last.items (K.told socket.new)) }
-    ensures stops { IfErr result (λ stop. StopsAmong (device_of image.now) number (places_in code.now (number, cycle.now))
+    ensures goes_on { OnOk result (GoesOn (device_of image.now) number (number + 1)
+        (places_in code.now (number, cycle.now))
+        bench.old.checker bench.old.last.items (K.told socket.old) bench.new.checker bench.new.last.items
+        (K.told socket.new)) }
+    ensures stops { IfErr result (λ stop. StopsAmong (device_of image.now) number
+        (places_in code.now (number, cycle.now))
         bench.old.checker bench.old.last.items (K.told socket.old) bench.new.checker stop) }
     ensures room { FitsBench (length image.now.binds) bench.new.last.items bench.new.levels.items }
     ensures count { (K.told socket.old).count ≤ (K.told socket.new).count }
@@ -134,7 +143,8 @@ pub(crate) fn make_cycles<K: Socket>(
     requires way { IsOnTheWay (device_of image.now) 0 bench.old.checker bench.old.last.items (K.told socket.old) }
     ensures all { IfOk result (λ cycles. cycles ≡ length (cycles_of code.now 0)) }
     ensures goes_on { OnOk result (GoesOn (device_of image.now) 0 (length (cycles_of code.now 0)) (places code.now)
-        bench.old.checker bench.old.last.items (K.told socket.old) bench.new.checker bench.new.last.items (K.told socket.new)) }
+        bench.old.checker bench.old.last.items (K.told socket.old) bench.new.checker bench.new.last.items
+        (K.told socket.new)) }
     ensures stops { IfErr result (λ stop. StopsAmong (device_of image.now) 0 (places code.now)
         bench.old.checker bench.old.last.items (K.told socket.old) bench.new.checker stop) }
     ensures count { (K.told socket.old).count ≤ (K.told socket.new).count }

@@ -17,7 +17,8 @@ pub(crate) fn drive_die<K: Socket>(
 ) -> Result<(), Contact>
     requires can { CanDrive (K.told socket.old).loaded drives.now }
     requires settled { IsSettled (K.told socket.old).loaded (K.told socket.old).state }
-    ensures moves { OnOk result (Moves (K.told socket.old).loaded (K.told socket.old).state (K.told socket.new).state drives.now) }
+    ensures moves { OnOk result (Moves (K.told socket.old).loaded (K.told socket.old).state
+        (K.told socket.new).state drives.now) }
     ensures some { OnErr result (drives.now ≢ []) }
     ensures loaded { (K.told socket.new).loaded ≡ (K.told socket.old).loaded }
     ensures count { (K.told socket.old).count ≤ (K.told socket.new).count }
@@ -38,7 +39,8 @@ pub(crate) fn sense_wanted<K: Socket>(
 ) -> Result<(), Contact>
     requires few { length levels.old.items ≤ 65536 }
     requires checked { IsCheckedBy (K.told socket.old).loaded checker.now }
-    ensures levels { OnOk result (AreLevels (K.told socket.old) checker.now moment.now (length levels.old.items) levels.new.items) }
+    ensures levels { OnOk result (AreLevels (K.told socket.old) checker.now moment.now
+        (length levels.old.items) levels.new.items) }
     ensures kept { OnOk result ((K.told socket.new).state ≡ (K.told socket.old).state) }
     ensures some { OnErr result (WantsSome checker.now moment.now) }
     ensures room { length levels.new.items ≡ length levels.old.items }

@@ -1,11 +1,11 @@
 //! Known tries: an inverter, whole and with its output stuck at 0, and a flip-flop.
 
-ghost use Rattle.die_sim.specs.declared.image.StuckAt.{StuckAt};
-ghost use Rattle.std.specs.Prelude.{◌≡◌, ℕ, ◌<◌, ◌≤◌, true, length, slice_index_or, IfOk};
+ghost use Rattle.std.specs.Prelude.{◌≡◌, ◌≤◌, length, IfOk};
+ghost use Rattle.text_bytes.specs.Limits.{most_bytes};
 
 use super::*;
 use bench_net::{NetFault, Netlist, read};
-use die_sim::{Bind, BindList, Binding, FailingSocket, FaultList, StuckAt};
+use die_sim::{Bind, BindList, Binding, FailingSocket, FaultList, StuckAt, is_one_fault};
 use page_code::load;
 use std::alloc::AllocError;
 use std::sync::Arc;
@@ -65,20 +65,9 @@ fn code_of(alloc: Global, bytes: &[u8]) -> Result<Code, Failure>
 
 /// The netlist of a text.
 fn netlist(alloc: Global, text: &[u8]) -> Result<Netlist, NetFault>
-    requires { length text.now ≤ 16777216 }
+    requires { length text.now ≤ most_bytes }
 {
     read(alloc, text)
-}
-
-/// Whether there is one fault at most, of a net of the netlist.
-fn is_one_fault(net: &Netlist, faults: &[StuckAt]) -> bool
-    ensures { result ≡ true → (length faults.now ≤ 1) × ((d : StuckAt) → 0 < length faults.now → (slice_index_or faults.now 0 d).net < length net.now.net.drivers) }
-{
-    match faults {
-        [] => true,
-        [fault] => fault.net < net.nets(),
-        _ => false,
-    }
 }
 
 /// The die of a netlist whose first net is an input: signal 0 drives it, signal 1 shows the second net, and

@@ -17,7 +17,7 @@ invariant_of-result c =
     let faults : c.from_vec.result ≡ c.as_slice.result.now = c.from_vec.ensures ∙ sym c.as_slice.ensures.value in
     let long : 2 ≤ length drivers = omega (arith, c.nets.ensures.count, c.nets.ensures.whole.drivers, c.if-nets-lt2.false) in
     let input : driver_at drivers 0 ≡ Input = is_input _ c.is_input.result c.is_input.ensures c.if-not-is_input.false in
-    let one = c.is_one_fault.ensures c.if-not-is_one_fault.false in
+    let one = c.is_one_fault.ensures.0 c.if-not-is_one_fault.false in
     sound (record {
       circuit = arc_value c.in_ok-new.field-0;
       clock = (arc_value c.in_ok-new-2.field-0).clock;
@@ -27,6 +27,6 @@ invariant_of-result c =
     binds
     (subst (λ (n : Circuit). 2 ≤ length n.net.drivers) (sym circuit) long)
     (subst (λ (n : Circuit). driver_at n.net.drivers 0 ≡ Input) (sym circuit) input)
-    (subst (λ (fs : List StuckAt). length fs ≤ 1) (sym faults) one.0)
+    (subst (λ (fs : List StuckAt). length fs ≤ 1) (sym faults) one.few)
     (subst (λ (n : Circuit). (d : StuckAt) → 0 < length c.from_vec.result → (get_or c.from_vec.result 0 d).net < length n.net.drivers) (sym circuit)
-    (subst (λ (fs : List StuckAt). (d : StuckAt) → 0 < length fs → (get_or fs 0 d).net < length drivers) (sym faults) one.1))
+    (subst (λ (fs : List StuckAt). (d : StuckAt) → 0 < length fs → (get_or fs 0 d).net < length drivers) (sym faults) one.within))
