@@ -47,6 +47,12 @@ pub counted-fine : (scope : Scope) (s : Standing) (line : ℕ) (next : Walked �
 counted-fine scope s line next w v e =
     (rule-fine (may_walk (w.count + 1)) (fault_on scope s line TooLarge) (λ (w : Walked). next (one_more w)) w v e).1
 
+-- and is within the limit
+pub counted-few : (scope : Scope) (s : Standing) (line : ℕ) (next : Walked → Checked) (w v : Walked)
+    → counted scope s line next w ≡ fine v → may_walk (w.count + 1) ≡ true
+counted-few scope s line next w v e =
+    (rule-fine (may_walk (w.count + 1)) (fault_on scope s line TooLarge) (λ (w : Walked). next (one_more w)) w v e).0
+
 -- a check that ends where a function of what was walked says
 pub fine-is : (a b : Walked) → fine a ≡ fine b → b ≡ a
 fine-is a b e = cc
@@ -64,6 +70,7 @@ back_from-fine w (refused fault) v e = cc
 -- what holds of an assignment without a fault
 pub record AssignFine (scope : Scope) (s : Standing) (d : Assignment) (w v : Walked) : Type 0 where
   pub known : reference_kind scope.names d.reference ≡ None
+  pub few : may_walk (w.count + length (resolved_assign scope.names d).signals) ≡ true
   pub form : hash_misplaced s (resolved_assign scope.names d) w.hashes ≡ false
   pub after : fine (walked_assign s (resolved_assign scope.names d) w) ≡ fine v
 
@@ -78,18 +85,20 @@ check_assign-fine scope s d w v e =
     let three = bar_if-fine (hash_misplaced s a w.hashes) (fault_on scope s d.line ShiftForm) _ w v two.1 in
     let four = rule-fine (width_fits a) (fault_on scope s d.line Width) _ w v three.1 in
     let five = rule-fine (data_there s a w.args) (fault_on scope s d.line NoData) done w v four.1 in
-    record { known = one.0; form = three.0; after = five.1 }
+    record { known = one.0; few = two.0; form = three.0; after = five.1 }
 
 -- an argument without a fault
 pub check_argument-fine : (scope : Scope) (s : Standing) (d : Assignment) (w v : Walked)
-    → check_argument scope s d w ≡ fine v → v ≡ walked_argument (resolved_assign scope.names d) w
+    → check_argument scope s d w ≡ fine v
+    → (v ≡ walked_argument (resolved_assign scope.names d) w)
+    × (may_walk (w.count + length (resolved_assign scope.names d).signals) ≡ true)
 check_argument-fine scope s d w v e =
     let a = resolved_assign scope.names d in
     let one = rule_kind-fine (reference_kind scope.names d.reference) (fault_on scope s d.line) _ w v e in
     let two = rule-fine (may_walk (w.count + length a.signals)) (fault_on scope s d.line TooLarge) _ w v one.1 in
     let three = rule-fine (list_all is_character d.items) (fault_on scope s d.line ShiftForm) _ w v two.1 in
     let four = rule-fine (argument_fits a) (fault_on scope s d.line Width) _ w v three.1 in
-    fine-is (walked_argument a w) v four.1
+    (fine-is (walked_argument a w) v four.1, two.0)
 
 -- items of which none is `#`
 none_is_hash : (items : List Item) → list_any is_hash items ≡ false → list_all is_not_hash items ≡ true

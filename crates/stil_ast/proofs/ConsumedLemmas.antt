@@ -1,13 +1,13 @@
 -- No more characters of an argument are taken than statements and signals are walked.
-use Rattle.std.proofs.Common.{◌≡◌, ℕ, zero, suc, ◌+◌, ◌≤◌, Bool, true, false, List, [], ◌∷◌, refl, ap, sym, subst, arith, length, slice_index_or, nat_lt}
-use Rattle.std.proofs.lemmas.Bool.{cond_both}
+use Rattle.std.proofs.Common.{◌≡◌, ℕ, zero, suc, ◌+◌, ◌^◌, ◌≤◌, Bool, true, false, List, [], ◌∷◌, refl, ap, sym, subst, arith, length, slice_index_or, nat_lt}
+use Rattle.std.proofs.lemmas.Bool.{cond_both, leb-true}
 use Rattle.stil_ast.specs.Meaning.Statements.{Item, letter, hash, percent, Assign, of_macro, of_procedure}
 use Rattle.stil_ast.specs.Meaning.Arguments.{Argument, argument_of, one_taken, next_taken}
 use Rattle.stil_ast.specs.Meaning.Dealing.{deal_item, deal_pairs, spread, has_signal, mark_of}
 use Rattle.stil_ast.specs.Meaning.Shift.{passes, column, with_column, with_columns, columns}
 use Rattle.stil_ast.specs.Meaning.Resolved.{Scope, resolved_assign, outs_of}
 use Rattle.stil_ast.specs.Data.Written.{Written, no_more, single, looped, shifted}
-use Rattle.stil_ast.specs.Faults.AssignmentFaults.{Walked, Checked, fine, then_check, rule, bar_if, Callee, Standing, fault_on, walked_assign, check_assign, check_assigns, walked_argument, check_argument, check_arguments}
+use Rattle.stil_ast.specs.Faults.AssignmentFaults.{Walked, Checked, fine, then_check, rule, bar_if, Callee, Standing, fault_on, may_walk, walked_assign, check_assign, check_assigns, walked_argument, check_argument, check_arguments}
 use Rattle.stil_ast.specs.Faults.PatternFaults.{inside_loop, inside_shift, callee_of, check_body, check_call, check_step, counted, one_more, times_checked, no_hashes_yet, one_pass, check_passes, may_shift, takers_in, behind_step, check_list, check_calls}
 use Rattle.stil_ast.specs.Faults.CheckedLaws.{IsConsumedWithin, Walks}
 use Rattle.stil_ast.specs.declared.body.Assignment.{Assignment}
@@ -15,7 +15,7 @@ use Rattle.stil_ast.specs.declared.body.Step.{Step}
 use Rattle.stil_ast.specs.declared.body.Step.TheVariants.{Wave, Vector, Condition, Macro, Call, BreakPoint, IddqTestPoint, Stop}
 use Rattle.stil_ast.specs.declared.fault.StilKind.TheVariants.{TooLarge, ShiftForm, UnknownName}
 use Rattle.stil_ast.proofs.ArgumentLemmas.{taken_at, set-within, one_taken-taken}
-use Rattle.stil_ast.proofs.CheckedLemmas.{then_check-fine, rule-fine, bar_if-fine, counted-fine, fine-is, back_from-fine, check_assign-fine, check_argument-fine, check_body-fine}
+use Rattle.stil_ast.proofs.CheckedLemmas.{then_check-fine, rule-fine, bar_if-fine, counted-fine, counted-few, fine-is, back_from-fine, check_assign-fine, check_argument-fine, check_body-fine}
 
 take-taken : (args : List Argument) (s signal : ℕ) → taken_at (next_taken args s) signal ≤ taken_at args signal + 1
 take-taken args s signal =
@@ -55,19 +55,22 @@ with_columns-taken outs count (s ∷ signals) args signal =
 walks_on : (a b c : Walked) → Walks a b → Walks b c → Walks a c
 walks_on a b c first next = record {
   grows = let one = first.grows in let two = next.grows in omega (arith, one, two);
+  limit = λ within. next.limit (first.limit within);
   consumed = λ within. next.consumed (first.consumed within);
 }
 
 stays : (w : Walked) → Walks w w
-stays w = record { grows = omega arith; consumed = λ within. within }
+stays w = record { grows = omega arith; limit = λ within. within; consumed = λ within. within }
 
 -- what comes out of a check is what its end says
 ends_as : (w : Walked) (a b : Walked) → b ≡ a → Walks w a → Walks w b
 ends_as w a b e walks = subst (λ (x : Walked). Walks w x) (sym e) walks
 
-assign_walks : (s : Standing) (a : Assign) (w : Walked) → Walks w (walked_assign s a w)
-assign_walks s a w = record {
+assign_walks : (s : Standing) (a : Assign) (w : Walked) → may_walk (w.count + length a.signals) ≡ true
+    → Walks w (walked_assign s a w)
+assign_walks s a w few = record {
   grows = omega arith;
+  limit = λ _. leb-true (w.count + length a.signals) (2 ^ 26) few;
   consumed = λ within signal.
       let before = within signal in
       let taken = deal_pairs-taken a.signals (spread a.signals a.items) w.args signal in
@@ -80,12 +83,15 @@ assigns_walk scope s [] w v e = ends_as w w v (fine-is w v e) (stays w)
 assigns_walk scope s (d ∷ assigns) w v e =
     let first = then_check-fine (check_assign scope s d w) (check_assigns scope s assigns) v e in
     let a = resolved_assign scope.names d in
-    let is = fine-is (walked_assign s a w) first.now (check_assign-fine scope s d w first.now first.before).after in
-    walks_on w first.now v (ends_as w (walked_assign s a w) first.now is (assign_walks s a w)) (assigns_walk scope s assigns first.now v first.after)
+    let checked = check_assign-fine scope s d w first.now first.before in
+    let is = fine-is (walked_assign s a w) first.now checked.after in
+    walks_on w first.now v (ends_as w (walked_assign s a w) first.now is (assign_walks s a w checked.few)) (assigns_walk scope s assigns first.now v first.after)
 
-argument_walks : (a : Assign) (w : Walked) → Walks w (walked_argument a w)
-argument_walks a w = record {
+argument_walks : (a : Assign) (w : Walked) → may_walk (w.count + length a.signals) ≡ true
+    → Walks w (walked_argument a w)
+argument_walks a w few = record {
   grows = omega arith;
+  limit = λ _. leb-true (w.count + length a.signals) (2 ^ 26) few;
   consumed = λ within signal. let before = within signal in omega (arith, before);
 }
 
@@ -96,19 +102,21 @@ arguments_walk scope s (d ∷ assigns) w v e =
     let first = then_check-fine (check_argument scope s d w) (check_arguments scope s assigns) v e in
     let a = resolved_assign scope.names d in
     let is = check_argument-fine scope s d w first.now first.before in
-    walks_on w first.now v (ends_as w (walked_argument a w) first.now is (argument_walks a w)) (arguments_walk scope s assigns first.now v first.after)
+    walks_on w first.now v (ends_as w (walked_argument a w) first.now is.0 (argument_walks a w is.1)) (arguments_walk scope s assigns first.now v first.after)
 
-one_more_walks : (w : Walked) → Walks w (one_more w)
-one_more_walks w = record {
+one_more_walks : (w : Walked) → may_walk (w.count + 1) ≡ true → Walks w (one_more w)
+one_more_walks w few = record {
   grows = omega arith;
+  limit = λ _. leb-true (w.count + 1) (2 ^ 26) few;
   consumed = λ within signal. let before = within signal in omega (arith, before);
 }
 
 -- back in the caller, whose arguments are as they were
-back_walks : (w now : Walked) → w.count ≤ now.count
+back_walks : (w now : Walked) → w.count ≤ now.count → (w.count ≤ 2 ^ 26 → now.count ≤ 2 ^ 26)
     → Walks w (record { args = w.args; hashes = w.hashes; count = now.count })
-back_walks w now grows = record {
+back_walks w now grows limit = record {
   grows = grows;
+  limit = limit;
   consumed = λ within signal. let before = within signal in omega (arith, before, grows);
 }
 
@@ -116,6 +124,7 @@ columns_walk : (outs : List Bool) (signals : List ℕ) (w : Walked)
     → Walks w (no_hashes_yet (columns outs signals w.args) w)
 columns_walk outs signals w = record {
   grows = omega arith;
+  limit = λ within. within;
   consumed = λ within signal.
       let before = within signal in
       let taken = with_columns-taken outs (passes signals w.args) signals w.args signal in
@@ -123,7 +132,7 @@ columns_walk outs signals w = record {
 }
 
 same_args_walk : (w : Walked) → Walks w (no_hashes_yet w.args w)
-same_args_walk w = record { grows = omega arith; consumed = λ within. within }
+same_args_walk w = record { grows = omega arith; limit = λ within. within; consumed = λ within. within }
 
 -- a check that goes on from each point to such a point
 abbrev GoesOn : (Walked → Checked) → Type 0
@@ -141,7 +150,7 @@ passes_walk : (n : ℕ) (f : Bool → Walked → Checked) → ((b : Bool) → Go
 passes_walk zero f on outs signals w v e =
     let b = back_from-fine w (one_pass (f true) w) v e in
     let inside = on true (no_hashes_yet w.args w) b.now b.before in
-    ends_as w _ v b.after (back_walks w b.now (let grows = inside.grows in omega (arith, grows)))
+    ends_as w _ v b.after (back_walks w b.now (let grows = inside.grows in omega (arith, grows)) inside.limit)
 passes_walk (suc n) f on outs signals w v e =
     let begin = no_hashes_yet (columns outs signals w.args) w in
     walks_on w begin v (columns_walk outs signals w) (times_walk (suc n) (f false) (on false) begin v e)
@@ -155,7 +164,7 @@ module _ (scope : Scope) (inner : Standing → Written → Walked → Checked) (
       let b = check_body-fine scope inner s line c assigns c.found w v two.1 in
       let given = arguments_walk scope s assigns w b.given b.arguments in
       let inside = on _ b.def.body _ b.back.now b.back.before in
-      ends_as w _ v b.back.after (back_walks w b.back.now (let one = given.grows in let two = inside.grows in omega (arith, one, two)))
+      ends_as w _ v b.back.after (back_walks w b.back.now (let one = given.grows in let two = inside.grows in omega (arith, one, two)) (λ within. inside.limit (given.limit within)))
 
   step_walks : (s : Standing) (line : ℕ) (step : Step) → GoesOn (check_step scope inner s line step)
   step_walks s line (Wave name) w v e =
@@ -172,7 +181,7 @@ module _ (scope : Scope) (inner : Standing → Written → Walked → Checked) (
   counted_walks : (s : Standing) (line : ℕ) (next : Walked → Checked) → GoesOn next
       → GoesOn (counted scope s line next)
   counted_walks s line next goes w v e =
-      walks_on w (one_more w) v (one_more_walks w) (goes (one_more w) v (counted-fine scope s line next w v e))
+      walks_on w (one_more w) v (one_more_walks w (counted-few scope s line next w v e)) (goes (one_more w) v (counted-fine scope s line next w v e))
 
   then_walks : (c : Checked) (next : Walked → Checked) (w v : Walked)
       → ((u : Walked) → c ≡ fine u → Walks w u) → GoesOn next → then_check c next ≡ fine v → Walks w v
