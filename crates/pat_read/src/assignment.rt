@@ -11,7 +11,7 @@ use crate::data::read_data;
 use crate::fault::DataFault;
 use std::alloc::Global;
 use stil_ast::{Assignment, IndexRange, NameRef, Quoted, SigRef, VecText};
-use stil_form::{Part, SignKind, Reference, Source, Span, first_part, reference_front};
+use stil_form::{Part, Reference, SignKind, Source, Span, first_part, reference_front};
 use stil_lex::Token;
 use tester_types::Items;
 
