@@ -9,4 +9,5 @@ pub record AreCounts (bins counts : List ℕ) : Type 0 where
 
 -- each bin's count has grown by the dies that fell into it
 abbrev pub HaveGrown : List ℕ → List ℕ → List ℕ → Type 0
-HaveGrown before bins counts = (bin : ℕ) → bin < 256 → slice_index counts bin ≡ slice_index before bin + dies_in bin bins
+HaveGrown before bins counts =
+    (bin : ℕ) → bin < 256 → slice_index counts bin ≡ slice_index before bin + dies_in bin bins

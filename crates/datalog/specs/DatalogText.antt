@@ -45,8 +45,8 @@ signal_name code signal = option_map_or (λ s. s.name) (slice_get code.signals s
 abbrev pub chain_at : Program → ℕ → ℕ → Option CodeChain
 chain_at code exec signal = find (λ chain. chain.out == signal) (exec_of code exec).chains
 
--- the name of the cell whose value comes out of a chain at this shift, from 0: the last cell's comes first. The cells are
--- listed from scan-in to scan-out, and there may be fewer names than cells
+-- the name of the cell whose value comes out of a chain at this shift, from 0: the last cell's comes first. The cells
+-- are listed from scan-in to scan-out, and there may be fewer names than cells
 abbrev pub cell_behind : ℕ → CodeChain → Option (List ℕ)
 cell_behind shift chain = if nat_lt shift chain.length then slice_get chain.cells (chain.length - 1 - shift) else None
 
@@ -76,7 +76,8 @@ cell_words (Some cell) = codes " " ++ printed_name cell.chain ++ codes " " ++ pr
 -- what was found, and where
 abbrev pub found_words : Program → Fail → List ℕ
 found_words code fail =
-    codes "fail " ++ decimal fail.cycle ++ codes " " ++ decimal fail.at ++ codes " " ++ printed_name (signal_name code fail.signal)
+    codes "fail " ++ decimal fail.cycle ++ codes " " ++ decimal fail.at
+    ++ codes " " ++ printed_name (signal_name code fail.signal)
     ++ codes " " ++ want_letter fail.want ++ codes " " ++ seen_letter fail.seen
 
 -- one fail
@@ -86,7 +87,8 @@ fail_line code fail = found_words code fail ++ cell_words (cell_of code fail) ++
 -- a try was stopped before this batch
 abbrev pub stopped_line : ℕ → By → List ℕ
 stopped_line batch by.Plan = codes "verdict stopped " ++ decimal batch ++ codes " plan\n"
-stopped_line batch (by.Desk stops) = codes "verdict stopped " ++ decimal batch ++ codes " desk " ++ decimal stops ++ codes "\n"
+stopped_line batch (by.Desk stops) =
+    codes "verdict stopped " ++ decimal batch ++ codes " desk " ++ decimal stops ++ codes "\n"
 
 -- how a try ended
 abbrev pub verdict_line : Verdict → List ℕ
@@ -98,8 +100,8 @@ verdict_line (verdict.Contact at) = codes "verdict contact " ++ decimal at ++ co
 -- a try: its number, how many cycles were finished, and how many fails there were
 abbrev pub try_line : Trial → List ℕ
 try_line trial =
-    codes "try " ++ decimal trial.number ++ codes " cycles " ++ decimal trial.cycles ++ codes " fails " ++ decimal trial.fails
-    ++ codes "\n"
+    codes "try " ++ decimal trial.number ++ codes " cycles " ++ decimal trial.cycles
+    ++ codes " fails " ++ decimal trial.fails ++ codes "\n"
 
 -- a try with its kept fails and its verdict
 abbrev pub trial_text : Program → Trial → List ℕ

@@ -39,7 +39,8 @@ pub(crate) fn put_cell_in<K: Sink>(
 
 /// Puts the names of a chain and a cell.
 fn put_names<'a, K: Sink>(sink: &mut K, chain: &'a [u8], cell: &'a [u8]) -> Result<(), SinkFault>
-    ensures puts { Puts (K.told sink.old) (cell_words (Some (record { chain = chain.now; name = cell.now }))) result (K.told sink.new) }
+    ensures puts { Puts (K.told sink.old) (cell_words (Some (record { chain = chain.now; name = cell.now })))
+        result (K.told sink.new) }
     ensures count { K.faults sink.old ≤ K.faults sink.new }
     ensures cause { OnErr result (HasRisen (K.faults sink.old) (K.faults sink.new)) }
 {

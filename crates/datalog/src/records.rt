@@ -34,7 +34,8 @@ pub fn print_record<K: Sink>(
 fn put_die<K: Sink>(sink: &mut K, plan: &BoundPlan, entry: &Record) -> Result<(), SinkFault>
     requires site { entry.now.site < sites_of plan.now.rows }
     requires die { entry.now.die < length (dies_at entry.now.site plan.now.rows) }
-    ensures puts { Puts (K.told sink.old) (die_line (die_at plan.now.rows entry.now.site entry.now.die).name) result (K.told sink.new) }
+    ensures puts { Puts (K.told sink.old) (die_line (die_at plan.now.rows entry.now.site entry.now.die).name)
+        result (K.told sink.new) }
     ensures count { K.faults sink.old ≤ K.faults sink.new }
     ensures cause { OnErr result (HasRisen (K.faults sink.old) (K.faults sink.new)) }
 {

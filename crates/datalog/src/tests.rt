@@ -1,16 +1,15 @@
-//! Lines that a sink in memory holds: verdicts, cells and totals.
+//! Lines that no lot has yet, as a sink in memory holds them: verdicts of tries that are stopped, and cells.
 
 use crate::cells::put_cell_in;
-use crate::totals::put_totals;
 use crate::trials::put_verdict;
 use page_code::CodeChain;
 use std::alloc::Global;
 use std::test::Fail;
 use tester_types::{By, Items, MemSink, NoMemory, Text, Verdict};
 
-/// A sink with room, whose puts of these numbers fail.
-fn sink(alloc: Global, failing: Vec<u64>) -> Result<MemSink, NoMemory> {
-    MemSink::new(alloc, 999, 999, failing, Vec::new(alloc))
+/// A sink with ample room.
+fn sink(alloc: Global) -> Result<MemSink, NoMemory> {
+    MemSink::new(alloc, 999, 999, Vec::new(alloc), Vec::new(alloc))
 }
 
 /// The bytes as a text.
@@ -42,7 +41,7 @@ const VERDICTS: [Verdict; 5] = [
 
 #[test]
 fn verdicts_say_how_tries_ended(rt: HostRuntime) -> Result<(), Fail> {
-    let mut sink = sink(rt.alloc(), Vec::new(rt.alloc()))?;
+    let mut sink = sink(rt.alloc())?;
     for verdict in &VERDICTS {
         put_verdict(&mut sink, verdict)?;
     }
@@ -54,28 +53,11 @@ fn verdicts_say_how_tries_ended(rt: HostRuntime) -> Result<(), Fail> {
 
 #[test]
 fn a_mark_counts_cells_from_the_scan_out(rt: HostRuntime) -> Result<(), Fail> {
-    let mut sink = sink(rt.alloc(), Vec::new(rt.alloc()))?;
+    let mut sink = sink(rt.alloc())?;
     let chain = chain(rt.alloc())?;
     for mark in 0..5u32 {
         put_cell_in(&mut sink, mark, &chain)?;
     }
     assert!(rt; sink.bytes() == b" c1 f7 c1 f6 c1 f5".as_slice());
-    Ok(())
-}
-
-#[test]
-fn bins_without_a_die_have_no_total(rt: HostRuntime) -> Result<(), Fail> {
-    let mut sink = sink(rt.alloc(), Vec::new(rt.alloc()))?;
-    put_totals(&mut sink, &[0, 3, 0, 1])?;
-    assert!(rt; sink.bytes() == b"total 1 3\ntotal 3 1\n".as_slice());
-    Ok(())
-}
-
-#[test]
-fn a_fault_leaves_what_was_written(rt: HostRuntime) -> Result<(), Fail> {
-    let failing = vec![in rt.alloc(); 2]?;
-    let mut sink = sink(rt.alloc(), failing)?;
-    assert!(rt; put_totals(&mut sink, &[0, 3]).is_err());
-    assert!(rt; sink.bytes() == b"total ".as_slice());
     Ok(())
 }

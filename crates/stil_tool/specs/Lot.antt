@@ -101,15 +101,15 @@ pub data IsPlanRefused (told : Option Files) (before now : ℕ) (name : List ℕ
   unread : IsUnread told before now name r → IsPlanRefused told before now name r
   faulty : (bytes : List ℕ) → IsFile told name bytes → (fault : PlanFault) → plans.IsFault bytes fault → r ≡ Plan fault
       → IsPlanRefused told before now name r
-  not_one : (bytes : List ℕ) → IsFile told name bytes → (rows : List Row) → plans.IsPlan bytes rows → is_one_die rows ≡ false
-      → r ≡ NotOneDie → IsPlanRefused told before now name r
+  not_one : (bytes : List ℕ) → IsFile told name bytes → (rows : List Row) → plans.IsPlan bytes rows
+      → is_one_die rows ≡ false → r ≡ NotOneDie → IsPlanRefused told before now name r
 
 -- why the netlist is refused
 pub data IsNetRefused (told : Option Files) (before now : ℕ) (name : List ℕ) (r : Refusal) : Type 0 where
   no_memory : status_of r ≡ OutOfMemory → IsNetRefused told before now name r
   unread : IsUnread told before now name r → IsNetRefused told before now name r
-  faulty : (bytes : List ℕ) → IsFile told name bytes → (fault : NetFault) → nets.IsFault bytes fault → r ≡ Net name fault
-      → IsNetRefused told before now name r
+  faulty : (bytes : List ℕ) → IsFile told name bytes → (fault : NetFault) → nets.IsFault bytes fault
+      → r ≡ Net name fault → IsNetRefused told before now name r
 
 -- why a lot isn't run, in the order in which it is met: the text, the plan, the netlist, the binding, the sockets. Want
 -- of memory may come at any time
@@ -134,8 +134,8 @@ first_count told (socket ∷ sockets) = (told socket).count
 abbrev pub record_of : Trial → Record
 record_of trial = record { site = 0; die = 0; trials = trial ∷ [] }
 
--- The one try of the die by a code. The text written is the datalog of what was recorded; contact is lost only where the
--- socket's count of faults has risen.
+-- The one try of the die by a code. The text written is the datalog of what was recorded; contact is lost only where
+-- the socket's count of faults has risen.
 pub record IsTried (code : Program) (bound : Bound) (faults faults' : ℕ) (text : List ℕ) (trial : Trial) : Type 0 where
   pub tried : IsTrial code (image_of bound 0 0 1) (lot_of bound.rows).keep trial
   pub contact : IsContact trial.verdict → HasRisen faults faults'
@@ -152,8 +152,8 @@ pub record IsRun (told : Option Files) (faults faults' : ℕ) (program plan text
   pub tried : IsTried code (bound_of inputs) faults faults' text trial
 
 -- a refusal, with its status and its line
-pub record IsRefusal (told : Option Files) (before now sockets : ℕ) (program plan : List ℕ) (status : Status) (text : List ℕ) :
-    Type 0 where
+pub record IsRefusal (told : Option Files) (before now sockets : ℕ) (program plan : List ℕ) (status : Status)
+    (text : List ℕ) : Type 0 where
   pub refused : Refusal
   pub cause : IsRefused told before now sockets program plan refused
   pub answer : status ≡ status_of refused
@@ -166,16 +166,16 @@ RunWants code bound faults faults' OutOfMemory text = text ≡ memory_line
 RunWants code bound faults faults' _ text = ⊥
 
 -- what must be so for a status of `lot`, with what is written then
-pub data LotWants (told : Option Files) (before now sockets faults faults' : ℕ) (program plan : List ℕ) (status : Status)
-    (text : List ℕ) : Type 0 where
+pub data LotWants (told : Option Files) (before now sockets faults faults' : ℕ) (program plan : List ℕ)
+    (status : Status) (text : List ℕ) : Type 0 where
   is_run : status ≡ Done → IsRun told faults faults' program plan text
       → LotWants told before now sockets faults faults' program plan status text
   is_refused : IsRefusal told before now sockets program plan status text
       → LotWants told before now sockets faults faults' program plan status text
 
 -- the same of words: those of `lot`, or those of a command that needs no tester
-pub data TesterWants (words : List (List ℕ)) (told : Option Files) (before now sockets faults faults' : ℕ) (status : Status)
-    (text : List ℕ) : Type 0 where
+pub data TesterWants (words : List (List ℕ)) (told : Option Files) (before now sockets faults faults' : ℕ)
+    (status : Status) (text : List ℕ) : Type 0 where
   of_lot : (program plan : List ℕ) → AreLot words program plan
       → LotWants told before now sockets faults faults' program plan status text
       → TesterWants words told before now sockets faults faults' status text

@@ -83,12 +83,14 @@ FileWants file told before now _ text = ⊥
 -- the same of words: a status comes with its line or text, and only where it is so
 abbrev pub Wants : List (List ℕ) → Option Files → ℕ → ℕ → Status → List ℕ → Type 0
 Wants words told before now Usage text = ((file : List ℕ) → AreCycles words file → ⊥) × (text ≡ usage_line)
-Wants words told before now status text = (file : List ℕ) × AreCycles words file × FileWants file told before now status text
+Wants words told before now status text =
+    (file : List ℕ) × AreCycles words file × FileWants file told before now status text
 
 -- a run ends with the status and its text written whole, or as a write fault with a front of that text
 abbrev pub Ends : Option (List ℕ) → ℕ → Status → List ℕ → Status → Option (List ℕ) → ℕ → Type 0
 Ends held faults status text result held' faults' =
-    ((result ≡ status) × (held' ≡ gained held text)) ⊎ ((result ≡ WriteFault) × GainsFront held text held' × HasRisen faults faults')
+    ((result ≡ status) × (held' ≡ gained held text))
+    ⊎ ((result ≡ WriteFault) × GainsFront held text held' × HasRisen faults faults')
 
 -- a run's answer has its cause, and its text
 pub record Answers (wants : Status → List ℕ → Type 0)

@@ -22,7 +22,8 @@ pub fn offline<F: Shelf, K: Sink>(
     shelf: &mut F,
     out: &mut K,
 ) -> Status
-    ensures answers { Answers (Wants (words_seen words.now) (F.told shelf.old) (F.faults shelf.old) (F.faults shelf.new))
+    ensures answers { Answers (Wants (words_seen words.now)
+        (F.told shelf.old) (F.faults shelf.old) (F.faults shelf.new))
         (K.told out.old) (K.faults out.old) result (K.told out.new) (K.faults out.new) }
     ensures kept { F.told shelf.new ≡ F.told shelf.old }
     ensures counts { F.faults shelf.old ≤ F.faults shelf.new }
@@ -80,7 +81,8 @@ fn cycles<F: Shelf, K: Sink>(alloc: Global, file: &str, shelf: &mut F, out: &mut
 /// Prints the dated cycles of a text.
 fn cycles_of<K: Sink>(alloc: Global, bytes: &[u8], out: &mut K) -> Status
     requires { length bytes.now ≤ 16777216 }
-    ensures answers { Answers (BytesWant bytes.now) (K.told out.old) (K.faults out.old) result (K.told out.new) (K.faults out.new) }
+    ensures answers { Answers (BytesWant bytes.now)
+        (K.told out.old) (K.faults out.old) result (K.told out.new) (K.faults out.new) }
     ensures puts { K.faults out.old ≤ K.faults out.new }
 {
     match read(alloc, bytes) {
@@ -95,7 +97,8 @@ fn cycles_of<K: Sink>(alloc: Global, bytes: &[u8], out: &mut K) -> Status
 
 /// Prints the dated cycles of a thin text, once there is memory for a row of its characters.
 fn print<K: Sink>(alloc: Global, text: &ThinText, out: &mut K) -> Status
-    ensures answers { Answers (TextWants text.now) (K.told out.old) (K.faults out.old) result (K.told out.new) (K.faults out.new) }
+    ensures answers { Answers (TextWants text.now)
+        (K.told out.old) (K.faults out.old) result (K.told out.new) (K.faults out.new) }
     ensures puts { K.faults out.old ≤ K.faults out.new }
 {
     match vec![in alloc; b'-'; text.signals.len()] {

@@ -11,7 +11,8 @@ use tester_types::{Piece, Sink, put_each};
 
 /// Puts the line of a refusal, and answers its status.
 pub(crate) fn ended<K: Sink>(out: &mut K, line: &[Piece], status: Status) -> Status
-    ensures ends { Ends (K.told out.old) (K.faults out.old) status (flat_map piece_text line.now) result (K.told out.new) (K.faults out.new) }
+    ensures ends { Ends (K.told out.old) (K.faults out.old)
+        status (flat_map piece_text line.now) result (K.told out.new) (K.faults out.new) }
     ensures puts { K.faults out.old ≤ K.faults out.new }
 {
     match put_each(out, line) {
@@ -22,7 +23,8 @@ pub(crate) fn ended<K: Sink>(out: &mut K, line: &[Piece], status: Status) -> Sta
 
 /// Says that there was no memory.
 pub fn no_memory<K: Sink>(out: &mut K) -> Status
-    ensures ends { Ends (K.told out.old) (K.faults out.old) OutOfMemory memory_line result (K.told out.new) (K.faults out.new) }
+    ensures ends { Ends (K.told out.old) (K.faults out.old)
+        OutOfMemory memory_line result (K.told out.new) (K.faults out.new) }
     ensures puts { K.faults out.old ≤ K.faults out.new }
 {
     ended(out, &[Piece::Text(b"out of memory\n")], Status::OutOfMemory)

@@ -16,7 +16,8 @@ use thin_stil::{ThinFault, ThinText, read};
 /// Loads a file.
 fn load<F: Shelf>(alloc: Global, file: &str, shelf: &mut F) -> Result<Vec<u8>, Refusal>
     ensures found { IfOk result (λ bytes. IsFile (F.told shelf.old) file.now bytes.items) }
-    ensures unread { IfErr result (λ r. IsUnread (F.told shelf.old) (F.faults shelf.old) (F.faults shelf.new) file.now r) }
+    ensures unread { IfErr result (λ r. IsUnread
+        (F.told shelf.old) (F.faults shelf.old) (F.faults shelf.new) file.now r) }
     ensures kept { F.told shelf.new ≡ F.told shelf.old }
     ensures counts { F.faults shelf.old ≤ F.faults shelf.new }
 {
@@ -39,7 +40,8 @@ pub(crate) fn read_program<F: Shelf>(
     shelf: &mut F,
 ) -> Result<ThinText, Refusal>
     ensures found { IfOk result (λ text. IsTextFile (F.told shelf.old) file.now text) }
-    ensures refused { IfErr result (λ r. IsTextRefused (F.told shelf.old) (F.faults shelf.old) (F.faults shelf.new) file.now r) }
+    ensures refused { IfErr result (λ r. IsTextRefused
+        (F.told shelf.old) (F.faults shelf.old) (F.faults shelf.new) file.now r) }
     ensures kept { F.told shelf.new ≡ F.told shelf.old }
     ensures counts { F.faults shelf.old ≤ F.faults shelf.new }
 {
@@ -57,7 +59,8 @@ pub(crate) fn read_program<F: Shelf>(
 /// Reads the plan, which is to be one of one try of one die.
 pub(crate) fn read_plan<F: Shelf>(alloc: Global, file: &str, shelf: &mut F) -> Result<Plan, Refusal>
     ensures found { IfOk result (λ plan. IsPlanFile (F.told shelf.old) file.now plan) }
-    ensures refused { IfErr result (λ r. IsPlanRefused (F.told shelf.old) (F.faults shelf.old) (F.faults shelf.new) file.now r) }
+    ensures refused { IfErr result (λ r. IsPlanRefused
+        (F.told shelf.old) (F.faults shelf.old) (F.faults shelf.new) file.now r) }
     ensures kept { F.told shelf.new ≡ F.told shelf.old }
     ensures counts { F.faults shelf.old ≤ F.faults shelf.new }
 {
@@ -84,7 +87,8 @@ pub(crate) fn read_net<F: Shelf>(
     shelf: &mut F,
 ) -> Result<Netlist, Refusal>
     ensures found { IfOk result (λ net. IsNetFile (F.told shelf.old) file.now net) }
-    ensures refused { IfErr result (λ r. IsNetRefused (F.told shelf.old) (F.faults shelf.old) (F.faults shelf.new) file.now r) }
+    ensures refused { IfErr result (λ r. IsNetRefused
+        (F.told shelf.old) (F.faults shelf.old) (F.faults shelf.new) file.now r) }
     ensures kept { F.told shelf.new ≡ F.told shelf.old }
     ensures counts { F.faults shelf.old ≤ F.faults shelf.new }
 {

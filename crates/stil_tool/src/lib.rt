@@ -18,6 +18,4 @@ pub use status::Status;
 pub use top_call::tester;
 
 #[cfg(test)]
-mod lot_tests;
-#[cfg(test)]
 mod tests;

@@ -73,7 +73,8 @@ fn prepare<F: Shelf>(
     shelf: &mut F,
 ) -> Result<ReadyLot, Refusal>
     ensures ready { IfOk result (λ lot. IsReady (F.told shelf.old) program.now plan.now lot.code lot.plan) }
-    ensures refused { IfErr result (λ r. (sockets : ℕ) → IsRefused (F.told shelf.old) (F.faults shelf.old) (F.faults shelf.new) sockets program.now plan.now r) }
+    ensures refused { IfErr result (λ r. (sockets : ℕ) →
+        IsRefused (F.told shelf.old) (F.faults shelf.old) (F.faults shelf.new) sockets program.now plan.now r) }
     ensures kept { F.told shelf.new ≡ F.told shelf.old }
     ensures counts { F.faults shelf.old ≤ F.faults shelf.new }
 {
@@ -142,9 +143,9 @@ pub(crate) fn lot<F: Shelf, S: Socket, K: Sink>(
     sockets: &mut Vec<S>,
     out: &mut K,
 ) -> Status
-    ensures answers { Answers (LotWants (F.told shelf.old) (F.faults shelf.old) (F.faults shelf.new) (length sockets.old.items)
-        (first_count S.told sockets.old.items) (first_count S.told sockets.new.items) program.now plan.now)
-        (K.told out.old) (K.faults out.old) result (K.told out.new) (K.faults out.new) }
+    ensures answers { Answers (LotWants (F.told shelf.old) (F.faults shelf.old) (F.faults shelf.new)
+        (length sockets.old.items) (first_count S.told sockets.old.items) (first_count S.told sockets.new.items)
+        program.now plan.now) (K.told out.old) (K.faults out.old) result (K.told out.new) (K.faults out.new) }
     ensures sockets { length sockets.new.items ≡ length sockets.old.items }
     ensures kept { F.told shelf.new ≡ F.told shelf.old }
     ensures counts { F.faults shelf.old ≤ F.faults shelf.new }

@@ -34,7 +34,8 @@ pub enum Refusal {
 
 /// Puts the line of a refusal, and answers its status.
 pub(crate) fn put_refusal<K: Sink>(out: &mut K, refusal: &Refusal) -> Status
-    ensures ends { Ends (K.told out.old) (K.faults out.old) (status_of refusal.now) (line_of refusal.now) result (K.told out.new) (K.faults out.new) }
+    ensures ends { Ends (K.told out.old) (K.faults out.old)
+        (status_of refusal.now) (line_of refusal.now) result (K.told out.new) (K.faults out.new) }
     ensures puts { K.faults out.old ≤ K.faults out.new }
 {
     match refusal {
@@ -64,7 +65,8 @@ fn put_line<K: Sink>(out: &mut K, line: &[u8], status: Status) -> Status
 
 /// Puts a line that ends with the name of a file.
 fn put_named<'a, K: Sink>(out: &mut K, line: &'a [u8], file: &'a [u8], status: Status) -> Status
-    ensures ends { Ends (K.told out.old) (K.faults out.old) status (line.now ++ printed_name file.now ++ codes "\n") result (K.told out.new) (K.faults out.new) }
+    ensures ends { Ends (K.told out.old) (K.faults out.old)
+        status (line.now ++ printed_name file.now ++ codes "\n") result (K.told out.new) (K.faults out.new) }
     ensures puts { K.faults out.old ≤ K.faults out.new }
 {
     let line = [Piece::Text(line), Piece::Name(file), Piece::Text(b"\n")];
@@ -73,7 +75,8 @@ fn put_named<'a, K: Sink>(out: &mut K, line: &'a [u8], file: &'a [u8], status: S
 
 /// Puts the line of a netlist that is refused.
 fn put_net<K: Sink>(out: &mut K, file: &[u8], fault: &NetFault) -> Status
-    ensures ends { Ends (K.told out.old) (K.faults out.old) (net_status fault.now) (net_line file.now fault.now) result (K.told out.new) (K.faults out.new) }
+    ensures ends { Ends (K.told out.old) (K.faults out.old)
+        (net_status fault.now) (net_line file.now fault.now) result (K.told out.new) (K.faults out.new) }
     ensures puts { K.faults out.old ≤ K.faults out.new }
 {
     match fault {
@@ -89,7 +92,9 @@ fn put_net<K: Sink>(out: &mut K, file: &[u8], fault: &NetFault) -> Status
 
 /// Puts the line of a netlist with a line of no form.
 fn put_bad_line<K: Sink>(out: &mut K, file: &[u8], number: u32) -> Status
-    ensures ends { Ends (K.told out.old) (K.faults out.old) RefusedNet (net_fault_line file.now (codes " Line ") (decimal number)) result (K.told out.new) (K.faults out.new) }
+    ensures ends { Ends (K.told out.old) (K.faults out.old)
+        RefusedNet (net_fault_line file.now (codes " Line ") (decimal number))
+        result (K.told out.new) (K.faults out.new) }
     ensures puts { K.faults out.old ≤ K.faults out.new }
 {
     let line = [
@@ -104,7 +109,9 @@ fn put_bad_line<K: Sink>(out: &mut K, file: &[u8], number: u32) -> Status
 
 /// Puts the line of a netlist with too many nets.
 fn put_too_many<K: Sink>(out: &mut K, file: &[u8]) -> Status
-    ensures ends { Ends (K.told out.old) (K.faults out.old) RefusedNet (net_fault_line file.now (codes " OutOfRange ") (codes "-")) result (K.told out.new) (K.faults out.new) }
+    ensures ends { Ends (K.told out.old) (K.faults out.old)
+        RefusedNet (net_fault_line file.now (codes " OutOfRange ") (codes "-"))
+        result (K.told out.new) (K.faults out.new) }
     ensures puts { K.faults out.old ≤ K.faults out.new }
 {
     let line = [
@@ -119,7 +126,9 @@ fn put_too_many<K: Sink>(out: &mut K, file: &[u8]) -> Status
 
 /// Puts the line of a netlist with a fault of this kind at a net.
 fn put_bad_net<'a, K: Sink>(out: &mut K, file: &'a [u8], kind: &'a [u8], net: &'a [u8]) -> Status
-    ensures ends { Ends (K.told out.old) (K.faults out.old) RefusedNet (net_fault_line file.now kind.now (printed_name net.now)) result (K.told out.new) (K.faults out.new) }
+    ensures ends { Ends (K.told out.old) (K.faults out.old)
+        RefusedNet (net_fault_line file.now kind.now (printed_name net.now))
+        result (K.told out.new) (K.faults out.new) }
     ensures puts { K.faults out.old ≤ K.faults out.new }
 {
     let line = [
@@ -134,7 +143,8 @@ fn put_bad_net<'a, K: Sink>(out: &mut K, file: &'a [u8], kind: &'a [u8], net: &'
 
 /// Puts the line of a plan that is refused.
 fn put_plan<K: Sink>(out: &mut K, fault: &PlanFault) -> Status
-    ensures ends { Ends (K.told out.old) (K.faults out.old) (plan_status fault.now) (plan_line fault.now) result (K.told out.new) (K.faults out.new) }
+    ensures ends { Ends (K.told out.old) (K.faults out.old)
+        (plan_status fault.now) (plan_line fault.now) result (K.told out.new) (K.faults out.new) }
     ensures puts { K.faults out.old ≤ K.faults out.new }
 {
     match fault {
@@ -149,7 +159,8 @@ fn put_plan<K: Sink>(out: &mut K, fault: &PlanFault) -> Status
 
 /// Puts the line of a plan with a fault of this kind at a row.
 fn put_bad_row<K: Sink>(out: &mut K, kind: &[u8], row: u32) -> Status
-    ensures ends { Ends (K.told out.old) (K.faults out.old) RefusedPlan (plan_fault_line kind.now (decimal row)) result (K.told out.new) (K.faults out.new) }
+    ensures ends { Ends (K.told out.old) (K.faults out.old)
+        RefusedPlan (plan_fault_line kind.now (decimal row)) result (K.told out.new) (K.faults out.new) }
     ensures puts { K.faults out.old ≤ K.faults out.new }
 {
     let line = [
@@ -163,7 +174,9 @@ fn put_bad_row<K: Sink>(out: &mut K, kind: &[u8], row: u32) -> Status
 
 /// Puts the line of a plan that leaves a signal without a net.
 fn put_unbound<K: Sink>(out: &mut K, signal: &[u8]) -> Status
-    ensures ends { Ends (K.told out.old) (K.faults out.old) RefusedPlan (plan_fault_line (codes "Unbound ") (printed_name signal.now)) result (K.told out.new) (K.faults out.new) }
+    ensures ends { Ends (K.told out.old) (K.faults out.old)
+        RefusedPlan (plan_fault_line (codes "Unbound ") (printed_name signal.now))
+        result (K.told out.new) (K.faults out.new) }
     ensures puts { K.faults out.old ≤ K.faults out.new }
 {
     let line = [

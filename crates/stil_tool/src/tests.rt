@@ -1,32 +1,23 @@
-//! Worked texts through the public call, over the objects in memory.
+//! Each public call once, with ample memory, over the objects in memory. What they answer otherwise stands as worked cases
+//! in `crates/worked_cases/data`.
 
-use crate::{Status, offline};
+use crate::{Status, no_memory, offline, tester};
+use die_sim::{SimSocket, SocketBox};
 use std::alloc::Global;
 use std::test::Fail;
-use tester_types::{MemShelf, MemSink};
+use tester_types::{MemShelf, MemSink, OpenGate, SilentDesk};
 
-/// One signal driven and one looked at, three vectors.
-const FIRST: &[u8] = b"STIL 1.0;
-Signals { a In; y Out; }
-Timing t { WaveformTable w {
-Period '100ns';
-Waveforms {
-a { 01 { '0ns' D/U; } }
-y { LHX { '40ns' L/H/X; } }
+/// Two cycles of an inverter, which want 1 and then 0.
+const INVERTS: &[u8] = b"STIL 1.0;
+Signals { A In; Y Out; }
+Timing { WaveformTable w { Period '100ns'; Waveforms {
+A { 01 { '0ns' D/U; } }
+Y { LHX { '40ns' L/H/X; } }
 } } }
-Pattern p {
-W w;
-V { a=0; y=H; }
-V { a=1; y=L; }
-V { y=X; }
-}
+Pattern p { W w; V { A=0; Y=H; } V { A=1; Y=L; } }
 PatternBurst b { PatList { p; } }
-PatternExec { Timing t; PatternBurst b; }
+PatternExec { PatternBurst b; }
 ";
-
-/// Its dated cycles.
-const FIRST_CYCLES: &[u8] =
-    b"exec 0 -\n0 0 w 0H\n1 100000000 w 1L\n2 200000000 w 1X\nend 3 300000000\n";
 
 /// The words of a command line.
 fn words(alloc: Global, text: &[&str]) -> Result<Vec<String>, Fail> {
@@ -37,14 +28,29 @@ fn words(alloc: Global, text: &[&str]) -> Result<Vec<String>, Fail> {
     Ok(words)
 }
 
-/// A shelf with one file, whose calls of these numbers fail.
-fn shelf(alloc: Global, bytes: &[u8], failing: &[u64]) -> Result<MemShelf, Fail> {
-    let mut files = Vec::new(alloc);
-    files.push((
-        String::from_str(alloc, "p1.stil")?,
+/// A file of this name.
+fn file(alloc: Global, name: &str, bytes: &[u8]) -> Result<(String, Vec<u8>), Fail> {
+    Ok((
+        String::from_str(alloc, name)?,
         Vec::from_slice(alloc, bytes)?,
-    ))?;
-    Ok(MemShelf::new(files, Vec::from_slice(alloc, failing)?))
+    ))
+}
+
+/// A shelf with the program, a plan of one good die and its netlist.
+fn shelf(alloc: Global) -> Result<MemShelf, Fail> {
+    let mut files = Vec::new(alloc);
+    files.push(file(alloc, "p.stil", INVERTS)?)?;
+    files.push(file(
+        alloc,
+        "p.csv",
+        b"lot,256,1,8,,\ndie,0,d0,n.bench,,\n",
+    )?)?;
+    files.push(file(
+        alloc,
+        "n.bench",
+        b"INPUT(A)\nOUTPUT(Y)\nY = NOT(A)\n",
+    )?)?;
+    Ok(MemShelf::new(files, Vec::new(alloc)))
 }
 
 /// A sink with ample room.
@@ -53,139 +59,45 @@ fn sink(alloc: Global) -> Result<MemSink, Fail> {
 }
 
 #[test]
-fn the_first_text_prints_its_dated_cycles(rt: HostRuntime) -> Result<(), Fail> {
+fn the_dated_cycles_of_a_text_are_printed(rt: HostRuntime) -> Result<(), Fail> {
     let alloc = rt.alloc();
     let mut out = sink(alloc)?;
-    let words = words(alloc, &["cycles", "p1.stil"])?;
-    let status = offline(
-        alloc,
-        words.as_slice(),
-        &mut shelf(alloc, FIRST, &[])?,
-        &mut out,
-    );
-    assert_eq!(rt; status, Status::Done);
-    assert_eq!(rt; out.bytes(), FIRST_CYCLES);
+    let words = words(alloc, &["cycles", "p.stil"])?;
+    let status = offline(alloc, words.as_slice(), &mut shelf(alloc)?, &mut out);
+    assert!(rt; status == Status::Done);
+    assert!(rt; out.bytes() == b"exec 0 -\n0 0 w 0H\n1 100000000 w 1L\nend 2 200000000\n".as_slice());
     Ok(())
 }
 
 #[test]
-fn other_words_get_the_usage_line(rt: HostRuntime) -> Result<(), Fail> {
+fn a_good_die_passes(rt: HostRuntime) -> Result<(), Fail> {
     let alloc = rt.alloc();
-    let usage =
-        b"usage: check FILE | cycles FILE | events FILE | save FILE | lot PROGRAM PLAN | drill N\n";
-    let forms: [&[&str]; 5] = [
-        &["cycles"],
-        &["drill", "0"],
-        &["drill", "201"],
-        &[],
-        &["lot", "p1.stil", "p.csv"],
-    ];
-    for form in forms {
-        let mut out = sink(alloc)?;
-        let words = words(alloc, form)?;
-        let status = offline(
-            alloc,
-            words.as_slice(),
-            &mut shelf(alloc, FIRST, &[])?,
-            &mut out,
-        );
-        assert_eq!(rt; status, Status::Usage);
-        assert_eq!(rt; out.bytes(), usage.as_slice());
-    }
+    let mut out = sink(alloc)?;
+    let words = words(alloc, &["lot", "p.stil", "p.csv"])?;
+    let socket: SocketBox = Box::new(alloc, SimSocket::new(alloc))?;
+    let mut sockets = Vec::new(alloc);
+    sockets.push(socket)?;
+    let status = tester(
+        &rt,
+        alloc,
+        words.as_slice(),
+        &mut shelf(alloc)?,
+        &mut sockets,
+        &mut SilentDesk::new(),
+        &OpenGate,
+        &mut out,
+    );
+    let text =
+        b"site 0\ndie d0\ntry 1 cycles 2 fails 0\nverdict pass\nbin 1\ntotal 1 1\n".as_slice();
+    assert!(rt; status == Status::Done);
+    assert!(rt; out.bytes() == text);
     Ok(())
 }
 
 #[test]
-fn a_sink_that_fails_at_its_second_byte_holds_one(rt: HostRuntime) -> Result<(), Fail> {
-    let alloc = rt.alloc();
-    let mut out = MemSink::new(
-        alloc,
-        512,
-        1,
-        Vec::from_slice(alloc, &[2])?,
-        Vec::new(alloc),
-    )?;
-    let words = words(alloc, &["cycles", "p1.stil"])?;
-    let status = offline(
-        alloc,
-        words.as_slice(),
-        &mut shelf(alloc, FIRST, &[])?,
-        &mut out,
-    );
-    assert_eq!(rt; status, Status::WriteFault);
-    assert_eq!(rt; out.bytes(), b"e".as_slice());
-    Ok(())
-}
-
-#[test]
-fn a_load_that_fails_and_a_missing_file_are_read_faults(rt: HostRuntime) -> Result<(), Fail> {
-    let alloc = rt.alloc();
-    let mut out = sink(alloc)?;
-    let named = words(alloc, &["cycles", "p1.stil"])?;
-    let status = offline(
-        alloc,
-        named.as_slice(),
-        &mut shelf(alloc, FIRST, &[1])?,
-        &mut out,
-    );
-    assert_eq!(rt; status, Status::ReadFault);
-    assert_eq!(rt; out.bytes(), b"read fault p1.stil\n".as_slice());
-    let mut out = sink(alloc)?;
-    let named = words(alloc, &["cycles", "no file"])?;
-    let status = offline(
-        alloc,
-        named.as_slice(),
-        &mut shelf(alloc, FIRST, &[])?,
-        &mut out,
-    );
-    assert_eq!(rt; status, Status::ReadFault);
-    assert_eq!(rt; out.bytes(), b"read fault \"no file\"\n".as_slice());
-    Ok(())
-}
-
-#[test]
-fn a_loop_is_not_thin(rt: HostRuntime) -> Result<(), Fail> {
-    let alloc = rt.alloc();
-    let (front, _) = FIRST.split_at(FIRST.len().min(199));
-    let mut text = Vec::from_slice(alloc, front)?;
-    text.extend_from_slice(
-        b"Loop 2 { V { y=X; } }\n}\nPatternBurst b { PatList { p; } }\nPatternExec { Timing t; PatternBurst b; }\n",
-    )?;
-    let mut out = sink(alloc)?;
-    let words = words(alloc, &["cycles", "p1.stil"])?;
-    let status = offline(
-        alloc,
-        words.as_slice(),
-        &mut shelf(alloc, text.as_slice(), &[])?,
-        &mut out,
-    );
-    assert_eq!(rt; status, Status::RefusedStil);
-    assert_eq!(rt; out.bytes(), b"refused stil LeftOut - - 1\n".as_slice());
-    Ok(())
-}
-
-#[test]
-fn one_byte_more_than_the_limit_is_too_long(rt: HostRuntime) -> Result<(), Fail> {
-    let alloc = rt.alloc();
-    let words = words(alloc, &["cycles", "p1.stil"])?;
-    let blanks = vec![in alloc; b' '; 16_777_217]?;
-    let mut out = sink(alloc)?;
-    let status = offline(
-        alloc,
-        words.as_slice(),
-        &mut shelf(alloc, blanks.as_slice(), &[])?,
-        &mut out,
-    );
-    assert_eq!(rt; status, Status::TooLong);
-    assert_eq!(rt; out.bytes(), b"too long p1.stil\n".as_slice());
-    let (blanks, _) = blanks.as_slice().split_at(blanks.len().min(16_777_216));
-    let mut out = sink(alloc)?;
-    let status = offline(
-        alloc,
-        words.as_slice(),
-        &mut shelf(alloc, blanks, &[])?,
-        &mut out,
-    );
-    assert_eq!(rt; status, Status::RefusedStil);
+fn want_of_memory_has_its_line(rt: HostRuntime) -> Result<(), Fail> {
+    let mut out = sink(rt.alloc())?;
+    assert!(rt; no_memory(&mut out) == Status::OutOfMemory);
+    assert!(rt; out.bytes() == b"out of memory\n".as_slice());
     Ok(())
 }

@@ -30,8 +30,8 @@ pub fn tester<F: Shelf, K: Sink, D: Desk, G: Gate, R: Threads + Wait + Sync>(
     gate: &G,
     out: &mut K,
 ) -> Status
-    ensures answers { Answers (TesterWants (words_seen words.now) (F.told shelf.old) (F.faults shelf.old) (F.faults shelf.new)
-        (length sockets.old.items) (first_count ⟦<SocketBox as Socket>⟧.told sockets.old.items)
+    ensures answers { Answers (TesterWants (words_seen words.now) (F.told shelf.old) (F.faults shelf.old)
+        (F.faults shelf.new) (length sockets.old.items) (first_count ⟦<SocketBox as Socket>⟧.told sockets.old.items)
         (first_count ⟦<SocketBox as Socket>⟧.told sockets.new.items))
         (K.told out.old) (K.faults out.old) result (K.told out.new) (K.faults out.new) }
     ensures sockets { length sockets.new.items ≡ length sockets.old.items }
