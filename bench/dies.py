@@ -1,11 +1,11 @@
 #!/usr/bin/env python3
-"""Measures the processor time of moments on a die of 20,000 gates through the crate die_bench: of those that reach each gate, and of
+"""Measures the processor time of moments on a die of 20,000 gates through the crate measure_dies: of those that reach each gate, and of
 those that change nothing.
 
 Usage: bench/dies.py [PROGRAM]"""
 import os, subprocess, sys
 
-program = sys.argv[1] if len(sys.argv) > 1 else os.path.join(os.path.dirname(__file__), "../crates/die_bench/out/die_bench")
+program = sys.argv[1] if len(sys.argv) > 1 else os.path.join(os.path.dirname(__file__), "../crates/measure_dies/out/measure_dies")
 gates = 20_000
 
 

@@ -1,10 +1,10 @@
 #!/usr/bin/env python3
-"""Measures the processor time of the moments of a full cycle (1,024 signals of 16 events each) through the crate cycle_bench.
+"""Measures the processor time of the moments of a full cycle (1,024 signals of 16 events each) through the crate measure_moments.
 
 Usage: bench/moments.py [PROGRAM]"""
 import os, subprocess, sys
 
-program = sys.argv[1] if len(sys.argv) > 1 else os.path.join(os.path.dirname(__file__), "../crates/cycle_bench/out/cycle_bench")
+program = sys.argv[1] if len(sys.argv) > 1 else os.path.join(os.path.dirname(__file__), "../crates/measure_moments/out/measure_moments")
 cycles = 51
 
 

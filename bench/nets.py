@@ -1,10 +1,10 @@
 #!/usr/bin/env python3
-"""Measures the processor time of reading made netlists through the crate net_bench: chains of gates with three inputs, written last gate first.
+"""Measures the processor time of reading made netlists through the crate measure_nets: chains of gates with three inputs, written last gate first.
 
 Usage: bench/nets.py [PROGRAM]"""
 import os, subprocess, sys, tempfile
 
-program = sys.argv[1] if len(sys.argv) > 1 else os.path.join(os.path.dirname(__file__), "../crates/net_bench/out/net_bench")
+program = sys.argv[1] if len(sys.argv) > 1 else os.path.join(os.path.dirname(__file__), "../crates/measure_nets/out/measure_nets")
 
 for gates in (15_000, 30_000, 60_000):
     lines = ["INPUT(i0)", "INPUT(i1)", f"OUTPUT(g{gates - 1})"]

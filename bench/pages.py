@@ -1,11 +1,11 @@
 #!/usr/bin/env python3
-"""Measures the processor time of compiled code through the crate page_bench: cycles of a walk over two loops, and the saving and the
+"""Measures the processor time of compiled code through the crate measure_pages: cycles of a walk over two loops, and the saving and the
 loading of a program of a million instructions, 16 MB.
 
 Usage: bench/pages.py [PROGRAM]"""
 import os, subprocess, sys
 
-program = sys.argv[1] if len(sys.argv) > 1 else os.path.join(os.path.dirname(__file__), "../crates/page_bench/out/page_bench")
+program = sys.argv[1] if len(sys.argv) > 1 else os.path.join(os.path.dirname(__file__), "../crates/measure_pages/out/measure_pages")
 
 
 def measured(*words):

@@ -13,9 +13,7 @@ use std::rt::Env;
 use std::sync::Arc;
 use std::{env, io};
 use tester_types::Drive;
-
-/// The most bytes of a netlist.
-const LIMIT: usize = 16_777_216;
+use text_bytes::MOST_BYTES;
 
 /// So many gates, of which each reads the one before: a change of the input reaches them all.
 fn chain(alloc: Global, gates: u32) -> Result<Vec<u8>, AllocError> {
@@ -63,7 +61,7 @@ fn drive(die: &mut DieState, moments: u32, still: bool) -> u64
 /// How many gates are evaluated.
 fn evaluations(alloc: Global, gates: u32, moments: u32, still: bool) -> Result<u64, NetFault> {
     let text = chain(alloc, gates)?;
-    if text.len() > LIMIT {
+    if text.len() > MOST_BYTES {
         return Err(NetFault::OutOfRange);
     }
     let net = read(alloc, text.as_slice())?;

@@ -4,8 +4,8 @@ use Rattle.bench_net.specs.declared.gate.Driver.TheVariants.{Input}
 use Rattle.bench_net.specs.Wiring.{driver_at}
 use Rattle.bench_net.specs.Circuit.{Circuit}
 use Rattle.die_sim.specs.declared.image.Binding.{Binding}
-use Rattle.die_bench.proofs.OneInput.{IsSound-one}
-use Rattle.die_bench.proofs.image.Goals as goal
+use Rattle.measure_dies.proofs.OneInputLemmas.{IsSound-one}
+use Rattle.measure_dies.proofs.image.Goals as goal
 
 pub invariant_of-result : goal.invariant_of-result
 invariant_of-result c =

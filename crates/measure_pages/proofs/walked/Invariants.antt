@@ -1,5 +1,5 @@
 use Rattle.page_code.specs.Walk.{IsOver}
-use Rattle.page_bench.proofs.walked.Given as goal
+use Rattle.measure_pages.proofs.walked.Given as goal
 
 abbrev pub invariant-loop : goal.invariant-loop
 invariant-loop l = IsOver l.code l.place
