@@ -14,7 +14,8 @@ use Rattle.plan_rows.specs.declared.fault.PlanFault.TheVariants as refused
 use Rattle.lot_plan.specs.declared.pin.Pin.{Pin}
 use Rattle.lot_plan.specs.declared.pin.Role.{Role}
 use Rattle.lot_plan.specs.declared.pin.Role.TheVariants as role
-use Rattle.lot_plan.specs.Ask.{Wish}
+use Rattle.text_bytes.proofs.BoolLemmas.{or_false}
+use Rattle.lot_plan.specs.Needs.{PinNeed}
 use Rattle.lot_plan.specs.Binds.{is_open, is_input, is_output, drives, as_input, as_output, bind_as, bind_to, is_driven, bound_or, binds_from, binds_of, list_of, unbound_in, IsMarkable, Marks}
 use Rattle.lot_plan.specs.Refusal.{first_unbound, binding_by}
 use Rattle.die_sim.specs.declared.image.Binding.{Binding}
@@ -114,30 +115,26 @@ is_markable c driven r net b o nets whole count found is =
     subst (λ k. IsMarkable k b) (sym count) (markable c driven b whole (bind_to-fits c driven r net b (sym found ∙ is)))
 
 -- a signal that can't be bound is the answer
-pub stops_here : (c : Circuit) (driven : ℕ → Bool) (before : List Bind) (w : Wish) (wishes : List Wish)
+pub stops_here : (c : Circuit) (driven : ℕ → Bool) (before : List Bind) (w : PinNeed) (needs : List PinNeed)
     (whole : Result (List Bind) (List ℕ)) (e : PlanFault) →
-    driven ≡ is_driven before → binds_from c before (w ∷ wishes) ≡ whole →
+    driven ≡ is_driven before → binds_from c before (w ∷ needs) ≡ whole →
     (e ≡ refused.NoMemory) ⊎ ((bind_to c driven w.role w.net ≡ None) × (e ≡ refused.Unbound w.name)) →
     (e ≡ refused.NoMemory) ⊎ (option_map refused.Unbound (unbound_in whole) ≡ Some e)
-stops_here c driven before w wishes whole e same all (inl none) = inl none
-stops_here c driven before w wishes whole e same all (inr (none, is)) =
+stops_here c driven before w needs whole e same all (inl none) = inl none
+stops_here c driven before w needs whole e same all (inr (none, is)) =
     inr (ap (λ r. option_map refused.Unbound (unbound_in r)) (sym all
-    ∙ ap (λ t. bound_or w.name (bind_to c t w.role w.net) (λ b. binds_from c (before ++ b ∷ []) wishes)) (sym same)
-    ∙ ap (λ o. bound_or w.name o (λ b. binds_from c (before ++ b ∷ []) wishes)) none)
+    ∙ ap (λ t. bound_or w.name (bind_to c t w.role w.net) (λ b. binds_from c (before ++ b ∷ []) needs)) (sym same)
+    ∙ ap (λ o. bound_or w.name o (λ b. binds_from c (before ++ b ∷ []) needs)) none)
     ∙ ap Some (sym is))
 
 -- a signal that is bound leaves the rest
-pub goes_on : (c : Circuit) (driven : ℕ → Bool) (before : List Bind) (w : Wish) (wishes : List Wish)
+pub goes_on : (c : Circuit) (driven : ℕ → Bool) (before : List Bind) (w : PinNeed) (needs : List PinNeed)
     (whole : Result (List Bind) (List ℕ)) (b : Bind) →
-    driven ≡ is_driven before → binds_from c before (w ∷ wishes) ≡ whole → bind_to c driven w.role w.net ≡ Some b →
-    binds_from c (before ++ b ∷ []) wishes ≡ whole
-goes_on c driven before w wishes whole b same all found =
-    sym (ap (λ t. bound_or w.name (bind_to c t w.role w.net) (λ b. binds_from c (before ++ b ∷ []) wishes)) (sym same)
-    ∙ ap (λ o. bound_or w.name o (λ b. binds_from c (before ++ b ∷ []) wishes)) found) ∙ all
-
-or_false : (b : Bool) → (b || false) ≡ b
-or_false true = refl
-or_false false = refl
+    driven ≡ is_driven before → binds_from c before (w ∷ needs) ≡ whole → bind_to c driven w.role w.net ≡ Some b →
+    binds_from c (before ++ b ∷ []) needs ≡ whole
+goes_on c driven before w needs whole b same all found =
+    sym (ap (λ t. bound_or w.name (bind_to c t w.role w.net) (λ b. binds_from c (before ++ b ∷ []) needs)) (sym same)
+    ∙ ap (λ o. bound_or w.name o (λ b. binds_from c (before ++ b ∷ []) needs)) found) ∙ all
 
 -- what is driven with one more bind
 pub driven-more : (old new : List Bool) (before : List Bind) (b : Bind) (n : ℕ) → Marks old new b →
@@ -156,22 +153,22 @@ bound_ok : (r : Result (List Bind) (List ℕ)) (binds : List Bind) (rest : Optio
     option_or (unbound_in r) rest ≡ rest
 bound_ok r binds rest is = ap (λ x. option_or (unbound_in x) rest) is
 
-pub bound-more : (wishes : List Wish) (rest : List Circuit) (c : Circuit) (all : List Circuit) (binds : List Bind)
+pub bound-more : (needs : List PinNeed) (rest : List Circuit) (c : Circuit) (all : List Circuit) (binds : List Bind)
     (whole : Option (List ℕ)) →
-    all ≡ c ∷ rest → binds_of c wishes ≡ Ok binds → first_unbound wishes all ≡ whole → first_unbound wishes rest ≡ whole
-bound-more wishes rest c all binds whole is found before =
-    sym (bound_ok (binds_of c wishes) binds (first_unbound wishes rest) found) ∙ ap (first_unbound wishes) (sym is) ∙ before
+    all ≡ c ∷ rest → binds_of c needs ≡ Ok binds → first_unbound needs all ≡ whole → first_unbound needs rest ≡ whole
+bound-more needs rest c all binds whole is found before =
+    sym (bound_ok (binds_of c needs) binds (first_unbound needs rest) found) ∙ ap (first_unbound needs) (sym is) ∙ before
 
-pub each-more : (clock : Option ℕ) (wishes : List Wish) (made more : List Binding) (rest : List Circuit) (c : Circuit)
+pub each-more : (clock : Option ℕ) (needs : List PinNeed) (made more : List Binding) (rest : List Circuit) (c : Circuit)
     (all : List Circuit)
-    (binds : List Bind) (whole : List Binding) (binding : Binding) → all ≡ c ∷ rest → binds_of c wishes ≡ Ok binds →
+    (binds : List Bind) (whole : List Binding) (binding : Binding) → all ≡ c ∷ rest → binds_of c needs ≡ Ok binds →
     binding ≡ record { clock = clock; nets = binds } → more ≡ made ++ binding ∷ [] →
-    made ++ map (binding_by clock wishes) all ≡ whole →
-    more ++ map (binding_by clock wishes) rest ≡ whole
-each-more clock wishes made more rest c all binds whole binding is found made_is put before =
-    ap (λ m. m ++ map (binding_by clock wishes) rest) put
-    ∙ append_assoc made (binding ∷ []) (map (binding_by clock wishes) rest)
-    ∙ ap (λ b. made ++ b ∷ map (binding_by clock wishes) rest)
+    made ++ map (binding_by clock needs) all ≡ whole →
+    more ++ map (binding_by clock needs) rest ≡ whole
+each-more clock needs made more rest c all binds whole binding is found made_is put before =
+    ap (λ m. m ++ map (binding_by clock needs) rest) put
+    ∙ append_assoc made (binding ∷ []) (map (binding_by clock needs) rest)
+    ∙ ap (λ b. made ++ b ∷ map (binding_by clock needs) rest)
     (made_is ∙ ap (λ r. record { clock = clock; nets = list_of r }) (sym found))
-    ∙ ap (λ cs. made ++ map (binding_by clock wishes) cs) (sym is)
+    ∙ ap (λ cs. made ++ map (binding_by clock needs) cs) (sym is)
     ∙ before

@@ -12,3 +12,4 @@ pub mod RefusalLemmas
 pub mod ReadyLemmas
 pub mod SampleLemmas
 pub mod StandardFacts
+pub mod BinLemmas

@@ -5,14 +5,15 @@ use Rattle.std.specs.Borrow.{Bor}
 use Rattle.std.specs.List.{list_any}
 use Rattle.std.specs.Str.{bytes_eq}
 use Rattle.std.specs.Cmp.Lexicographic.{bytes_decides}
-use Rattle.std.proofs.Math.Seq.{drop-cons}
+use Rattle.text_bytes.proofs.BoolLemmas.{or_false}
+use Rattle.text_bytes.proofs.ListLemmas.{drop-item}
 use Rattle.std.proofs.lemmas.Bool.{cases_Bool}
 use Rattle.std.proofs.lemmas.List.{get_or-map, length-map}
 use Rattle.std.proofs.lemmas.List.Folds.{list_any-append}
 use Rattle.page_code.specs.declared.parts.CodeSignal.{CodeSignal}
 use Rattle.plan_rows.specs.declared.row.DieRow.{DieRow}
 use Rattle.plan_rows.specs.Rows.{with_file}
-use Rattle.lot_plan.specs.Ask.{has_name}
+use Rattle.lot_plan.specs.Needs.{has_name}
 use Rattle.lot_plan.specs.Views.{behind}
 
 -- a name that isn't there goes behind the others
@@ -20,10 +21,6 @@ pub with_file-new : (files made : List (List ℕ)) (name : List ℕ) → false �
     made ≡ files ++ name ∷ [] →
     made ≡ with_file files name
 with_file-new files made name fresh is = is ∙ ap (λ b. cond b files (files ++ name ∷ [])) fresh
-
-or_false : (b : Bool) → (b || false) ≡ b
-or_false true = refl
-or_false false = refl
 
 or_same : (a b : Bool) → (b ≡ true → a ≡ true) → a ≡ (a || b)
 or_same true b h = refl
@@ -46,15 +43,6 @@ any-with_file files file name =
 or_assoc : (a b c : Bool) → ((a || b) || c) ≡ (a || (b || c))
 or_assoc true b c = refl
 or_assoc false b c = refl
-
-suc-plus : (i : ℕ) → suc i ≡ i + 1
-suc-plus i = omega arith
-
--- what is left begins with the item at hand
-pub drop-item : {X : Type 0} (items : List X) (i : ℕ) (item : X) → i < length items → item ≡ get_or items i item →
-    drop i items ≡ item ∷ drop (i + 1) items
-drop-item items i item within is =
-    drop-cons items i item within ∙ ap (λ x. x ∷ drop (suc i) items) (sym is) ∙ ap (λ j. item ∷ drop j items) (suc-plus i)
 
 -- the name of one more signal
 pub any-signal : (files made : List (List ℕ)) (signals : List CodeSignal) (i : ℕ) (signal : CodeSignal) (file name : List ℕ)

@@ -1,4 +1,4 @@
--- What signals ask, found row by row.
+-- What signals need, found row by row.
 use Rattle.std.proofs.Common.{◌≡◌, ℕ, ◌+◌, ◌<◌, Bool, true, false, cond, List, [], ◌∷◌, ◌++◌, length, take, Option, Some, None, slice_get, is_some, refl, sym, ap, ◌∙◌, inl, inr}
 use Rattle.std.specs.Borrow.{Bor}
 use Rattle.std.specs.Option.{option_or, option_copied}
@@ -9,6 +9,7 @@ use Rattle.std.proofs.lemmas.Option.{get_or_from_slice_get}
 use Rattle.std.specs.Map.{lookup}
 use Rattle.indexmap.specs.IndexMap.{IndexMap}
 use Rattle.plan_rows.specs.declared.row.BindRow.{BindRow}
+use Rattle.text_bytes.proofs.MapLemmas.{lookup-push}
 use Rattle.lot_plan.specs.Views.{row_in}
 
 -- one more item is taken
@@ -22,18 +23,6 @@ or_same (Some x) = refl
 
 or_assoc : {X : Type 0} (a b : Option X) (x : X) → option_or (Some x) b ≡ Some x
 or_assoc a b x = refl
-
--- what is found after one more entry
-lookup-push : {K X : Type 0} (test : K → Bool) (es : List (K × X)) (k : K) (v : X) →
-    lookup test (es ++ (k, v) ∷ []) ≡ option_or (lookup test es) (cond (test k) (Some v) None)
-lookup-push test [] k v = refl
-lookup-push test (e ∷ es) k v =
-    elim (cases_Bool (test e.0)) [
-      | inl t ↦ ap (λ b. cond b (Some e.1) (lookup test (es ++ (k, v) ∷ []))) t
-          ∙ sym (ap (λ b. option_or (cond b (Some e.1) (lookup test es)) (cond (test k) (Some v) None)) t)
-      | inr t ↦ ap (λ b. cond b (Some e.1) (lookup test (es ++ (k, v) ∷ []))) t ∙ lookup-push test es k v
-          ∙ sym (ap (λ b. option_or (cond b (Some e.1) (lookup test es)) (cond (test k) (Some v) None)) t)
-    ]
 
 copied-or : {X : Type 0} (o p : Option (Bor X)) → option_copied (option_or o p) ≡ option_or (option_copied o) (option_copied p)
 copied-or None p = refl
@@ -54,7 +43,3 @@ row-added old new key row signal name own put =
     ∙ copied-or (lookup (λ (k : Bor (List ℕ)). bytes_eq name k.now) old.entries) (cond (bytes_eq name key.now) (Some row) None)
     ∙ ap (option_or (row_in old name)) (copied-if (bytes_eq name key.now) row
     ∙ ap (λ n. cond (bytes_eq name n) (Some row.now) None) own)
-
-pub none-from : {X : Type 0} (o : Option X) → false ≡ is_some o → o ≡ None
-none-from None h = refl
-none-from (Some x) h = cc

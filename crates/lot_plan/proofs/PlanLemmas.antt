@@ -1,11 +1,16 @@
 -- How many sites and dies an accepted plan has.
-use Rattle.std.proofs.Common.{◌==◌, ℕ, ◌+◌, ◌≤◌, Bool, max, List, [], ◌∷◌, length, arith, inl, inr}
-use Rattle.std.specs.Prelude.{All, fold, filter}
-use Rattle.std.proofs.lemmas.Bool.{cases_Bool}
-use Rattle.std.proofs.lemmas.List.Elements.{All-head, All-tail}
+use Rattle.std.proofs.Common.{◌≡◌, ◌==◌, ℕ, zero, suc, ◌+◌, ◌<◌, ◌≤◌, Bool, true, false, max, cond, List, [], ◌∷◌, ◌++◌, length, arith}
+use Rattle.std.specs.Prelude.{All, fold}
+use Rattle.std.proofs.lemmas.Bool.{and_parts}
+use Rattle.std.proofs.lemmas.List.Elements.{All-append, All-head, All-tail}
+use Rattle.std.specs.List.{list_all, list_any}
+use Rattle.std.specs.Str.{bytes_eq}
+use Rattle.text_bytes.specs.Bytes.{is_printing}
+use Rattle.plan_rows.specs.Words.{is_name}
+use Rattle.plan_rows.proofs.RowLemmas.{filter-le}
 use Rattle.plan_rows.specs.declared.row.Row.{Row}
 use Rattle.plan_rows.specs.declared.row.DieRow.{DieRow}
-use Rattle.plan_rows.specs.Rows.{AreKept, sites_of, dies_of, dies_at}
+use Rattle.plan_rows.specs.Rows.{AreKept, sites_of, dies_of, dies_at, files_of, with_file}
 
 -- the greatest of small sites is small
 greatest-within : (dies : List DieRow) (most : ℕ) → most ≤ 64 → All (λ d. d.site ≤ 63) dies →
@@ -19,15 +24,36 @@ greatest-within (d ∷ ds) most h all =
 pub sites_of-within : (rows : List Row) → AreKept rows → sites_of rows ≤ 64
 sites_of-within rows kept = greatest-within (dies_of rows) 0 (omega arith) kept.sites
 
--- what passes a test is no more than there is
-pub length-filter-within : {X : Type 0} (p : X → Bool) (xs : List X) → length (filter p xs) ≤ length xs
-length-filter-within p [] = omega arith
-length-filter-within p (x ∷ xs) =
-    elim (cases_Bool (p x)) [
-      | inl e ↦ rw e (omega (arith, length-filter-within p xs))
-      | inr e ↦ rw e (omega (arith, length-filter-within p xs))
-    ]
-
 -- a site has at most 4,096 dies
 pub length-dies_at : (rows : List Row) (site : ℕ) → AreKept rows → length (dies_at site rows) ≤ 4096
-length-dies_at rows site kept = omega (arith, kept.dies, length-filter-within (λ d. d.site == site) (dies_of rows))
+length-dies_at rows site kept = omega (arith, kept.dies, filter-le (λ (d : DieRow). d.site == site) (dies_of rows))
+
+-- a file whose bytes show in print
+abbrev pub IsPrinting : List ℕ → Type 0
+IsPrinting file = list_all is_printing file ≡ true
+
+-- one file alone
+alone : (file : List ℕ) → IsPrinting file → All IsPrinting (file ∷ [])
+alone file is zero d within = is
+alone file is (suc k) d within = absurd (omega arith)
+
+-- one more file
+with_file-printing : (files : List (List ℕ)) (file : List ℕ) → All IsPrinting files → IsPrinting file → All IsPrinting (with_file files file)
+with_file-printing files file all is = by (list_any (bytes_eq file) files)
+  where
+    by : (b : Bool) → All IsPrinting (cond b files (files ++ file ∷ []))
+    by true = all
+    by false = All-append IsPrinting files (file ∷ []) all (alone file is)
+
+-- the files of more dies
+folded-printing : (files : List (List ℕ)) (dies : List DieRow) → All IsPrinting files → All (λ d. is_name d.file ≡ true) dies
+    → All IsPrinting (fold (λ files d. with_file files d.file) files dies)
+folded-printing files [] all each = all
+folded-printing files (d ∷ ds) all each =
+    let here : is_name d.file ≡ true = All-head (λ (x : DieRow). is_name x.file ≡ true) d ds each in
+    folded-printing (with_file files d.file) ds (with_file-printing files d.file all (and_parts _ (list_all is_printing d.file) here).1)
+    (All-tail (λ (x : DieRow). is_name x.file ≡ true) d ds each)
+
+-- the bytes of a plan's files show in print
+pub files_of-printing : (rows : List Row) → AreKept rows → All IsPrinting (files_of rows)
+files_of-printing rows kept = folded-printing [] (dies_of rows) (λ k d within. absurd (omega arith)) kept.files

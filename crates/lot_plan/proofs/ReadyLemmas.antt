@@ -18,7 +18,8 @@ use Rattle.plan_rows.specs.declared.row.FaultRow.{FaultRow}
 use Rattle.plan_rows.specs.Rows.{AreKept, each_of, as_fault, dies_of, dies_at, faults_at, files_of, with_file, lot_of}
 use Rattle.lot_plan.specs.declared.bound_die.BoundDie.{BoundDie}
 use Rattle.lot_plan.specs.declared.bound_die.DieFault.{DieFault}
-use Rattle.lot_plan.specs.Ask.{Wish, wishes_of, clock_of}
+use Rattle.text_bytes.proofs.BoolLemmas.{or_left, or_right}
+use Rattle.lot_plan.specs.Needs.{PinNeed, needs_of, clock_of}
 use Rattle.lot_plan.specs.Binds.{binds_of, list_of, unbound_in}
 use Rattle.lot_plan.specs.Bound.{Bound, no_circuit, die_at, file_of, circuit_of, binding_to, binding_of, numbered, is_active, active_at, faults_of, loaded}
 use Rattle.lot_plan.specs.Building.{circuit_no, binding_no, no_binding, IsBuilt, AreBuilt, IsReady, AreReady}
@@ -72,12 +73,12 @@ faults-have known execs circuit rows s d accepted k f within =
     ∙ ap (λ t. is_net (circuit s t) g.net) (eqb-true g.die d parts.1)) ∙ both.0)
 
 -- what a try loads is sound
-loaded-sound : (c : Circuit) (clock : Option ℕ) (wishes : List Wish) (faults : List FaultRow) (n : ℕ) → IsWhole c →
-    unbound_in (binds_of c wishes) ≡ None →
+loaded-sound : (c : Circuit) (clock : Option ℕ) (needs : List PinNeed) (faults : List FaultRow) (n : ℕ) → IsWhole c →
+    unbound_in (binds_of c needs) ≡ None →
     All (HasNet c) faults → ApartAt (λ f. f.net) faults →
-    IsSound (loaded c (record { clock = clock; nets = list_of (binds_of c wishes) }) n (map (numbered c) faults))
-loaded-sound c clock wishes faults n whole bound have apart =
-    let w = wired c wishes whole bound in
+    IsSound (loaded c (record { clock = clock; nets = list_of (binds_of c needs) }) n (map (numbered c) faults))
+loaded-sound c clock needs faults n whole bound have apart =
+    let w = wired c needs whole bound in
     let numbers : All (λ (d : DieFault). d.stuck.net < length c.net.drivers) (map (numbered c) faults) =
     All-map (λ (d : DieFault). d.stuck.net < length c.net.drivers) (numbered c) faults
     (λ k f within. omega (arith, have k f within, whole.drivers)) in
@@ -107,13 +108,6 @@ number-there (k ∷ ks) n e =
       | inr b ↦ subst (λ (x : Bool). cond {A = ℕ} (not x) (1 + number ks n) 0 < suc (length ks)) (sym b)
           (omega (arith, number-there ks n (sym (ap (λ x. x || list_any (bytes_eq n) ks) b) ∙ e)))
     ]
-
-or_left : (a b : Bool) → a ≡ true → (a || b) ≡ true
-or_left a b e = ap (λ x. x || b) e
-
-or_right : (a b : Bool) → b ≡ true → (a || b) ≡ true
-or_right true b e = refl
-or_right false b e = e
 
 there-added : (files : List (List ℕ)) (file n : List ℕ) → (list_any (bytes_eq n) files || bytes_eq n file) ≡ true →
     list_any (bytes_eq n) (with_file files file) ≡ true
@@ -148,22 +142,22 @@ circuit-whole b s d bound within = bound.whole (file_of b.rows s d) no_circuit
     (omega (arith, bound.files, file-below b.rows s d within))
 
 refusals : (b : Bound) → refusal b ≡ None → (rows_refusal (is_signal b.signals) b.execs (circuit_of b) 1 b.rows ≡ None)
-    × (first_unbound (wishes_of b.rows b.signals) b.circuits ≡ None)
+    × (first_unbound (needs_of b.rows b.signals) b.circuits ≡ None)
 refusals b accepted =
     let both = none_both (rows_refusal (is_signal b.signals) b.execs (circuit_of b) 1 b.rows) _ accepted in
-    (both.0, none-mapped _ (first_unbound (wishes_of b.rows b.signals) b.circuits) both.1)
+    (both.0, none-mapped _ (first_unbound (needs_of b.rows b.signals) b.circuits) both.1)
 
 circuit-bound : (b : Bound) (s d : ℕ) → IsBound b → d < length (dies_at s b.rows) →
-    unbound_in (binds_of (circuit_of b s d) (wishes_of b.rows b.signals)) ≡ None
+    unbound_in (binds_of (circuit_of b s d) (needs_of b.rows b.signals)) ≡ None
 circuit-bound b s d bound within =
-    each-bound (wishes_of b.rows b.signals) b.circuits (refusals b bound.accepted).1 (file_of b.rows s d) no_circuit
+    each-bound (needs_of b.rows b.signals) b.circuits (refusals b bound.accepted).1 (file_of b.rows s d) no_circuit
     (omega (arith, bound.files, file-below b.rows s d within))
 
 -- what a try of a die loads is sound
 pub image-sound : (b : Bound) (s d n : ℕ) → IsBound b → d < length (dies_at s b.rows) →
     IsSound (loaded (circuit_of b s d) (binding_of b s d) n (faults_of b s d))
 image-sound b s d n bound within =
-    loaded-sound (circuit_of b s d) (clock_of b.rows b.signals) (wishes_of b.rows b.signals) (faults_at s d b.rows) n
+    loaded-sound (circuit_of b s d) (clock_of b.rows b.signals) (needs_of b.rows b.signals) (faults_at s d b.rows) n
     (circuit-whole b s d bound within)
     (circuit-bound b s d bound within)
     (faults-have (is_signal b.signals) b.execs (circuit_of b) b.rows s d (refusals b bound.accepted).0)
@@ -267,13 +261,13 @@ rows-same b known sites kept groups names =
 -- a plan that nothing refuses is bound
 pub is-bound : (b : Bound) → AreKept b.rows → length b.circuits ≡ length (files_of b.rows) → All IsWhole b.circuits →
     rows_refusal (is_signal b.signals) b.execs (circuit_of b) 1 b.rows ≡ None →
-    first_unbound (wishes_of b.rows b.signals) b.circuits ≡ None → IsBound b
+    first_unbound (needs_of b.rows b.signals) b.circuits ≡ None → IsBound b
 is-bound b kept files whole rows bound = record {
   kept = kept;
   files = files;
   whole = whole;
   accepted = ap (λ o. option_or o
-      (option_map (λ name. refused.Unbound name) (first_unbound (wishes_of b.rows b.signals) b.circuits))) rows
+      (option_map (λ name. refused.Unbound name) (first_unbound (needs_of b.rows b.signals) b.circuits))) rows
       ∙ ap (option_map (λ name. refused.Unbound name)) bound;
 }
 

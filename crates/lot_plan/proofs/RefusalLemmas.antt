@@ -10,7 +10,7 @@ use Rattle.plan_rows.specs.declared.row.Row.{Row}
 use Rattle.plan_rows.specs.declared.row.Row.TheVariants as row
 use Rattle.plan_rows.specs.declared.row.FaultRow.{FaultRow}
 use Rattle.plan_rows.specs.Rows.{each_of, as_fault}
-use Rattle.lot_plan.specs.Ask.{Wish}
+use Rattle.lot_plan.specs.Needs.{PinNeed}
 use Rattle.lot_plan.specs.Binds.{binds_of, unbound_in}
 use Rattle.lot_plan.specs.Refusal.{unless, is_net, row_refusal, rows_refusal, first_unbound}
 
@@ -88,13 +88,13 @@ same_refusal known test execs circuit other (row.Bin x ∷ rows) n names all =
     (same_refusal known test execs circuit other rows (n + 1) names all)
 
 -- where no signal is unbound, none is in any circuit
-pub each-bound : (wishes : List Wish) (circuits : List Circuit) → first_unbound wishes circuits ≡ None →
-    All (λ c. unbound_in (binds_of c wishes) ≡ None) circuits
-each-bound wishes [] is = All-nil (λ (c : Circuit). unbound_in (binds_of c wishes) ≡ None)
-each-bound wishes (c ∷ circuits) is =
-    All-cons (λ (c : Circuit). unbound_in (binds_of c wishes) ≡ None) c circuits
-    (none_first (unbound_in (binds_of c wishes)) (first_unbound wishes circuits) is)
-    (each-bound wishes circuits (none_second (unbound_in (binds_of c wishes)) (first_unbound wishes circuits) is))
+pub each-bound : (needs : List PinNeed) (circuits : List Circuit) → first_unbound needs circuits ≡ None →
+    All (λ c. unbound_in (binds_of c needs) ≡ None) circuits
+each-bound needs [] is = All-nil (λ (c : Circuit). unbound_in (binds_of c needs) ≡ None)
+each-bound needs (c ∷ circuits) is =
+    All-cons (λ (c : Circuit). unbound_in (binds_of c needs) ≡ None) c circuits
+    (none_first (unbound_in (binds_of c needs)) (first_unbound needs circuits) is)
+    (each-bound needs circuits (none_second (unbound_in (binds_of c needs)) (first_unbound needs circuits) is))
 
 pub none-mapped : {X Y : Type 0} (f : X → Y) (o : Option X) → option_map f o ≡ None → o ≡ None
 none-mapped f None is = refl

@@ -13,7 +13,7 @@ use Rattle.plan_rows.specs.declared.row.Row.TheVariants as row
 use Rattle.plan_rows.specs.declared.row.Ending.TheVariants as ending
 use Rattle.tester_types.specs.declared.record.Verdict.TheVariants as verdict
 use Rattle.tester_types.specs.declared.record.By.TheVariants as by
-use Rattle.lot_plan.specs.Ask.{wishes_of, clock_of}
+use Rattle.lot_plan.specs.Needs.{needs_of, clock_of}
 use Rattle.lot_plan.specs.Binds.{binds_of}
 use Rattle.lot_plan.specs.Bound.{Bound, image_of, stop_of}
 use Rattle.lot_plan.specs.Readings.{first_of, bin_of}
@@ -49,19 +49,19 @@ abbrev clocked : List Row
 clocked = row.Clock (codes "K") ∷ moved
 
 -- a signal has the net of its name
-named : binds_of nets (wishes_of [] signals) ≡ Ok (bind.Input 0 ∷ bind.Output 2 ∷ [])
+named : binds_of nets (needs_of [] signals) ≡ Ok (bind.Input 0 ∷ bind.Output 2 ∷ [])
 named = refl
 
 -- an output that is no net is unbound
-unbound : binds_of nets (wishes_of [] (record { name = codes "Y"; direction = direction.Out } ∷ [])) ≡ Err (codes "Y")
+unbound : binds_of nets (needs_of [] (record { name = codes "Y"; direction = direction.Out } ∷ [])) ≡ Err (codes "Y")
 unbound = refl
 
 -- an input is driven once
-once : binds_of nets (wishes_of moved twice) ≡ Err (codes "K")
+once : binds_of nets (needs_of moved twice) ≡ Err (codes "K")
 once = refl
 
 -- but a clock behind it is free
-clock_free : binds_of nets (wishes_of clocked twice) ≡ Ok (bind.Input 0 ∷ bind.Free ∷ [])
+clock_free : binds_of nets (needs_of clocked twice) ≡ Ok (bind.Input 0 ∷ bind.Free ∷ [])
 clock_free = refl
 
 -- the clock is the second signal

@@ -11,7 +11,7 @@ use Rattle.bench_net.specs.declared.gate.Driver.TheVariants as driver
 use Rattle.die_sim.specs.Die.{bind_at, IsNetBind}
 use Rattle.die_sim.specs.declared.image.Bind.{Bind}
 use Rattle.die_sim.specs.declared.image.Bind.TheVariants as bind
-use Rattle.lot_plan.specs.Ask.{Wish}
+use Rattle.lot_plan.specs.Needs.{PinNeed}
 use Rattle.lot_plan.specs.Binds.{is_open, is_input, drives, bind_to, is_driven, bound_or, binds_from, binds_of, unbound_in, list_of}
 use Rattle.lot_plan.proofs.BindLemmas.{Fits, bind_to-fits, is_input-within, is_output-within}
 
@@ -93,31 +93,31 @@ wired-push c before b whole wired fits = record {
   ];
 }
 
-wired-next : (c : Circuit) (w : Wish) (wishes : List Wish) (before binds : List Bind) (o : Option Bind) →
+wired-next : (c : Circuit) (w : PinNeed) (needs : List PinNeed) (before binds : List Bind) (o : Option Bind) →
     bind_to c (is_driven before) w.role w.net ≡ o →
-    ((b : Bind) → Fits c (is_driven before) b → binds_from c (before ++ b ∷ []) wishes ≡ Ok binds → AreWired c binds) →
-    bound_or w.name o (λ b. binds_from c (before ++ b ∷ []) wishes) ≡ Ok binds → AreWired c binds
-wired-next c w wishes before binds None found rest is = cc
-wired-next c w wishes before binds (Some b) found rest is = rest b (bind_to-fits c (is_driven before) w.role w.net b found) is
+    ((b : Bind) → Fits c (is_driven before) b → binds_from c (before ++ b ∷ []) needs ≡ Ok binds → AreWired c binds) →
+    bound_or w.name o (λ b. binds_from c (before ++ b ∷ []) needs) ≡ Ok binds → AreWired c binds
+wired-next c w needs before binds None found rest is = cc
+wired-next c w needs before binds (Some b) found rest is = rest b (bind_to-fits c (is_driven before) w.role w.net b found) is
 
-wired-from : (c : Circuit) (wishes : List Wish) (before binds : List Bind) → IsWhole c → AreWired c before →
-    binds_from c before wishes ≡ Ok binds → AreWired c binds
+wired-from : (c : Circuit) (needs : List PinNeed) (before binds : List Bind) → IsWhole c → AreWired c before →
+    binds_from c before needs ≡ Ok binds → AreWired c binds
 wired-from c [] before binds whole wired is = let same : before ≡ binds = cc in subst (AreWired c) same wired
-wired-from c (w ∷ wishes) before binds whole wired is =
-    wired-next c w wishes before binds (bind_to c (is_driven before) w.role w.net) refl
-    (λ b fits next. wired-from c wishes (before ++ b ∷ []) binds whole (wired-push c before b whole wired fits) next) is
+wired-from c (w ∷ needs) before binds whole wired is =
+    wired-next c w needs before binds (bind_to c (is_driven before) w.role w.net) refl
+    (λ b fits next. wired-from c needs (before ++ b ∷ []) binds whole (wired-push c before b whole wired fits) next) is
 
 ok-list : (r : Result (List Bind) (List ℕ)) → unbound_in r ≡ None → r ≡ Ok (list_of r)
 ok-list (Ok binds) is = refl
 ok-list (Err name) is = cc
 
 -- the binds of a circuit that leaves no signal unbound
-pub wired : (c : Circuit) (wishes : List Wish) → IsWhole c → unbound_in (binds_of c wishes) ≡ None →
-    AreWired c (list_of (binds_of c wishes))
-wired c wishes whole bound =
-    wired-from c wishes [] (list_of (binds_of c wishes)) whole
+pub wired : (c : Circuit) (needs : List PinNeed) → IsWhole c → unbound_in (binds_of c needs) ≡ None →
+    AreWired c (list_of (binds_of c needs))
+wired c needs whole bound =
+    wired-from c needs [] (list_of (binds_of c needs)) whole
     (record {
       each = λ s within. absurd (omega (arith, within));
       one = λ s t n s_within t_within s_at t_at. absurd (omega (arith, s_within));
     })
-    (ok-list (binds_of c wishes) bound)
+    (ok-list (binds_of c needs) bound)

@@ -9,7 +9,7 @@ use Rattle.die_sim.specs.declared.image.Bind.{Bind}
 use Rattle.die_sim.specs.declared.image.Bind.TheVariants as bind
 use Rattle.lot_plan.specs.declared.pin.Role.{Role}
 use Rattle.lot_plan.specs.declared.pin.Role.TheVariants as role
-use Rattle.lot_plan.specs.Ask.{Wish}
+use Rattle.lot_plan.specs.Needs.{PinNeed}
 
 -- whether nothing in the circuit drives the net, and so a signal may
 abbrev pub is_open : Driver → Bool
@@ -47,7 +47,7 @@ bind_as c driven role.Input n = as_input c driven n
 bind_as c driven role.Output n = as_output c n
 bind_as c driven role.Either n = if is_input c n then as_input c driven n else as_output c n
 
--- how a signal is bound to the net that it asks for, if it can be; free where it asks for none
+-- how a signal is bound to the net that it needs, if it can be; free where it needs none
 abbrev pub bind_to : Circuit → (ℕ → Bool) → Role → Option (List ℕ) → Option Bind
 bind_to c driven role None = Some bind.Free
 bind_to c driven role (Some name) = bind_as c driven role (number c.net.names name)
@@ -62,14 +62,14 @@ bound_or name None next = Err name
 bound_or name (Some b) next = next b
 
 -- the signals behind others are bound in order, or else the name of the first that can't be
-abbrev pub binds_from : Circuit → List Bind → List Wish → Result (List Bind) (List ℕ)
+abbrev pub binds_from : Circuit → List Bind → List PinNeed → Result (List Bind) (List ℕ)
 binds_from c before [] = Ok before
-binds_from c before (w ∷ wishes) = bound_or w.name (bind_to c (is_driven before) w.role w.net)
-    (λ b. binds_from c (before ++ b ∷ []) wishes)
+binds_from c before (w ∷ needs) = bound_or w.name (bind_to c (is_driven before) w.role w.net)
+    (λ b. binds_from c (before ++ b ∷ []) needs)
 
 -- all signals
-abbrev pub binds_of : Circuit → List Wish → Result (List Bind) (List ℕ)
-binds_of c wishes = binds_from c [] wishes
+abbrev pub binds_of : Circuit → List PinNeed → Result (List Bind) (List ℕ)
+binds_of c needs = binds_from c [] needs
 
 -- the binds, and none where a signal has none
 abbrev pub list_of : Result (List Bind) (List ℕ) → List Bind

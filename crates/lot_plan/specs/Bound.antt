@@ -13,11 +13,11 @@ use Rattle.plan_rows.specs.declared.row.DieRow.{DieRow}
 use Rattle.plan_rows.specs.declared.row.FaultRow.{FaultRow}
 use Rattle.plan_rows.specs.Rows.{dies_at, faults_at, stops_at, files_of}
 use Rattle.lot_plan.specs.declared.bound_die.DieFault.{DieFault}
-use Rattle.lot_plan.specs.Ask.{wishes_of, clock_of}
+use Rattle.lot_plan.specs.Needs.{needs_of, clock_of}
 use Rattle.lot_plan.specs.Binds.{binds_of, list_of}
 
--- the rows of a plan, what they need of the program that they are bound to (its signals, and how many executives it has),
--- and the circuits of the plan's files, in order
+-- the rows of a plan, what they need of the program that they are bound to (its signals, and how many executives it
+-- has), and the circuits of the plan's files, in order
 pub record Bound : Type 0 where
   pub rows : List Row
   pub signals : List CodeSignal
@@ -42,7 +42,7 @@ circuit_of b site die = slice_index_or b.circuits (file_of b.rows site die) no_c
 
 -- how the signals are bound to a circuit
 abbrev pub binding_to : Bound → Circuit → Binding
-binding_to b c = record { clock = clock_of b.rows b.signals; nets = list_of (binds_of c (wishes_of b.rows b.signals)) }
+binding_to b c = record { clock = clock_of b.rows b.signals; nets = list_of (binds_of c (needs_of b.rows b.signals)) }
 
 -- how the signals are bound to the circuit of a die
 abbrev pub binding_of : Bound → ℕ → ℕ → Binding

@@ -22,7 +22,8 @@ abbrev pub binding_no : List Binding → ℕ → Binding
 binding_no bindings file = slice_index_or bindings file no_binding
 
 -- what is loaded for each of so many tries
-pub record AreImages (c : Circuit) (binding : Binding) (faults : List DieFault) (tries : ℕ) (images : List Image) : Type 0 where
+pub record AreImages (c : Circuit) (binding : Binding) (faults : List DieFault) (tries : ℕ)
+    (images : List Image) : Type 0 where
   pub count : length images ≡ tries
   pub each : (k : ℕ) → k < length images → slice_get images k ≡ Some (loaded c binding (k + 1) faults)
 
@@ -49,8 +50,8 @@ pub record IsSiteBuilt (circuits : List Circuit) (bindings : List Binding) (trie
     (dies : List BoundDie) : Type 0 where
   pub count : length dies ≡ length site
   pub each : (d : ℕ) → d < length dies
-      → IsBuilt (circuit_no circuits (rows_of site d).file) (binding_no bindings (rows_of site d).file) tries (rows_of site d)
-      (slice_index_or dies d no_die)
+      → IsBuilt (circuit_no circuits (rows_of site d).file) (binding_no bindings (rows_of site d).file) tries
+      (rows_of site d) (slice_index_or dies d no_die)
 
 -- each die of each site is ready
 abbrev pub AreReady : List Circuit → List Binding → List (List DieRows) → Type 0

@@ -40,8 +40,8 @@ file_in sites site die = option_and_then (λ dies. option_map (λ d. d.file) (sl
 
 -- the circuit of a die, if it is there
 abbrev pub circuit_in : List (List DieRows) → List Circuit → ℕ → ℕ → Circuit
-circuit_in sites circuits site die = option_map_or (λ file. slice_index_or circuits file no_circuit) (file_in sites site die)
-    no_circuit
+circuit_in sites circuits site die =
+    option_map_or (λ file. slice_index_or circuits file no_circuit) (file_in sites site die) no_circuit
 
 -- one more fault
 abbrev pub with_fault : DieRows → FaultRow → DieRows
@@ -61,11 +61,13 @@ put_die files sites d = slice_set sites d.site (group_at sites d.site ++ new_die
 
 -- one more fault at its die
 abbrev pub put_fault : List (List DieRows) → FaultRow → List (List DieRows)
-put_fault sites f = slice_set sites f.site (slice_set (group_at sites f.site) f.die (with_fault (rows_at sites f.site f.die) f))
+put_fault sites f =
+    slice_set sites f.site (slice_set (group_at sites f.site) f.die (with_fault (rows_at sites f.site f.die) f))
 
 -- one more stop at its die
 abbrev pub put_stop : List (List DieRows) → StopRow → List (List DieRows)
-put_stop sites s = slice_set sites s.site (slice_set (group_at sites s.site) s.die (with_stop (rows_at sites s.site s.die) s))
+put_stop sites s =
+    slice_set sites s.site (slice_set (group_at sites s.site) s.die (with_stop (rows_at sites s.site s.die) s))
 
 -- a die is there
 pub record IsThere (sites : List (List DieRows)) (site number : ℕ) : Type 0 where

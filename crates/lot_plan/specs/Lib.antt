@@ -1,4 +1,4 @@
-pub mod Ask
+pub mod Needs
 pub mod Binds
 pub mod Bound
 pub mod Building

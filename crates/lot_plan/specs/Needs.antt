@@ -1,4 +1,4 @@
--- What the rows of a plan ask for each signal: its role, and the name of its net.
+-- What the rows of a plan need for each signal: its role, and the name of its net.
 use Rattle.std.specs.Prelude.{ℕ, Bool, true, false, Option, Some, List, map, slice_get}
 use Rattle.std.specs.List.{find, position}
 use Rattle.std.specs.Option.{option_map_or, option_and_then}
@@ -12,8 +12,8 @@ use Rattle.plan_rows.specs.Rows.{each_of, as_clock, as_bind}
 use Rattle.lot_plan.specs.declared.pin.Role.{Role}
 use Rattle.lot_plan.specs.declared.pin.Role.TheVariants as role
 
--- what a signal asks of each circuit: its own name, its role, and the name of its net, none where it is left free
-pub record Wish : Type 0 where
+-- what a signal needs of each circuit: its own name, its role, and the name of its net, none where it is left free
+pub record PinNeed : Type 0 where
   pub name : List ℕ
   pub role : Role
   pub net : Option (List ℕ)
@@ -43,17 +43,17 @@ role_of false direction.InOut = role.Either
 role_of false direction.Supply = role.Nothing
 role_of false direction.Pseudo = role.Nothing
 
--- what a signal asks
-abbrev pub wish_of : List Row → CodeSignal → Wish
-wish_of rows s = record {
+-- what a signal needs
+abbrev pub need_of : List Row → CodeSignal → PinNeed
+need_of rows s = record {
   name = s.name;
   role = role_of (is_clock_name (clock_name rows) s.name) s.direction;
   net = net_name rows s.name;
 }
 
--- what the signals ask, in declared order
-abbrev pub wishes_of : List Row → List CodeSignal → List Wish
-wishes_of rows signals = map (wish_of rows) signals
+-- what the signals need, in declared order
+abbrev pub needs_of : List Row → List CodeSignal → List PinNeed
+needs_of rows signals = map (need_of rows) signals
 
 -- whether a signal has this name
 abbrev pub has_name : List ℕ → CodeSignal → Bool

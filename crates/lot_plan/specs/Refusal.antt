@@ -12,7 +12,7 @@ use Rattle.plan_rows.specs.declared.row.Row.TheVariants as row
 use Rattle.plan_rows.specs.declared.row.Ending.{Ending}
 use Rattle.plan_rows.specs.declared.row.Ending.TheVariants as ending
 use Rattle.plan_rows.specs.Rows.{AreKept, files_of}
-use Rattle.lot_plan.specs.Ask.{Wish, has_name, wishes_of}
+use Rattle.lot_plan.specs.Needs.{PinNeed, has_name, needs_of}
 use Rattle.lot_plan.specs.Binds.{binds_of, list_of, unbound_in}
 use Rattle.lot_plan.specs.Bound.{Bound, circuit_of}
 
@@ -35,7 +35,8 @@ ending_refusal execs number (ending.Fail exec) = unless (nat_lt exec execs) (Out
 ending_refusal execs number ending.Stopped = None
 ending_refusal execs number ending.Contact = None
 
--- the fault of the row of this number: a clock or a bind row of no signal, a fault of no net of its die, a bin of no executive
+-- the fault of the row of this number: a clock or a bind row of no signal, a fault of no net of its die, a bin of no
+-- executive
 abbrev pub row_refusal : (List ℕ → Bool) → ℕ → (ℕ → ℕ → Circuit) → ℕ → Row → Option PlanFault
 row_refusal known execs circuit number (row.Lot l) = None
 row_refusal known execs circuit number (row.Clock name) = unless (known name) (UnknownName number)
@@ -52,25 +53,25 @@ rows_refusal known execs circuit number (r ∷ rows) =
     option_or (row_refusal known execs circuit number r) (rows_refusal known execs circuit (number + 1) rows)
 
 -- the first signal without a net, circuit by circuit
-abbrev pub first_unbound : List Wish → List Circuit → Option (List ℕ)
-first_unbound wishes [] = None
-first_unbound wishes (c ∷ circuits) = option_or (unbound_in (binds_of c wishes)) (first_unbound wishes circuits)
+abbrev pub first_unbound : List PinNeed → List Circuit → Option (List ℕ)
+first_unbound needs [] = None
+first_unbound needs (c ∷ circuits) = option_or (unbound_in (binds_of c needs)) (first_unbound needs circuits)
 
 -- the binding of a circuit
-abbrev pub binding_by : Option ℕ → List Wish → Circuit → Binding
-binding_by clock wishes c = record { clock = clock; nets = list_of (binds_of c wishes) }
+abbrev pub binding_by : Option ℕ → List PinNeed → Circuit → Binding
+binding_by clock needs c = record { clock = clock; nets = list_of (binds_of c needs) }
 
 -- the circuits are whole, and each signal is bound to each of them
-pub record AreBindings (circuits : List Circuit) (wishes : List Wish) (clock : Option ℕ) (bindings : List Binding) : Type
-    0 where
+pub record AreBindings (circuits : List Circuit) (needs : List PinNeed) (clock : Option ℕ)
+    (bindings : List Binding) : Type 0 where
   pub whole : All IsWhole circuits
-  pub bound : first_unbound wishes circuits ≡ None
-  pub each : bindings ≡ map (binding_by clock wishes) circuits
+  pub bound : first_unbound needs circuits ≡ None
+  pub each : bindings ≡ map (binding_by clock needs) circuits
 
 -- why a plan isn't bound, with its rows numbered from 1
 abbrev pub refusal : Bound → Option PlanFault
 refusal b = option_or (rows_refusal (is_signal b.signals) b.execs (circuit_of b) 1 b.rows)
-    (option_map Unbound (first_unbound (wishes_of b.rows b.signals) b.circuits))
+    (option_map Unbound (first_unbound (needs_of b.rows b.signals) b.circuits))
 
 -- what a bound plan keeps
 pub record IsBound (b : Bound) : Type 0 where

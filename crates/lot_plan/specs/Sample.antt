@@ -8,8 +8,8 @@ use Rattle.plan_rows.specs.declared.row.Ending.{Ending}
 abbrev pub lot_alone : List Row
 lot_alone = row.Lot (record { batch = 10; tries = 2; keep = 4 }) ∷ []
 
--- the same lot, a die d of site 0 in the file f, a fault of its first try at 1, a stop of its second try before batch 7,
--- and a bin 9
+-- the same lot, a die d of site 0 in the file f, a fault of its first try at 1, a stop of its second try before batch
+-- 7, and a bin 9
 abbrev pub one_die : List ℕ → Ending → List Row
 one_die net ending =
     row.Lot (record { batch = 10; tries = 2; keep = 4 })

@@ -11,7 +11,7 @@ use Rattle.lot_plan.specs.Readings.{first_of}
 use Rattle.lot_plan.specs.Refusal.{IsBound}
 
 -- what a plan keeps beside its rows
-pub record IsPlan (rows : List Row) (sites : ℕ) (files : List (List ℕ)) : Type 0 where
+pub record HasSitesAndFiles (rows : List Row) (sites : ℕ) (files : List (List ℕ)) : Type 0 where
   pub kept : AreKept rows
   pub few : length rows < 2 ^ 32
   pub count : sites ≡ sites_of rows

@@ -6,11 +6,11 @@ use Rattle.lot_plan.specs.declared.pin.Pin.{Pin}
 use Rattle.std.specs.Str.{bytes_eq}
 use Rattle.indexmap.specs.IndexMap.{IndexMap, get_by}
 use Rattle.plan_rows.specs.declared.row.BindRow.{BindRow}
-use Rattle.lot_plan.specs.Ask.{Wish}
+use Rattle.lot_plan.specs.Needs.{PinNeed}
 
--- what a pin asks
-abbrev pub asked_by : Pin → Wish
-asked_by p = record { name = p.name.now; role = p.role; net = option_copied p.net }
+-- what a pin needs
+abbrev pub needed_by : Pin → PinNeed
+needed_by p = record { name = p.name.now; role = p.role; net = option_copied p.net }
 
 -- what the references point to
 abbrev pub behind : {X : Type 0} → List (Bor X) → List X

@@ -8,7 +8,7 @@ ghost use Rattle.std.specs.Arc.{arc_value};
 ghost use Rattle.bench_net.specs.Circuit.{IsWhole};
 ghost use Rattle.plan_rows.specs.declared.fault.PlanFault.TheVariants as refused;
 ghost use Rattle.plan_rows.specs.Rows.{AreKept, sites_of, files_of};
-ghost use Rattle.lot_plan.specs.Ask.{clock_of, wishes_of};
+ghost use Rattle.lot_plan.specs.Needs.{clock_of, needs_of};
 ghost use Rattle.lot_plan.specs.Bound.{circuit_of};
 ghost use Rattle.lot_plan.specs.Groups.{AreGroups};
 ghost use Rattle.lot_plan.specs.Refusal.{is_signal, rows_refusal, first_unbound, AreBindings, refusal, IsBound};
@@ -61,11 +61,13 @@ fn check_rows(
     requires few { length rows.now < 2 ^ 32 }
     requires groups { AreGroups rows.now groups.now }
     ensures accepted { OnOk result (rows_refusal (is_signal signals.now) execs
-        (circuit_of (record { rows = rows.now; signals = signals.now; execs = execs; circuits = map arc_value nets.now })) 1
-        rows.now ≡ None) }
+        (circuit_of
+        (record { rows = rows.now; signals = signals.now; execs = execs; circuits = map arc_value nets.now }))
+        1 rows.now ≡ None) }
     ensures fault { IfErr result (λ e. (e ≡ refused.NoMemory) ⊎ (rows_refusal (is_signal signals.now) execs
-        (circuit_of (record { rows = rows.now; signals = signals.now; execs = execs; circuits = map arc_value nets.now })) 1
-        rows.now ≡ Some e)) }
+        (circuit_of
+        (record { rows = rows.now; signals = signals.now; execs = execs; circuits = map arc_value nets.now }))
+        1 rows.now ≡ Some e)) }
 {
     let names = names_of(alloc, signals)?;
     match refusal::rows_refusal(&names, execs, groups, nets, rows) {
@@ -90,10 +92,11 @@ fn bind_signals(
     nets: &[Arc<Netlist>],
 ) -> Result<Vec<Arc<Binding>>, PlanFault>
     requires { length signals.now ≤ 1024 }
-    ensures found { IfOk result (λ bindings. AreBindings (map arc_value nets.now) (wishes_of rows.now signals.now)
+    ensures found { IfOk result (λ bindings. AreBindings (map arc_value nets.now) (needs_of rows.now signals.now)
         (clock_of rows.now signals.now) (map arc_value bindings.items)) }
     ensures fault { IfErr result (λ e. (e ≡ refused.NoMemory)
-        ⊎ (option_map refused.Unbound (first_unbound (wishes_of rows.now signals.now) (map arc_value nets.now)) ≡ Some e)) }
+        ⊎ (option_map refused.Unbound (first_unbound (needs_of rows.now signals.now) (map arc_value nets.now))
+        ≡ Some e)) }
 {
     let pins = pins_of(alloc, rows, signals)?;
     bindings_of(alloc, nets, &pins, clock_number(rows, signals))
@@ -114,7 +117,8 @@ pub(crate) fn made_of(
     requires signals { length signals.now ≤ 1024 }
     requires files { length nets.now ≡ length (files_of rows.now) }
     ensures found { IfOk result
-        (λ made. IsMade (record { rows = rows.now; signals = signals.now; execs = execs; circuits = map arc_value nets.now })
+        (λ made. IsMade
+        (record { rows = rows.now; signals = signals.now; execs = execs; circuits = map arc_value nets.now })
         (map arc_value made.bindings) made.dies) }
     ensures fault { IfErr result (λ e. (e ≡ refused.NoMemory)
         ⊎ (refusal (record { rows = rows.now; signals = signals.now; execs = execs; circuits = map arc_value nets.now })

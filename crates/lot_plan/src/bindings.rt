@@ -7,7 +7,7 @@ ghost use Rattle.die_sim.specs.declared.image.Bind.{Bind};
 ghost use Rattle.plan_rows.specs.declared.fault.PlanFault.TheVariants as refused;
 ghost use Rattle.lot_plan.specs.Binds.{is_input, is_output, drives, as_input, as_output, bind_as, bind_to, binds_of, list_of, unbound_in, IsMarkable, Marks};
 ghost use Rattle.lot_plan.specs.Refusal.{first_unbound, AreBindings};
-ghost use Rattle.lot_plan.specs.Views.{asked_by};
+ghost use Rattle.lot_plan.specs.Views.{needed_by};
 
 use crate::pin::{Pin, Role};
 use bench_net::Netlist;
@@ -87,7 +87,8 @@ fn bind_as(net: &Netlist, driven: &[bool], role: Role, number: u32) -> Option<Bi
 
 /// How a signal is bound, if it can be.
 fn bind_to(net: &Netlist, driven: &[bool], pin: &Pin<'_>) -> Option<Bind>
-    ensures { result ≡ bind_to net.now (λ n. slice_index_or driven.now n false) (asked_by pin.now).role (asked_by pin.now).net }
+    ensures { result
+        ≡ bind_to net.now (λ n. slice_index_or driven.now n false) (needed_by pin.now).role (needed_by pin.now).net }
 {
     match pin.net {
         Some(name) => bind_as(net, driven, pin.role, net_number(net, name)),
@@ -127,12 +128,12 @@ fn next_bind(
     requires nets { length driven.old.items ≡ length net.now.net.names }
     ensures count { length driven.new.items ≡ length driven.old.items }
     ensures found { IfOk result
-        (λ b. (bind_to net.now (λ n. slice_index_or driven.old.items n false) (asked_by pin.now).role (asked_by pin.now).net
-        ≡ Some b)
+        (λ b. (bind_to net.now (λ n. slice_index_or driven.old.items n false) (needed_by pin.now).role
+        (needed_by pin.now).net ≡ Some b)
         × Marks driven.old.items driven.new.items b) }
     ensures fault { IfErr result (λ e. (e ≡ refused.NoMemory)
-        ⊎ ((bind_to net.now (λ n. slice_index_or driven.old.items n false) (asked_by pin.now).role (asked_by pin.now).net
-        ≡ None) × (e ≡ refused.Unbound pin.now.name.now))) }
+        ⊎ ((bind_to net.now (λ n. slice_index_or driven.old.items n false) (needed_by pin.now).role
+        (needed_by pin.now).net ≡ None) × (e ≡ refused.Unbound pin.now.name.now))) }
 {
     let bind = bind_or(alloc, bind_to(net, driven, pin), pin.name)?;
     mark(driven, bind);
@@ -160,11 +161,11 @@ fn add_bind(binds: &mut Vec<Bind>, bind: Bind) -> Result<(), NoMemory>
 
 /// How the signals are bound to a netlist, or the refusal of the first that has no net.
 fn binds_of(alloc: Global, net: &Netlist, pins: &[Pin<'_>]) -> Result<BindList, PlanFault>
-    ensures found { IfOk result (λ binds. binds_of net.now (map asked_by pins.now) ≡ Ok binds) }
+    ensures found { IfOk result (λ binds. binds_of net.now (map needed_by pins.now) ≡ Ok binds) }
     ensures whole { OnOk result (IsWhole net.now) }
     ensures fault { IfErr result
-        (λ e. (e ≡ refused.NoMemory) ⊎ (option_map refused.Unbound (unbound_in (binds_of net.now (map asked_by pins.now)))
-        ≡ Some e)) }
+        (λ e. (e ≡ refused.NoMemory)
+        ⊎ (option_map refused.Unbound (unbound_in (binds_of net.now (map needed_by pins.now))) ≡ Some e)) }
 {
     let mut driven = no_marks(alloc, net.nets())?;
     let mut binds = Vec::new(alloc);
@@ -197,11 +198,11 @@ pub(crate) fn bindings_of(
     pins: &[Pin<'_>],
     clock: Option<u16>,
 ) -> Result<Vec<Arc<Binding>>, PlanFault>
-    ensures found { IfOk result (λ bindings. AreBindings (map arc_value nets.now) (map asked_by pins.now) clock
+    ensures found { IfOk result (λ bindings. AreBindings (map arc_value nets.now) (map needed_by pins.now) clock
         (map arc_value bindings.items)) }
     ensures fault { IfErr result
         (λ e. (e ≡ refused.NoMemory)
-        ⊎ (option_map refused.Unbound (first_unbound (map asked_by pins.now) (map arc_value nets.now)) ≡ Some e)) }
+        ⊎ (option_map refused.Unbound (first_unbound (map needed_by pins.now) (map arc_value nets.now)) ≡ Some e)) }
 {
     let mut bindings = Vec::new(alloc);
     for net in nets {

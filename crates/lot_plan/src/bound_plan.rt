@@ -1,4 +1,5 @@
 //! A plan that is bound to a program and netlists.
+
 ghost use Rattle.std.specs.Prelude.{◌≡◌, ◌==◌, ◌<◌, ◌≤◌, ◌^◌, map, length, IfOk};
 ghost use Rattle.std.specs.List.{find};
 ghost use Rattle.std.specs.Option.{option_map, option_map_or};
@@ -16,7 +17,7 @@ use crate::rows::{copies_of, first_of, lot_of};
 use bench_net::Netlist;
 use die_sim::{Binding, DieImage};
 use page_code::{Code, CodeSignalList};
-use plan_rows::{BinRow, Ending, LotRow, PlanFault, Row, RowList, StopRow};
+use plan_rows::{BinRow, Ending, LotRow, PlanFault, PlanRows, Row, StopRow};
 use std::alloc::Global;
 use std::marker::Model;
 use std::sync::Arc;
@@ -25,7 +26,7 @@ use tester_types::{Items, NoMemory, Verdict};
 /// A plan that is bound: for each try of each die what is loaded, and what else the lot needs.
 #[derive(Drop)]
 pub struct BoundPlan {
-    rows: RowList,
+    rows: PlanRows,
     signals: CodeSignalList,
     execs: u16,
     lot: LotRow,
@@ -44,11 +45,16 @@ impl Model for BoundPlan {
 
     ghost Value = { Bound };
 
-    ghost view = { λ p. record { rows = p.rows; signals = p.signals; execs = p.execs; circuits = map arc_value p.nets } };
+    ghost view = { λ p. record {
+      rows = p.rows;
+      signals = p.signals;
+      execs = p.execs;
+      circuits = map arc_value p.nets;
+    } };
 
     ghost invariant = { λ p. IsInStore
-        (record { rows = p.rows; signals = p.signals; execs = p.execs; circuits = map arc_value p.nets }) p.lot p.first p.bins
-        (map arc_value p.bindings) p.sites };
+        (record { rows = p.rows; signals = p.signals; execs = p.execs; circuits = map arc_value p.nets })
+        p.lot p.first p.bins (map arc_value p.bindings) p.sites };
 }
 
 impl BoundPlan {
@@ -157,7 +163,8 @@ impl BoundPlan {
     /// The bin of a die whose last try has this verdict: as the plan says, else 1 for a pass, 2 for fails in any
     /// executive, 3 where it was stopped, and 4 where contact was lost.
     pub fn bin(&self, verdict: &Verdict) -> u8
-        ensures { result ≡ bin_of self.now.rows verdict.now }
+        ensures bin { result ≡ bin_of self.now.rows verdict.now }
+        ensures within { (1 ≤ result) × (result ≤ 99) }
     {
         bin_in(self.bins.as_slice(), verdict)
     }
@@ -166,7 +173,7 @@ impl BoundPlan {
 /// The plan of these rows, bound to a program and netlists, or the first refusal.
 pub(crate) fn bound(
     alloc: Global,
-    rows: RowList,
+    rows: PlanRows,
     sites: u8,
     code: &Code,
     nets: Vec<Arc<Netlist>>,
@@ -252,7 +259,8 @@ fn usual_bin(verdict: &Verdict) -> u8
 
 /// The bin of the first of the rows that is of this verdict, else the usual one.
 fn bin_in(bins: &[BinRow], verdict: &Verdict) -> u8
-    ensures { result ≡ option_map_or (λ b. b.bin) (find (λ b. ends_so verdict.now b.ending) bins.now) (usual_bin verdict.now) }
+    ensures { result
+        ≡ option_map_or (λ b. b.bin) (find (λ b. ends_so verdict.now b.ending) bins.now) (usual_bin verdict.now) }
 {
     for bin in bins {
         if ends_so(verdict, bin.ending) {

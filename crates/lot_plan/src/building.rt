@@ -128,7 +128,8 @@ fn bound_die(
     tries: u8,
 ) -> Result<BoundDie, NoMemory>
     requires { (number : ℕ) →
-        IsSound (loaded (arc_value net.now) (arc_value bind.now) number (map (numbered (arc_value net.now)) group.now.faults)) }
+        IsSound (loaded (arc_value net.now) (arc_value bind.now) number
+        (map (numbered (arc_value net.now)) group.now.faults)) }
     ensures { IfOk result (λ die. IsBuilt (arc_value net.now) (arc_value bind.now) tries group.now die) }
 {
     let faults = numbered_rows(alloc, net, group.faults())?;
@@ -166,7 +167,8 @@ fn site_dies(
     tries: u8,
 ) -> Result<Items<BoundDie>, NoMemory>
     requires { IsSiteReady (map arc_value nets.now) (map arc_value bindings.now) site.now }
-    ensures { IfOk result (λ dies. IsSiteBuilt (map arc_value nets.now) (map arc_value bindings.now) tries site.now dies) }
+    ensures { IfOk result
+        (λ dies. IsSiteBuilt (map arc_value nets.now) (map arc_value bindings.now) tries site.now dies) }
 {
     let mut dies = Vec::new(alloc);
     for group in site {
@@ -184,7 +186,8 @@ pub(crate) fn dies_of(
     tries: u8,
 ) -> Result<Items<Items<BoundDie>>, NoMemory>
     requires { AreReady (map arc_value nets.now) (map arc_value bindings.now) sites.now }
-    ensures { IfOk result (λ dies. AreBuilt (map arc_value nets.now) (map arc_value bindings.now) tries sites.now dies) }
+    ensures { IfOk result
+        (λ dies. AreBuilt (map arc_value nets.now) (map arc_value bindings.now) tries sites.now dies) }
 {
     let mut dies = Vec::new(alloc);
     for site in sites {

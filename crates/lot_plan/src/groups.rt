@@ -30,7 +30,12 @@ impl<'a> Model for DieGroup<'a> {
 
     ghost Value = { DieRows };
 
-    ghost view = { λ g. record { die = g.die.now; file = g.file; faults = behind g.faults.items; stops = g.stops.items } };
+    ghost view = { λ g. record {
+      die = g.die.now;
+      file = g.file;
+      faults = behind g.faults.items;
+      stops = g.stops.items;
+    } };
 }
 
 impl<'a> DieGroup<'a> {
@@ -197,7 +202,8 @@ fn with_dies<'a>(
     dies: &[&'a DieRow],
 ) -> Result<Vec<SiteGroup<'a>>, AllocError>
     requires { All (λ d. d.site < sites) (behind dies.now) }
-    ensures { IfOk result (λ made. made.items ≡ fold (put_die (texts files.now.keys)) (replicate sites []) (behind dies.now)) }
+    ensures { IfOk result
+        (λ made. made.items ≡ fold (put_die (texts files.now.keys)) (replicate sites []) (behind dies.now)) }
 {
     let mut made = empty_sites(alloc, sites)?;
     for die in dies {

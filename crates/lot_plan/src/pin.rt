@@ -1,4 +1,4 @@
-//! What each signal asks of the netlists that it is bound to.
+//! What each signal needs of the netlists that it is bound to.
 
 /// What a signal does with its net.
 #[derive(Clone, Copy, Debug, PartialEq, Eq)]
@@ -15,7 +15,7 @@ pub enum Role {
     Either,
 }
 
-/// What a signal asks of each netlist: its own name, its role, and the name of its net, none where it is left free.
+/// What a signal needs of each netlist: its own name, its role, and the name of its net, none where it is left free.
 #[derive(Drop)]
 pub struct Pin<'a> {
     pub name: &'a [u8],

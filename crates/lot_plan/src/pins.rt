@@ -1,11 +1,11 @@
-//! What each signal asks, by the rows of a plan.
+//! What each signal needs, by the rows of a plan.
 ghost use Rattle.std.specs.Prelude.{◌≡◌, ◌<◌, ◌≤◌, ℕ, List, None, Some, if◌then◌else◌, map, length, slice_get, IfOk, OnOk};
 ghost use Rattle.std.specs.Option.{option_copied, option_map_or, option_or, option_and_then};
 ghost use Rattle.std.specs.List.{find, position};
 ghost use Rattle.std.specs.Str.{bytes_eq};
 ghost use Rattle.indexmap.specs.IndexMap.{get_by};
-ghost use Rattle.lot_plan.specs.Ask.{clock_of, has_name, is_clock_name, role_of, wishes_of};
-ghost use Rattle.lot_plan.specs.Views.{asked_by, behind, row_in};
+ghost use Rattle.lot_plan.specs.Needs.{clock_of, has_name, is_clock_name, role_of, needs_of};
+ghost use Rattle.lot_plan.specs.Views.{needed_by, behind, row_in};
 
 use crate::pin::{Pin, Role};
 use crate::rows::{clock_of, each_of};
@@ -44,7 +44,8 @@ fn signal_of(alloc: Global, code: &Code, number: u16) -> Result<CodeSignal, NoMe
 /// Puts a bind row behind the others, unless its signal has one.
 fn add_row<'a>(rows: &mut BindRows<'a>, row: &'a BindRow) -> Result<(), NoMemory>
     ensures { OnOk result ((name : List ℕ) →
-        row_in rows.new name ≡ option_or (row_in rows.old name) (if bytes_eq name row.now.signal then Some row.now else None)) }
+        row_in rows.new name
+        ≡ option_or (row_in rows.old name) (if bytes_eq name row.now.signal then Some row.now else None)) }
 {
     let name = row.signal.as_slice();
     if rows.contains_key(name) {
@@ -111,9 +112,9 @@ fn role_of(is_clock: bool, direction: Direction) -> Role
     }
 }
 
-/// What a signal asks.
+/// What a signal needs.
 fn pin_of<'a>(clock: Option<&'a [u8]>, rows: &BindRows<'a>, signal: &'a CodeSignal) -> Pin<'a>
-    ensures { asked_by result ≡ record {
+    ensures { needed_by result ≡ record {
       name = signal.now.name;
       role = role_of (is_clock_name (option_copied clock.entry) signal.now.name) signal.now.direction;
       net = option_map_or (λ r. r.net) (row_in rows.now signal.now.name) (Some signal.now.name);
@@ -127,13 +128,13 @@ fn pin_of<'a>(clock: Option<&'a [u8]>, rows: &BindRows<'a>, signal: &'a CodeSign
     }
 }
 
-/// What the signals ask, in declared order.
+/// What the signals need, in declared order.
 pub(crate) fn pins_of<'a>(
     alloc: Global,
     rows: &'a [Row],
     signals: &'a [CodeSignal],
 ) -> Result<Vec<Pin<'a>>, NoMemory>
-    ensures { IfOk result (λ pins. map asked_by pins.items ≡ wishes_of rows.now signals.now) }
+    ensures { IfOk result (λ pins. map needed_by pins.items ≡ needs_of rows.now signals.now) }
 {
     let clock = clock_of(rows);
     let binds = each_of::<BindRow>(alloc, rows)?;

@@ -1,6 +1,10 @@
 //! A plan: rows that fit together.
-ghost use Rattle.std.specs.Prelude.{◌≡◌, ◌<◌, ◌≤◌, ◌^◌, ◌⊎◌, List, map, length, IfOk, IfErr, MatchResult};
+
+ghost use Rattle.std.specs.Prelude.{◌≡◌, ◌<◌, ◌≤◌, ◌^◌, ◌⊎◌, List, All, true, map, length, IfOk, IfErr, MatchResult};
 ghost use Rattle.std.specs.Arc.{arc_value};
+ghost use Rattle.std.specs.List.{list_all};
+ghost use Rattle.text_bytes.specs.Bytes.{is_printing};
+ghost use Rattle.text_bytes.specs.Limits.{most_bytes};
 ghost use Rattle.bench_net.specs.Views.{texts};
 ghost use Rattle.plan_rows.specs.Rows.{AreKept, sites_of, files_of};
 ghost use Rattle.plan_rows.specs.Plan.{IsPlan, IsFault};
@@ -15,7 +19,7 @@ use crate::rows::{each_of, sites_of};
 use bench_net::Netlist;
 use indexmap::IndexSet;
 use page_code::Code;
-use plan_rows::{DieRow, PlanFault, Row, RowList, read_rows};
+use plan_rows::{DieRow, PlanFault, PlanRows, Row, read_rows};
 use std::alloc::Global;
 use std::marker::Model;
 use std::sync::Arc;
@@ -27,7 +31,7 @@ pub type FileList = TextList;
 /// The plan of a lot.
 #[derive(Drop)]
 pub struct Plan {
-    rows: RowList,
+    rows: PlanRows,
     sites: u8,
     files: FileList,
 }
@@ -35,34 +39,36 @@ pub struct Plan {
 impl Model for Plan {
     ghost use Rattle.std.specs.Prelude.{List};
     ghost use Rattle.plan_rows.specs.declared.row.Row.{Row};
-    ghost use Rattle.lot_plan.specs.Stored.{IsPlan};
+    ghost use Rattle.lot_plan.specs.Stored.{HasSitesAndFiles};
 
     ghost Value = { List Row };
 
     ghost view = { λ p. p.rows };
 
-    ghost invariant = { λ p. IsPlan p.rows p.sites p.files };
+    ghost invariant = { λ p. HasSitesAndFiles p.rows p.sites p.files };
 }
 
 impl Plan {
     /// The plan of a text, or the first fault of its records.
     ///
-    /// A plan is comma-separated values without a heading, six fields in every record, and the lot's own record first. Records
-    /// are checked in order, and each for its form, its numbers' ranges, the die that it names, and whether an earlier record
-    /// said the same.
+    /// A plan is comma-separated values without a heading, six fields in every record, and the lot's own record first.
+    /// Records are checked in order, and each for its form, its numbers' ranges, the die that it names, and whether an
+    /// earlier record said the same.
     pub fn read(alloc: Global, bytes: &[u8]) -> Result<Plan, PlanFault>
-        requires { length bytes.now ≤ 16777216 }
+        requires { length bytes.now ≤ most_bytes }
         ensures found { IfOk result (λ plan. IsPlan bytes.now plan) }
-        ensures only { (rows : List Row) → IsPlan bytes.now rows → MatchResult result (λ plan. plan ≡ rows) (λ e. e ≡ fault.NoMemory) }
+        ensures only { (rows : List Row) → IsPlan bytes.now rows
+            → MatchResult result (λ plan. plan ≡ rows) (λ e. e ≡ fault.NoMemory) }
         ensures fault { IfErr result (λ e. (e ≡ fault.NoMemory) ⊎ IsFault bytes.now e) }
-        ensures refused { (f : PlanFault) → IsFault bytes.now f → MatchResult result (λ _. ⊥) (λ e. (e ≡ fault.NoMemory) ⊎ (e ≡ f)) }
+        ensures refused { (f : PlanFault) → IsFault bytes.now f
+            → MatchResult result (λ _. ⊥) (λ e. (e ≡ fault.NoMemory) ⊎ (e ≡ f)) }
     {
         let rows = read_rows(alloc, bytes)?;
         Ok(Plan::of(alloc, rows)?)
     }
 
     /// The plan of rows that fit together.
-    pub(crate) fn of(alloc: Global, rows: RowList) -> Result<Plan, NoMemory>
+    pub(crate) fn of(alloc: Global, rows: PlanRows) -> Result<Plan, NoMemory>
         requires kept { AreKept rows }
         requires few { length rows < 2 ^ 32 }
         ensures { IfOk result (λ plan. plan ≡ rows) }
@@ -86,17 +92,18 @@ impl Plan {
         self.sites
     }
 
-    /// The files of its dies in the order in which they are first named, each once.
+    /// The files of its dies in the order in which they are first named, each once. Their bytes show in print.
     pub fn files(&self) -> &FileList
-        ensures { result.now ≡ files_of self.now }
+        ensures files { result.now ≡ files_of self.now }
+        ensures printing { All (λ file. list_all is_printing file ≡ true) result.now }
     {
         &self.files
     }
 
-    /// The plan bound to a program and to the netlists of its files, in order; or the first refusal. Rows are checked in
-    /// order: a clock or a bind row whose signal the program doesn't have, and a fault whose net its die's netlist doesn't
-    /// have, is an unknown name; a bin of an executive that isn't there is out of range. Then each signal is bound to each
-    /// netlist, in order, and the first that has no net is unbound.
+    /// The plan bound to a program and to the netlists of its files, in order; or the first refusal. Rows are checked
+    /// in order: a clock or a bind row whose signal the program doesn't have, and a fault whose net its die's netlist
+    /// doesn't have, is an unknown name; a bin of an executive that isn't there is out of range. Then each signal is
+    /// bound to each netlist, in order, and the first that has no net is unbound.
     pub fn bind(
         self,
         alloc: Global,

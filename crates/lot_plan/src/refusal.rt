@@ -34,7 +34,8 @@ fn is_net(net: &Netlist, name: &[u8]) -> bool
 
 /// Whether the net of a fault is there.
 fn has_net(sites: &[SiteGroup<'_>], nets: &[Arc<Netlist>], fault: &FaultRow) -> bool
-    ensures { result ≡ is_net (circuit_in sites.now (map arc_value nets.now) fault.now.site fault.now.die) fault.now.net }
+    ensures { result
+        ≡ is_net (circuit_in sites.now (map arc_value nets.now) fault.now.site fault.now.die) fault.now.net }
 {
     match file_in(sites, fault.site, fault.die) {
         Some(file) => has_name(nets, file, fault.net.as_slice()),
@@ -96,7 +97,8 @@ fn row_refusal(
     }
 }
 
-/// The fault of the first row that is refused: `names` are those of the signals, and `execs` is the number of executives.
+/// The fault of the first row that is refused: `names` are those of the signals, and `execs` is the number of
+/// executives.
 pub(crate) fn rows_refusal(
     names: &IndexSet<&[u8]>,
     execs: u16,

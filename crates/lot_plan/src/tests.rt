@@ -5,7 +5,7 @@ use crate::pins::pins_of;
 use bench_net::Netlist;
 use die_sim::{Bind, Binding};
 use page_code::{CodeSignal, Direction};
-use plan_rows::{PlanFault, RowList, read_rows};
+use plan_rows::{PlanFault, PlanRows, read_rows};
 use std::alloc::Global;
 use std::sync::Arc;
 use std::test::*;
@@ -19,7 +19,7 @@ const NETS: &[u8] = b"INPUT(A)\nINPUT(B)\nOUTPUT(Z)\nOUTPUT(B)\nZ = NOT(A)\n";
 type Case<'a> = (&'a [u8], &'a [u8], &'a [u8], &'a [u8]);
 
 /// The rows of this text behind those of a lot.
-fn rows_of(alloc: Global, text: &[u8]) -> Result<RowList, Fail> {
+fn rows_of(alloc: Global, text: &[u8]) -> Result<PlanRows, Fail> {
     let mut whole = Vec::from_slice(alloc, b"lot,1,1,0,,\n")?;
     whole.extend_from_slice(text)?;
     if whole.len() > 1_000_000 {
@@ -108,7 +108,7 @@ fn nets(alloc: Global) -> Result<Vec<Arc<Netlist>>, Fail> {
 /// How signals are bound to the netlist.
 fn binds(
     alloc: Global,
-    rows: &RowList,
+    rows: &PlanRows,
     signals: &[CodeSignal],
     nets: &[Arc<Netlist>],
 ) -> Result<Vec<u8>, Fail> {

@@ -4,9 +4,9 @@ use Rattle.std.proofs.lemmas.List.Elements.{All-nil}
 use Rattle.std.specs.Prelude.{All}
 use Rattle.std.specs.Arc.{arc_value}
 use Rattle.bench_net.specs.Circuit.{IsWhole}
-use Rattle.lot_plan.specs.Views.{asked_by}
+use Rattle.lot_plan.specs.Views.{needed_by}
 use Rattle.lot_plan.specs.Refusal.{first_unbound, binding_by}
-use Rattle.lot_plan.proofs.NameLemmas.{drop-item}
+use Rattle.text_bytes.proofs.ListLemmas.{drop-item}
 use Rattle.lot_plan.proofs.BindLemmas.{whole-more, bound-more, each-more}
 use Rattle.lot_plan.proofs.bindings.bindings_of.Goals as goal
 
@@ -14,17 +14,17 @@ pub loop-net-preserved : goal.loop-net-preserved
 loop-net-preserved c =
     let at = ap (map arc_value) (drop-item c.args.nets.now c.loop-net.net-index c.net-item.result c.loop-net-test.true
     c.net-item.is) in
-    let wishes = map asked_by c.args.pins.now in
+    let needs = map needed_by c.args.pins.now in
     record {
       whole = λ rest. c.loop-net.invariant.whole
           (whole-more (map arc_value (drop (c.loop-net.net-index + 1) c.args.nets.now)) (arc_value c.net-item.result)
           (map arc_value (drop c.loop-net.net-index c.args.nets.now)) at (rw (c.deref.ensures) at c.in_ok-binds.ensures.whole)
           rest);
-      bound = bound-more wishes (map arc_value (drop (c.loop-net.net-index + 1) c.args.nets.now)) (arc_value c.net-item.result)
+      bound = bound-more needs (map arc_value (drop (c.loop-net.net-index + 1) c.args.nets.now)) (arc_value c.net-item.result)
           (map arc_value (drop c.loop-net.net-index c.args.nets.now)) c.in_ok-binds.binds _ at
           (rw (c.deref.ensures) at c.in_ok-binds.ensures.found)
           c.loop-net.invariant.bound;
-      each = each-more c.args.clock wishes (map arc_value c.loop-net.bindings.items)
+      each = each-more c.args.clock needs (map arc_value c.loop-net.bindings.items)
           (map arc_value c.add_binding.new.bindings.items)
           (map arc_value (drop (c.loop-net.net-index + 1) c.args.nets.now)) (arc_value c.net-item.result)
           (map arc_value (drop c.loop-net.net-index c.args.nets.now)) c.in_ok-binds.binds _
@@ -40,9 +40,9 @@ returns-clause-found c =
     let none = ap (map arc_value) (drop_all c.loop-net.net-index c.args.nets.now c.loop-net-test.false) in
     record {
       whole = c.loop-net.invariant.whole (subst (All IsWhole) (sym none) (All-nil IsWhole));
-      bound = sym c.loop-net.invariant.bound ∙ ap (first_unbound (map asked_by c.args.pins.now)) none;
+      bound = sym c.loop-net.invariant.bound ∙ ap (first_unbound (map needed_by c.args.pins.now)) none;
       each = sym (append-nil (map arc_value c.loop-net.bindings.items))
           ∙ sym (ap (λ cs. map arc_value c.loop-net.bindings.items ++ map
-          (binding_by c.args.clock (map asked_by c.args.pins.now)) cs) none)
+          (binding_by c.args.clock (map needed_by c.args.pins.now)) cs) none)
           ∙ c.loop-net.invariant.each;
     }

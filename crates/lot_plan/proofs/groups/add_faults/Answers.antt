@@ -3,7 +3,8 @@ use Rattle.std.specs.Prelude.{fold}
 use Rattle.plan_rows.specs.declared.row.FaultRow.{FaultRow}
 use Rattle.lot_plan.specs.Groups.{put_fault, IsThere}
 use Rattle.lot_plan.specs.Views.{behind}
-use Rattle.lot_plan.proofs.NameLemmas.{each-behind, drop-item}
+use Rattle.text_bytes.proofs.ListLemmas.{drop-item}
+use Rattle.lot_plan.proofs.NameLemmas.{each-behind}
 use Rattle.lot_plan.proofs.GroupLemmas.{there-shape, shape-shape, shape-put_fault}
 use Rattle.lot_plan.proofs.groups.add_faults.Goals as goal
 

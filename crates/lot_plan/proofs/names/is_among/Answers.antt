@@ -1,6 +1,6 @@
 use Rattle.std.proofs.Common.{sym, ◌∙◌}
 use Rattle.std.specs.Str.{bytes_eq}
-use Rattle.bench_net.proofs.KeyLemmas.{list_any-map}
+use Rattle.text_bytes.proofs.ListLemmas.{list_any-map}
 use Rattle.lot_plan.proofs.names.is_among.Goals as goal
 
 pub returns : goal.returns

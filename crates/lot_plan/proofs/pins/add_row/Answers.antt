@@ -3,7 +3,8 @@ use Rattle.std.specs.Borrow.{Bor}
 use Rattle.std.specs.Str.{bytes_eq}
 use Rattle.indexmap.specs.IndexMap.{get_by}
 use Rattle.indexmap.proofs.CallerLemmas.{insert_entry-new}
-use Rattle.lot_plan.proofs.PinLemmas.{row-added, none-from}
+use Rattle.text_bytes.proofs.ListLemmas.{none-from}
+use Rattle.lot_plan.proofs.PinLemmas.{row-added}
 use Rattle.lot_plan.proofs.pins.add_row.Goals as goal
 
 pub returns : goal.returns

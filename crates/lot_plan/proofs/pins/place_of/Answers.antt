@@ -2,7 +2,7 @@ use Rattle.std.proofs.Common.{◌≡◌, ◌∙◌, sym, rules, tests}
 use Rattle.std.specs.List.{position}
 use Rattle.std.proofs.lemmas.Iterator.{YieldsList-from_slice}
 use Rattle.std.proofs.lemmas.Iterator.Search.{position_from_yields_List}
-use Rattle.lot_plan.specs.Ask.{has_name}
+use Rattle.lot_plan.specs.Needs.{has_name}
 use Rattle.lot_plan.proofs.pins.place_of.Goals as goal
 
 pub returns-in_err-place : goal.returns-in_err-place

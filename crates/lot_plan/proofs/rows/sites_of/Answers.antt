@@ -2,7 +2,8 @@ use Rattle.std.proofs.Common.{◌≡◌, ◌+◌, max, arith, ap, sym, ◌∙◌
 use Rattle.std.specs.Prelude.{fold}
 use Rattle.plan_rows.specs.declared.row.DieRow.{DieRow}
 use Rattle.lot_plan.specs.Views.{behind}
-use Rattle.lot_plan.proofs.NameLemmas.{site-within, drop-item}
+use Rattle.text_bytes.proofs.ListLemmas.{drop-item}
+use Rattle.lot_plan.proofs.NameLemmas.{site-within}
 use Rattle.lot_plan.proofs.rows.sites_of.Goals as goal
 
 pub with_site-sites-requires : goal.with_site-sites-requires
