@@ -2,7 +2,6 @@ pub mod RowsLemmas
 pub mod PrintLemmas
 pub mod WordsLemmas
 pub mod FileLemmas
-pub mod FileNames
 pub mod OneDieLemmas
 pub mod LotLemmas
 pub mod RunLemmas

@@ -11,13 +11,13 @@ use Rattle.plan_rows.specs.declared.row.Row.TheVariants as row
 use Rattle.plan_rows.specs.declared.row.DieRow.{DieRow}
 use Rattle.bench_net.specs.Circuit.{Circuit}
 use Rattle.die_sim.specs.declared.image.Bind.{Bind}
-use Rattle.lot_plan.specs.Ask.{Wish, wishes_of, wish_of}
+use Rattle.lot_plan.specs.Needs.{PinNeed, needs_of, need_of}
 use Rattle.lot_plan.specs.Binds.{bound_or, bind_to, is_driven, binds_from, binds_of, list_of, unbound_in}
 use Rattle.lot_plan.specs.Bound.{Bound, no_circuit, file_of, circuit_of, image_of}
 use Rattle.lot_plan.specs.Refusal.{is_signal, rows_refusal, first_unbound, IsBound}
 use Rattle.plan_rows.specs.declared.fault.PlanFault.TheVariants as fault
 use Rattle.lot_plan.proofs.RefusalLemmas.{none_both, none-mapped}
-use Rattle.lot_plan.proofs.NameLemmas.{drop-item}
+use Rattle.text_bytes.proofs.ListLemmas.{drop-item}
 use Rattle.stil_tool.specs.OneDie.{is_of_one_die, is_one_die, net_file}
 
 -- each die is at site 0
@@ -69,15 +69,15 @@ pub file-is : (rows : List Row) (h : HasDie rows) → net_file rows ≡ h.die.fi
 file-is rows h = ap (λ (ds : List DieRow). (get_or ds 0 (record { site = 0; name = []; file = [] })).file) (dies-here rows h)
 
 -- signals that are all bound are as many as the signals that ask
-binds-long : (c : Circuit) (before : List Bind) (wishes : List Wish) → unbound_in (binds_from c before wishes) ≡ None →
-    length (list_of (binds_from c before wishes)) ≡ length before + length wishes
+binds-long : (c : Circuit) (before : List Bind) (needs : List PinNeed) → unbound_in (binds_from c before needs) ≡ None →
+    length (list_of (binds_from c before needs)) ≡ length before + length needs
 binds-long c before [] is = omega arith
-binds-long c before (w ∷ wishes) is = by (bind_to c (is_driven before) w.role w.net) (λ b. binds-long c (before ++ b ∷ []) wishes) is
+binds-long c before (w ∷ needs) is = by (bind_to c (is_driven before) w.role w.net) (λ b. binds-long c (before ++ b ∷ []) needs) is
   where
-    by : (o : Option Bind) → ((b : Bind) → unbound_in (binds_from c (before ++ b ∷ []) wishes) ≡ None →
-        length (list_of (binds_from c (before ++ b ∷ []) wishes)) ≡ length (before ++ b ∷ []) + length wishes) →
-        unbound_in (bound_or w.name o (λ b. binds_from c (before ++ b ∷ []) wishes)) ≡ None →
-        length (list_of (bound_or w.name o (λ b. binds_from c (before ++ b ∷ []) wishes))) ≡ length before + length (w ∷ wishes)
+    by : (o : Option Bind) → ((b : Bind) → unbound_in (binds_from c (before ++ b ∷ []) needs) ≡ None →
+        length (list_of (binds_from c (before ++ b ∷ []) needs)) ≡ length (before ++ b ∷ []) + length needs) →
+        unbound_in (bound_or w.name o (λ b. binds_from c (before ++ b ∷ []) needs)) ≡ None →
+        length (list_of (bound_or w.name o (λ b. binds_from c (before ++ b ∷ []) needs))) ≡ length before + length (w ∷ needs)
     by None later is = cc
     by (Some b) later is = omega (arith, later b is, length-append before (b ∷ []))
 
@@ -106,11 +106,11 @@ image-long b h bound =
     let c : Circuit = one.0 in
     let here : circuit_of b 0 0 ≡ c =
     ap (λ n. get_or b.circuits n no_circuit) (first-file b.rows h) ∙ ap (λ cs. get_or cs 0 no_circuit) one.1 in
-    let wishes : List Wish = wishes_of b.rows b.signals in
+    let needs : List PinNeed = needs_of b.rows b.signals in
     let none = (none_both (rows_refusal (is_signal b.signals) b.execs (circuit_of b) 1 b.rows) _ bound.accepted).1 in
-    let all : first_unbound wishes b.circuits ≡ None = none-mapped fault.Unbound (first_unbound wishes b.circuits) none in
-    let first = (none_both (unbound_in (binds_of c wishes)) _ (ap (first_unbound wishes) (sym one.1) ∙ all)).0 in
-    ap (λ (k : Circuit). length (list_of (binds_of k wishes))) here
-    ∙ binds-long c [] wishes first
-    ∙ zero-add (length wishes)
-    ∙ length-map b.signals (wish_of b.rows)
+    let all : first_unbound needs b.circuits ≡ None = none-mapped fault.Unbound (first_unbound needs b.circuits) none in
+    let first = (none_both (unbound_in (binds_of c needs)) _ (ap (first_unbound needs) (sym one.1) ∙ all)).0 in
+    ap (λ (k : Circuit). length (list_of (binds_of k needs))) here
+    ∙ binds-long c [] needs first
+    ∙ zero-add (length needs)
+    ∙ length-map b.signals (need_of b.rows)

@@ -55,8 +55,7 @@ fn bind(alloc: Global, plan: Plan, code: &Code, net: Netlist) -> Result<BoundPla
 
 /// The name of the one file of the plan.
 fn net_file(plan: &Plan) -> &str
-    requires one { is_one_die plan.now ≡ true }
-    requires text { IsUtf8 (net_file plan.now) }
+    requires { is_one_die plan.now ≡ true }
     ensures { result.now ≡ net_file plan.now }
 {
     let Ok(name) = str::from_utf8(plan.files().as_slice()[0].as_slice()) else {

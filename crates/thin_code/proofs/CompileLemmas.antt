@@ -17,7 +17,8 @@ use Rattle.thin_stil.specs.Thin as thin_text
 use Rattle.thin_stil.specs.Rows.{rows_from}
 use Rattle.thin_stil.proofs.CycleLemmas.{cycles-are-dated, rows-show, all-plain, vectors_in}
 use Rattle.page_code.specs.Program.{Program}
-use Rattle.page_code.specs.Letters.{is_character}
+use Rattle.text_bytes.specs.Bytes.{is_character}
+use Rattle.text_bytes.proofs.ByteLemmas.{is_character-ascii}
 use Rattle.page_code.specs.Conditions.{EachBehind, IsProgram, IsTable, IsRow, IsInstr, IsExec, has_waves}
 use Rattle.page_code.specs.Cycles.{timed}
 use Rattle.page_code.proofs.Lists.{all_each}
@@ -26,7 +27,7 @@ use Rattle.thin_code.specs.Order.{HasPlace, in_order}
 use Rattle.thin_code.specs.Step.{AreRuns, ordered_table, exec_of, with_row, shown}
 use Rattle.thin_code.proofs.ListLemmas.{all_weaker}
 use Rattle.thin_code.proofs.SaidLemmas.{IsSaidWave, IsGiven, IsGood}
-use Rattle.thin_code.proofs.OrderLemmas.{is_ascii, in_order_rises, length-in_order, wave_of-in_order, has_waves-in_order}
+use Rattle.thin_code.proofs.OrderLemmas.{in_order_rises, length-in_order, wave_of-in_order, has_waves-in_order}
 use Rattle.thin_code.proofs.RowLemmas.{IsFit, rows_of, rows_fit, rows_are, rows_few, length-rows_from, letter_of_wave}
 use Rattle.thin_code.proofs.RunLemmas.{runs_mean, runs_whole, runs_few, runs_fit, IsUsed, all_clear, none_clear, shown-none, reads}
 
@@ -34,7 +35,7 @@ use Rattle.thin_code.proofs.RunLemmas.{runs_mean, runs_whole, runs_few, runs_fit
 pub places : (signals period : ℕ) (waves : List Wave)
     → AllByRecursion (IsSaidWave signals period) waves → AllByRecursion (HasPlace signals) waves
 places signals period waves all =
-    all_weaker (IsSaidWave signals period) (HasPlace signals) (λ w is. record { signal = is.signal; letter = is_ascii w.letter is.letter }) waves all
+    all_weaker (IsSaidWave signals period) (HasPlace signals) (λ w is. record { signal = is.signal; letter = is_character-ascii w.letter is.letter }) waves all
 
 -- the same at each index
 pub all_places : (thin : ThinText) → IsGood thin
@@ -145,6 +146,7 @@ program_is thin instrs good are =
 given_used : (signals period : ℕ) (waves : List Wave) (given : ℕ × ℕ)
     → AllByRecursion (IsSaidWave signals period) waves → IsGiven waves given
     → IsUsed given
+unfolding is_character
 given_used signals period waves given all has none =
     false≢true (ap is_character (sym none) ∙ letter_of_wave signals period waves given.0 given.1 all has)
 

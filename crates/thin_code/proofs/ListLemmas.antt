@@ -4,7 +4,7 @@ use Rattle.std.proofs.lemmas.Bool.{and_parts, and_from}
 use Rattle.std.proofs.lemmas.List.{append-nil, map-append}
 use Rattle.std.specs.List.{list_all, flat_map, AllByRecursion}
 use Rattle.page_code.specs.Conditions.{EachBehind}
-use Rattle.page_code.proofs.Lists.{all_append}
+use Rattle.text_bytes.proofs.ListLemmas.{all_append}
 
 -- one more item, as it should be behind all
 pub each_push : {A : Type 0} (Fits : List A → A → Type 0) (before items : List A) (x : A)

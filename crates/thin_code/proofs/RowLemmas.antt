@@ -6,7 +6,8 @@ use Rattle.std.proofs.lemmas.List.{length-set, length-replicate, length-append}
 use Rattle.tester_types.specs.declared.wave.Wave.{Wave}
 use Rattle.thin_stil.specs.declared.thin.ThinText.{ThinText}
 use Rattle.thin_stil.specs.Rows.{row_after, rows_from}
-use Rattle.page_code.specs.Letters.{is_character, is_place}
+use Rattle.text_bytes.specs.Bytes.{is_character}
+use Rattle.page_code.specs.Letters.{is_place}
 use Rattle.page_code.specs.Rows.{is_row_of}
 use Rattle.page_code.specs.Conditions.{EachBehind, IsRow, has_wave, has_waves}
 use Rattle.thin_code.specs.Step.{with_row}

@@ -13,7 +13,6 @@ use Rattle.tester_types.specs.declared.wave.Table.{Table}
 use Rattle.stil_tree.specs.Trees.{Entry, entries}
 use Rattle.stil_form.specs.declared.part.SignKind.TheVariants.{Equals}
 use Rattle.stil_form.specs.Lexeme.{Lexeme, word, name, text, sign, head_of, body_of, lexemes_of}
-use Rattle.text_bytes.specs.Bytes as shared
 use Rattle.text_bytes.specs.Bytes.{begins_name, begins_with, is_printable}
 use Rattle.text_bytes.specs.Limits.{longest_name}
 use Rattle.stil_form.specs.Words.{is_keyword, named_by, fits_name}
@@ -29,7 +28,7 @@ use Rattle.thin_stil.specs.ThinForm as form
 use Rattle.thin_stil.specs.ThinBlocks as blocks
 use Rattle.thin_stil.specs.Thin.{IsSaid, IsThin}
 use Rattle.page_code.specs.declared.parts.CodeSignal.{CodeSignal}
-use Rattle.page_code.specs.Letters.{is_character}
+use Rattle.text_bytes.specs.Bytes.{is_character}
 use Rattle.page_code.specs.Conditions.{EachBehind, IsText, IsName, IsSignal, is_named, IsEvent, latest, has_wave}
 use Rattle.thin_code.specs.Compiled.{signal_of}
 use Rattle.thin_code.proofs.HoldsLemmas.{then_holds, next_holds, kept_holds, only_holds, reading_holds, ok_weaker, ok_holds, some_holds, any_holds, some_weaker, map_holds, cond_holds, where_holds, unless_holds}
@@ -266,25 +265,25 @@ row_holds letters period before head block so_far =
 
 -- a group of waves as a code wants it
 record IsGroup (period : ℕ) (group : WaveGroup) : Type 0 where
-  letters : list_all shared.is_character group.letters ≡ true
+  letters : list_all is_character group.letters ≡ true
   rows : AreRows period group.rows
 
 -- the characters of a group
 wfcs_hold : (before : List WaveGroup) (head : List Lexeme)
-    → IfSome (form.wfcs_of before head) (λ letters. list_all shared.is_character letters ≡ true)
+    → IfSome (form.wfcs_of before head) (λ letters. list_all is_character letters ≡ true)
 wfcs_hold before (word bytes ∷ []) =
-    cond_holds (form.are_wfcs before bytes) bytes (λ letters. list_all shared.is_character letters ≡ true)
+    cond_holds (form.are_wfcs before bytes) bytes (λ letters. list_all is_character letters ≡ true)
     (λ is.
-    let p = and_parts (list_all shared.is_character bytes && form.are_apart bytes) (not (list_any (form.is_given before) bytes)) is in
-    (and_parts (list_all shared.is_character bytes) (form.are_apart bytes) p.0).0)
+    let p = and_parts (list_all is_character bytes && form.are_apart bytes) (not (list_any (form.is_given before) bytes)) is in
+    (and_parts (list_all is_character bytes) (form.are_apart bytes) p.0).0)
 wfcs_hold before _ = tt
 
 -- a group as a statement
 group_holds : (lexemes : List Lexeme) (period : ℕ) (before : List WaveGroup) (e : Entry)
     → IfOk (form.group_of lexemes period before e) (IsGroup period)
 group_holds lexemes period before e =
-    then_holds (form.kept (form.wfcs_of before (head_of lexemes e))) _ (λ letters. list_all shared.is_character letters ≡ true) (IsGroup period)
-    (kept_holds (form.wfcs_of before (head_of lexemes e)) (λ letters. list_all shared.is_character letters ≡ true)
+    then_holds (form.kept (form.wfcs_of before (head_of lexemes e))) _ (λ letters. list_all is_character letters ≡ true) (IsGroup period)
+    (kept_holds (form.wfcs_of before (head_of lexemes e)) (λ letters. list_all is_character letters ≡ true)
     (wfcs_hold before (head_of lexemes e)))
     (λ letters are. next_holds (form.kept (body_of e)) _ (IsGroup period) (λ es.
     then_holds (reading (λ rows row. form.row_of (length letters) period rows (head_of lexemes row) (body_of row)) [] es) _
@@ -366,24 +365,11 @@ events_fit period place rows are =
     }) [] rows are.1
 
 -- characters with their places
-numbered : (n : ℕ) (letters : List ℕ) → list_all shared.is_character letters ≡ true
-    → AllByRecursion (λ (letter : ℕ × ℕ). shared.is_character letter.1 ≡ true) (enumerate_from n letters)
+numbered : (n : ℕ) (letters : List ℕ) → list_all is_character letters ≡ true
+    → AllByRecursion (λ (letter : ℕ × ℕ). is_character letter.1 ≡ true) (enumerate_from n letters)
 numbered n [] all = tt
 numbered n (c ∷ cs) all =
-    let p = and_parts (shared.is_character c) (list_all shared.is_character cs) all in (p.0, numbered (n + 1) cs p.1)
-
--- three alternatives in another order
-reordered : (lower upper digit : Bool) → (lower || upper || digit) ≡ true
-    → (digit || upper || lower) ≡ true
-reordered lower upper true is = refl
-reordered lower true false is = refl
-reordered true false false is = refl
-reordered false false false is = is
-
--- a character of a thin text is one of a code
-is_letter_of_code : (c : ℕ) → shared.is_character c ≡ true → is_character c ≡ true
-unfolding Rattle.text_bytes.specs.Bytes.is_character
-is_letter_of_code c is = reordered (leb 97 c && leb c 122) (leb 65 c && leb c 90) (leb 48 c && leb c 57) is
+    let p = and_parts (is_character c) (list_all is_character cs) all in (p.0, numbered (n + 1) cs p.1)
 
 -- the wave of a character of a group, by its place
 abbrev wave_at : ℕ → WaveGroup → ℕ × ℕ → Wave
@@ -395,10 +381,10 @@ group_waves_fit : (signals period signal : ℕ) (group : WaveGroup) → signal <
     → AllByRecursion (IsSaidWave signals period) (form.group_waves signal group)
 group_waves_fit signals period signal group inside is =
     all_map (wave_at signal group)
-    (λ letter. shared.is_character letter.1 ≡ true) (IsSaidWave signals period)
+    (λ letter. is_character letter.1 ≡ true) (IsSaidWave signals period)
     (λ letter character. record {
       signal = inside;
-      letter = is_letter_of_code letter.1 character;
+      letter = character;
       few = subst (λ (n : ℕ). n ≤ 16) (sym (length-map group.rows (event_at letter.0))) is.rows.0;
       events = events_fit period letter.0 group.rows is.rows;
     }) (enumerate_from 0 group.letters) (numbered 0 group.letters is.letters)

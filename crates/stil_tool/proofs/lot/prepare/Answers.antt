@@ -1,12 +1,10 @@
 use Rattle.std.proofs.Common.{◌∙◌, ◌≤◌, ℕ, List, Option, length, ap, sym, subst, arith}
-use Rattle.std.specs.Str.{IsUtf8}
 use Rattle.tester_types.specs.Outside.{Files}
 use Rattle.lot_plan.specs.Refusal.{refusal}
 use Rattle.stil_tool.specs.OneDie.{net_file}
 use Rattle.stil_tool.specs.Lot.{Inputs, IsPlanFile, IsPlanRefused, IsNetRefused}
 use Rattle.stil_tool.specs.Lot.IsRefused.{of_text, of_plan, of_net}
-use Rattle.stil_tool.proofs.FileNames.{file_text}
-use Rattle.stil_tool.proofs.OneDieLemmas.{has_die, file-is, one_file}
+use Rattle.stil_tool.proofs.OneDieLemmas.{has_die, one_file}
 use Rattle.stil_tool.proofs.LotLemmas.{wide-plan, wide-net, bound-is, inputs_are, unbound_refused}
 use Rattle.stil_tool.proofs.lot.prepare.Goals as goal
 
@@ -22,13 +20,6 @@ returns-in-Err-read_plan-clause-refused g c = λ sockets.
     c.in-Err-read_plan.refusal c.in-Ok.ensures.counts
     (subst (λ (t : Option Files). IsPlanRefused t (faults c.read_program.new.shelf) (faults c.read_plan.new.shelf) c.args.plan.now
     c.in-Err-read_plan.refusal) c.in-Ok.ensures.kept c.in-Err-read_plan.ensures.refused))
-
-pub net_file-requires-clause-text : goal.net_file-requires-clause-text
-net_file-requires-clause-text g c =
-    let rows = c.in-Ok-read_plan.plan in
-    let file = c.in-Ok-read_plan.ensures.found in
-    let h = has_die rows file.one in
-    subst IsUtf8 (sym (file-is rows h)) (file_text file.bytes rows h.die file.plan h.dies)
 
 pub returns-in-Err-read_net-clause-refused : goal.returns-in-Err-read_net-clause-refused
 returns-in-Err-read_net-clause-refused g c = λ sockets.
