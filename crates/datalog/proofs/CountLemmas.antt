@@ -1,5 +1,5 @@
 -- Counting the dies of each bin in one pass.
-use Rattle.std.proofs.Common.{◌≡◌, ◌==◌, ℕ, ◌+◌, ◌<◌, ◌≤◌, List, [], ◌∷◌, ◌++◌, length, take, get_or, set, map, sym, ap, ◌∙◌, arith, cond, inl, inr, get_or-set_other, replicate}
+use Rattle.std.proofs.Common.{◌≡◌, ◌==◌, ℕ, ◌+◌, ◌<◌, ◌≤◌, List, [], ◌∷◌, ◌++◌, length, take, get_or, set, map, sym, ap, ◌∙◌, suc, lit<, arith, cond, inl, inr, get_or-set_other, replicate}
 use Rattle.std.proofs.lemmas.Bool.Decides.{eqb_tells}
 use Rattle.std.proofs.lemmas.Grind.{flat_map-append, get_or-set_at}
 use Rattle.std.proofs.lemmas.List.{append-nil, length-map, map_more, take_more, length-replicate, get_or-replicate}
@@ -50,7 +50,7 @@ die_counted plan entries before counts i b entry within is bin_is fits grown =
     ∙ ap (λ bins. get_or before bin 0 + dies_in bin bins) (sym more)
 
 -- a count stays small
-pub grown_small : (plan : Bound) (entries : List Record) (before counts : List ℕ) (b most : ℕ) → b < 256 →
+pub grown_small : (plan : Bound) (entries : List Record) (before counts : List ℕ) (b most : ℕ) → b < 100 →
     HaveGrown before (map (die_bin plan) entries) counts → get_or before b 0 ≤ most → get_or counts b 0 ≤ most + length entries
 grown_small plan entries before counts b most fits grown small =
     omega (
@@ -72,20 +72,23 @@ bins_of-more plan sites i entries within is =
 
 -- one more site is counted
 pub counts_more : (plan : Bound) (sites : List (List Record)) (counts counts' : List ℕ) (i : ℕ) (entries : List Record) →
-    i < length sites → entries ≡ get_or sites i entries → length counts' ≡ 256 →
+    i < length sites → entries ≡ get_or sites i entries → length counts' ≡ 100 →
     AreCounts (bins_of plan (take i sites)) counts → HaveGrown counts (map (die_bin plan) entries) counts' →
+    get_or counts' 0 0 ≡ get_or counts 0 0 →
     AreCounts (bins_of plan (take (i + 1) sites)) counts'
-counts_more plan sites counts counts' i entries within is size was grown = record {
+counts_more plan sites counts counts' i entries within is size was grown same = record {
   size = size;
+  none = same ∙ was.none;
   each = λ bin fits. grown bin fits ∙ ap (λ n. n + dies_in bin (map (die_bin plan) entries)) (was.each bin fits)
       ∙ sym (dies_in-append bin (bins_of plan (take i sites)) (map (die_bin plan) entries))
       ∙ ap (dies_in bin) (sym (bins_of-more plan sites i entries within is));
 }
 
 -- nothing is counted at first
-pub counts_start : (n : ℕ) (counts : List ℕ) → n ≡ 256 → counts ≡ replicate n 0 → AreCounts [] counts
+pub counts_start : (n : ℕ) (counts : List ℕ) → n ≡ 100 → counts ≡ replicate n 0 → AreCounts [] counts
 counts_start n counts is zeros = record {
   size = ap length zeros ∙ length-replicate n 0 ∙ is;
+  none = ap (λ xs. get_or xs 0 0) zeros ∙ get_or-replicate n 0 0 0 (omega (arith, is));
   each = λ bin fits. ap (λ xs. get_or xs bin 0) zeros ∙ get_or-replicate n bin 0 0 (omega (arith, is, fits));
 }
 
@@ -97,7 +100,15 @@ counted-lines bins counts n size each =
     ap (numbered total_line 0) (fill_by_all (λ bin. dies_in bin bins) counts n 0 size each)
     ∙ numbered-counts total_line (λ bin. dies_in bin bins) 0 n
 
+-- bin 0 has no line
+without_first : (text : ℕ → List ℕ) (n : ℕ) → text 0 ≡ [] →
+    flat_map text (range_with_len 0 (suc n)) ≡ flat_map text (range_with_len 1 n)
+without_first text n none = ap (λ t. t ++ flat_map text (range_with_len 1 n)) none
+
 -- the lines of counts are the totals
 pub counts-are-totals : (bins counts : List ℕ) → AreCounts bins counts → numbered total_line 0 counts ≡ totals_text bins
 unfolding totals_text
-counts-are-totals bins counts are = counted-lines bins counts 256 are.size are.each
+counts-are-totals bins counts are =
+    let none : dies_in 0 bins ≡ 0 = sym (are.each 0 (lit< tt)) ∙ are.none in
+    counted-lines bins counts 100 are.size are.each
+    ∙ without_first (λ bin. total_line bin (dies_in bin bins)) 99 (ap (total_line 0) none)

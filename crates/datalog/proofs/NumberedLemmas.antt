@@ -1,14 +1,11 @@
 -- A loop that puts the texts of numbered items: what it put, and what a fault in one of them leaves.
 use Rattle.std.proofs.Common.{◌≡◌, ℕ, zero, suc, ◌+◌, ◌<◌, List, [], ◌∷◌, ◌++◌, length, take, drop, get_or, map, Option, sym, ap, ◌∙◌, subst, arith, append_assoc, refl}
-use Rattle.std.proofs.Math.Seq.{drop-cons}
+use Rattle.text_bytes.proofs.ListLemmas.{drop-item}
 use Rattle.std.proofs.lemmas.List.{take-append-drop, append-nil, take_more, length-take-le}
 use Rattle.std.specs.List.{flat_map, range_with_len}
 use Rattle.tester_types.specs.Outside.{gained, GainsFront}
 use Rattle.tester_types.proofs.OutsideLemmas.{gained-gained, puts_stops}
 use Rattle.datalog.specs.DatalogText.{numbered}
-
-suc-plus : (i : ℕ) → suc i ≡ i + 1
-suc-plus i = omega arith
 
 -- numbered items in two parts
 numbered-append : {X : Type 0} (text : ℕ → X → List ℕ) (n m : ℕ) (xs ys : List X) → m ≡ n + length xs →
@@ -24,9 +21,7 @@ numbered-append text n m (x ∷ xs) ys is =
 split-at : {X : Type 0} (xs : List X) (i : ℕ) (x : X) → i < length xs → x ≡ get_or xs i x →
     xs ≡ take i xs ++ (x ∷ drop (i + 1) xs)
 split-at xs i x within is =
-    sym (take-append-drop i xs)
-    ∙ ap (λ rest. take i xs ++ rest)
-    (drop-cons xs i x within ∙ ap (λ y. y ∷ drop (suc i) xs) (sym is) ∙ ap (λ j. x ∷ drop j xs) (suc-plus i))
+    sym (take-append-drop i xs) ∙ ap (λ rest. take i xs ++ rest) (drop-item xs i x within is)
 
 -- one more item
 numbered-more : {X : Type 0} (text : ℕ → X → List ℕ) (n i k : ℕ) (xs : List X) (x : X) → k ≡ n + i →

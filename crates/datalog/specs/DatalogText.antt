@@ -1,7 +1,8 @@
 -- The text of a lot's records, from the words of a line up to the lot.
-use Rattle.std.specs.Prelude.{ℕ, zero, suc, ◌+◌, ◌-◌, ◌==◌, nat_lt, if◌then◌else◌, Option, Some, None, List, [], ◌∷◌, ◌++◌, length, map, slice_get, count_by, codes, decimal}
+use Rattle.std.specs.Prelude.{ℕ, zero, suc, ◌+◌, ◌-◌, ◌==◌, Option, Some, None, List, [], ◌∷◌, ◌++◌, length, map, slice_get, count_by, codes, decimal}
 use Rattle.std.specs.List.{find, flat_map, range_with_len}
 use Rattle.std.specs.Option.{option_map, option_map_or, option_and_then}
+use Rattle.tester_types.specs.Cells.{marked_cell}
 use Rattle.tester_types.specs.Printing.{printed_name}
 use Rattle.tester_types.specs.declared.level.Level.{Level}
 use Rattle.tester_types.specs.declared.level.Level.TheVariants as level
@@ -45,16 +46,6 @@ signal_name code signal = option_map_or (λ s. s.name) (slice_get code.signals s
 abbrev pub chain_at : Program → ℕ → ℕ → Option CodeChain
 chain_at code exec signal = find (λ chain. chain.out == signal) (exec_of code exec).chains
 
--- the name of the cell whose value comes out of a chain at this shift, from 0: the last cell's comes first. The cells are
--- listed from scan-in to scan-out, and there may be fewer names than cells
-abbrev pub cell_behind : ℕ → CodeChain → Option (List ℕ)
-cell_behind shift chain = if nat_lt shift chain.length then slice_get chain.cells (chain.length - 1 - shift) else None
-
--- the name of the cell of a chain that a mark means: the mark k + 1 is that of shift k, and 0 is no mark
-abbrev pub marked_cell : ℕ → CodeChain → Option (List ℕ)
-marked_cell zero chain = None
-marked_cell (suc shift) chain = cell_behind shift chain
-
 -- a cell of a chain, by their names
 pub record Cell : Type 0 where
   pub chain : List ℕ
@@ -62,7 +53,8 @@ pub record Cell : Type 0 where
 
 -- the cell of a chain that a mark means
 abbrev pub cell_in : ℕ → CodeChain → Option Cell
-cell_in mark chain = option_map (λ name. record { chain = chain.name; name = name }) (marked_cell mark chain)
+cell_in mark chain =
+    option_map (λ name. record { chain = chain.name; name = name }) (marked_cell chain.length chain.cells mark)
 
 -- the cell that a fail names, if it names one
 abbrev pub cell_of : Program → Fail → Option Cell
@@ -76,8 +68,9 @@ cell_words (Some cell) = codes " " ++ printed_name cell.chain ++ codes " " ++ pr
 -- what was found, and where
 abbrev pub found_words : Program → Fail → List ℕ
 found_words code fail =
-    codes "fail " ++ decimal fail.cycle ++ codes " " ++ decimal fail.at ++ codes " " ++ printed_name (signal_name code fail.signal)
-    ++ codes " " ++ want_letter fail.want ++ codes " " ++ seen_letter fail.seen
+    codes "fail " ++ decimal fail.cycle ++ codes " " ++ decimal fail.at ++ codes " "
+    ++ printed_name (signal_name code fail.signal) ++ codes " "
+    ++ want_letter fail.want ++ codes " " ++ seen_letter fail.seen
 
 -- one fail
 abbrev pub fail_line : Program → Fail → List ℕ
@@ -86,7 +79,8 @@ fail_line code fail = found_words code fail ++ cell_words (cell_of code fail) ++
 -- a try was stopped before this batch
 abbrev pub stopped_line : ℕ → By → List ℕ
 stopped_line batch by.Plan = codes "verdict stopped " ++ decimal batch ++ codes " plan\n"
-stopped_line batch (by.Desk stops) = codes "verdict stopped " ++ decimal batch ++ codes " desk " ++ decimal stops ++ codes "\n"
+stopped_line batch (by.Desk stops) =
+    codes "verdict stopped " ++ decimal batch ++ codes " desk " ++ decimal stops ++ codes "\n"
 
 -- how a try ended
 abbrev pub verdict_line : Verdict → List ℕ
@@ -98,8 +92,8 @@ verdict_line (verdict.Contact at) = codes "verdict contact " ++ decimal at ++ co
 -- a try: its number, how many cycles were finished, and how many fails there were
 abbrev pub try_line : Trial → List ℕ
 try_line trial =
-    codes "try " ++ decimal trial.number ++ codes " cycles " ++ decimal trial.cycles ++ codes " fails " ++ decimal trial.fails
-    ++ codes "\n"
+    codes "try " ++ decimal trial.number ++ codes " cycles " ++ decimal trial.cycles
+    ++ codes " fails " ++ decimal trial.fails ++ codes "\n"
 
 -- a try with its kept fails and its verdict
 abbrev pub trial_text : Program → Trial → List ℕ
@@ -154,9 +148,9 @@ abbrev pub total_line : ℕ → ℕ → List ℕ
 total_line bin zero = []
 total_line bin (suc dies) = codes "total " ++ decimal bin ++ codes " " ++ decimal (suc dies) ++ codes "\n"
 
--- the totals of the bins that a die has, by rising number; a bin is a byte
+-- the totals of the bins that a die has, by rising number: bins are 1 to 99
 unfoldable pub totals_text : List ℕ → List ℕ
-totals_text bins = flat_map (λ bin. total_line bin (dies_in bin bins)) (range_with_len 0 256)
+totals_text bins = flat_map (λ bin. total_line bin (dies_in bin bins)) (range_with_len 1 99)
 
 -- the records of each site, by the sites' numbers, and the totals of their bins
 abbrev pub lot_text : Program → Bound → List (List Record) → List ℕ

@@ -30,4 +30,5 @@ pub record IsPrintableAt (code : Program) (plan : Bound) (site : ℕ) (entry : R
 -- each record is printable, and of the site under whose number it stands; sites are at most 64
 pub record ArePrintable (code : Program) (plan : Bound) (sites : List (List Record)) : Type 0 where
   pub few : length sites ≤ 64
-  pub each : (site : ℕ) (none : List Record) → site < length sites → All (IsPrintableAt code plan site) (slice_index_or sites site none)
+  pub each : (site : ℕ) (none : List Record) → site < length sites
+      → All (IsPrintableAt code plan site) (slice_index_or sites site none)

@@ -3,8 +3,9 @@
 ghost use Rattle.std.specs.Prelude.{◌≡◌, ◌==◌, ◌<◌, ◌≤◌, OnErr, length, slice_get};
 ghost use Rattle.std.specs.List.{find};
 ghost use Rattle.std.specs.Option.{option_copied};
+ghost use Rattle.tester_types.specs.Cells.{cell_behind, marked_cell};
 ghost use Rattle.tester_types.specs.Outside.{HasRisen, Puts};
-ghost use Rattle.datalog.specs.DatalogText.{chain_at, cell_behind, marked_cell, cell_in, cell_of, cell_words};
+ghost use Rattle.datalog.specs.DatalogText.{chain_at, cell_in, cell_of, cell_words};
 
 use page_code::{Code, CodeChain};
 use tester_types::{Fail, Piece, Sink, SinkFault, Text, put_each};
@@ -39,7 +40,8 @@ pub(crate) fn put_cell_in<K: Sink>(
 
 /// Puts the names of a chain and a cell.
 fn put_names<'a, K: Sink>(sink: &mut K, chain: &'a [u8], cell: &'a [u8]) -> Result<(), SinkFault>
-    ensures puts { Puts (K.told sink.old) (cell_words (Some (record { chain = chain.now; name = cell.now }))) result (K.told sink.new) }
+    ensures puts { Puts (K.told sink.old) (cell_words (Some (record { chain = chain.now; name = cell.now }))) result
+        (K.told sink.new) }
     ensures count { K.faults sink.old ≤ K.faults sink.new }
     ensures cause { OnErr result (HasRisen (K.faults sink.old) (K.faults sink.new)) }
 {
@@ -77,7 +79,7 @@ fn first_chain(chains: &[CodeChain], signal: u16) -> Option<&CodeChain>
 
 /// The name of the cell of a chain that a mark means.
 fn marked_cell(mark: u32, chain: &CodeChain) -> Option<&[u8]>
-    ensures { option_copied result ≡ marked_cell mark chain.now }
+    ensures { option_copied result ≡ marked_cell chain.now.length chain.now.cells mark }
 {
     if mark == 0 {
         None
@@ -88,7 +90,7 @@ fn marked_cell(mark: u32, chain: &CodeChain) -> Option<&[u8]>
 
 /// The name of the cell whose character leaves a chain at this shift, from 0.
 fn cell_behind(shift: u32, chain: &CodeChain) -> Option<&[u8]>
-    ensures { option_copied result ≡ cell_behind shift chain.now }
+    ensures { option_copied result ≡ cell_behind chain.now.length chain.now.cells shift }
 {
     if shift < chain.length {
         name_at(chain.cells.as_slice(), chain.length - 1 - shift)

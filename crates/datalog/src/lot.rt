@@ -37,7 +37,8 @@ fn put_sites<K: Sink>(
     sites: &[RecordList],
 ) -> Result<(), SinkFault>
     requires { ArePrintable code.now plan.now sites.now }
-    ensures puts { Puts (K.told sink.old) (numbered (site_text code.now plan.now) 0 sites.now) result (K.told sink.new) }
+    ensures puts { Puts (K.told sink.old) (numbered (site_text code.now plan.now) 0 sites.now) result
+        (K.told sink.new) }
     ensures count { K.faults sink.old ≤ K.faults sink.new }
     ensures cause { OnErr result (HasRisen (K.faults sink.old) (K.faults sink.new)) }
 {
@@ -56,7 +57,8 @@ fn put_site<K: Sink>(
     entries: &[Record],
 ) -> Result<(), SinkFault>
     requires { All (IsPrintableAt code.now plan.now number) entries.now }
-    ensures puts { Puts (K.told sink.old) (site_text code.now plan.now number entries.now) result (K.told sink.new) }
+    ensures puts { Puts (K.told sink.old) (site_text code.now plan.now number entries.now) result
+        (K.told sink.new) }
     ensures count { K.faults sink.old ≤ K.faults sink.new }
     ensures cause { OnErr result (HasRisen (K.faults sink.old) (K.faults sink.new)) }
 {
@@ -75,7 +77,8 @@ fn put_records<K: Sink>(
     entries: &[Record],
 ) -> Result<(), SinkFault>
     requires { All (IsPrintable code.now plan.now) entries.now }
-    ensures puts { Puts (K.told sink.old) (flat_map (record_text code.now plan.now) entries.now) result (K.told sink.new) }
+    ensures puts { Puts (K.told sink.old) (flat_map (record_text code.now plan.now) entries.now) result
+        (K.told sink.new) }
     ensures count { K.faults sink.old ≤ K.faults sink.new }
     ensures cause { OnErr result (HasRisen (K.faults sink.old) (K.faults sink.new)) }
 {

@@ -34,7 +34,8 @@ pub fn print_record<K: Sink>(
 fn put_die<K: Sink>(sink: &mut K, plan: &BoundPlan, entry: &Record) -> Result<(), SinkFault>
     requires site { entry.now.site < sites_of plan.now.rows }
     requires die { entry.now.die < length (dies_at entry.now.site plan.now.rows) }
-    ensures puts { Puts (K.told sink.old) (die_line (die_at plan.now.rows entry.now.site entry.now.die).name) result (K.told sink.new) }
+    ensures puts { Puts (K.told sink.old) (die_line (die_at plan.now.rows entry.now.site entry.now.die).name) result
+        (K.told sink.new) }
     ensures count { K.faults sink.old ≤ K.faults sink.new }
     ensures cause { OnErr result (HasRisen (K.faults sink.old) (K.faults sink.new)) }
 {
@@ -59,7 +60,8 @@ fn put_bin<K: Sink>(sink: &mut K, plan: &BoundPlan, entry: &Record) -> Result<()
 /// The bin of a die: that of the verdict of its last try.
 pub(crate) fn die_bin(plan: &BoundPlan, entry: &Record) -> u8
     requires { 0 < length entry.now.trials }
-    ensures { result ≡ die_bin plan.now entry.now }
+    ensures bin { result ≡ die_bin plan.now entry.now }
+    ensures within { (1 ≤ result) × (result ≤ 99) }
 {
     let trials = entry.trials.as_slice();
     plan.bin(&trials[trials.len() - 1].verdict)

@@ -9,8 +9,8 @@ use crate::records::die_bin;
 use lot_plan::BoundPlan;
 use tester_types::{Piece, Record, RecordList, Sink, SinkFault, put_each};
 
-/// How many bins there may be: a bin is a byte.
-const BINS: usize = 256;
+/// How many counts there are: of the bins 1 to 99, and of bin 0, which no die has.
+const BINS: usize = 100;
 
 /// Puts the totals of the bins.
 pub(crate) fn put_totals<K: Sink>(sink: &mut K, counts: &[u128]) -> Result<(), SinkFault>
@@ -65,10 +65,11 @@ fn no_counts() -> [u128; BINS]
 
 /// Counts the dies of a site.
 fn count_dies(counts: &mut [u128], plan: &BoundPlan, entries: &[Record])
-    requires size { length counts.old ≡ 256 }
-    requires room { (bin : ℕ) → bin < 256 → slice_index counts.old bin ≤ 2 ^ 100 }
+    requires size { length counts.old ≡ 100 }
+    requires room { (bin : ℕ) → bin < 100 → slice_index counts.old bin ≤ 2 ^ 100 }
     requires tried { All (λ entry. 0 < length entry.trials) entries.now }
-    ensures { HaveGrown counts.old (map (die_bin plan.now) entries.now) counts.new }
+    ensures grown { HaveGrown counts.old (map (die_bin plan.now) entries.now) counts.new }
+    ensures none { slice_index counts.new 0 ≡ slice_index counts.old 0 }
 {
     for entry in entries {
         counts[die_bin(plan, entry) as usize] += 1;

@@ -6,5 +6,5 @@ use Rattle.datalog.proofs.totals.counts_of.Given as goal
 abbrev pub invariant-loop-entries : goal.invariant-loop-entries
 invariant-loop-entries l = record {
   counted : AreCounts (bins_of l.plan (take l.entries-index l.sites)) l.counts;
-  small : (bin : ℕ) → bin < 256 → get_or l.counts bin 0 ≤ l.entries-index * 2 ^ 64;
+  small : (bin : ℕ) → bin < 100 → get_or l.counts bin 0 ≤ l.entries-index * 2 ^ 64;
 }
