@@ -1,5 +1,6 @@
 -- Why a lot is refused stays so over a whole call, and what a run wants is wanted of the lot.
-use Rattle.std.proofs.Common.{◌≡◌, ℕ, ◌<◌, ◌≤◌, List, [], ◌∷◌, length, Option, Some, refl, sym, ap, ◌∙◌, subst, arith, inl, inr, get_or, slice_set, false, zero, suc, ◌==◌, ◌⊎◌}
+use Rattle.std.proofs.Common.{◌≡◌, ℕ, ◌-◌, ◌^◌, ◌<◌, ◌≤◌, true, ltb, List, [], ◌∷◌, length, Option, Some, refl, sym, ap, ◌∙◌, subst, arith, inl, inr, get_or, slice_set, false, zero, suc, ◌==◌, ◌⊎◌}
+use Rattle.std.proofs.lemmas.Bool.{cases_Bool, ltb-true, ltb-false}
 use Rattle.tester_types.specs.Outside.{HasRisen, Files}
 use Rattle.page_code.specs.Program.{Program}
 use Rattle.plan_rows.specs.declared.fault.PlanFault.{PlanFault}
@@ -26,42 +27,48 @@ use Rattle.stil_tool.specs.Lot.IsNetRefused.{no_memory as net_memory, unread as 
 use Rattle.stil_tool.specs.Lot.IsRefused.{no_memory, unbound, no_socket}
 use Rattle.stil_tool.specs.Lot.LotWants.{is_run, is_refused}
 
--- a count that rose within a call rose over the whole of it
-wide-risen : (b b' n' n : ℕ) → b ≤ b' → n' ≤ n → HasRisen b' n' → HasRisen b n
-wide-risen b b' n' n low high risen full =
-    let rose : b' < n' = risen (omega (arith, full, high)) in
-    omega (arith, rose, low, high)
+-- a count that rose within a call, and never falls, rose over the whole of it
+wide-risen : (b b' n' n : ℕ) → b ≤ b' → b' ≤ n' → n' ≤ n → HasRisen b' n' → HasRisen b n
+wide-risen b b' n' n low between high risen full = by (cases_Bool (ltb b' (2 ^ 64 - 1)))
+  where
+    by : (ltb b' (2 ^ 64 - 1) ≡ true) ⊎ (ltb b' (2 ^ 64 - 1) ≡ false) → b < n
+    by (inl below) =
+        let rose : b' < n' = risen (ltb-true b' (2 ^ 64 - 1) below) in
+        omega (arith, rose, low, high)
+    by (inr full_now) =
+        let most : 2 ^ 64 - 1 ≤ b' = ltb-false b' (2 ^ 64 - 1) full_now in
+        omega (arith, most, full, between, high)
 
-wide-failed : (told : Option Files) (name : List ℕ) (b b' n' n : ℕ) → b ≤ b' → n' ≤ n →
+wide-failed : (told : Option Files) (name : List ℕ) (b b' n' n : ℕ) → b ≤ b' → b' ≤ n' → n' ≤ n →
     LoadFailed told b' n' name → LoadFailed told b n name
-wide-failed told name b b' n' n low high (inl risen) = inl (wide-risen b b' n' n low high risen)
-wide-failed told name b b' n' n low high (inr lacks) = inr lacks
+wide-failed told name b b' n' n low between high (inl risen) = inl (wide-risen b b' n' n low between high risen)
+wide-failed told name b b' n' n low between high (inr lacks) = inr lacks
 
-wide-unread : (told : Option Files) (name : List ℕ) (b b' n' n : ℕ) (r : Refusal) → b ≤ b' → n' ≤ n →
+wide-unread : (told : Option Files) (name : List ℕ) (b b' n' n : ℕ) (r : Refusal) → b ≤ b' → b' ≤ n' → n' ≤ n →
     IsUnread told b' n' name r → IsUnread told b n name r
-wide-unread told name b b' n' n refused.NoMemory low high is = tt
-wide-unread told name b b' n' n (refused.ReadFault file) low high is = (is.0, wide-failed told name b b' n' n low high is.1)
-wide-unread told name b b' n' n (refused.TooLong file) low high is = is
-wide-unread told name b b' n' n refused.NotThin low high is = absurd is
-wide-unread told name b b' n' n (refused.Net file fault) low high is = absurd is
-wide-unread told name b b' n' n (refused.Plan fault) low high is = absurd is
-wide-unread told name b b' n' n refused.NotOneDie low high is = absurd is
-wide-unread told name b b' n' n refused.NoSocket low high is = absurd is
+wide-unread told name b b' n' n refused.NoMemory low between high is = tt
+wide-unread told name b b' n' n (refused.ReadFault file) low between high is = (is.0, wide-failed told name b b' n' n low between high is.1)
+wide-unread told name b b' n' n (refused.TooLong file) low between high is = is
+wide-unread told name b b' n' n refused.NotThin low between high is = absurd is
+wide-unread told name b b' n' n (refused.Net file fault) low between high is = absurd is
+wide-unread told name b b' n' n (refused.Plan fault) low between high is = absurd is
+wide-unread told name b b' n' n refused.NotOneDie low between high is = absurd is
+wide-unread told name b b' n' n refused.NoSocket low between high is = absurd is
 
 -- a plan that is refused in a part of a call
-pub wide-plan : (told : Option Files) (name : List ℕ) (b b' n : ℕ) (r : Refusal) → b ≤ b' →
+pub wide-plan : (told : Option Files) (name : List ℕ) (b b' n : ℕ) (r : Refusal) → b ≤ b' → b' ≤ n →
     IsPlanRefused told b' n name r → IsPlanRefused told b n name r
-wide-plan told name b b' n r low (plan_memory is) = plan_memory is
-wide-plan told name b b' n r low (plan_unread is) = plan_unread (wide-unread told name b b' n n r low (omega arith) is)
-wide-plan told name b b' n r low (plan_faulty bytes file fault is same) = plan_faulty bytes file fault is same
-wide-plan told name b b' n r low (plan_other bytes file rows is not same) = plan_other bytes file rows is not same
+wide-plan told name b b' n r low between (plan_memory is) = plan_memory is
+wide-plan told name b b' n r low between (plan_unread is) = plan_unread (wide-unread told name b b' n n r low between (omega arith) is)
+wide-plan told name b b' n r low between (plan_faulty bytes file fault is same) = plan_faulty bytes file fault is same
+wide-plan told name b b' n r low between (plan_other bytes file rows is not same) = plan_other bytes file rows is not same
 
 -- a netlist that is refused in a part of a call
-pub wide-net : (told : Option Files) (name : List ℕ) (b b' n : ℕ) (r : Refusal) → b ≤ b' →
+pub wide-net : (told : Option Files) (name : List ℕ) (b b' n : ℕ) (r : Refusal) → b ≤ b' → b' ≤ n →
     IsNetRefused told b' n name r → IsNetRefused told b n name r
-wide-net told name b b' n r low (net_memory is) = net_memory is
-wide-net told name b b' n r low (net_unread is) = net_unread (wide-unread told name b b' n n r low (omega arith) is)
-wide-net told name b b' n r low (net_faulty bytes file fault is same) = net_faulty bytes file fault is same
+wide-net told name b b' n r low between (net_memory is) = net_memory is
+wide-net told name b b' n r low between (net_unread is) = net_unread (wide-unread told name b b' n n r low between (omega arith) is)
+wide-net told name b b' n r low between (net_faulty bytes file fault is same) = net_faulty bytes file fault is same
 
 -- a plan is bound to the signals and the executive of the code as to those of the text
 pub bound-is : (inputs : Inputs) (code : Program) → IsCodeOf inputs.thin code →

@@ -40,16 +40,8 @@ fn file(alloc: Global, name: &str, bytes: &[u8]) -> Result<(String, Vec<u8>), Fa
 fn shelf(alloc: Global) -> Result<MemShelf, Fail> {
     let mut files = Vec::new(alloc);
     files.push(file(alloc, "p.stil", INVERTS)?)?;
-    files.push(file(
-        alloc,
-        "p.csv",
-        b"lot,256,1,8,,\ndie,0,d0,n.bench,,\n",
-    )?)?;
-    files.push(file(
-        alloc,
-        "n.bench",
-        b"INPUT(A)\nOUTPUT(Y)\nY = NOT(A)\n",
-    )?)?;
+    files.push(file(alloc, "p.csv", b"lot,256,1,8,,\ndie,0,d0,n.bench,,\n")?)?;
+    files.push(file(alloc, "n.bench", b"INPUT(A)\nOUTPUT(Y)\nY = NOT(A)\n")?)?;
     Ok(MemShelf::new(files, Vec::new(alloc)))
 }
 
@@ -65,7 +57,9 @@ fn the_dated_cycles_of_a_text_are_printed(rt: HostRuntime) -> Result<(), Fail> {
     let words = words(alloc, &["cycles", "p.stil"])?;
     let status = offline(alloc, words.as_slice(), &mut shelf(alloc)?, &mut out);
     assert!(rt; status == Status::Done);
-    assert!(rt; out.bytes() == b"exec 0 -\n0 0 w 0H\n1 100000000 w 1L\nend 2 200000000\n".as_slice());
+    assert!(rt;
+        out.bytes() == b"exec 0 -\n0 0 w 0H\n1 100000000 w 1L\nend 2 200000000\n".as_slice()
+    );
     Ok(())
 }
 

@@ -1,6 +1,7 @@
 -- What known bodies are, and their faults.
 use Rattle.std.proofs.Common.{◌≡◌, ℕ, ◌+◌, [], ◌∷◌, None, Ok, Err, refl}
 use Rattle.std.specs.Prelude.{codes}
+use Rattle.text_bytes.specs.Bytes.{is_digit, begins_name, is_printable}
 use Rattle.stil_lex.specs.declared.token.Token.{Token}
 use Rattle.stil_lex.specs.declared.token.TokenKind.TheVariants as kind
 use Rattle.stil_tree.specs.Trees.{Trees, end, plain, block}
@@ -40,10 +41,12 @@ statements = block 0 1 (plain 2 1 end) (block 5 2 (block 8 3 (plain 12 1 (plain 
 pub it_is : body_of body Pattern statements
     ≡ Ok (looped 1 2 (single 2 (step.Vector (record { reference = ref.Name (record { name = codes "a"; range = None }); items = letter 49 ∷ []; line = 3 } ∷ [])) no_more)
     (single 3 step.Stop no_more))
+unfolding is_digit begins_name is_printable
 it_is = refl
 
 -- in a macro its `Stop` is left out
 pub no_stop : body_of body Macro statements ≡ Err (Refused LeftOut 20)
+unfolding is_digit begins_name is_printable
 no_stop = refl
 
 -- without the words the first statement is left out, before the rest

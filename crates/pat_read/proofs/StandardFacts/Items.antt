@@ -1,6 +1,7 @@
 -- What known data spell.
 use Rattle.std.proofs.Common.{◌≡◌, [], ◌∷◌, Ok, Err, refl}
 use Rattle.std.specs.Prelude.{codes}
+use Rattle.text_bytes.specs.Bytes.{is_digit, begins_name, is_printable}
 use Rattle.stil_form.specs.declared.fault.FormKind.TheVariants.{Shape, LeftOut, OutOfRange}
 use Rattle.stil_ast.specs.Meaning.Statements.{letter, hash, percent}
 use Rattle.pat_read.specs.Data.{data_of}
@@ -9,10 +10,12 @@ use Rattle.pat_read.proofs.StandardFacts.Spelled.{word, mark, backslash}
 -- `\r3 X 1`: three times X, and 1
 pub three_and_one : data_of (codes "/r3 X 1") (backslash 0 ∷ word 1 3 ∷ word 4 5 ∷ word 6 7 ∷ [])
     ≡ Ok (letter 88 ∷ letter 88 ∷ letter 88 ∷ letter 49 ∷ [])
+unfolding is_digit begins_name is_printable
 three_and_one = refl
 
 -- `\r3 X1`: the unit has two characters
 pub unit_of_two : data_of (codes "/r3 X1") (backslash 0 ∷ word 1 3 ∷ word 4 6 ∷ []) ≡ Err Shape
+unfolding is_digit begins_name is_printable
 unit_of_two = refl
 
 -- `\ r3 X`: the word does not stand directly behind the `\`
@@ -25,10 +28,12 @@ no_data = refl
 
 pub all_items : data_of (codes "01#%/r2#") (word 0 2 ∷ mark 35 2 ∷ mark 37 3 ∷ backslash 4 ∷ word 5 7 ∷ mark 35 7 ∷ [])
     ≡ Ok (letter 48 ∷ letter 49 ∷ hash ∷ percent ∷ hash ∷ hash ∷ [])
+unfolding is_digit begins_name is_printable
 all_items = refl
 
 -- `\r0 X` stands for nothing
 pub no_times : data_of (codes "/r0 X") (backslash 0 ∷ word 1 3 ∷ word 4 5 ∷ []) ≡ Ok []
+unfolding is_digit begins_name is_printable
 no_times = refl
 
 -- the earlier token decides: `\h0 x_y`, and `x_y \h0`
@@ -40,9 +45,11 @@ shape_first = refl
 
 -- an item's form comes before its number: `\r1048577` without a unit, and with one
 pub no_unit : data_of (codes "/r1048577") (backslash 0 ∷ word 1 9 ∷ []) ≡ Err Shape
+unfolding is_digit begins_name is_printable
 no_unit = refl
 
 pub too_often : data_of (codes "/r1048577 X x_y") (backslash 0 ∷ word 1 9 ∷ word 10 11 ∷ word 12 15 ∷ []) ≡ Err OutOfRange
+unfolding is_digit begins_name is_printable
 too_often = refl
 
 -- `\x0`, `\` alone, and `_` as a unit have no form
@@ -53,4 +60,5 @@ pub nothing_behind : data_of (codes "/") (backslash 0 ∷ []) ≡ Err Shape
 nothing_behind = refl
 
 pub no_character : data_of (codes "/r2 _") (backslash 0 ∷ word 1 3 ∷ word 4 5 ∷ []) ≡ Err Shape
+unfolding is_digit begins_name is_printable
 no_character = refl

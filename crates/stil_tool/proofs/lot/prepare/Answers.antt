@@ -17,7 +17,7 @@ returns-in-Err-read_plan-clause-refused g c = λ sockets.
     let faults = g.F.Shelf.faults in
     of_plan c.in-Ok.text c.in-Ok.ensures.found
     (wide-plan told c.args.plan.now (faults c.args.shelf.now) (faults c.read_program.new.shelf) (faults c.read_plan.new.shelf)
-    c.in-Err-read_plan.refusal c.in-Ok.ensures.counts
+    c.in-Err-read_plan.refusal c.in-Ok.ensures.counts c.in-Err-read_plan.ensures.counts
     (subst (λ (t : Option Files). IsPlanRefused t (faults c.read_program.new.shelf) (faults c.read_plan.new.shelf) c.args.plan.now
     c.in-Err-read_plan.refusal) c.in-Ok.ensures.kept c.in-Err-read_plan.ensures.refused))
 
@@ -31,7 +31,7 @@ returns-in-Err-read_net-clause-refused g c = λ sockets.
     of_net c.in-Ok.text c.in-Ok.ensures.found rows
     (subst (λ (t : Option Files). IsPlanFile t c.args.plan.now rows) c.in-Ok.ensures.kept c.in-Ok-read_plan.ensures.found)
     (wide-net told (net_file rows) (faults c.args.shelf.now) (faults c.read_plan.new.shelf) (faults c.read_net.new.shelf)
-    c.in-Err-read_net.refusal before
+    c.in-Err-read_net.refusal before c.in-Err-read_net.ensures.counts
     (subst (λ (name : List ℕ). IsNetRefused told (faults c.read_plan.new.shelf) (faults c.read_net.new.shelf) name
     c.in-Err-read_net.refusal) c.net_file.ensures
     (subst (λ (t : Option Files). IsNetRefused t (faults c.read_plan.new.shelf) (faults c.read_net.new.shelf) c.net_file.result.now
