@@ -73,7 +73,8 @@ fault_stays view view' OutOfRange first next answer = ap (λ r. followed r next)
 
 -- a fault at the token at hand is the fault of the whole
 pub data_stops : {Z : Type 0} (view : Z → List Item) (view' : Awaited → List Item × Awaited) (before : List Item)
-    (bytes : List ℕ) (wanted : Awaited) (tokens : List Token) (i : ℕ) (d : Token) (whole : Result (List Item) FormKind) (fault : DataFault) → i < length tokens →
+    (bytes : List ℕ) (wanted : Awaited) (tokens : List Token) (i : ℕ) (d : Token) (whole : Result (List Item) FormKind)
+    (fault : DataFault) → i < length tokens →
     DataAnswers {X = Awaited} view' (Err fault) (said_behind before (said_by bytes wanted (get_or tokens i d))) →
     behind before (data_from bytes wanted (drop i tokens)) ≡ whole →
     DataAnswers {X = Z} view (Err fault) whole

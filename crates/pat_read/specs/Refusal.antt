@@ -38,8 +38,8 @@ abbrev pub name_behind : List Token → Option ℕ → Option ℕ
 name_behind tokens None = None
 name_behind tokens (Some index) = name_if (slice_get tokens (index + 1)) (index + 1)
 
--- what is told of a fault of the statement with this first token: the block is the top-level statement that is open behind
--- the token
+-- what is told of a fault of the statement with this first token: the block is the top-level statement that is open
+-- behind the token
 pub record IsTold (bytes : List ℕ) (tokens : List Token) (kind : FormKind) (first : ℕ) (fault : StilFault) : Type 0
   where
     pub found : Option ℕ × Option ℕ

@@ -333,8 +333,10 @@ pub fn read_body<'a>(
     place: BodyPlace,
     user: &WordList,
 ) -> Result<PatBody, StilRefusal>
-    ensures found { IfOk result (λ read. body_of (setting bytes.now tokens.now user.now) place (trees body.now) ≡ Ok read) }
-    ensures only { (wanted : Written) → body_of (setting bytes.now tokens.now user.now) place (trees body.now) ≡ Ok wanted
+    ensures found { IfOk result
+        (λ read. body_of (setting bytes.now tokens.now user.now) place (trees body.now) ≡ Ok read) }
+    ensures only { (wanted : Written)
+        → body_of (setting bytes.now tokens.now user.now) place (trees body.now) ≡ Ok wanted
         → MatchResult result (λ read. read ≡ wanted) (λ e. e ≡ refusal.NoMemory) }
     ensures fault { IfErr result (λ e. (e ≡ refusal.NoMemory)
         ⊎ IsBodyFault (setting bytes.now tokens.now user.now) place (trees body.now) e) }

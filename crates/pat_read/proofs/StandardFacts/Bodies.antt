@@ -39,7 +39,8 @@ statements = block 0 1 (plain 2 1 end) (block 5 2 (block 8 3 (plain 12 1 (plain 
 
 -- the statement at `l:` has that line; what begins with `note` is skipped at any place
 pub it_is : body_of body Pattern statements
-    ≡ Ok (looped 1 2 (single 2 (step.Vector (record { reference = ref.Name (record { name = codes "a"; range = None }); items = letter 49 ∷ []; line = 3 } ∷ [])) no_more)
+    ≡ Ok (looped 1 2 (single 2 (step.Vector
+    (record { reference = ref.Name (record { name = codes "a"; range = None }); items = letter 49 ∷ []; line = 3 } ∷ [])) no_more)
     (single 3 step.Stop no_more))
 unfolding is_digit begins_name is_printable
 it_is = refl
