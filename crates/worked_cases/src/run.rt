@@ -51,26 +51,7 @@ fn sink(alloc: Global, case: &Case) -> Result<MemSink, NoMemory> {
     MemSink::new(alloc, room, case.most.max(1), failing, empty)
 }
 
-/// A socket that loses contact at the call of this number; never where it is 0.
-fn socket(alloc: Global, call: u64) -> Result<SocketBox, AllocError> {
-    if call == 0 {
-        let socket: SocketBox = Box::new(alloc, SimSocket::new(alloc))?;
-        return Ok(socket);
-    }
-    let socket: SocketBox = Box::new(alloc, FailingSocket::new(alloc, call))?;
-    Ok(socket)
-}
-
-/// The sockets of a case.
-fn sockets(alloc: Global, case: &Case) -> Result<Vec<SocketBox>, NoMemory> {
-    let mut sockets = Vec::new(alloc);
-    for call in case.sockets.as_slice() {
-        sockets.push(socket(alloc, *call)?)?;
-    }
-    Ok(sockets)
-}
-
-/// Runs a case through `tester`, with this desk.
+/// Runs a case through `tester`, with this desk. A socket loses contact at the call of its number; never where it is 0.
 fn run_with<R: AllocGlobal + Threads + Wait + Sync, D: Desk>(
     rt: &R,
     case: &Case,
@@ -78,7 +59,15 @@ fn run_with<R: AllocGlobal + Threads + Wait + Sync, D: Desk>(
 ) -> Result<Answer, NoMemory> {
     let alloc = rt.alloc();
     let (mut shelf, mut sink) = (shelf(alloc, case)?, sink(alloc, case)?);
-    let mut sockets = sockets(alloc, case)?;
+    let mut sockets: Vec<SocketBox> = Vec::new(alloc);
+    for call in case.sockets.as_slice() {
+        let socket: SocketBox = if *call == 0 {
+            Box::new(alloc, SimSocket::new(alloc))?
+        } else {
+            Box::new(alloc, FailingSocket::new(alloc, *call))?
+        };
+        sockets.push(socket)?;
+    }
     let status = tester(
         rt,
         alloc,
