@@ -2,7 +2,7 @@
 
 use crate::case::Case;
 use die_sim::{FailingSocket, SimSocket, SocketBox};
-use std::alloc::{AllocError, Global};
+use std::alloc::Global;
 use std::fmt;
 use std::sync::Wait;
 use std::thread::Threads;
