@@ -1,6 +1,7 @@
 -- Items behind items: what a token adds to data, and where data stop.
-use Rattle.std.proofs.Common.{◌≡◌, ℕ, ◌+◌, ◌<◌, List, [], ◌∷◌, ◌++◌, length, drop, replicate, get_or, append_assoc, append-nil, suc, arith, Result, Ok, Err, refl, sym, ap, subst, ◌∙◌}
+use Rattle.std.proofs.Common.{◌≡◌, ℕ, ◌+◌, ◌<◌, List, [], ◌∷◌, ◌++◌, length, drop, replicate, get_or, append_assoc, append-nil, Result, Ok, Err, refl, sym, ap, subst, ◌∙◌}
 use Rattle.std.proofs.Math.Seq.{drop-cons}
+use Rattle.text_bytes.proofs.ListLemmas.{suc-plus}
 use Rattle.stil_lex.specs.declared.token.Token.{Token}
 use Rattle.stil_form.specs.declared.fault.FormKind.{FormKind}
 use Rattle.stil_ast.specs.Meaning.Statements.{Item}
@@ -38,9 +39,6 @@ pub data-token : (before : List Item) (bytes : List ℕ) (wanted : Awaited) (tok
     ≡ followed (said_behind before (said_by bytes wanted token)) (λ s. behind s.0 (data_from bytes s.1 tokens))
 data-token before bytes wanted token tokens =
     behind-said before (said_by bytes wanted token) (λ next. data_from bytes next tokens)
-
-suc-plus : (i : ℕ) → suc i ≡ i + 1
-suc-plus i = omega arith
 
 -- the token at hand in front of those behind it
 data-at : (before : List Item) (bytes : List ℕ) (wanted : Awaited) (tokens : List Token) (i : ℕ) (d : Token) → i < length tokens →

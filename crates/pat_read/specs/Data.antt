@@ -1,5 +1,5 @@
 -- Data of an assignment: the items that tokens spell (IEEE 1450-1999, clause 21).
-use Rattle.std.specs.Prelude.{◌≡◌, ℕ, ◌==◌, ◌^◌, nat_le, Bool, true, false, List, [], ◌∷◌, ◌++◌, map, replicate, codes, Option, Some, None, Result, Ok, Err, if◌then◌else◌}
+use Rattle.std.specs.Prelude.{◌≡◌, ℕ, ◌==◌, nat_le, Bool, true, false, List, [], ◌∷◌, ◌++◌, map, replicate, codes, Option, Some, None, Result, Ok, Err, if◌then◌else◌}
 use Rattle.std.specs.List.{list_any}
 use Rattle.stil_lex.specs.declared.token.Token.{Token}
 use Rattle.stil_form.specs.declared.fault.FormKind.{FormKind}
@@ -7,16 +7,13 @@ use Rattle.stil_form.specs.declared.fault.FormKind.TheVariants.{Shape, LeftOut, 
 use Rattle.stil_form.specs.declared.part.SignKind.TheVariants.{Hash, Percent, Backslash}
 use Rattle.stil_form.specs.Lexeme.{Lexeme, word, sign, lexeme_at}
 use Rattle.text_bytes.specs.Numbers.{number_by}
+use Rattle.text_bytes.specs.Limits.{most_repeats}
 use Rattle.stil_ast.specs.Meaning.Statements.{Item, letter, hash, percent}
 use Rattle.pat_read.specs.declared.fault.DataFault.{DataFault}
 use Rattle.pat_read.specs.declared.fault.DataFault.TheVariants as fault
 use Rattle.pat_read.specs.declared.data.Awaited.{Awaited}
 use Rattle.pat_read.specs.declared.data.Awaited.TheVariants as awaited
 use Rattle.pat_read.specs.Fault.{followed}
-
--- the most times that `\rN` repeats its unit
-abbrev pub most_times : ℕ
-most_times = 2 ^ 20
 
 -- a word has a `_`, which is no character of data
 abbrev pub has_underscore : List ℕ → Bool
@@ -61,7 +58,7 @@ repeat_said adjacent _ = Err Shape
 abbrev pub unit_said : ℕ → Option Item → Result (List Item × Awaited) FormKind
 unit_said times None = Err Shape
 unit_said times (Some item) =
-    if nat_le times most_times then Ok (replicate times item, awaited.Item) else Err OutOfRange
+    if nat_le times most_repeats then Ok (replicate times item, awaited.Item) else Err OutOfRange
 
 -- what a token from one place to another says, where this is awaited: its items, and what is awaited behind it
 abbrev pub token_said : Awaited → Lexeme → ℕ → ℕ → Result (List Item × Awaited) FormKind

@@ -1,11 +1,12 @@
 -- A statement of a body by its own tokens: its label, its keyword, and the form behind it (IEEE 1450-1999, clauses 22
 -- to 24).
-use Rattle.std.specs.Prelude.{ℕ, ◌^◌, Bool, true, false, ◌&&◌, ◌||◌, nat_le, List, [], ◌∷◌, codes, Option, Some, None, is_some, Result, Ok, Err, if◌then◌else◌}
+use Rattle.std.specs.Prelude.{ℕ, Bool, true, false, ◌&&◌, ◌||◌, nat_le, List, [], ◌∷◌, codes, Option, Some, None, is_some, Result, Ok, Err, if◌then◌else◌}
 use Rattle.stil_form.specs.declared.fault.FormKind.{FormKind}
 use Rattle.stil_form.specs.declared.fault.FormKind.TheVariants.{Shape, LeftOut, OutOfRange}
 use Rattle.stil_form.specs.declared.part.SignKind.TheVariants.{Colon}
 use Rattle.stil_form.specs.Lexeme.{Lexeme, word, sign}
 use Rattle.text_bytes.specs.Numbers.{number_by}
+use Rattle.text_bytes.specs.Limits.{most_passes}
 use Rattle.stil_form.specs.Words.{is_keyword, named_by}
 use Rattle.pat_read.specs.Fault.{followed}
 use Rattle.pat_read.specs.declared.outline.Keyword.{Keyword}
@@ -62,7 +63,7 @@ named said rest = followed (only_name rest) (λ called. Ok (outline.Step (said c
 -- a Loop runs 1 to 2^48 times
 abbrev pub of_times : Option ℕ → Result Outline FormKind
 of_times None = Err Shape
-of_times (Some times) = if nat_le 1 times && nat_le times (2 ^ 48) then Ok (outline.Loop times) else Err OutOfRange
+of_times (Some times) = if nat_le 1 times && nat_le times most_passes then Ok (outline.Loop times) else Err OutOfRange
 
 -- a Loop, where digits stand behind its keyword
 abbrev pub looped : List Lexeme → Result Outline FormKind

@@ -15,10 +15,7 @@ use std::alloc::{AllocError, Global};
 use stil_ast::{ItemRun, VecItem, VecText};
 use stil_form::{Part, SignKind, part_of};
 use stil_lex::Token;
-use text_bytes::number_by;
-
-/// The most times that `\rN` repeats its unit.
-const MOST_TIMES: u64 = 1_048_576;
+use text_bytes::{MOST_REPEATS, number_by};
 
 /// What the next token of data is to be.
 #[derive(Clone, Copy, Debug, PartialEq, Eq)]
@@ -143,7 +140,7 @@ fn take_unit(runs: &mut Vec<ItemRun>, times: u64, part: &Part) -> Result<Awaited
     let Some(item) = unit_of(part) else {
         return Err(DataFault::Shape);
     };
-    if times > MOST_TIMES {
+    if times > MOST_REPEATS {
         return Err(DataFault::OutOfRange);
     }
     push_item(runs, item, times as u32)?;

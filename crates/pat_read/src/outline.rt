@@ -10,10 +10,7 @@ use crate::fault::DataFault;
 use std::alloc::Global;
 use stil_form::{Part, SignKind, Source, first_part, is_word, name_of};
 use tester_types::{Items, Text};
-use text_bytes::number_by;
-
-/// The most times that a Loop runs.
-const MOST_TIMES: u64 = 1 << 48;
+use text_bytes::{MOST_PASSES, number_by};
 
 /// The keywords of bodies.
 #[derive(Clone, Copy, Debug, PartialEq, Eq)]
@@ -138,7 +135,7 @@ fn of_times(times: Option<u64>) -> Result<Outline, DataFault>
     match times {
         None => Err(DataFault::Shape),
         Some(times) => {
-            if 1 <= times && times <= MOST_TIMES {
+            if 1 <= times && times <= MOST_PASSES {
                 Ok(Outline::Loop(times))
             } else {
                 Err(DataFault::OutOfRange)
