@@ -7,7 +7,8 @@ use Rattle.stil_form.specs.declared.fault.FormFault.TheVariants.{NoMemory, Refus
 use Rattle.stil_form.specs.Reading.{Answers, AnswersBy, and_then, is_skipped}
 use Rattle.text_bytes.proofs.ListLemmas.{drop-item}
 use Rattle.stil_ast.specs.declared.body.PatStmt.{PatStmt}
-use Rattle.pat_read.specs.Body.{Setting, lexemes_at, inner_of, judge_statement, one_more, body_from}
+use Rattle.stil_form.specs.Setting.{Setting, lexemes_at, inner_of}
+use Rattle.pat_read.specs.Body.{judge_statement, one_more, body_from}
 
 -- the trees of a tree's statements are the tree
 pub trees_from-entries : (t : Trees) → trees_from (entries t) ≡ t

@@ -1,25 +1,15 @@
 -- Items behind items: what a token adds to data, and where data stop.
-use Rattle.std.proofs.Common.{◌≡◌, ℕ, ◌+◌, ◌<◌, List, [], ◌∷◌, ◌++◌, length, drop, replicate, get_or, append_assoc, append-nil, Result, Ok, Err, refl, sym, ap, subst, ◌∙◌}
+use Rattle.std.proofs.Common.{◌≡◌, ℕ, ◌+◌, ◌<◌, List, ◌∷◌, ◌++◌, length, drop, get_or, append_assoc, Result, Ok, Err, refl, sym, ap, subst, ◌∙◌}
 use Rattle.std.proofs.Math.Seq.{drop-cons}
 use Rattle.text_bytes.proofs.ListLemmas.{suc-plus}
 use Rattle.stil_lex.specs.declared.token.Token.{Token}
 use Rattle.stil_form.specs.declared.fault.FormKind.{FormKind}
 use Rattle.stil_ast.specs.Meaning.Statements.{Item}
-use Rattle.stil_ast.specs.Data.Items.{item_of, items_of}
-use Rattle.stil_ast.specs.declared.data.ItemRun.{ItemRun}
 use Rattle.pat_read.specs.declared.data.Awaited.{Awaited}
 use Rattle.pat_read.specs.declared.fault.DataFault.{DataFault}
 use Rattle.pat_read.specs.declared.fault.DataFault.TheVariants.{NoMemory, Shape, LeftOut, OutOfRange}
 use Rattle.pat_read.specs.Fault.{followed, DataAnswers}
 use Rattle.pat_read.specs.Data.{said_by, behind, data_from, said_behind}
-
--- the items of runs, and of one run more
-pub items_of-more : (runs : List ItemRun) (run : ItemRun) →
-    items_of (runs ++ run ∷ []) ≡ items_of runs ++ replicate run.times (item_of run.item)
-items_of-more [] run = append-nil (replicate run.times (item_of run.item))
-items_of-more (first ∷ runs) run =
-    ap (λ items. replicate first.times (item_of first.item) ++ items) (items_of-more runs run)
-    ∙ sym (append_assoc (replicate first.times (item_of first.item)) (items_of runs) (replicate run.times (item_of run.item)))
 
 -- items behind items that stand behind items
 behind-append : (before items : List Item) (more : Result (List Item) FormKind) →

@@ -1,26 +1,16 @@
 -- Heads of statements with their tokens, and faults of forms as those of statements.
-use Rattle.std.proofs.Common.{◌≡◌, ℕ, Bool, List, take, drop, Result, Err, sym, ap, subst, ◌∙◌}
-use Rattle.std.proofs.lemmas.List.{take-map, drop-map}
+use Rattle.std.proofs.Common.{◌≡◌, ℕ, Bool, List, Result, Err, ap, subst, ◌∙◌}
 use Rattle.stil_lex.specs.declared.token.Token.{Token}
-use Rattle.stil_tree.specs.Trees.{Entry}
-use Rattle.stil_form.specs.declared.source.Source.{Source}
+use Rattle.stil_form.specs.declared.fault.FormFault.{FormFault}
+use Rattle.stil_form.specs.declared.fault.FormFault.TheVariants as form
 use Rattle.stil_form.specs.declared.fault.FormKind.{FormKind}
-use Rattle.stil_form.specs.Lexeme.{Lexeme, lexeme_at, lexemes_of, lexemes, head_of}
+use Rattle.stil_form.specs.Lexeme.{Lexeme}
 use Rattle.stil_form.specs.Reading.{AnswersBy}
 use Rattle.pat_read.specs.declared.fault.DataFault.{DataFault}
 use Rattle.pat_read.specs.declared.fault.DataFault.TheVariants.{NoMemory, Shape, LeftOut, OutOfRange}
 use Rattle.pat_read.specs.Fault.{DataAnswers, fault_at}
 use Rattle.pat_read.specs.References.{assignment_of}
-use Rattle.pat_read.specs.Body.{tokens_at, at_statement}
-
--- the lexemes of a head's tokens are the head's
-pub lexemes-cut : (source head : Source) (e : Entry) →
-    head.bytes.now ≡ source.bytes.now → head.tokens.now ≡ tokens_at source.tokens.now e → lexemes head ≡ head_of (lexemes source) e
-lexemes-cut source head e bytes tokens =
-    ap (λ bs. lexemes_of bs head.tokens.now) bytes
-    ∙ ap (lexemes_of source.bytes.now) tokens
-    ∙ sym (take-map (lexeme_at source.bytes.now) e.count (drop e.first source.tokens.now))
-    ∙ sym (ap (take e.count) (drop-map (lexeme_at source.bytes.now) e.first source.tokens.now))
+use Rattle.stil_form.specs.Setting.{at_statement}
 
 -- what is to be answered is the same
 pub answers_same : {X Y : Type 0} (view : X → Y) (result : Result X DataFault) (wanted other : Result Y FormKind) →
@@ -42,3 +32,9 @@ fault_at_statement view view' NoMemory first wanted answer = tt
 fault_at_statement view view' Shape first wanted answer = ap (at_statement first) answer
 fault_at_statement view view' LeftOut first wanted answer = ap (at_statement first) answer
 fault_at_statement view view' OutOfRange first wanted answer = ap (at_statement first) answer
+
+-- a fault is the same, however what is read is seen
+pub fault_seen : {X Y Z : Type 0} (view : X → Y) (view' : Z → Y) (fault : FormFault) (wanted : Result Y FormFault) →
+    AnswersBy {X = X} view (Err fault) wanted → AnswersBy {X = Z} view' (Err fault) wanted
+fault_seen view view' form.NoMemory wanted answer = tt
+fault_seen view view' (form.Refused kind first) wanted answer = answer

@@ -1,5 +1,4 @@
 pub mod DataLemmas
-pub mod WordLemmas
 pub mod FormLemmas
 pub mod BodyLemmas
 pub mod StandardFacts

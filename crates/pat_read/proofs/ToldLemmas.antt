@@ -13,7 +13,8 @@ use Rattle.stil_ast.specs.declared.fault.StilKind.{StilKind}
 use Rattle.stil_ast.specs.declared.fault.StilFault.{StilFault}
 use Rattle.stil_ast.specs.Data.Written.{Written}
 use Rattle.pat_read.specs.declared.reader.BodyPlace.{BodyPlace}
-use Rattle.pat_read.specs.Body.{Setting, body_of}
+use Rattle.stil_form.specs.Setting.{Setting}
+use Rattle.pat_read.specs.Body.{body_of}
 use Rattle.pat_read.specs.Refusal.{IsTold, IsFaultOf, IsBodyFault, BodyAnswers, text_at, name_behind}
 
 -- a fault of these parts

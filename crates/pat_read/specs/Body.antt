@@ -1,13 +1,10 @@
 -- The statements of a body with their blocks, in text order (IEEE 1450-1999, clauses 22 to 24).
-use Rattle.std.specs.Prelude.{ℕ, Bool, true, false, List, [], ◌∷◌, ◌++◌, take, drop, slice_get, Option, Some, None, is_some, Result, Ok, Err, if◌then◌else◌}
-use Rattle.std.specs.Option.{option_map_or}
-use Rattle.stil_lex.specs.declared.token.Token.{Token}
-use Rattle.stil_tree.specs.Trees.{Trees, Entry, end, plain, block, entries}
+use Rattle.std.specs.Prelude.{ℕ, Bool, true, false, List, [], ◌∷◌, ◌++◌, Some, None, is_some, Result, Ok, if◌then◌else◌}
+use Rattle.stil_tree.specs.Trees.{Trees, Entry, end, plain, block}
 use Rattle.stil_form.specs.declared.fault.FormKind.{FormKind}
 use Rattle.stil_form.specs.declared.fault.FormFault.{FormFault}
-use Rattle.stil_form.specs.declared.fault.FormFault.TheVariants.{Refused}
-use Rattle.stil_form.specs.Lexeme.{Lexeme, lexemes_of, head_of}
-use Rattle.stil_form.specs.Reading.{and_then, reading, is_skipped, unskipped}
+use Rattle.stil_form.specs.Reading.{and_then, reading, is_skipped}
+use Rattle.stil_form.specs.Setting.{Setting, tokens_at, lexemes_at, line_at, at_statement, inner_of, unskipped}
 use Rattle.stil_ast.specs.Data.Written.{Written}
 use Rattle.stil_ast.specs.Data.Bodies.{written_of}
 use Rattle.stil_ast.specs.declared.body.Assignment.{Assignment}
@@ -22,35 +19,10 @@ use Rattle.pat_read.specs.declared.outline.Outline.{Outline}
 use Rattle.pat_read.specs.declared.outline.Outline.TheVariants as outline
 use Rattle.pat_read.specs.declared.reader.BodyPlace.{BodyPlace}
 use Rattle.pat_read.specs.declared.reader.BodyPlace.TheVariants as place
-use Rattle.pat_read.specs.References.{assignment_of}
+use Rattle.stil_ast.specs.Meaning.Statements.{Item}
+use Rattle.stil_ast.specs.declared.assignment_list.RefKind.{RefKind}
+use Rattle.pat_read.specs.References.{as_assignment, assignment_of}
 use Rattle.pat_read.specs.Statements.{statement_said}
-
--- a text with its tokens, and the words of its UserKeywords statements so far
-pub record Setting : Type 0 where
-  pub bytes : List ℕ
-  pub tokens : List Token
-  pub words : List (List ℕ)
-
--- the setting of these
-abbrev pub setting : List ℕ → List Token → List (List ℕ) → Setting
-setting bytes tokens words = record { bytes = bytes; tokens = tokens; words = words }
-
--- the tokens of a statement's head
-abbrev pub tokens_at : List Token → Entry → List Token
-tokens_at tokens e = take e.count (drop e.first tokens)
-
--- the lexemes of a statement's head
-abbrev pub lexemes_at : Setting → Entry → List Lexeme
-lexemes_at s e = head_of (lexemes_of s.bytes s.tokens) e
-
--- the line of the token at an index
-abbrev pub line_at : List Token → ℕ → ℕ
-line_at tokens index = option_map_or (λ token. token.line) (slice_get tokens index) 0
-
--- a form's fault is one of the statement with this first token
-abbrev pub at_statement : {X : Type 0} → ℕ → Result X FormKind → Result X FormFault
-at_statement first (Ok said) = Ok said
-at_statement first (Err kind) = Err (Refused kind first)
 
 -- what an assignment says, or the kind of its fault
 abbrev pub assignment_at : Setting → Entry → Result Assignment FormKind
@@ -61,9 +33,13 @@ assignment_at s e =
 abbrev pub judge_assignment : Setting → List Assignment → Entry → Result Assignment FormFault
 judge_assignment s before e = at_statement e.first (assignment_at s e)
 
+-- the assignment of a statement, by the kind and the bytes of its reference
+abbrev pub assignment_with : Setting → Entry → RefKind → List ℕ → List Item → Assignment
+assignment_with s e kind bytes items = as_assignment (line_at s.tokens e.first) kind bytes items
+
 -- assignments, without statements that begin with one of the words
 abbrev pub assignments_of : Setting → List Entry → Result (List Assignment) FormFault
-assignments_of s es = reading (judge_assignment s) [] (unskipped s.words (lexemes_of s.bytes s.tokens) es)
+assignments_of s es = reading (judge_assignment s) [] (unskipped s es)
 
 -- a plain statement with what its block assigns
 abbrev pub step_of : Plain → Result (List Assignment) FormFault → Result Step FormFault
@@ -86,11 +62,6 @@ action_of outline.Shift assigned inner = and_then inner (λ stmts. Ok (action.Sh
 -- a statement at a line
 abbrev pub on_line : ℕ → PatAction → PatStmt
 on_line line does = record { line = line; action = does }
-
--- the statements of a block, where there is one
-abbrev pub inner_of : Option Trees → List Entry
-inner_of None = []
-inner_of (Some inside) = entries inside
 
 -- what a statement says without its block, or the kind of its fault
 abbrev pub outline_at : Setting → Bool → Entry → Result Outline FormKind

@@ -11,6 +11,8 @@ use Rattle.stil_ast.specs.Meaning.Statements.{Item}
 use Rattle.stil_ast.specs.declared.name.IndexRange.{IndexRange}
 use Rattle.stil_ast.specs.declared.name.SigRef.{SigRef}
 use Rattle.stil_ast.specs.declared.name.SigRef.TheVariants as ref
+use Rattle.stil_ast.specs.Data.AssignmentCuts.{reference_of}
+use Rattle.stil_ast.specs.declared.assignment_list.RefKind.{RefKind}
 use Rattle.stil_ast.specs.declared.body.Assignment.{Assignment}
 use Rattle.pat_read.specs.Fault.{followed}
 use Rattle.pat_read.specs.Data.{data_of}
@@ -43,11 +45,20 @@ abbrev pub data_behind : List ℕ → List Token → List Lexeme → Result (Lis
 data_behind bytes tokens (sign Equals ∷ rest) = data_of bytes (last_of (length rest) tokens)
 data_behind bytes tokens _ = Err Shape
 
--- an assignment of these items; one with a block has no form, and the indices are judged behind the form
+-- the reference of an assignment; one with a block has no form, and the indices are judged behind the form
+abbrev pub referred : ℕ → Bool → Ref → Result SigRef FormKind
+referred line true reference = Err Shape
+referred line false reference = ref_of line reference
+
+-- an assignment of these items
 abbrev pub assigned : ℕ → Bool → Ref → List Item → Result Assignment FormKind
-assigned line true reference items = Err Shape
-assigned line false reference items =
-    followed (ref_of line reference) (λ found. Ok (record { reference = found; items = items; line = line }))
+assigned line has_block reference items =
+    followed (referred line has_block reference) (λ found.
+    Ok (record { reference = found; items = items; line = line }))
+
+-- an assignment by the kind and the bytes of its reference
+abbrev pub as_assignment : ℕ → RefKind → List ℕ → List Item → Assignment
+as_assignment line kind bytes items = record { reference = reference_of kind bytes; items = items; line = line }
 
 -- an assignment by its reference and what stands behind it
 abbrev pub assignment_by : List ℕ → List Token → ℕ → Bool → Option (Ref × List Lexeme)

@@ -17,7 +17,8 @@ use Rattle.stil_ast.specs.declared.fault.StilRefusal.{StilRefusal}
 use Rattle.stil_ast.specs.declared.fault.StilRefusal.TheVariants.{NoMemory, Fault}
 use Rattle.stil_ast.specs.Data.Written.{Written}
 use Rattle.pat_read.specs.declared.reader.BodyPlace.{BodyPlace}
-use Rattle.pat_read.specs.Body.{Setting, line_at, body_of}
+use Rattle.stil_form.specs.Setting.{Setting, line_at}
+use Rattle.pat_read.specs.Body.{body_of}
 
 -- the kind of a fault of a form
 abbrev pub stil_kind : FormKind → StilKind

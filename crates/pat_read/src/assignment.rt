@@ -1,16 +1,19 @@
 //! Assignments and arguments, `ref = data;` (IEEE 1450-1999, clauses 6 and 21).
 
-ghost use Rattle.std.specs.Prelude.{◌≡◌, ℕ};
+ghost use Rattle.std.specs.Prelude.{◌≡◌, ◌++◌, ◌∷◌, [], ℕ, OnOk};
 ghost use Rattle.stil_form.specs.Lexeme.{lexemes};
 ghost use Rattle.stil_form.specs.Fronts.{ref_of};
+ghost use Rattle.stil_ast.specs.Data.AssignmentCuts.{reference_of};
 ghost use Rattle.pat_read.specs.Fault.{DataAnswers};
 ghost use Rattle.pat_read.specs.References as references;
-ghost use Rattle.pat_read.specs.References.{last_of, data_behind, assigned, assignment_of};
+ghost use Rattle.pat_read.specs.References.{last_of, data_behind, referred, as_assignment, assignment_of};
 
-use crate::data::read_data;
+use crate::data::take_data;
 use crate::fault::DataFault;
-use std::alloc::Global;
-use stil_ast::{Assignment, IndexRange, NameRef, Quoted, SigRef, VecText};
+use std::alloc::{AllocError, Global};
+use stil_ast::{
+    AssignmentList, AssignmentParts, IndexRange, NameRef, Quoted, RefKind, SigRef, VecText,
+};
 use stil_form::{Part, Reference, SignKind, Source, Span, first_part, reference_front};
 use stil_lex::Token;
 use tester_types::Items;
@@ -36,7 +39,7 @@ fn range_of(span: Option<Span>) -> Result<Option<IndexRange>, DataFault>
 }
 
 /// A reference that begins on this line.
-fn read_ref(alloc: Global, line: u32, reference: Reference) -> Result<SigRef, DataFault>
+pub fn read_ref(alloc: Global, line: u32, reference: Reference) -> Result<SigRef, DataFault>
     ensures { DataAnswers (λ found. found) result (references.ref_of line (ref_of reference.entry)) }
 {
     match reference {
@@ -52,53 +55,91 @@ fn read_ref(alloc: Global, line: u32, reference: Reference) -> Result<SigRef, Da
     }
 }
 
-/// The data of a statement with this head, of which the part behind its reference is given.
-fn data_behind(alloc: Global, head: Source, behind: Source) -> Result<VecText, DataFault>
-    ensures { DataAnswers (λ items. items) result
+/// A reference that begins on this line, by its kind and its bytes.
+fn lent_ref<'a>(line: u32, reference: Reference<'a>) -> Result<(RefKind, &'a [u8]), DataFault>
+    ensures { DataAnswers (λ found. reference_of found.0 found.1.now) result
+        (references.ref_of line (ref_of reference.entry)) }
+{
+    match reference {
+        Reference::Name(called, span) => match range_of(span)? {
+            Some(range) => Ok((RefKind::Indexed(range), called)),
+            None => Ok((RefKind::Name, called)),
+        },
+        Reference::Group(expression) => Ok((RefKind::Group(line), expression)),
+    }
+}
+
+/// Takes the data of a statement with this head, of which the part behind its reference is given.
+fn take_behind(items: &mut VecText, head: Source, behind: Source) -> Result<(), DataFault>
+    requires { items.old ≡ [] }
+    ensures { DataAnswers (λ _. items.new) result
         (data_behind head.entry.bytes.now head.entry.tokens.now (lexemes behind.entry)) }
 {
     match first_part(behind) {
         Some((Part::Sign(SignKind::Equals), rest)) => {
-            read_data(alloc, head.bytes, last_of(rest.tokens.len(), head.tokens))
+            take_data(items, head.bytes, last_of(rest.tokens.len(), head.tokens))
         }
         _ => Err(DataFault::Shape),
     }
 }
 
-/// An assignment of these items.
-fn assigned(
-    alloc: Global,
+/// The reference of a statement, which may have no block.
+fn referred<'a>(
     line: u32,
     has_block: bool,
-    reference: Reference,
-    items: VecText,
-) -> Result<Assignment, DataFault>
-    ensures { DataAnswers (λ found. found) result (assigned line has_block (ref_of reference.entry) items) }
+    reference: Reference<'a>,
+) -> Result<(RefKind, &'a [u8]), DataFault>
+    ensures { DataAnswers (λ found. reference_of found.0 found.1.now) result
+        (referred line has_block (ref_of reference.entry)) }
 {
     if has_block {
         return Err(DataFault::Shape);
     }
-    let reference = read_ref(alloc, line, reference)?;
-    Ok(Assignment {
-        reference,
-        items,
-        line,
-    })
+    lent_ref(line, reference)
 }
 
-/// What `ref = data;` on this line says, by its head.
-pub(crate) fn assignment_of(
-    alloc: Global,
+/// What `ref = data;` on this line says, by its head: its reference, while its data are taken.
+pub(crate) fn assignment_of<'a>(
+    items: &mut VecText,
     line: u32,
     has_block: bool,
-    head: Source,
-) -> Result<Assignment, DataFault>
-    ensures { DataAnswers (λ found. found) result
+    head: Source<'a>,
+) -> Result<(RefKind, &'a [u8]), DataFault>
+    requires { items.old ≡ [] }
+    ensures { DataAnswers (λ found. as_assignment line found.0 found.1.now items.new) result
         (assignment_of head.entry.bytes.now head.entry.tokens.now line has_block (lexemes head.entry)) }
 {
     let Some((reference, rest)) = reference_front(head) else {
         return Err(DataFault::Shape);
     };
-    let items = data_behind(alloc, head, rest)?;
-    assigned(alloc, line, has_block, reference, items)
+    take_behind(items, head, rest)?;
+    let found = referred(line, has_block, reference)?;
+    Ok(found)
+}
+
+/// The same data without its items, in the same memory.
+pub(crate) fn emptied(items: VecText) -> VecText
+    ensures { result ≡ [] }
+{
+    let mut runs = items.into_vec();
+    runs.clear();
+    VecText::from_vec(runs)
+}
+
+/// Adds an assignment of these parts.
+pub(crate) fn add_assignment<'a>(
+    read: &mut AssignmentList,
+    reference: RefKind,
+    bytes: &'a [u8],
+    items: &'a VecText,
+    line: u32,
+) -> Result<(), AllocError>
+    ensures { OnOk result (read.new ≡ read.old ++ as_assignment line reference bytes.now items.now ∷ []) }
+{
+    read.push_parts(AssignmentParts {
+        reference,
+        bytes,
+        runs: items.as_slice(),
+        line,
+    })
 }

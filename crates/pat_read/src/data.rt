@@ -4,7 +4,7 @@ ghost use Rattle.std.specs.Prelude.{◌≡◌, ◌⊎◌, ◌++◌, List, [], ma
 ghost use Rattle.std.specs.List.{list_any};
 ghost use Rattle.stil_form.specs.Lexeme.{lexeme_of, lexeme_at};
 ghost use Rattle.stil_ast.specs.Meaning.Statements.{Item, letter};
-ghost use Rattle.stil_ast.specs.Data.Items.{item_of, items_of};
+ghost use Rattle.stil_ast.specs.Data.Items.{item_of};
 ghost use Rattle.pat_read.specs.declared.fault.DataFault.{DataFault};
 ghost use Rattle.pat_read.specs.declared.fault.DataFault.TheVariants.{NoMemory};
 ghost use Rattle.pat_read.specs.Fault.{DataAnswers};
@@ -12,7 +12,7 @@ ghost use Rattle.pat_read.specs.Data.{has_underscore, times_by, is_left_out, uni
 
 use crate::fault::DataFault;
 use std::alloc::{AllocError, Global};
-use stil_ast::{ItemRun, VecItem, VecText};
+use stil_ast::{VecItem, VecText};
 use stil_form::{Part, SignKind, part_of};
 use stil_lex::Token;
 use text_bytes::{MOST_REPEATS, number_by};
@@ -67,43 +67,35 @@ fn unit_of(part: &Part) -> Option<VecItem>
     }
 }
 
-/// Adds an item that stands so often.
-fn push_item(runs: &mut Vec<ItemRun>, item: VecItem, times: u32) -> Result<(), AllocError>
-    ensures { OnOk result (items_of runs.new.items ≡ items_of runs.old.items ++ replicate times (item_of item)) }
-{
-    runs.push(ItemRun { item, times })?;
-    Ok(())
-}
-
 /// Adds the characters of a word.
-fn push_letters(runs: &mut Vec<ItemRun>, word: &[u8]) -> Result<(), AllocError>
-    ensures { OnOk result (items_of runs.new.items ≡ items_of runs.old.items ++ map letter word.now) }
+fn push_letters(items: &mut VecText, word: &[u8]) -> Result<(), AllocError>
+    ensures { OnOk result (items.new ≡ items.old ++ map letter word.now) }
 {
     for byte in word {
-        push_item(runs, VecItem::Letter(*byte), 1)?;
+        items.push(VecItem::Letter(*byte), 1)?;
     }
     Ok(())
 }
 
 /// Takes a part, which ends at this place, as an item.
-fn take_item(runs: &mut Vec<ItemRun>, part: &Part, end: u32) -> Result<Awaited, DataFault>
-    ensures { DataAnswers (λ next. (items_of runs.new.items, next)) result
-        (said_behind (items_of runs.old.items) (item_said (lexeme_of part.now) end)) }
+fn take_item(items: &mut VecText, part: &Part, end: u32) -> Result<Awaited, DataFault>
+    ensures { DataAnswers (λ next. (items.new, next)) result
+        (said_behind items.old (item_said (lexeme_of part.now) end)) }
 {
     match *part {
         Part::Word(word) => {
             if has_underscore(word) {
                 return Err(DataFault::Shape);
             }
-            push_letters(runs, word)?;
+            push_letters(items, word)?;
             Ok(Awaited::Item)
         }
         Part::Sign(SignKind::Hash) => {
-            push_item(runs, VecItem::Take, 1)?;
+            items.push(VecItem::Take, 1)?;
             Ok(Awaited::Item)
         }
         Part::Sign(SignKind::Percent) => {
-            push_item(runs, VecItem::Peek, 1)?;
+            items.push(VecItem::Peek, 1)?;
             Ok(Awaited::Item)
         }
         Part::Sign(SignKind::Backslash) => Ok(Awaited::Repeat(end)),
@@ -133,9 +125,9 @@ fn take_repeat(adjacent: bool, part: &Part) -> Result<Awaited, DataFault>
 }
 
 /// Takes a part as a unit that stands so often.
-fn take_unit(runs: &mut Vec<ItemRun>, times: u64, part: &Part) -> Result<Awaited, DataFault>
-    ensures { DataAnswers (λ next. (items_of runs.new.items, next)) result
-        (said_behind (items_of runs.old.items) (unit_said times (unit_of (lexeme_of part.now)))) }
+fn take_unit(items: &mut VecText, times: u64, part: &Part) -> Result<Awaited, DataFault>
+    ensures { DataAnswers (λ next. (items.new, next)) result
+        (said_behind items.old (unit_said times (unit_of (lexeme_of part.now)))) }
 {
     let Some(item) = unit_of(part) else {
         return Err(DataFault::Shape);
@@ -143,42 +135,55 @@ fn take_unit(runs: &mut Vec<ItemRun>, times: u64, part: &Part) -> Result<Awaited
     if times > MOST_REPEATS {
         return Err(DataFault::OutOfRange);
     }
-    push_item(runs, item, times as u32)?;
+    items.push(item, times as u32)?;
     Ok(Awaited::Item)
 }
 
 /// Takes the next token of data.
 fn take_token(
-    runs: &mut Vec<ItemRun>,
+    items: &mut VecText,
     awaited: Awaited,
     bytes: &[u8],
     token: &Token,
 ) -> Result<Awaited, DataFault>
-    ensures { DataAnswers (λ next. (items_of runs.new.items, next)) result
-        (said_behind (items_of runs.old.items) (said_by bytes.now awaited token.now)) }
+    ensures { DataAnswers (λ next. (items.new, next)) result
+        (said_behind items.old (said_by bytes.now awaited token.now)) }
 {
     let part = part_of(bytes, token);
     match awaited {
-        Awaited::Item => take_item(runs, &part, token.end),
+        Awaited::Item => take_item(items, &part, token.end),
         Awaited::Repeat(place) => take_repeat(token.start == place, &part),
-        Awaited::OfUnit(times) => take_unit(runs, times, &part),
+        Awaited::OfUnit(times) => take_unit(items, times, &part),
+    }
+}
+
+/// Takes the data that tokens spell.
+pub(crate) fn take_data(
+    items: &mut VecText,
+    bytes: &[u8],
+    tokens: &[Token],
+) -> Result<(), DataFault>
+    requires { items.old ≡ [] }
+    ensures { DataAnswers (λ _. items.new) result (data_of bytes.now tokens.now) }
+{
+    let mut awaited = Awaited::Item;
+    for token in tokens {
+        awaited = take_token(items, awaited, bytes, token)?;
+    }
+    match awaited {
+        Awaited::Item => Ok(()),
+        Awaited::Repeat(_) => Err(DataFault::Shape),
+        Awaited::OfUnit(_) => Err(DataFault::Shape),
     }
 }
 
 /// The data that tokens spell.
-pub(crate) fn read_data(alloc: Global, bytes: &[u8], tokens: &[Token]) -> Result<VecText, DataFault>
+fn read_data(alloc: Global, bytes: &[u8], tokens: &[Token]) -> Result<VecText, DataFault>
     ensures { DataAnswers (λ read. read) result (data_of bytes.now tokens.now) }
 {
-    let mut runs = Vec::with_capacity(alloc, tokens.len())?;
-    let mut awaited = Awaited::Item;
-    for token in tokens {
-        awaited = take_token(&mut runs, awaited, bytes, token)?;
-    }
-    match awaited {
-        Awaited::Item => Ok(VecText::from_vec(runs)),
-        Awaited::Repeat(_) => Err(DataFault::Shape),
-        Awaited::OfUnit(_) => Err(DataFault::Shape),
-    }
+    let mut items = VecText::with_capacity(alloc, tokens.len())?;
+    take_data(&mut items, bytes, tokens)?;
+    Ok(items)
 }
 
 /// The items that tokens spell: words without `_`, `#`, `%`, and `\rN` with its unit behind it. They are kept as runs,

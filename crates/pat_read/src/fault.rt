@@ -53,7 +53,7 @@ impl DataFault {
     ghost use Rattle.pat_read.specs.Fault.{fault_at};
 
     /// The same as the fault of the statement with this first token.
-    pub(crate) fn at(self, first: u32) -> FormFault
+    pub fn at(self, first: u32) -> FormFault
         ensures { result ≡ fault_at self first }
     {
         match self {

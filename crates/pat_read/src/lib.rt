@@ -8,11 +8,12 @@ mod fault;
 mod outline;
 mod reader;
 mod refusal;
-mod words;
 
+pub use assignment::read_ref;
 pub use data::vec_data;
 pub use fault::DataFault;
-pub use reader::{BodyPlace, read_body};
+pub use reader::{BodyPlace, read_body, read_written};
+pub use refusal::refused;
 
 #[cfg(test)]
 mod tests;

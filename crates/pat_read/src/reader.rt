@@ -2,27 +2,28 @@
 
 ghost use Rattle.std.specs.Prelude.{◌≡◌, ◌⊎◌, false, [], map, is_some, Ok, IfOk, IfErr, MatchResult};
 ghost use Rattle.stil_tree.specs.Trees.{entry_of, trees_from, trees};
-ghost use Rattle.stil_form.specs.Lexeme.{lexemes, head_of};
-ghost use Rattle.stil_form.specs.Reading.{Answers, AnswersBy, is_skipped};
+ghost use Rattle.stil_form.specs.Reading.{Answers, AnswersBy};
 ghost use Rattle.stil_ast.specs.Data.Written.{Written};
 ghost use Rattle.stil_ast.specs.declared.fault.StilRefusal.{StilRefusal};
 ghost use Rattle.stil_ast.specs.declared.fault.StilRefusal.TheVariants as refusal;
-ghost use Rattle.pat_read.specs.Setting.{setting_of};
+ghost use Rattle.stil_form.specs.Setting.{Setting, setting, setting_of, line_at, at_statement, inner_of};
 ghost use Rattle.pat_read.specs.Fault.{DataAnswers};
-ghost use Rattle.pat_read.specs.Body.{Setting, setting, tokens_at, lexemes_at, line_at, at_statement, assignment_at, outline_at, judge_assignment, assignments_of, step_of, inner_of, action_of, judge_statement, body_from, is_pattern, body_of};
+ghost use Rattle.pat_read.specs.Body.{assignment_at, assignment_with, outline_at, judge_assignment, assignments_of, step_of, action_of, judge_statement, body_from, is_pattern, body_of};
 ghost use Rattle.pat_read.specs.Refusal.{IsBodyFault, BodyAnswers};
 
-use crate::assignment::assignment_of;
+use crate::assignment::{add_assignment, assignment_of, emptied};
 use crate::fault::DataFault;
 use crate::outline::{Outline, Plain, statement_said};
 use crate::refusal::refused;
-use crate::words::Words;
 use std::alloc::Global;
-use stil_ast::{Assignment, PatAction, PatBody, PatStmt, Step, StilRefusal, WordList};
-use stil_form::{FormFault, Source, body};
+use stil_ast::{
+    AssignmentList, PatAction, PatBody, PatStmt, RefKind, Step, StilRefusal, VecText, WordList,
+};
+use stil_form::{
+    FormFault, Reader, Source, Words, first_of, has_block, head_at, inner_of, line_at, skips,
+};
 use stil_lex::Token;
 use stil_tree::{Stmt, StmtList};
-use tester_types::Items;
 
 /// Where a body stands.
 #[derive(Clone, Copy, Debug, PartialEq, Eq)]
@@ -32,89 +33,41 @@ pub enum BodyPlace {
     Procedure,
 }
 
-/// What bodies are read by: their text with its tokens, and the words of UserKeywords statements.
-#[derive(Clone, Copy)]
-pub(crate) struct BodyForm<'k, 'a> {
-    source: Source<'a>,
-    words: &'k Words<'a>,
+/// The line of a statement.
+fn line_of(form: &Reader, stmt: &Stmt) -> u32
+    ensures { result ≡ line_at form.now.source.tokens.now (entry_of stmt.now).first }
+{
+    line_at(form.source.tokens, first_of(stmt) as usize)
 }
 
-/// The index of a statement's first token.
-fn first_of(stmt: &Stmt) -> u32
-    ensures { result ≡ (entry_of stmt.now).first }
+/// The reference of an assignment, while its data are taken, or the kind of its fault.
+fn assignment_at<'k, 'a>(
+    items: &mut VecText,
+    form: &Reader<'k, 'a>,
+    stmt: &Stmt,
+) -> Result<(RefKind, &'a [u8]), DataFault>
+    requires { items.old ≡ [] }
+    ensures { DataAnswers
+        (λ found. assignment_with (setting_of form.now) (entry_of stmt.now) found.0 found.1.now items.new) result
+        (assignment_at (setting_of form.now) (entry_of stmt.now)) }
 {
-    stmt.first
+    let line = line_of(form, stmt);
+    assignment_of(items, line, has_block(stmt), head_at(form.source, stmt))
 }
 
-/// The tokens of a statement's head.
-fn cut<'a>(source: Source<'a>, stmt: &Stmt) -> Source<'a>
-    ensures bytes { result.bytes.now ≡ source.entry.bytes.now }
-    ensures tokens { result.tokens.now ≡ tokens_at source.entry.tokens.now (entry_of stmt.now) }
+/// The reference of an assignment, while its data are taken.
+fn read_assignment<'k, 'a>(
+    items: &mut VecText,
+    form: &Reader<'k, 'a>,
+    stmt: &Stmt,
+) -> Result<(RefKind, &'a [u8]), FormFault>
+    requires { items.old ≡ [] }
+    ensures { AnswersBy
+        (λ found. assignment_with (setting_of form.now) (entry_of stmt.now) found.0 found.1.now items.new) result
+        (judge_assignment (setting_of form.now) [] (entry_of stmt.now)) }
 {
-    let first = source.tokens.len().min(stmt.first as usize);
-    let rest = &source.tokens[first..];
-    Source {
-        bytes: source.bytes,
-        tokens: &rest[..rest.len().min(stmt.count as usize)],
-    }
-}
-
-/// The head of a statement, with its tokens.
-fn head_at<'a>(source: Source<'a>, stmt: &Stmt) -> Source<'a>
-    ensures bytes { result.bytes.now ≡ source.entry.bytes.now }
-    ensures tokens { result.tokens.now ≡ tokens_at source.entry.tokens.now (entry_of stmt.now) }
-    ensures lexemes { lexemes result ≡ head_of (lexemes source.entry) (entry_of stmt.now) }
-{
-    cut(source, stmt)
-}
-
-/// The line of the token at an index, 0 where there is none.
-pub(crate) fn line_at(tokens: &[Token], index: usize) -> u32
-    ensures { result ≡ line_at tokens.now index }
-{
-    match tokens.get(index) {
-        Some(token) => token.line,
-        None => 0,
-    }
-}
-
-/// The statements of a statement's block, none where it has none.
-fn inner_of(stmt: &Stmt) -> &[Stmt]
-    ensures { map entry_of result.now ≡ inner_of (entry_of stmt.now).body }
-{
-    match body(stmt) {
-        Some(stmts) => stmts,
-        None => &[],
-    }
-}
-
-fn has_block(stmt: &Stmt) -> bool
-    ensures { result ≡ is_some (entry_of stmt.now).body }
-{
-    body(stmt).is_some()
-}
-
-/// Whether a statement begins with one of the words.
-fn skips(form: &BodyForm, stmt: &Stmt) -> bool
-    ensures { result ≡ is_skipped form.now.words.now (lexemes_at (setting_of form.now) (entry_of stmt.now)) }
-{
-    form.words.skips(head_at(form.source, stmt))
-}
-
-/// What an assignment says, or the kind of its fault.
-fn assignment_at(alloc: Global, form: &BodyForm, stmt: &Stmt) -> Result<Assignment, DataFault>
-    ensures { DataAnswers (λ read. read) result (assignment_at (setting_of form.now) (entry_of stmt.now)) }
-{
-    let line = line_at(form.source.tokens, first_of(stmt) as usize);
-    assignment_of(alloc, line, has_block(stmt), head_at(form.source, stmt))
-}
-
-/// What an assignment says.
-fn read_assignment(alloc: Global, form: &BodyForm, stmt: &Stmt) -> Result<Assignment, FormFault>
-    ensures { Answers result (judge_assignment (setting_of form.now) [] (entry_of stmt.now)) }
-{
-    match assignment_at(alloc, form, stmt) {
-        Ok(assignment) => Ok(assignment),
+    match assignment_at(items, form, stmt) {
+        Ok(found) => Ok(found),
         Err(fault) => Err(fault.at(first_of(stmt))),
     }
 }
@@ -122,36 +75,33 @@ fn read_assignment(alloc: Global, form: &BodyForm, stmt: &Stmt) -> Result<Assign
 /// The assignments of a block.
 fn read_assignments(
     alloc: Global,
-    form: &BodyForm,
+    form: &Reader,
     stmts: &[Stmt],
-) -> Result<Vec<Assignment>, FormFault>
-    ensures { AnswersBy (λ read. read.items) result (assignments_of (setting_of form.now) (map entry_of stmts.now)) }
+) -> Result<AssignmentList, FormFault>
+    ensures { Answers result (assignments_of (setting_of form.now) (map entry_of stmts.now)) }
 {
-    let mut read = Vec::with_capacity(alloc, stmts.len())?;
+    let mut read = AssignmentList::with_capacity(alloc, stmts.len())?;
+    let mut items = VecText::with_capacity(alloc, 0)?;
     for stmt in stmts {
         if skips(form, stmt) {
             continue;
         }
-        let assignment = read_assignment(alloc, form, stmt)?;
-        read.push(assignment)?;
+        items = emptied(items);
+        let (reference, bytes) = read_assignment(&mut items, form, stmt)?;
+        add_assignment(&mut read, reference, bytes, &items, line_of(form, stmt))?;
     }
     Ok(read)
 }
 
 /// What a statement says without its block, or the kind of its fault.
-fn outline_at(alloc: Global, form: &BodyForm, top: bool, stmt: &Stmt) -> Result<Outline, DataFault>
+fn outline_at(alloc: Global, form: &Reader, top: bool, stmt: &Stmt) -> Result<Outline, DataFault>
     ensures { DataAnswers (λ read. read) result (outline_at (setting_of form.now) top (entry_of stmt.now)) }
 {
     statement_said(alloc, top, has_block(stmt), head_at(form.source, stmt))
 }
 
 /// What a statement says without its block.
-fn read_outline(
-    alloc: Global,
-    form: &BodyForm,
-    top: bool,
-    stmt: &Stmt,
-) -> Result<Outline, FormFault>
+fn read_outline(alloc: Global, form: &Reader, top: bool, stmt: &Stmt) -> Result<Outline, FormFault>
     ensures { Answers result
         (at_statement (entry_of stmt.now).first (outline_at (setting_of form.now) top (entry_of stmt.now))) }
 {
@@ -162,31 +112,26 @@ fn read_outline(
 }
 
 /// A plain statement with the assignments of its block.
-fn read_step(
-    alloc: Global,
-    form: &BodyForm,
-    plain: Plain,
-    stmts: &[Stmt],
-) -> Result<Step, FormFault>
+fn read_step(alloc: Global, form: &Reader, plain: Plain, stmts: &[Stmt]) -> Result<Step, FormFault>
     ensures { Answers result (step_of plain (assignments_of (setting_of form.now) (map entry_of stmts.now))) }
 {
     match plain {
         Plain::Wave(table) => Ok(Step::Wave(table)),
         Plain::Vector => {
             let given = read_assignments(alloc, form, stmts)?;
-            Ok(Step::Vector(Items::from_vec(given)))
+            Ok(Step::Vector(given))
         }
         Plain::Condition => {
             let given = read_assignments(alloc, form, stmts)?;
-            Ok(Step::Condition(Items::from_vec(given)))
+            Ok(Step::Condition(given))
         }
         Plain::Macro(name) => {
             let given = read_assignments(alloc, form, stmts)?;
-            Ok(Step::Macro(name, Items::from_vec(given)))
+            Ok(Step::Macro(name, given))
         }
         Plain::Call(name) => {
             let given = read_assignments(alloc, form, stmts)?;
-            Ok(Step::Call(name, Items::from_vec(given)))
+            Ok(Step::Call(name, given))
         }
         Plain::Stop => Ok(Step::Stop),
         Plain::BreakPoint => Ok(Step::BreakPoint),
@@ -198,7 +143,7 @@ fn read_step(
 #[cycle(body)]
 fn read_action(
     alloc: Global,
-    form: &BodyForm,
+    form: &Reader,
     outline: Outline,
     stmts: &[Stmt],
 ) -> Result<PatAction, FormFault>
@@ -220,7 +165,7 @@ fn read_action(
 
 /// A statement with its block.
 #[cycle(body)]
-fn read_stmt(alloc: Global, form: &BodyForm, top: bool, stmt: &Stmt) -> Result<PatStmt, FormFault>
+fn read_stmt(alloc: Global, form: &Reader, top: bool, stmt: &Stmt) -> Result<PatStmt, FormFault>
     ensures { Answers result (judge_statement (setting_of form.now) top (entry_of stmt.now)
         (body_from (setting_of form.now) false [] (trees_from (inner_of (entry_of stmt.now).body)))) }
 {
@@ -236,7 +181,7 @@ fn read_stmt(alloc: Global, form: &BodyForm, top: bool, stmt: &Stmt) -> Result<P
 #[cycle(body)]
 fn read_stmts(
     alloc: Global,
-    form: &BodyForm,
+    form: &Reader,
     top: bool,
     stmts: &[Stmt],
 ) -> Result<Vec<PatStmt>, FormFault>
@@ -257,7 +202,7 @@ fn read_stmts(
 /// Statements of a body, seen as trees.
 fn read_trees(
     alloc: Global,
-    form: &BodyForm,
+    form: &Reader,
     top: bool,
     body: &StmtList,
 ) -> Result<Vec<PatStmt>, FormFault>
@@ -272,10 +217,10 @@ fn is_pattern(place: BodyPlace) -> bool
     matches!(place, BodyPlace::Pattern)
 }
 
-/// The body that statements are.
-fn read_written(
+/// The body that statements are, or the first fault of its statements, for readers of the blocks in which it stands.
+pub fn read_written(
     alloc: Global,
-    form: &BodyForm,
+    form: &Reader,
     place: BodyPlace,
     body: &StmtList,
 ) -> Result<PatBody, FormFault>
@@ -288,7 +233,7 @@ fn read_written(
 /// The body that statements are, or what is told of their fault.
 fn read_told(
     alloc: Global,
-    form: &BodyForm,
+    form: &Reader,
     place: BodyPlace,
     body: &StmtList,
 ) -> Result<PatBody, StilRefusal>
@@ -311,8 +256,8 @@ fn read_tokens<'a>(
 ) -> Result<PatBody, StilRefusal>
     ensures { BodyAnswers (setting bytes.now tokens.now user.now) place (trees body.now) result }
 {
-    let words = Words::new(alloc, user.as_slice())?;
-    let form = BodyForm {
+    let words = Words::of_list(alloc, user.as_slice())?;
+    let form = Reader {
         source: Source { bytes, tokens },
         words: &words,
     };

@@ -4,10 +4,9 @@ ghost use Rattle.std.specs.Prelude.{◌≡◌, ◌+◌, IfOk, slice_get};
 ghost use Rattle.stil_tree.specs.Blocks.{may_name, name_if};
 ghost use Rattle.pat_read.specs.Refusal.{stil_kind, text_at, name_behind, IsTold, Tells};
 
-use crate::reader::line_at;
 use std::alloc::{AllocError, Global};
 use stil_ast::{StilFault, StilKind, StilRefusal};
-use stil_form::{FormFault, FormKind, Source};
+use stil_form::{FormFault, FormKind, Source, line_at};
 use stil_lex::{Token, TokenKind};
 use stil_tree::enclosing;
 use tester_types::{Items, Text};
@@ -82,7 +81,7 @@ fn told(alloc: Global, source: Source, kind: FormKind, first: u32) -> Result<Sti
 }
 
 /// The refusal that tells of a fault.
-pub(crate) fn refused(alloc: Global, source: Source, fault: FormFault) -> StilRefusal
+pub fn refused(alloc: Global, source: Source, fault: FormFault) -> StilRefusal
     ensures { Tells source.entry.bytes.now source.entry.tokens.now fault result }
 {
     let FormFault::Refused(kind, first) = fault else {

@@ -12,7 +12,7 @@ use Rattle.stil_ast.specs.Data.Texts.{upwards, indices, indexed, names_with}
 use Rattle.stil_ast.specs.Data.Forms.{all_differ}
 use Rattle.stil_ast.specs.Data.BlockForms.{range_size, cell_size, cell_count}
 use Rattle.stil_ast.specs.Meaning.Signals.{Signal, declared_as, declared, signal_texts}
-use Rattle.stil_ast.specs.Meaning.Chains.{cells_with, cells_of}
+use Rattle.stil_ast.specs.Meaning.Chains.{cells_of}
 use Rattle.stil_ast.specs.declared.name.IndexRange.{IndexRange}
 use Rattle.stil_ast.specs.declared.name.NameRef.{NameRef}
 use Rattle.stil_ast.specs.declared.signal.SignalDecl.{SignalDecl}
@@ -48,22 +48,22 @@ either_way false r =
 pub length-indices : (r : IndexRange) → length (indices r) ≡ range_size r
 length-indices r = either_way (nat_le r.first r.last) r
 
-length-cells_with : (name : List ℕ) (range : Option IndexRange) → length (cells_with name range) ≡ cell_size range
-length-cells_with name None = refl
-length-cells_with name (Some range) = length-map (indices range) (indexed name) ∙ length-indices range
+length-names_with : (name : List ℕ) (range : Option IndexRange) → length (names_with name range) ≡ cell_size range
+length-names_with name None = refl
+length-names_with name (Some range) = length-map (indices range) (indexed name) ∙ length-indices range
 
 counted_cells : (cells : List NameRef)
-    → sum_by (λ (r : NameRef). length (cells_with r.name r.range)) cells ≡ cell_count cells
+    → sum_by (λ (r : NameRef). length (names_with r.name r.range)) cells ≡ cell_count cells
 counted_cells [] = refl
 counted_cells (c ∷ cells) =
-    sum_by-cons (λ (r : NameRef). length (cells_with r.name r.range)) c cells
-    ∙ ap (λ n. n + sum_by (λ (r : NameRef). length (cells_with r.name r.range)) cells) (length-cells_with c.name c.range)
+    sum_by-cons (λ (r : NameRef). length (names_with r.name r.range)) c cells
+    ∙ ap (λ n. n + sum_by (λ (r : NameRef). length (names_with r.name r.range)) cells) (length-names_with c.name c.range)
     ∙ ap (λ n. cell_size c.range + n) (counted_cells cells)
     ∙ sym (sum_by-cons (λ (r : NameRef). cell_size r.range) c cells)
 
 -- how many cells a chain has
 pub length-cells_of : (c : CellsDecl) → length (cells_of c) ≡ cell_count c.cells
-length-cells_of c = length-flat_map (λ (r : NameRef). cells_with r.name r.range) c.cells ∙ counted_cells c.cells
+length-cells_of c = length-flat_map (λ (r : NameRef). names_with r.name r.range) c.cells ∙ counted_cells c.cells
 
 texts_of_one : (d : SignalDecl) (range : Option IndexRange)
     → map (λ (s : Signal). s.text) (declared_as d range) ≡ names_with d.name range

@@ -1,10 +1,12 @@
 -- Runs of data judged without spreading them: how many items they are, and whether they are one alone.
-use Rattle.std.proofs.Common.{◌≡◌, ℕ, zero, suc, ◌+◌, List, [], ◌∷◌, ◌++◌, Option, Some, None, refl, sym, ap, ◌∙◌, arith, length, replicate, option_map, if◌then◌else◌}
+use Rattle.std.proofs.Common.{◌≡◌, ℕ, zero, suc, ◌+◌, ◌*◌, ◌≤◌, List, [], ◌∷◌, ◌++◌, Option, Some, None, refl, sym, ap, ◌∙◌, arith, length, append_assoc, append-nil, replicate, option_map, if◌then◌else◌}
 use Rattle.std.specs.Prelude.{◌==◌}
 use Rattle.std.proofs.lemmas.Bool.{cond-false, ne_eqb}
 use Rattle.std.proofs.lemmas.List.{length-append, length-replicate}
+use Rattle.std.proofs.lemmas.List.Elements.{All-head, All-push, All-tail}
 use Rattle.std.proofs.lemmas.List.Sums.{sum_by-cons}
-use Rattle.stil_ast.specs.Data.Items.{item_of, items_of, run_length, first_item, lone_item}
+use Rattle.text_bytes.specs.Limits.{most_repeats}
+use Rattle.stil_ast.specs.Data.Items.{item_of, items_of, KeepRepeats, run_length, first_item, lone_item}
 use Rattle.stil_ast.specs.Meaning.Statements.{Item}
 use Rattle.stil_ast.specs.declared.data.VecItem.{VecItem}
 use Rattle.stil_ast.specs.declared.data.ItemRun.{ItemRun}
@@ -19,6 +21,31 @@ length-items_of (run ∷ runs) =
     length-append (replicate run.times (item_of run.item)) (items_of runs)
     ∙ ap (λ n. n + length (items_of runs)) (length-replicate run.times (item_of run.item))
     ∙ ap (λ n. run.times + n) (length-items_of runs) ∙ sym (run_length-cons run runs)
+
+-- the items of runs, and of one run more
+pub items_of-more : (runs : List ItemRun) (run : ItemRun) →
+    items_of (runs ++ run ∷ []) ≡ items_of runs ++ replicate run.times (item_of run.item)
+items_of-more [] run = append-nil (replicate run.times (item_of run.item))
+items_of-more (first ∷ runs) run =
+    ap (λ items. replicate first.times (item_of first.item) ++ items) (items_of-more runs run)
+    ∙ sym (append_assoc (replicate first.times (item_of first.item)) (items_of runs) (replicate run.times (item_of run.item)))
+
+-- one run more that is not too long
+pub one_more_keeps : (runs : List ItemRun) (run : ItemRun) → KeepRepeats runs → run.times ≤ most_repeats → KeepRepeats (runs ++ run ∷ [])
+one_more_keeps runs run keep fits = All-push (λ (r : ItemRun). r.times ≤ most_repeats) runs run keep fits
+
+-- n runs stand for at most n times as many items as one may stand for
+pub length-items_of-le : (runs : List ItemRun) → KeepRepeats runs → length (items_of runs) ≤ length runs * most_repeats
+length-items_of-le [] keep = omega arith
+length-items_of-le (run ∷ runs) keep =
+    omega (
+      arith,
+      length-items_of (run ∷ runs),
+      run_length-cons run runs,
+      length-items_of runs,
+      All-head (λ (r : ItemRun). r.times ≤ most_repeats) run runs keep,
+      length-items_of-le runs (All-tail (λ (r : ItemRun). r.times ≤ most_repeats) run runs keep),
+    )
 
 -- the one item of a list of one
 abbrev pub only_of : List Item → Option Item

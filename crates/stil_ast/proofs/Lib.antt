@@ -3,6 +3,7 @@ pub mod RunLemmas
 pub mod CallLemmas
 pub mod LetterLemmas
 pub mod MacroLemmas
+pub mod CutLemmas
 pub mod CycleLemmas
 pub mod KeepLemmas
 pub mod ShiftLemmas

@@ -10,6 +10,7 @@ pub mod Forms
 pub mod Fronts
 pub mod Shifts
 pub mod Limits
+pub mod Counts
 pub mod Places
 pub mod Groups
 pub mod Inherited

@@ -1,6 +1,8 @@
 -- What is written in a text: names and numbers, data, statements, and the words of faults.
 pub mod Texts
 pub mod Items
+pub mod AssignmentCuts
+pub mod Assignments
 pub mod Written
 pub mod WrittenCode
 pub mod Bodies

@@ -1,9 +1,10 @@
 //! Bodies of patterns, macros and procedures (IEEE 1450-1999, clauses 22 to 24).
 
+use crate::assignment_list::AssignmentList;
 use crate::data::VecText;
 use crate::name::SigRef;
 use std::marker::Model;
-use tester_types::{Items, Text};
+use tester_types::Text;
 
 /// `ref = data;`.
 #[derive(Debug, Drop)]
@@ -13,9 +14,6 @@ pub struct Assignment {
     /// The statement's line, from 1.
     pub line: u32,
 }
-
-/// Assignments in text order.
-pub type AssignmentList = Items<Assignment>;
 
 /// A statement without statements in it.
 #[derive(Debug, Drop)]

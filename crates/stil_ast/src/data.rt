@@ -1,5 +1,6 @@
 //! Data of an assignment (IEEE 1450-1999, clause 21).
 
+use std::alloc::{AllocError, Global};
 use std::marker::Model;
 
 /// One item of data.
@@ -21,7 +22,7 @@ pub struct ItemRun {
 }
 
 /// The data of an assignment. It keeps runs, so that `\r1000000 0` takes no more room than it does in the text; a
-/// contract sees the list of the items.
+/// contract sees the list of the items. No run is longer than 2^20.
 #[derive(Debug, Drop)]
 pub struct VecText {
     runs: Vec<ItemRun>,
@@ -30,19 +31,41 @@ pub struct VecText {
 impl Model for VecText {
     ghost use Rattle.std.specs.Prelude.{List};
     ghost use Rattle.stil_ast.specs.Meaning.Statements.{Item};
-    ghost use Rattle.stil_ast.specs.Data.Items.{items_of};
+    ghost use Rattle.stil_ast.specs.Data.Items.{items_of, KeepRepeats};
 
     ghost Value = { List Item };
 
     ghost view = { λ t. items_of t.runs.items };
+
+    ghost invariant = { λ t. KeepRepeats t.runs.items };
 }
 
-ghost use Rattle.std.specs.Prelude.{◌≡◌};
-ghost use Rattle.stil_ast.specs.Data.Items.{items_of};
+ghost use Rattle.std.specs.Prelude.{◌≡◌, ◌≤◌, ◌++◌, [], replicate, IfOk, OnOk, OnErr};
+ghost use Rattle.text_bytes.specs.Limits.{most_repeats};
+ghost use Rattle.stil_ast.specs.Data.Items.{item_of, items_of, KeepRepeats};
 
 impl VecText {
+    /// No items, with room for so many runs.
+    pub fn with_capacity(alloc: Global, count: usize) -> Result<VecText, AllocError>
+        ensures { IfOk result (λ text. text ≡ []) }
+    {
+        let runs = Vec::with_capacity(alloc, count)?;
+        Ok(VecText { runs })
+    }
+
+    /// Adds an item that stands so often. At an error nothing changes.
+    pub fn push(&mut self, item: VecItem, times: u32) -> Result<(), AllocError>
+        requires { times ≤ most_repeats }
+        ensures added { OnOk result (self.new ≡ self.old ++ replicate times (item_of item)) }
+        ensures kept { OnErr result (self.new ≡ self.old) }
+    {
+        self.runs.push(ItemRun { item, times })?;
+        Ok(())
+    }
+
     /// The data of these runs.
     pub fn from_vec(runs: Vec<ItemRun>) -> VecText
+        requires { KeepRepeats runs.items }
         ensures { result ≡ items_of runs.items }
     {
         VecText { runs }
@@ -50,14 +73,16 @@ impl VecText {
 
     /// Gives its runs back.
     pub fn into_vec(self) -> Vec<ItemRun>
-        ensures { items_of result.items ≡ self }
+        ensures items { items_of result.items ≡ self }
+        ensures repeats { KeepRepeats result.items }
     {
         self.runs
     }
 
     /// Its runs.
     pub fn as_slice(&self) -> &[ItemRun]
-        ensures { items_of result.now ≡ self.now }
+        ensures items { items_of result.now ≡ self.now }
+        ensures repeats { KeepRepeats result.now }
     {
         self.runs.as_slice()
     }

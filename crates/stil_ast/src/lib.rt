@@ -1,6 +1,7 @@
 //! The typed data of STIL blocks, and what patterns mean (IEEE 1450-1999).
 #![tactic(auto)]
 
+mod assignment_list;
 mod blocks;
 mod body;
 mod data;
@@ -13,8 +14,9 @@ mod signal;
 mod timing;
 mod variable;
 
+pub use assignment_list::{AssignmentCursor, AssignmentList, AssignmentParts, RefKind};
 pub use blocks::{Blocks, BodyDef, BodyDefList, DefBlock, DefBlockList, Pattern, PatternList};
-pub use body::{Assignment, AssignmentList, PatAction, PatBody, PatStmt, Step};
+pub use body::{Assignment, PatAction, PatBody, PatStmt, Step};
 pub use data::{ItemRun, VecItem, VecText};
 pub use executive::{
     Burst, BurstItem, BurstItemList, BurstList, BurstWord, ExecDecl, ExecDeclList,

@@ -6,6 +6,9 @@ use Rattle.stil_tree.specs.declared.stmt.Stmt.TheViews.{out-Stmt}
 use Rattle.stil_tree.specs.declared.stmt.Stmt.TheFolds.{fold_out-Stmt}
 use Rattle.stil_tree.specs.Trees.{Entry, Trees, entry_of, stmt_step, list_step}
 use Rattle.std.specs.List.{drop-map, take-map}
+use Rattle.stil_form.specs.declared.source.Source.{Source}
+use Rattle.stil_form.specs.Lexeme.{lexeme_at, lexemes_of, lexemes, head_of}
+use Rattle.stil_form.specs.Setting.{tokens_at}
 
 -- where a statement in memory begins, and how long its head is
 pub first-out : (s : Stmt) → (entry_of s).first ≡ (out-Stmt s).first
@@ -28,3 +31,12 @@ cut-is view xs first count from size from_is size_is =
     ap (λ n. take n (take (length xs - from) (drop from xs))) (size_is ∙ min-comm (length (take (length xs - from) (drop from xs))) count)
     ∙ take_min count (take (length xs - from) (drop from xs)) in
     ap (map view) (some ∙ ap (take count) rest) ∙ sym (take-map view count (drop first xs)) ∙ ap (take count) (sym (drop-map view first xs))
+
+-- the lexemes of a head's tokens are the head's
+pub lexemes-cut : (source head : Source) (e : Entry) →
+    head.bytes.now ≡ source.bytes.now → head.tokens.now ≡ tokens_at source.tokens.now e → lexemes head ≡ head_of (lexemes source) e
+lexemes-cut source head e bytes tokens =
+    ap (λ bs. lexemes_of bs head.tokens.now) bytes
+    ∙ ap (lexemes_of source.bytes.now) tokens
+    ∙ sym (take-map (lexeme_at source.bytes.now) e.count (drop e.first source.tokens.now))
+    ∙ sym (ap (take e.count) (drop-map (lexeme_at source.bytes.now) e.first source.tokens.now))

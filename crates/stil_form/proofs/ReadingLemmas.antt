@@ -5,8 +5,8 @@ use Rattle.first_fault.specs.Reading.{and_then, reading}
 use Rattle.stil_tree.specs.Trees.{Entry}
 use Rattle.stil_form.specs.declared.fault.FormFault.{FormFault}
 use Rattle.stil_form.specs.declared.fault.FormFault.TheVariants.{NoMemory, Refused}
-use Rattle.stil_form.specs.Lexeme.{Lexeme, head_of}
-use Rattle.stil_form.specs.Reading.{AnswersBy, Answers, is_skipped, unskipped}
+use Rattle.stil_form.specs.Reading.{AnswersBy, Answers, is_skipped}
+use Rattle.stil_form.specs.Setting.{Setting, lexemes_at, unskipped}
 
 -- a fault at the statement at hand is the fault of the whole
 pub stops_here : {X Z : Type 0} (view : Z → List X) (judge : List X → Entry → Result X FormFault) (read : List X)
@@ -33,12 +33,12 @@ kept_one false e es is = refl
 
 -- a fault at a statement that is not skipped is the fault of the whole
 pub unskipped_stops : {S X Z : Type 0} (view : Z → List X) (entry : S → Entry) (judge : List X → Entry → Result X FormFault)
-    (words : List (List ℕ)) (lexemes : List Lexeme) (read : List X) (stmts : List S) (i : ℕ) (item : S) (whole : Result (List X) FormFault) (fault : FormFault) →
-    i < length stmts → item ≡ get_or stmts i item → is_skipped words (head_of lexemes (entry item)) ≡ false →
-    reading judge read (unskipped words lexemes (map entry (drop i stmts))) ≡ whole → Answers {X = X} (Err fault) (judge read (entry item)) →
+    (s : Setting) (read : List X) (stmts : List S) (i : ℕ) (item : S) (whole : Result (List X) FormFault) (fault : FormFault) →
+    i < length stmts → item ≡ get_or stmts i item → is_skipped s.words (lexemes_at s (entry item)) ≡ false →
+    reading judge read (unskipped s (map entry (drop i stmts))) ≡ whole → Answers {X = X} (Err fault) (judge read (entry item)) →
     AnswersBy {X = Z} view (Err fault) whole
-unskipped_stops view entry judge words lexemes read stmts i item whole fault within is stays all answer =
-    let rest : List Entry = unskipped words lexemes (map entry (drop (i + 1) stmts)) in
+unskipped_stops view entry judge s read stmts i item whole fault within is stays all answer =
+    let rest : List Entry = unskipped s (map entry (drop (i + 1) stmts)) in
     stops_here view judge read (entry item) rest whole fault
-    (ap (reading judge read) (sym (ap (λ s. unskipped words lexemes (map entry s)) (drop-item stmts i item within is)
-    ∙ kept_one (is_skipped words (head_of lexemes (entry item))) (entry item) rest stays)) ∙ all) answer
+    (ap (reading judge read) (sym (ap (λ ss. unskipped s (map entry ss)) (drop-item stmts i item within is)
+    ∙ kept_one (is_skipped s.words (lexemes_at s (entry item))) (entry item) rest stays)) ∙ all) answer

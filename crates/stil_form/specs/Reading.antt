@@ -1,11 +1,9 @@
 -- What a reader of statements answers, and which statements it skips. How statements are read one after another, up to
 -- the first fault in text order, is first_fault's.
-use Rattle.std.specs.Prelude.{◌≡◌, ℕ, Bool, false, not, List, [], ◌∷◌, filter, Result, Ok, Err}
-use Rattle.std.specs.List.{list_any}
-use Rattle.std.specs.Str.{bytes_eq}
+use Rattle.std.specs.Prelude.{◌≡◌, ℕ, Bool, false, List, [], ◌∷◌, Result, Ok, Err}
 pub use Rattle.first_fault.specs.Reading.{and_then, reading, stepping, IsFirst}
-use Rattle.stil_tree.specs.Trees.{Entry}
-use Rattle.stil_form.specs.Lexeme.{Lexeme, word, name, text, sign, head_of}
+use Rattle.stil_form.specs.Lexeme.{Lexeme, word, name, text, sign}
+use Rattle.stil_form.specs.Skipping.{is_listed}
 use Rattle.stil_form.specs.declared.fault.FormFault.{FormFault}
 use Rattle.stil_form.specs.declared.fault.FormFault.TheVariants.{NoMemory, Refused}
 
@@ -22,11 +20,7 @@ Answers result wanted = AnswersBy (λ x. x) result wanted
 -- the head is that of a statement whose first word is one of these
 abbrev pub is_skipped : List (List ℕ) → List Lexeme → Bool
 is_skipped words [] = false
-is_skipped words (word bytes ∷ rest) = list_any (λ listed. bytes_eq listed bytes) words
+is_skipped words (word bytes ∷ rest) = is_listed words bytes
 is_skipped words (name bytes ∷ rest) = false
 is_skipped words (text bytes ∷ rest) = false
 is_skipped words (sign kind ∷ rest) = false
-
--- statements without those that begin with one of the words
-abbrev pub unskipped : List (List ℕ) → List Lexeme → List Entry → List Entry
-unskipped words lexemes es = filter (λ e. not (is_skipped words (head_of lexemes e))) es

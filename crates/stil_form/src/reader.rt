@@ -2,19 +2,15 @@
 
 ghost use Rattle.std.specs.Prelude.{◌≡◌, List, [], Result, map};
 ghost use Rattle.stil_tree.specs.Trees.{Entry, entry_of};
-ghost use Rattle.std.specs.List.{list_any};
-ghost use Rattle.std.specs.Str.{bytes_eq};
-ghost use Rattle.stil_form.specs.Lexeme.{lexemes, head_of};
 ghost use Rattle.first_fault.specs.Reading.{reading};
-ghost use Rattle.stil_form.specs.Reading.{Answers, AnswersBy, is_skipped, unskipped};
+ghost use Rattle.stil_form.specs.Reading.{Answers, AnswersBy};
+ghost use Rattle.stil_form.specs.Setting.{setting_of, unskipped};
 ghost use Rattle.stil_form.specs.declared.fault.FormFault.{FormFault};
 
 use crate::fault::FormFault;
-use crate::part::Part;
-use crate::source::{Source, first_part, head};
+use crate::setting::{Reader, skips};
 use std::alloc::Global;
 use stil_tree::Stmt;
-use tester_types::Text;
 
 /// A form of statements, each judged by what was read of those before it.
 pub trait Form {
@@ -49,43 +45,19 @@ pub fn read_each<F: Form>(
     Ok(read)
 }
 
-fn is_listed(words: &[Text], word: &[u8]) -> bool
-    ensures { result ≡ list_any (λ listed. bytes_eq listed word.now) words.now }
-{
-    words.iter().any(|listed| listed.as_slice() == word)
-}
-
-/// Whether a head begins with one of the words.
-pub fn is_skipped(words: &[Text], head: Source) -> bool
-    ensures { result ≡ is_skipped words.now (lexemes head.entry) }
-{
-    match first_part(head) {
-        Some((Part::Word(word), _)) => is_listed(words, word),
-        _ => false,
-    }
-}
-
-/// Whether a statement begins with one of the words.
-fn skips(words: &[Text], source: Source, stmt: &Stmt) -> bool
-    ensures { result ≡ is_skipped words.now (head_of (lexemes source.entry) (entry_of stmt.now)) }
-{
-    is_skipped(words, head(source, stmt))
-}
-
 /// The same as `read_each`, but for statements that begin with one of the words, which are skipped.
 pub fn read_unskipped<F: Form>(
     alloc: Global,
     form: &F,
-    source: Source,
-    words: &[Text],
+    reader: &Reader,
     stmts: &[Stmt],
 ) -> Result<Vec<F::Data>, FormFault>
     ensures { AnswersBy (λ read. read.items) result
-        (reading (F.judge form.now) [] (unskipped words.now (lexemes source.entry) (map entry_of stmts.now))) }
+        (reading (F.judge form.now) [] (unskipped (setting_of reader.now) (map entry_of stmts.now))) }
 {
     let mut read = Vec::new(alloc);
     for stmt in stmts {
-        if skips(words, source, stmt) {
+        if skips(reader, stmt) {
             continue;
         }
         let data = form.judge_one(alloc, read.as_slice(), stmt)?;

@@ -4,9 +4,11 @@ ghost use Rattle.std.specs.Prelude.{◌≡◌, Result, map};
 ghost use Rattle.first_fault.specs.Reading.{stepping};
 ghost use Rattle.stil_tree.specs.Trees.{Entry, entry_of};
 ghost use Rattle.stil_form.specs.Reading.{Answers};
+ghost use Rattle.stil_form.specs.Setting.{setting_of, unskipped};
 ghost use Rattle.stil_form.specs.declared.fault.FormFault.{FormFault};
 
 use crate::fault::FormFault;
+use crate::setting::{Reader, skips};
 use std::alloc::Global;
 use stil_tree::Stmt;
 
@@ -38,6 +40,27 @@ pub fn read_steps<F: StepForm>(
 {
     let mut state = start;
     for stmt in stmts {
+        state = form.take(alloc, state, stmt)?;
+    }
+    Ok(state)
+}
+
+/// The same as `read_steps`, but for statements that begin with one of the words, which are skipped.
+pub fn read_unskipped_steps<F: StepForm>(
+    alloc: Global,
+    form: &F,
+    reader: &Reader,
+    start: F::State,
+    stmts: &[Stmt],
+) -> Result<F::State, FormFault>
+    ensures { Answers result
+        (stepping (F.step form.now) start (unskipped (setting_of reader.now) (map entry_of stmts.now))) }
+{
+    let mut state = start;
+    for stmt in stmts {
+        if skips(reader, stmt) {
+            continue;
+        }
         state = form.take(alloc, state, stmt)?;
     }
     Ok(state)

@@ -5,14 +5,13 @@ ghost use Rattle.stil_form.specs.declared.fault.FormFault.TheVariants.{Refused};
 ghost use Rattle.stil_form.specs.declared.fault.FormKind.TheVariants.{Twice};
 
 use crate::{
-    Form, FormFault, FormKind, Part, Reference, Source, Span, StepForm, head, index_front,
-    is_skipped, name_of, read_each, read_steps, read_unskipped, reference_front,
+    Form, FormFault, FormKind, Part, Reader, Reference, Source, Span, StepForm, Words, index_front,
+    name_of, read_each, read_steps, read_unskipped, read_unskipped_steps, reference_front,
 };
 use std::alloc::Global;
 use std::test::Fail;
 use stil_lex::{TokenList, lex};
 use stil_tree::{Stmt, forest};
-use tester_types::Items;
 
 /// A form that numbers the statements that are read.
 #[derive(Clone, Copy)]
@@ -48,6 +47,37 @@ impl StepForm for Once {
     }
 }
 
+/// How many statements are left without those that begin with a word.
+fn count_without<'a>(
+    alloc: Global,
+    source: Source<'a>,
+    word: &'a [u8],
+    stmts: &[Stmt],
+) -> Result<usize, FormFault> {
+    let words = Words::new(alloc).with(word)?;
+    let reader = Reader {
+        source,
+        words: &words,
+    };
+    let some = read_unskipped(alloc, &Numbered, &reader, stmts)?;
+    Ok(some.len())
+}
+
+/// Whether one statement is left without those that begin with a word; two are refused.
+fn one_without<'a>(
+    alloc: Global,
+    source: Source<'a>,
+    word: &'a [u8],
+    stmts: &[Stmt],
+) -> Result<bool, FormFault> {
+    let words = Words::new(alloc).with(word)?;
+    let reader = Reader {
+        source,
+        words: &words,
+    };
+    read_unskipped_steps(alloc, &Once, &reader, false, stmts)
+}
+
 #[test]
 fn statements_of_listed_words_are_skipped(rt: HostRuntime) -> Result<(), Fail> {
     let text = b"a 1; note { b; } c; note;";
@@ -60,22 +90,12 @@ fn statements_of_listed_words_are_skipped(rt: HostRuntime) -> Result<(), Fail> {
     };
     let twice = read_steps(rt.alloc(), &Once, false, stmts.as_slice());
     assert_eq!(rt; twice, Err(FormFault::Refused(FormKind::Twice, 0)));
-    let mut words = Vec::new(rt.alloc());
-    words.push(Items::from_slice(rt.alloc(), b"note")?)?;
     let all = read_each(rt.alloc(), &Numbered, stmts.as_slice()).map_err(|_| "all")?;
     assert_eq!(rt; all.len(), 4);
-    let some = read_unskipped(
-        rt.alloc(),
-        &Numbered,
-        source,
-        words.as_slice(),
-        stmts.as_slice(),
-    );
-    assert_eq!(rt; some.map_err(|_| "some")?.len(), 2);
-    for stmt in stmts.as_slice() {
-        let skipped = is_skipped(words.as_slice(), head(source, stmt));
-        assert!(rt; !skipped || stmt.first > 0);
-    }
+    let some = count_without(rt.alloc(), source, b"note", stmts.as_slice());
+    assert_eq!(rt; some, Ok(2));
+    let once = one_without(rt.alloc(), source, b"note", stmts.as_slice());
+    assert_eq!(rt; once, Err(FormFault::Refused(FormKind::Twice, 0)));
     Ok(())
 }
 

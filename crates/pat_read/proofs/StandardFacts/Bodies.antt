@@ -12,7 +12,8 @@ use Rattle.stil_ast.specs.declared.body.Step.TheVariants as step
 use Rattle.stil_ast.specs.declared.name.SigRef.TheVariants as ref
 use Rattle.stil_ast.specs.Data.Written.{no_more, single, looped}
 use Rattle.pat_read.specs.declared.reader.BodyPlace.TheVariants.{Pattern, Macro}
-use Rattle.pat_read.specs.Body.{Setting, body_of}
+use Rattle.stil_form.specs.Setting.{Setting}
+use Rattle.pat_read.specs.Body.{body_of}
 
 -- a word or a sign on a line
 abbrev word_on : ℕ → ℕ → ℕ → Token

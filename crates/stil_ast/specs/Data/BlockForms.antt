@@ -1,6 +1,7 @@
 -- The form of the statements of each kind of block in a text that was read (IEEE 1450-1999, clauses 14 to 24).
-use Rattle.std.specs.Prelude.{ℕ, suc, ◌-◌, ◌^◌, ◌==◌, ◌&&◌, ◌||◌, Bool, true, false, List, Option, Some, None, nat_le, nat_eq, length, map, sum_by, count_by, if◌then◌else◌}
+use Rattle.std.specs.Prelude.{ℕ, suc, ◌-◌, ◌==◌, ◌&&◌, ◌||◌, Bool, true, false, List, Option, Some, None, nat_le, nat_eq, length, map, sum_by, count_by, if◌then◌else◌}
 use Rattle.std.specs.List.{list_all}
+use Rattle.text_bytes.specs.Limits.{most_cells, most_events, most_passes}
 use Rattle.stil_ast.specs.Data.Texts.{same, within, is_wave_letter, is_name}
 use Rattle.stil_ast.specs.Data.Forms.{all_differ, is_absent_or, is_line, is_optional_name, is_range, is_name_ref, is_quoted, is_sig_ref, is_named, is_optionally_named, is_item}
 use Rattle.stil_ast.specs.Data.Written.{Written, no_more, single, looped, shifted}
@@ -84,11 +85,11 @@ is_selector s =
 abbrev pub is_event : ℕ → EventDecl → Bool
 is_event letters e = is_quoted e.time && (length e.acts == 1 || length e.acts == letters)
 
--- a waveform: letters and digits, none twice, and at most 16 events
+-- a waveform: letters and digits, none twice, and not too many events
 abbrev pub is_wave_decl : WaveDecl → Bool
 is_wave_decl w =
     nat_le 1 (length w.letters) && list_all is_wave_letter w.letters && all_differ nat_eq w.letters
-    && nat_le (length w.events) 16 && list_all (is_event (length w.letters)) w.events
+    && nat_le (length w.events) most_events && list_all (is_event (length w.letters)) w.events
 
 -- what one reference in Waveforms stands before
 abbrev pub is_signal_waves : SignalWaves → Bool
@@ -117,13 +118,13 @@ cell_size (Some range) = range_size range
 abbrev pub cell_count : List NameRef → ℕ
 cell_count cells = sum_by (λ (c : NameRef). cell_size c.range) cells
 
--- the cells of a chain, at most 2^20
+-- the cells of a chain, not too many
 abbrev pub is_cells_decl : CellsDecl → Bool
-is_cells_decl c = list_all is_name_ref c.cells && nat_le (cell_count c.cells) (2 ^ 20) && is_line c.line
+is_cells_decl c = list_all is_name_ref c.cells && nat_le (cell_count c.cells) most_cells && is_line c.line
 
--- a statement of a chain; its length is at most 2^20
+-- a statement of a chain; its length is not too great
 abbrev pub is_chain_stmt : ChainStmt → Bool
-is_chain_stmt (Length n) = nat_le n (2 ^ 20)
+is_chain_stmt (Length n) = nat_le n most_cells
 is_chain_stmt (In n) = is_named n
 is_chain_stmt (Out n) = is_named n
 is_chain_stmt (Cells c) = is_cells_decl c
@@ -159,12 +160,12 @@ is_step stops BreakPoint = true
 is_step stops IddqTestPoint = true
 is_step stops Stop = stops
 
--- statements; a Loop runs 1 to 2^48 times, and Stop stands in no body of theirs
+-- statements; a Loop runs once at least and not too often, and Stop stands in no body of theirs
 abbrev pub is_body : Bool → Written → Bool
 is_body stops no_more = true
 is_body stops (single line plain rest) = is_line line && is_step stops plain && is_body stops rest
 is_body stops (looped line times body rest) =
-    is_line line && within 1 (2 ^ 48) times && is_body false body && is_body stops rest
+    is_line line && within 1 most_passes times && is_body false body && is_body stops rest
 is_body stops (shifted line body rest) = is_line line && is_body false body && is_body stops rest
 
 -- a macro or a procedure

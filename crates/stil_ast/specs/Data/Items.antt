@@ -1,5 +1,7 @@
 -- The items for which runs of data stand (IEEE 1450-1999, clause 21: `\r` repeats what stands behind it).
-use Rattle.std.specs.Prelude.{ℕ, ◌==◌, not, List, [], ◌∷◌, ◌++◌, Option, None, option_map, replicate, sum_by, find, if◌then◌else◌}
+use Rattle.std.specs.Prelude.{ℕ, ◌==◌, ◌≤◌, not, List, [], ◌∷◌, ◌++◌, Option, None, option_map, replicate, sum_by, find, if◌then◌else◌}
+use Rattle.std.specs.List.{All}
+use Rattle.text_bytes.specs.Limits.{most_repeats}
 use Rattle.stil_ast.specs.Meaning.Statements.{Item, letter, hash, percent}
 use Rattle.stil_ast.specs.declared.data.VecItem.{VecItem}
 use Rattle.stil_ast.specs.declared.data.VecItem.TheVariants.{Letter, Take, Peek}
@@ -15,6 +17,10 @@ item_of Peek = percent
 abbrev pub items_of : List ItemRun → List Item
 items_of [] = []
 items_of (run ∷ runs) = replicate run.times (item_of run.item) ++ items_of runs
+
+-- no run repeats its item more often than `\rN` may
+abbrev pub KeepRepeats : List ItemRun → Type 0
+KeepRepeats runs = All (λ (run : ItemRun). run.times ≤ most_repeats) runs
 
 -- how many items runs stand for
 abbrev pub run_length : List ItemRun → ℕ

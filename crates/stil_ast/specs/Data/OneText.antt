@@ -2,6 +2,7 @@
 -- pass (IEEE 1450-1999, clauses 6 and 14 to 24). Blocks of one kind and one name are read as one.
 use Rattle.std.specs.Prelude.{◌≡◌, ◌≤◌, ℕ, Bool, true, List, length, map}
 use Rattle.std.specs.List.{list_all}
+use Rattle.text_bytes.specs.Limits.{most_tables, most_chains, most_executives}
 use Rattle.stil_ast.specs.Data.Texts.{same}
 use Rattle.stil_ast.specs.Data.Forms.{all_differ}
 use Rattle.stil_ast.specs.Data.BlockForms.{is_signal_decl, is_group_block, is_spec_block, is_selector, is_timing_block, is_scan_block, is_def_block, is_pattern, is_burst, is_exec_decl}
@@ -44,8 +45,8 @@ pub record AreOfOneText (blocks : Blocks) : Type 0 where
   pub tables_differ : (name : List ℕ) → tables_differ_in (tables_named blocks.timings name) ≡ true
   pub macros_differ : (name : List ℕ) → bodies_differ_in (bodies_named blocks.macros name) ≡ true
   pub procedures_differ : (name : List ℕ) → bodies_differ_in (bodies_named blocks.procedures name) ≡ true
-  -- counts: 64 tables of a Timing, 256 chains of a ScanStructures, 1 to 64 executives
-  pub table_count : (name : List ℕ) → length (tables_named blocks.timings name) ≤ 64
-  pub chain_count : (name : List ℕ) → length (chains_named blocks.scans name) ≤ 256
+  -- counts: the tables of a Timing, the chains of a ScanStructures, and executives, of which there is one at least
+  pub table_count : (name : List ℕ) → length (tables_named blocks.timings name) ≤ most_tables
+  pub chain_count : (name : List ℕ) → length (chains_named blocks.scans name) ≤ most_chains
   pub some_executive : 1 ≤ length blocks.executives
-  pub executive_count : length blocks.executives ≤ 64
+  pub executive_count : length blocks.executives ≤ most_executives

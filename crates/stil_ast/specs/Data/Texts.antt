@@ -2,6 +2,7 @@
 use Rattle.std.specs.Prelude.{ℕ, zero, suc, ◌+◌, ◌-◌, ◌*◌, ◌==◌, ◌&&◌, ◌||◌, Bool, false, List, [], ◌∷◌, ◌++◌, Option, Some, None, nat_le, nat_eq, length, map, reverse, decimal, position, fold, if◌then◌else◌}
 use Rattle.std.specs.List.{list_all, list_any}
 use Rattle.std.specs.Cmp.Lexicographic.{pointwise}
+use Rattle.text_bytes.specs.Limits.{longest_name}
 use Rattle.stil_ast.specs.declared.name.IndexRange.{IndexRange}
 use Rattle.stil_ast.specs.declared.name.Named.{Named}
 
@@ -33,10 +34,10 @@ is_wave_letter c = is_digit c || within 65 90 c || within 97 122 c
 abbrev pub is_blank : ℕ → Bool
 is_blank c = c == 32 || c == 9 || c == 10 || c == 12 || c == 13
 
--- a name has 1 to 1024 bytes from 0x20 to 0x7E
+-- a name has a byte at least and not too many, from 0x20 to 0x7E
 abbrev pub is_name : List ℕ → Bool
 is_name [] = false
-is_name (c ∷ cs) = nat_le (length (c ∷ cs)) 1024 && list_all (within 32 126) (c ∷ cs)
+is_name (c ∷ cs) = nat_le (length (c ∷ cs)) longest_name && list_all (within 32 126) (c ∷ cs)
 
 -- a name without quotes begins with a letter or `_`
 abbrev pub is_bare_name : List ℕ → Bool

@@ -1,6 +1,7 @@
 -- How far the statements of an executive are checked, and the rules on assignments (IEEE 1450-1999, clauses 21 to 24).
-use Rattle.std.specs.Prelude.{ℕ, ◌+◌, ◌%◌, ◌^◌, ◌==◌, ◌&&◌, ◌||◌, Bool, true, false, List, [], ◌∷◌, ◌++◌, Option, Some, None, length, is_some, nat_le, if◌then◌else◌}
+use Rattle.std.specs.Prelude.{ℕ, ◌+◌, ◌%◌, ◌==◌, ◌&&◌, ◌||◌, Bool, true, false, List, [], ◌∷◌, ◌++◌, Option, Some, None, length, is_some, nat_le, if◌then◌else◌}
 use Rattle.std.specs.List.{list_all, list_any}
+use Rattle.text_bytes.specs.Limits.{most_walked}
 use Rattle.stil_ast.specs.Meaning.Statements.{Item, Assign, Body}
 use Rattle.stil_ast.specs.Meaning.Arguments.{Argument, next_entry}
 use Rattle.stil_ast.specs.Meaning.Dealing.{deal, spread, takers, has_signal, is_hash, is_character}
@@ -88,7 +89,7 @@ data_there s a args = s.without_pass || all_there a.signals (spread a.signals a.
 
 -- the limit on statements walked and signals assigned
 abbrev pub may_walk : ℕ → Bool
-may_walk count = nat_le count (2 ^ 26)
+may_walk count = nat_le count most_walked
 
 -- the signals that got a `#` are kept inside a Shift alone
 abbrev pub hashes_after : Standing → Assign → List ℕ → List ℕ

@@ -1,5 +1,6 @@
 -- What holds of statements whose check finds no fault. The check is on names; runs and flat trees are on numbers.
-use Rattle.std.specs.Prelude.{◌≡◌, ℕ, ◌^◌, ◌<◌, ◌≤◌, true, List, ◌∷◌, ◌++◌, map, length, slice_index_or}
+use Rattle.std.specs.Prelude.{◌≡◌, ℕ, ◌<◌, ◌≤◌, true, List, ◌∷◌, ◌++◌, map, length, slice_index_or}
+use Rattle.text_bytes.specs.Limits.{most_walked}
 use Rattle.stil_ast.specs.Data.Written.{Written}
 use Rattle.stil_ast.specs.Meaning.State.{State}
 use Rattle.stil_ast.specs.Meaning.Statements.{of_pattern}
@@ -64,7 +65,7 @@ IsConsumedWithin w = (signal : ℕ) → (argument_of w.args signal).taken ≤ w.
 -- is at most what was walked
 pub record Walks (w v : Walked) : Type 0 where
   pub grows : w.count ≤ v.count
-  pub limit : w.count ≤ 2 ^ 26 → v.count ≤ 2 ^ 26
+  pub limit : w.count ≤ most_walked → v.count ≤ most_walked
   pub consumed : IsConsumedWithin w → IsConsumedWithin v
 
 -- so do the assignments of a statement, and its mark then is at most what was walked

@@ -1,6 +1,7 @@
 -- The first fault of executives as they are compiled: the measure, the number of cycles, vectors, rows.
-use Rattle.std.specs.Prelude.{ℕ, ◌+◌, ◌*◌, ◌^◌, ◌==◌, ◌&&◌, Bool, true, false, List, [], ◌∷◌, ◌++◌, Option, Some, None, length, nat_le, slice_get, sum_by}
+use Rattle.std.specs.Prelude.{ℕ, ◌+◌, ◌*◌, ◌==◌, ◌&&◌, Bool, true, false, List, [], ◌∷◌, ◌++◌, Option, Some, None, length, nat_le, slice_get, sum_by}
 use Rattle.std.specs.List.{list_any}
+use Rattle.text_bytes.specs.Limits.{most_measure, most_cycles, most_row_characters}
 use Rattle.stil_ast.specs.Meaning.State.{State, start_of}
 use Rattle.stil_ast.specs.Meaning.Statements.{Titles}
 use Rattle.stil_ast.specs.Meaning.Running.{Made}
@@ -50,10 +51,10 @@ trees_fault tables (t ∷ trees) s =
 -- one executive over so many signals, behind others
 abbrev pub compile_fault : ℕ → List Executive → Executive → Option StilFault
 compile_fault signals before e =
-    unless (nat_le (sum_by measure_of (before ++ (e ∷ []))) (2 ^ 22)) (fault_at (exec_place e.name e.line) TooLarge)
-    (unless (nat_le (length (vectors_of signals e)) (2 ^ 48)) (fault_at (exec_place e.name e.line) TooManyCycles)
+    unless (nat_le (sum_by measure_of (before ++ (e ∷ []))) most_measure) (fault_at (exec_place e.name e.line) TooLarge)
+    (unless (nat_le (length (vectors_of signals e)) most_cycles) (fault_at (exec_place e.name e.line) TooManyCycles)
     (or_else (trees_fault e.tables e.trees (start_of signals))
-    (unless (nat_le (length (rows_of signals (before ++ (e ∷ []))) * signals) (2 ^ 28))
+    (unless (nat_le (length (rows_of signals (before ++ (e ∷ []))) * signals) most_row_characters)
     (fault_at (exec_place e.name e.line) TooLarge) None)))
 
 -- executives in order, behind others

@@ -1,6 +1,7 @@
 -- The first fault of a pattern, statements in the order of their first run (IEEE 1450-1999, clauses 22 to 24).
 use Rattle.std.specs.Prelude.{ℕ, zero, suc, ◌+◌, ◌==◌, ◌&&◌, Bool, true, false, not, List, [], ◌∷◌, Option, Some, None, length, nat_lt, slice_get}
 use Rattle.std.specs.List.{list_any}
+use Rattle.text_bytes.specs.Limits.{deepest_calls, deepest_loops}
 use Rattle.stil_ast.specs.Meaning.Statements.{Body, of_pattern, of_macro, of_procedure}
 use Rattle.stil_ast.specs.Data.Written.{Written, no_more, single, looped, shifted}
 use Rattle.stil_ast.specs.Data.Texts.{has_name}
@@ -109,11 +110,11 @@ check_body scope inner s line c assigns (Some d) w =
     (λ w. then_check (check_arguments scope s assigns w) (λ now. back_from w
     (inner (inside_body c s) d.body (with_own scope assigns now)))) w
 
--- a Macro or a Call: calls go 64 deep, and none stands in a Shift
+-- a Macro or a Call: calls go only so deep, and none stands in a Shift
 abbrev pub check_call : Scope → (Standing → Written → Walked → Checked) → Standing → ℕ → Callee
     → List Assignment → Walked → Checked
 check_call scope inner s line c assigns w =
-    rule (nat_lt s.calls 64) (fault_on scope s line TooLarge)
+    rule (nat_lt s.calls deepest_calls) (fault_on scope s line TooLarge)
     (bar_if s.in_shift (fault_on scope s line ShiftForm)
     (check_body scope inner s line c assigns c.found)) w
 
@@ -188,7 +189,7 @@ check_list scope inner s (single line plain rest) w =
 check_list scope inner s (looped line times body rest) w =
     then_check
     (counted scope s line
-    (rule (nat_lt s.loops 64) (fault_on scope s line TooLarge)
+    (rule (nat_lt s.loops deepest_loops) (fault_on scope s line TooLarge)
     (bar_if s.in_shift (fault_on scope s line ShiftForm)
     (check_list scope inner (inside_loop s) body))) w)
     (check_list scope inner s rest)
@@ -209,4 +210,4 @@ check_calls scope (suc depth) s body w = check_list scope (check_calls scope dep
 -- a pattern's own statements, behind so many walked and assigned
 abbrev pub check_pattern : Scope → Written → ℕ → Checked
 check_pattern scope body count =
-    check_list scope (check_calls scope 64) on_top body (record { args = []; hashes = []; count = count })
+    check_list scope (check_calls scope deepest_calls) on_top body (record { args = []; hashes = []; count = count })

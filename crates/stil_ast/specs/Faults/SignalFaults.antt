@@ -1,6 +1,7 @@
 -- The first fault of signals and groups (IEEE 1450-1999, clauses 14 and 15).
 use Rattle.std.specs.Prelude.{ℕ, zero, suc, Bool, false, ◌||◌, List, [], ◌∷◌, ◌++◌, Option, Some, None, length, nat_le, nat_lt, filter_map}
 use Rattle.std.specs.List.{list_any}
+use Rattle.text_bytes.specs.Limits.{longest_name, most_signals, most_groups}
 use Rattle.stil_ast.specs.Data.Texts.{same}
 use Rattle.stil_ast.specs.Faults.Found.{fault_at, unless, refuse_if, or_else, first_in}
 use Rattle.stil_ast.specs.Meaning.Signals.{Signal, Group, Names, names_of}
@@ -14,21 +15,21 @@ use Rattle.stil_ast.specs.declared.fault.StilFault.{StilFault}
 use Rattle.stil_ast.specs.declared.fault.StilKind.{StilKind}
 use Rattle.stil_ast.specs.declared.fault.StilKind.TheVariants.{Twice, OutOfRange, Cyclic}
 
--- signals one by one, behind those before: twice; a text of more than 1024 bytes, or more than 1024 signals
+-- signals one by one, behind those before: twice; too long a text, or too many signals
 abbrev pub signals_fault : List Signal → List Signal → Option StilFault
 signals_fault before [] = None
 signals_fault before (s ∷ signals) =
     refuse_if (list_any (λ b. same b.text s.text) before) (fault_at s.place Twice)
-    (unless (nat_le (length s.text) 1024) (fault_at s.place OutOfRange)
-    (unless (nat_lt (length before) 1024) (fault_at s.place OutOfRange)
+    (unless (nat_le (length s.text) longest_name) (fault_at s.place OutOfRange)
+    (unless (nat_lt (length before) most_signals) (fault_at s.place OutOfRange)
     (signals_fault (before ++ s ∷ []) signals)))
 
--- groups one by one: twice; more than 4096 of them
+-- groups one by one: twice; too many of them
 abbrev pub groups_fault : List Group → List Group → Option StilFault
 groups_fault before [] = None
 groups_fault before (g ∷ groups) =
     refuse_if (list_any (λ b. same b.name g.name) before) (fault_at g.place Twice)
-    (unless (nat_lt (length before) 4096) (fault_at g.place OutOfRange)
+    (unless (nat_lt (length before) most_groups) (fault_at g.place OutOfRange)
     (groups_fault (before ++ g ∷ []) groups))
 
 -- the group for which a name stands, where it stands for no signal

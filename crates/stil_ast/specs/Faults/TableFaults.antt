@@ -1,6 +1,7 @@
 -- The first fault of an executive's tables (IEEE 1450-1999, clause 18).
-use Rattle.std.specs.Prelude.{ℕ, suc, ◌+◌, ◌^◌, ◌==◌, ◌&&◌, Bool, false, not, ℤ, pos, int_le, int_lt, List, [], ◌∷◌, Option, Some, None, Result, Ok, Err, length, nat_le, sum_by, if◌then◌else◌}
+use Rattle.std.specs.Prelude.{ℕ, suc, ◌+◌, ◌==◌, ◌&&◌, Bool, false, not, ℤ, pos, int_le, int_lt, List, [], ◌∷◌, Option, Some, None, Result, Ok, Err, length, nat_le, sum_by, if◌then◌else◌}
 use Rattle.std.specs.List.{list_any, enumerate_from}
+use Rattle.text_bytes.specs.Limits.{most_waves, longest_period}
 use Rattle.stil_ast.specs.Meaning.Statements.{Place}
 use Rattle.stil_ast.specs.Data.Texts.{upwards}
 use Rattle.stil_ast.specs.Faults.Found.{fault_at, on_line, unless, refuse_if, or_else, first_in}
@@ -49,7 +50,7 @@ abbrev pub with_period : {V : Type 0} → Timed V → ℕ → Option Quoted → 
 with_period t line None rest = Some (fault_at (on_line t.place line) NoPeriod)
 with_period t line (Some q) rest =
     with_time (time_at t.times t.vars t.place q) (λ period.
-    unless (int_le (pos 1) period && int_le period (pos (10 ^ 12)))
+    unless (int_le (pos 1) period && int_le period (pos longest_period))
     (fault_at (on_line t.place q.line) OutOfRange) (rest period))
 
 -- the events of a waveform, behind one at `before`
@@ -115,7 +116,7 @@ table_fault t before d =
     (with_period t d.1.line (period_text t.tables d.0) (λ period.
     or_else (first_in (signal_fault t period) d.1.waveforms)
     (or_else (inherited_fault t period d.0)
-    (unless (nat_le (before + waves_of_first t.names t.tables (suc d.0)) (2 ^ 20))
+    (unless (nat_le (before + waves_of_first t.names t.tables (suc d.0)) most_waves)
     (fault_at (on_line t.place d.1.line) TooLarge) None))))
 
 -- the first fault of an executive's tables, in text order

@@ -1,12 +1,12 @@
 -- Scan chains (IEEE 1450-1999, clause 20).
-use Rattle.std.specs.Prelude.{ℕ, ◌==◌, List, [], ◌∷◌, ◌++◌, Option, Some, None, length, map, flat_map, filter, is_some, nat_le, codes, unwrap_or, if◌then◌else◌}
+use Rattle.std.specs.Prelude.{ℕ, ◌==◌, List, [], ◌∷◌, ◌++◌, Option, Some, None, length, flat_map, filter, is_some, nat_le, codes, unwrap_or, if◌then◌else◌}
 use Rattle.std.specs.List.{list_all, list_any}
+use Rattle.text_bytes.specs.Limits.{longest_name}
 use Rattle.stil_ast.specs.Meaning.Statements.{Place}
-use Rattle.stil_ast.specs.Data.Texts.{same, indices, indexed, upwards}
+use Rattle.stil_ast.specs.Data.Texts.{same, names_with, upwards}
 use Rattle.stil_ast.specs.Faults.Found.{fault_at, unless, refuse_if, or_else, first_in}
 use Rattle.stil_ast.specs.Meaning.Signals.{Names}
 use Rattle.stil_ast.specs.Meaning.Members.{signal_of}
-use Rattle.stil_ast.specs.declared.name.IndexRange.{IndexRange}
 use Rattle.stil_ast.specs.declared.name.NameRef.{NameRef}
 use Rattle.stil_ast.specs.declared.scan.CellsDecl.{CellsDecl}
 use Rattle.stil_ast.specs.declared.scan.ChainStmt.{ChainStmt}
@@ -27,14 +27,9 @@ pub record Chain : Type 0 where
 abbrev pub chains_named : List ScanBlock → List ℕ → List ChainDecl
 chains_named scans name = flat_map (λ (s : ScanBlock). if same s.name name then s.chains else []) scans
 
--- a name, or one name for each index
-abbrev pub cells_with : List ℕ → Option IndexRange → List (List ℕ)
-cells_with name None = name ∷ []
-cells_with name (Some range) = map (indexed name) (indices range)
-
 -- the texts of all cells of a ScanCells statement
 abbrev pub cells_of : CellsDecl → List (List ℕ)
-cells_of c = flat_map (λ (r : NameRef). cells_with r.name r.range) c.cells
+cells_of c = flat_map (λ (r : NameRef). names_with r.name r.range) c.cells
 
 -- the ScanLength of a chain
 abbrev pub length_in : List ChainStmt → Option ℕ
@@ -96,7 +91,7 @@ scan_outs names chains =
 abbrev pub scan_place : List ℕ → ℕ → Place
 scan_place name line = record { block = codes "ScanStructures"; name = name; line = line }
 
--- a statement of a chain: a ScanIn or ScanOut that names no signal's text, a cell with a text of more than 1024 bytes
+-- a statement of a chain: a ScanIn or ScanOut that names no signal's text, a cell with too long a text
 abbrev pub chain_stmt_fault : Names → List ℕ → ChainStmt → Option StilFault
 chain_stmt_fault names block (Length n) = None
 chain_stmt_fault names block (In n) =
@@ -104,7 +99,7 @@ chain_stmt_fault names block (In n) =
 chain_stmt_fault names block (Out n) =
     unless (is_some (signal_of names n.name)) (fault_at (scan_place block n.line) UnknownName) None
 chain_stmt_fault names block (Cells c) =
-    unless (list_all (λ text. nat_le (length text) 1024) (cells_of c))
+    unless (list_all (λ text. nat_le (length text) longest_name) (cells_of c))
     (fault_at (scan_place block c.line) OutOfRange) None
 
 -- a chain, behind others: its name twice, then its statements in text order

@@ -1,5 +1,6 @@
 -- The flat tree of statements.
 use Rattle.std.specs.Prelude.{ℕ, zero, suc, List, [], ◌∷◌, true, false, Option, Some, None, length, slice_get}
+use Rattle.text_bytes.specs.Limits.{deepest_calls}
 use Rattle.stil_ast.specs.Meaning.Statements.{Assign, of_pattern, Origin, Statements, finish, place, wave, vector, condition, loop, expand, call, shift, stop}
 use Rattle.stil_ast.specs.Meaning.Arguments.{Entry, given, padding, Argument, arguments}
 use Rattle.stil_ast.specs.Meaning.Dealing.{Gift, Dealt, deal, takers, mark_of}
@@ -128,5 +129,5 @@ flat_calls t (suc depth) (Some body) spot = flat_list t (flat_calls t depth) bod
 -- the flat tree of a pattern's own statements
 abbrev pub flat_of : Setting → Statements → Flat
 flat_of t statements =
-    (flat_list t (flat_calls t 64) statements
+    (flat_list t (flat_calls t deepest_calls) statements
     (record { args = []; place = record { body = of_pattern; line = 0 } })).flat

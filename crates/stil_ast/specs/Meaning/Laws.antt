@@ -1,6 +1,7 @@
 -- What a test engineer expects of statements: laws of the definitions.
 use Rattle.std.specs.Prelude.{◌≡◌, ℕ, zero, suc, ◌+◌, ◌<◌, ◌&&◌, not, Bool, true, false, List, [], ◌∷◌, ◌++◌, Option, Some, None, length, flat_map, map, slice_get, slice_index_or}
 use Rattle.std.specs.List.{list_all}
+use Rattle.text_bytes.specs.Limits.{deepest_calls}
 use Rattle.stil_ast.specs.Meaning.State.{State, Vector}
 use Rattle.stil_ast.specs.Meaning.Statements.{Item, hash, Assign, Statements, finish, place, wave, vector, condition, loop, expand, call, shift, stop}
 use Rattle.stil_ast.specs.Meaning.Arguments.{given, argument_of}
@@ -203,7 +204,7 @@ steady_within t (suc depth) (Some body) = runs_steady t (steady_within t depth) 
 
 -- the same of a pattern's own statements and of all bodies that run in it
 abbrev pub is_steady_pattern : Setting → Statements → Bool
-is_steady_pattern t statements = runs_steady t (steady_within t 64) statements
+is_steady_pattern t statements = runs_steady t (steady_within t deepest_calls) statements
 
 -- the flat tree of a pattern has the pattern's run: its vectors with their places, and the state that it leaves
 abbrev pub FlatTreeAgrees : Type 0

@@ -1,5 +1,6 @@
 -- What statements do, by one equation a kind (IEEE 1450-1999, clauses 22 to 24). It unrolls each pass and call.
 use Rattle.std.specs.Prelude.{ℕ, zero, suc, Bool, true, false, List, [], ◌∷◌, ◌++◌, Option, Some, None, length, slice_get}
+use Rattle.text_bytes.specs.Limits.{deepest_calls}
 use Rattle.stil_ast.specs.Meaning.State.{State, Vector}
 use Rattle.stil_ast.specs.Meaning.Statements.{Assign, of_pattern, Origin, Statements, finish, place, wave, vector, condition, loop, expand, call, shift, stop}
 use Rattle.stil_ast.specs.Meaning.Arguments.{Argument, arguments}
@@ -149,9 +150,9 @@ calls t zero body h = still h
 calls t (suc depth) None h = still h
 calls t (suc depth) (Some body) h = run_list t (calls t depth) body h
 
--- a run: calls go 64 deep
+-- a run: calls go only so deep
 abbrev pub run : Setting → Statements → Here → Ran Here
-run t statements h = run_list t (calls t 64) statements h
+run t statements h = run_list t (calls t deepest_calls) statements h
 
 -- outside of macros and procedures nothing is held and there are no arguments
 abbrev pub outside : State → Here

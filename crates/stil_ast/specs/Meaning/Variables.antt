@@ -1,9 +1,10 @@
 -- The variables that an executive picks, and their values (IEEE 1450-1999, clauses 16 and 19).
-use Rattle.std.specs.Prelude.{ℕ, zero, suc, Bool, true, false, not, List, [], ◌∷◌, ◌++◌, Option, Some, None, Result, Ok, Err, length, map, flat_map, find, nat_lt, codes, if◌then◌else◌}
+use Rattle.std.specs.Prelude.{ℕ, zero, suc, Bool, true, false, List, [], ◌∷◌, ◌++◌, Option, Some, None, Result, Ok, Err, length, map, flat_map, find, nat_lt, codes, if◌then◌else◌}
 use Rattle.std.specs.List.{list_any}
+use Rattle.text_bytes.specs.Limits.{most_variables}
 use Rattle.stil_ast.specs.Meaning.Statements.{Place}
 use Rattle.stil_ast.specs.Data.Texts.{same, has_name}
-use Rattle.stil_ast.specs.Faults.Found.{fault_at, on_line, unless, or_else, first_in}
+use Rattle.stil_ast.specs.Faults.Found.{fault_at, on_line, unless, refuse_if, or_else, first_in}
 use Rattle.stil_ast.specs.Meaning.Times.{Met, in_text, elsewhere, Times, met_at}
 use Rattle.stil_ast.specs.declared.name.Quoted.{Quoted}
 use Rattle.stil_ast.specs.declared.name.Named.{Named}
@@ -71,7 +72,9 @@ picked_category selector names spec c =
 -- The variables of all categories that an executive names, each once, in whatever Spec they stand.
 abbrev pub picked : Blocks → ExecDecl → List Variable
 picked blocks e =
-    flat_map (λ (s : SpecBlock). flat_map (picked_category (selector_of blocks e.selector) (map (λ (n : Named). n.name) e.categories) s.name) s.categories) blocks.specs
+    flat_map (λ (s : SpecBlock).
+    flat_map (picked_category (selector_of blocks e.selector) (map (λ (n : Named). n.name) e.categories) s.name) s.categories)
+    blocks.specs
 
 -- the value of a text that may be missing; what is met stands in it
 abbrev pub placed : {V : Type 0} → Place → Result V Met → Result V Met
@@ -101,12 +104,12 @@ value_within times vars (suc depth) running name =
 abbrev pub value_of : {V : Type 0} → Times V → List Variable → List ℕ → Result V Met
 value_of times vars name = value_within times vars (suc (length vars)) [] name
 
--- the first definition that repeats a name, or the one behind 1024 others
+-- the first definition that repeats a name, or the one behind as many as an executive may have
 abbrev pub picked_fault : List Variable → List Variable → Option StilFault
 picked_fault before [] = None
 picked_fault before (v ∷ vars) =
-    unless (nat_lt (length before) 1024) (fault_at v.place OutOfRange)
-    (unless (not (list_any (λ b. same b.name v.name) before)) (fault_at v.place Twice)
+    unless (nat_lt (length before) most_variables) (fault_at v.place OutOfRange)
+    (refuse_if (list_any (λ b. same b.name v.name) before) (fault_at v.place Twice)
     (picked_fault (before ++ v ∷ []) vars))
 
 -- a variable that is met first for itself has its own statement's line

@@ -2,7 +2,7 @@ use Rattle.std.proofs.Common.{Vec, Global, ◌+◌, ◌∙◌, ap, sym, map, dro
 use Rattle.std.proofs.lemmas.Result.{err_from_is_err_and}
 use Rattle.stil_tree.specs.Trees.{entry_of, trees_from}
 use Rattle.stil_ast.specs.declared.body.PatStmt.{PatStmt}
-use Rattle.pat_read.specs.Setting.{setting_of}
+use Rattle.stil_form.specs.Setting.{setting_of}
 use Rattle.pat_read.specs.Body.{body_from}
 use Rattle.pat_read.proofs.BodyLemmas.{body_goes_on, body_stops, weight-inner}
 use Rattle.pat_read.proofs.reader.+body.Goals as goal

@@ -1,7 +1,7 @@
 use Rattle.std.proofs.Common.{◌≡◌, ◌+◌, map, drop, []}
 use Rattle.stil_tree.specs.Trees.{entry_of, trees_from}
-use Rattle.pat_read.specs.Setting.{setting_of}
-use Rattle.pat_read.specs.Body.{inner_of, body_from}
+use Rattle.stil_form.specs.Setting.{setting_of, inner_of}
+use Rattle.pat_read.specs.Body.{body_from}
 use Rattle.pat_read.proofs.BodyLemmas.{weight}
 use Rattle.pat_read.proofs.reader.+body.Given as goal
 

@@ -1,7 +1,9 @@
-use Rattle.std.proofs.Common.{ap}
+use Rattle.std.proofs.Common.{ℕ, List, Bor, ap}
 use Rattle.stil_tree.specs.Trees.{entry_of}
+use Rattle.stil_ast.specs.declared.assignment_list.RefKind.{RefKind}
 use Rattle.stil_ast.specs.declared.body.Assignment.{Assignment}
-use Rattle.pat_read.specs.Body.{at_statement}
+use Rattle.stil_form.specs.Setting.{setting_of, at_statement}
+use Rattle.pat_read.specs.Body.{assignment_with}
 use Rattle.pat_read.proofs.FormLemmas.{fault_at_statement}
 use Rattle.pat_read.proofs.reader.read_assignment.Goals as goal
 
@@ -10,5 +12,7 @@ returns-in-Ok c = ap (at_statement (entry_of c.args.stmt.now).first) c.in-Ok.ens
 
 pub returns-in-Err : goal.returns-in-Err
 returns-in-Err c =
+    let said : RefKind × Bor (List ℕ) → Assignment =
+    λ found. assignment_with (setting_of c.args.form.now) (entry_of c.args.stmt.now) found.0 found.1.now c.assignment_at.new.items in
     rw (c.at.ensures, c.first_of.ensures)
-    (fault_at_statement (λ (read : Assignment). read) (λ (read : Assignment). read) c.in-Err.fault (entry_of c.args.stmt.now).first _ c.in-Err.ensures)
+    (fault_at_statement said said c.in-Err.fault (entry_of c.args.stmt.now).first _ c.in-Err.ensures)

@@ -1,5 +1,5 @@
 use Rattle.stil_tree.specs.Trees.{trees}
-use Rattle.pat_read.specs.Body.{setting}
+use Rattle.stil_form.specs.Setting.{setting}
 use Rattle.pat_read.proofs.ToldLemmas.{refused_once}
 use Rattle.pat_read.proofs.reader.read_body.Goals as goal
 

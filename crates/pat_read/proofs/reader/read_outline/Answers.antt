@@ -1,7 +1,7 @@
 use Rattle.std.proofs.Common.{ap}
 use Rattle.stil_tree.specs.Trees.{entry_of}
 use Rattle.pat_read.specs.declared.outline.Outline.{Outline}
-use Rattle.pat_read.specs.Body.{at_statement}
+use Rattle.stil_form.specs.Setting.{at_statement}
 use Rattle.pat_read.proofs.FormLemmas.{fault_at_statement}
 use Rattle.pat_read.proofs.reader.read_outline.Goals as goal
 

@@ -1,7 +1,7 @@
 use Rattle.std.proofs.Common.{Vec, Global, sym, ◌∙◌}
 use Rattle.std.proofs.lemmas.Result.{err_from_is_err_and}
 use Rattle.stil_tree.specs.Trees.{entry_of}
-use Rattle.stil_form.specs.Lexeme.{lexemes}
+use Rattle.stil_form.specs.Setting.{setting_of}
 use Rattle.stil_form.proofs.ReadingLemmas.{unskipped_stops}
 use Rattle.stil_form.proofs.reader.read_unskipped.Goals as goal
 
@@ -10,7 +10,7 @@ returns-in_err-data g c =
     let p = err_from_is_err_and c.from_residual.result c.from_residual.ensures.1 in
     rw (p.1, p.2)
     (unskipped_stops {Z = Vec g.row.F-Data.Denot Global} (λ read. read.items) entry_of (g.F.Form.judge c.args.form.now)
-    c.args.words.now (lexemes c.args.source) c.loop-stmt.read.items c.args.stmts.now
+    (setting_of c.args.reader.now) c.loop-stmt.read.items c.args.stmts.now
     c.loop-stmt.stmt-index c.stmt-item.result _ c.in_err-data.field-0.0 c.loop-stmt-test.true c.stmt-item.is
     (sym c.skips.ensures ∙ c.if-skips.false) c.loop-stmt.invariant
     (rw (← c.as_slice.ensures.value) c.in_err-data.ensures))

@@ -1,8 +1,8 @@
 use Rattle.std.proofs.Common.{◌∙◌}
 use Rattle.std.specs.Str.{bytes_eq}
-use Rattle.pat_read.specs.Words.{is_kept}
-use Rattle.pat_read.proofs.WordLemmas.{new_or_there}
-use Rattle.pat_read.proofs.words.add_word.Goals as goal
+use Rattle.stil_form.specs.Skipping.{is_kept}
+use Rattle.stil_form.proofs.WordLemmas.{new_or_there}
+use Rattle.stil_form.proofs.words.add_word.Goals as goal
 
 pub returns : goal.returns
 returns c = λ other.
