@@ -11,7 +11,17 @@ pub mod ReadLemmas
 pub mod RationalLemmas
 pub mod ValueLemmas
 pub mod TimesLemmas
+pub mod VarsLemmas
+pub mod SelectedLemmas
+pub mod PickedLemmas
 pub mod NamedLemmas
+pub mod StopLemmas
+pub mod ReachLemmas
+pub mod KnownLemmas
+pub mod WalkLemmas
+pub mod IndexLemmas
+pub mod PathLemmas
+pub mod ChoosingLemmas
 pub mod TimesFacts
 pub mod TextFacts
 pub mod StandardFacts

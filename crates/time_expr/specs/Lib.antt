@@ -15,3 +15,9 @@ pub mod Machine
 pub mod Memory
 pub mod NamedValue
 pub mod TimesOf
+pub mod TimeIn
+pub mod Selected
+pub mod Picked
+pub mod Names
+pub mod Choosing
+pub mod Path

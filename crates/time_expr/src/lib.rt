@@ -3,19 +3,28 @@
 
 mod bounded;
 mod byte;
+mod choosing;
 mod expr;
 mod fault;
 mod fraction;
 mod front;
 mod laws;
+mod names;
 mod number;
+mod order;
+mod picked;
 mod read;
 mod reader;
+mod selected;
+mod stop;
 mod sum;
+mod time;
 mod token;
 mod unit;
 mod vars;
+mod walk;
 
+pub use choosing::choose;
 pub use expr::{Bound, Expr, Operator, value};
 pub use fault::ExprFault;
 pub use fraction::{Fraction, whole_fs};
@@ -25,6 +34,7 @@ pub use laws::{
     quotients_are_rational, sums_are_rational, times_are_of_language, whole_numbers_in_units,
 };
 pub use read::read_expr;
+pub use time::{TimeFault, time_of};
 pub use unit::Unit;
 pub use vars::Vars;
 

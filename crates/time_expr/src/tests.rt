@@ -6,10 +6,9 @@ use tester_types::Text;
 
 /// The value of a text in which `t0` stands for 5 ns.
 fn value_in(alloc: Global, text: &[u8]) -> Result<Fraction, ExprFault> {
-    let name = Text::from_slice(alloc, b"t0")?;
-    let mut entries = Vec::new(alloc);
-    entries.push((name, Fraction::whole(5_000_000)))?;
-    value(&read_expr(alloc, text)?, &Vars::from_vec(entries))
+    let mut vars = Vars::new(alloc);
+    vars.add(alloc, b"t0", Fraction::whole(5_000_000))?;
+    value(&read_expr(alloc, text)?, &vars)
 }
 
 /// The fault of a text.
@@ -61,7 +60,7 @@ fn zero_is_no_divisor(rt: HostRuntime) {
 #[test]
 fn least_of_three_times(rt: HostRuntime) -> Result<(), ExprFault> {
     let alloc = rt.alloc();
-    let vars = Vars::from_vec(Vec::new(alloc));
+    let vars = Vars::new(alloc);
     let mut more = Vec::new(alloc);
     more.push((
         Operator::Plus,
@@ -80,7 +79,7 @@ fn least_of_three_times(rt: HostRuntime) -> Result<(), ExprFault> {
 #[test]
 fn name_without_a_value(rt: HostRuntime) -> Result<(), ExprFault> {
     let alloc = rt.alloc();
-    let vars = Vars::from_vec(Vec::new(alloc));
+    let vars = Vars::new(alloc);
     let name = Expr::Name(Text::from_slice(alloc, b"t0")?);
     assert_eq!(rt; value(&name, &vars), Err(ExprFault::UnknownName));
     Ok(())

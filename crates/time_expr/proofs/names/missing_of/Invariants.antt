@@ -1,0 +1,6 @@
+use Rattle.std.proofs.Common.{◌≡◌, drop}
+use Rattle.time_expr.specs.Names.{behind, first_missing}
+use Rattle.time_expr.proofs.names.missing_of.Given as goal
+
+abbrev pub invariant-loop-name : goal.invariant-loop-name
+invariant-loop-name l = first_missing l.vars (behind (drop l.name-index l.names)) ≡ first_missing l.vars (behind l.names)

@@ -1,0 +1,184 @@
+//! Values of variables in an order in which the names that a variable needs stand before it, so that each text is
+//! evaluated once.
+
+ghost use Rattle.std.specs.Prelude.{IfOk, IfSome, OnOk};
+ghost use Rattle.time_expr.specs.Picked.{variable_of};
+ghost use Rattle.time_expr.specs.Choosing.{AreKnown, HasOwnValue, IsNext};
+
+use crate::fraction::Fraction;
+use crate::names::names_of;
+use crate::picked::Picked;
+use crate::read::read_expr;
+use crate::stop::{Variables, spot_of};
+use crate::vars::Vars;
+use crate::walk::own_step;
+use std::alloc::{AllocError, Global};
+
+/// How many names each variable waits for, and which variables wait for each.
+#[derive(Drop)]
+struct Waiting {
+    left: Vec<usize>,
+    readers: Vec<Vec<usize>>,
+}
+
+/// The places of the variables that a variable's text names, as often as it names them.
+fn named_places(
+    alloc: Global,
+    variables: &Variables,
+    variable: &Picked,
+) -> Result<Vec<usize>, AllocError> {
+    let mut places = Vec::new(alloc);
+    let Some(text) = variable.text else {
+        return Ok(places);
+    };
+    let Ok(expr) = read_expr(alloc, text.text.as_slice()) else {
+        return Ok(places);
+    };
+    let names = names_of(alloc, &expr)?;
+    for name in &names {
+        if let Some(place) = variables.place(name) {
+            places.push(place)?;
+        }
+    }
+    Ok(places)
+}
+
+/// Lets a variable wait for those at these places.
+fn add_readers(
+    readers: &mut [Vec<usize>],
+    places: &[usize],
+    reader: usize,
+) -> Result<(), AllocError> {
+    for place in places {
+        if let Some(waiting) = readers.get_mut(*place) {
+            waiting.push(reader)?;
+        }
+    }
+    Ok(())
+}
+
+/// What each variable waits for.
+fn waiting_of(alloc: Global, variables: &Variables) -> Result<Waiting, AllocError> {
+    let picked = variables.picked();
+    let mut readers = Vec::new(alloc);
+    for _ in picked {
+        readers.push(Vec::new(alloc))?;
+    }
+    let mut left = Vec::new(alloc);
+    for (reader, variable) in picked.iter().enumerate() {
+        let places = named_places(alloc, variables, variable)?;
+        left.push(places.len())?;
+        add_readers(&mut readers, &places, reader)?;
+    }
+    Ok(Waiting { left, readers })
+}
+
+/// The variables that wait for nothing.
+fn ready_of(alloc: Global, left: &[usize]) -> Result<Vec<usize>, AllocError> {
+    let mut ready = Vec::new(alloc);
+    for (place, count) in left.iter().enumerate() {
+        if *count == 0 {
+            ready.push(place)?;
+        }
+    }
+    Ok(ready)
+}
+
+/// Lets a variable wait for one name fewer. Says whether it waits for nothing now.
+fn waits_no_more(left: &mut [usize], reader: usize) -> bool {
+    match left.get_mut(reader) {
+        Some(count) => {
+            *count = count.saturating_sub(1);
+            *count == 0
+        }
+        None => false,
+    }
+}
+
+/// Lets these variables wait for one name fewer.
+fn release(
+    left: &mut [usize],
+    readers: &[usize],
+    ready: &mut Vec<usize>,
+) -> Result<(), AllocError> {
+    for reader in readers {
+        if waits_no_more(left, *reader) {
+            ready.push(*reader)?;
+        }
+    }
+    Ok(())
+}
+
+/// The value of a variable, where all that it needs has a value.
+fn own_value<'a>(
+    alloc: Global,
+    variables: &Variables<'a>,
+    vars: &Vars,
+    variable: &'a Picked<'a>,
+) -> Option<Fraction>
+    ensures { IfSome result (λ value. HasOwnValue vars.now (variable_of variable.now) value) }
+{
+    let Ok(value) = own_step(alloc, variables, vars, variable, spot_of(variable)) else {
+        return None;
+    };
+    Some(value)
+}
+
+/// The variable of a name with its value, where the name has none so far and all that the variable needs has.
+fn ready_value<'a>(
+    alloc: Global,
+    variables: &Variables<'a>,
+    vars: &Vars,
+    name: &[u8],
+) -> Option<(&'a Picked<'a>, Fraction)>
+    ensures { IfSome result (λ found. IsNext variables.now vars.now (variable_of found.0.now) found.1) }
+{
+    if vars.get(name).is_some() {
+        return None;
+    }
+    let variable = variables.get(name)?;
+    let value = own_value(alloc, variables, vars, variable)?;
+    Some((variable, value))
+}
+
+/// Adds the value of a name, where all that it needs has a value. Says whether it did.
+fn add_ready(
+    alloc: Global,
+    variables: &Variables,
+    vars: &mut Vars,
+    name: &[u8],
+) -> Result<bool, AllocError>
+    requires { AreKnown variables.now vars.old }
+    ensures { OnOk result (AreKnown variables.now vars.new) }
+{
+    let Some(found) = ready_value(alloc, variables, vars, name) else {
+        return Ok(false);
+    };
+    vars.add(alloc, found.0.name, found.1)?;
+    Ok(true)
+}
+
+/// The values of the variables that need no variable without a value.
+pub(crate) fn ordered_values(alloc: Global, variables: &Variables) -> Result<Vars, AllocError>
+    ensures { IfOk result (λ vars. AreKnown variables.now vars) }
+{
+    let picked = variables.picked();
+    let mut waiting = waiting_of(alloc, variables)?;
+    let mut ready = ready_of(alloc, &waiting.left)?;
+    let mut vars = Vars::new(alloc);
+    for turn in 0..picked.len() {
+        let Some(place) = ready.get(turn).copied() else {
+            return Ok(vars);
+        };
+        let Some(variable) = picked.get(place) else {
+            return Ok(vars);
+        };
+        if !add_ready(alloc, variables, &mut vars, variable.name)? {
+            continue;
+        }
+        if let Some(readers) = waiting.readers.get(place) {
+            release(&mut waiting.left, readers, &mut ready)?;
+        }
+    }
+    Ok(vars)
+}
