@@ -1,0 +1,12 @@
+pub mod LexedLemmas
+pub mod LookupLemmas
+pub mod RangeLemmas
+pub mod MemberLemmas
+pub mod ResolveLemmas
+pub mod BegunLemmas
+pub mod GraphLemmas
+pub mod NeedsLemmas
+pub mod SettleLemmas
+pub mod CompleteLemmas
+pub mod FourthLemmas
+pub mod StandardFacts

@@ -1,0 +1,120 @@
+-- What is found in a table is what is found among the signals and groups that it was made of.
+use Rattle.std.proofs.Common.{◌≡◌, ℕ, suc, Bool, true, false, cond, not, ◌||◌, List, [], ◌∷◌, ◌++◌, length, map, Option, Some, None, refl, sym, ap, ◌∙◌, subst, arith, inl, inr}
+use Rattle.std.specs.Prelude.{Vec, All, filter, ◌<◌, ◌+◌, nat_lt, position}
+use Rattle.std.specs.List.{list_any, position_or_len, enumerate_from, filter_map, cons_option}
+use Rattle.std.specs.declared.alloc.Global.{Global}
+use Rattle.std.specs.Cmp.Lexicographic.{bytes_decides}
+use Rattle.std.specs.Str.{bytes_eq}
+use Rattle.std.proofs.lemmas.Bool.{cases_Bool, cases_lt}
+use Rattle.std.proofs.lemmas.List.Elements.{All-nil, All-cons}
+use Rattle.std.proofs.lemmas.List.Quantifiers.{position-Some}
+use Rattle.std.proofs.lemmas.List.{map-append, length-map, get_or_past}
+use Rattle.stil_ast.specs.Data.Texts.{same, indices, indexed}
+use Rattle.signal_groups.specs.Memory.{key_texts}
+use Rattle.stil_ast.specs.Meaning.Members.{is_based_on}
+use Rattle.stil_ast.specs.declared.name.IndexRange.{IndexRange}
+use Rattle.stil_ast.specs.declared.name.NameRef.{NameRef}
+use Rattle.signal_groups.specs.Table.{Table, IsSound}
+use Rattle.signal_groups.specs.Lookup.{number_in, plain_in, ranged_in, item_in}
+
+-- names are the same, whichever comes first
+pub same-sym : (a b : List ℕ) → same a b ≡ same b a
+same-sym a b =
+    elim (cases_Bool (same a b)) [
+      | inl e ↦ subst (λ (x : List ℕ). same a x ≡ same x a) ((bytes_decides a b).0 e) refl
+      | inr e ↦ elim (cases_Bool (same b a)) [
+        | inl f ↦ subst (λ (x : List ℕ). same x b ≡ same b x) ((bytes_decides b a).0 f) refl
+        | inr f ↦ e ∙ sym f
+      ]
+    ]
+
+-- where the first that passes stands, in a list and in what is seen of it
+position_or_len-seen : {X Y : Type 0} (f : X → Y) (p : X → Bool) (q : Y → Bool) → ((x : X) → p x ≡ q (f x)) → (xs : List X)
+    → position_or_len p xs ≡ position_or_len q (map f xs)
+position_or_len-seen f p q e [] = refl
+position_or_len-seen f p q e (x ∷ xs) =
+    ap (λ b. cond {A = ℕ} (not b) (1 + position_or_len p xs) 0) (e x)
+    ∙ ap (λ n. cond {A = ℕ} (not (q (f x))) (1 + n) 0) (position_or_len-seen f p q e xs)
+
+pub position-seen : {X Y : Type 0} (f : X → Y) (p : X → Bool) (q : Y → Bool) → ((x : X) → p x ≡ q (f x)) → (xs : List X)
+    → position p xs ≡ position q (map f xs)
+position-seen f p q e xs =
+    ap (λ n. cond (nat_lt n (length xs)) (Some n) None) (position_or_len-seen f p q e xs)
+    ∙ ap (λ n. cond (nat_lt (position_or_len q (map f xs)) n) (Some (position_or_len q (map f xs))) None) (sym (length-map xs f))
+
+-- where a name stands among keys
+pub number_in-keys : (keys : List (Vec ℕ Global)) (name : List ℕ)
+    → position (λ k. bytes_eq name k.items) keys ≡ number_in (key_texts keys) name
+number_in-keys keys name =
+    position-seen (λ k. k.items) (λ k. bytes_eq name k.items) (λ t. same t name) (λ k. same-sym name k.items) keys
+
+-- a number is that of a name
+pub number_in-within : (texts : List (List ℕ)) (name : List ℕ) (i : ℕ) → number_in texts name ≡ Some i → i < length texts
+number_in-within texts name i e = (position-Some (λ t. same t name) texts i [] e).0
+
+based_within : (name : List ℕ) (n : ℕ) (bases : List (Option (List ℕ)))
+    → All (λ s. s < n + length bases) (map (λ s. s.0) (filter (λ s. is_based_on name s.1) (enumerate_from n bases)))
+based_within name n [] = All-nil (λ s. s < n + 0)
+based_within name n (b ∷ bases) =
+    by_test (is_based_on name b) (λ k d lt. omega (arith, based_within name (n + 1) bases k d lt))
+  where
+    by_test : (t : Bool) → All (λ s. s < n + suc (length bases))
+        (map (λ s. s.0) (filter (λ s. is_based_on name s.1) (enumerate_from (n + 1) bases)))
+        → All (λ s. s < n + suc (length bases))
+        (map (λ s. s.0) (cond t ((n, b) ∷ filter (λ s. is_based_on name s.1) (enumerate_from (n + 1) bases))
+        (filter (λ s. is_based_on name s.1) (enumerate_from (n + 1) bases))))
+    by_test true more = All-cons (λ s. s < n + suc (length bases)) n _ (omega arith) more
+    by_test false more = more
+
+ranged_within : (texts : List (List ℕ)) (name : List ℕ) (is : List ℕ)
+    → All (λ s. s < length texts) (filter_map (λ i. number_in texts (indexed name i)) is)
+ranged_within texts name [] = All-nil (λ s. s < length texts)
+ranged_within texts name (i ∷ is) = by_number (number_in texts (indexed name i)) refl (ranged_within texts name is)
+  where
+    by_number : (o : Option ℕ) → number_in texts (indexed name i) ≡ o
+        → All (λ s. s < length texts) (filter_map (λ i. number_in texts (indexed name i)) is)
+        → All (λ s. s < length texts) (cons_option o (filter_map (λ i. number_in texts (indexed name i)) is))
+    by_number None e more = more
+    by_number (Some s) e more =
+        All-cons (λ s. s < length texts) s (filter_map (λ i. number_in texts (indexed name i)) is)
+        (number_in-within texts (indexed name i) s e) more
+
+-- the signals of an item are signals
+pub item_in-within : (table : Table) (r : NameRef) → IsSound table → All (λ s. s < length table.texts) (item_in table r)
+item_in-within table r sound = by_range r.range
+  where
+    by_group : (o : Option ℕ) → All (λ s. s < length table.texts) (plain_in table r.name None o)
+    by_group None = λ k d lt. omega (arith, based_within r.name 0 table.bases k d lt, sound.each_base)
+    by_group (Some g) = elim (cases_lt g (length table.members)) [
+      | inl l ↦ sound.each_member g [] l
+      | inr l ↦ subst (λ (ss : List ℕ). All (λ s. s < length table.texts) ss) (sym (get_or_past table.members g [] l)) (All-nil (λ s. s < length table.texts))
+    ]
+
+    by_signal : (o : Option ℕ) → number_in table.texts r.name ≡ o
+        → All (λ s. s < length table.texts) (plain_in table r.name o (number_in table.groups r.name))
+    by_signal None e = by_group (number_in table.groups r.name)
+    by_signal (Some s) e = All-cons (λ s. s < length table.texts) s [] (number_in-within table.texts r.name s e) (All-nil (λ s. s < length table.texts))
+
+    by_range : (range : Option IndexRange) → All (λ s. s < length table.texts) (ranged_in table r.name range)
+    by_range None = by_signal (number_in table.texts r.name) refl
+    by_range (Some range) = ranged_within table.texts r.name (indices range)
+
+-- whether a name stands among keys
+pub any-keys : (keys : List (Vec ℕ Global)) (name : List ℕ)
+    → list_any (λ k. bytes_eq name k.items) keys ≡ list_any (λ t. same t name) (key_texts keys)
+any-keys [] name = refl
+any-keys (k ∷ keys) name =
+    ap (λ b. b || list_any (λ k. bytes_eq name k.items) keys) (same-sym name k.items)
+    ∙ ap (λ b. same k.items name || b) (any-keys keys name)
+
+-- a new name goes behind the others
+pub keys-pushed : (keys keys' : List (Vec ℕ Global)) (k : Vec ℕ Global) (name : List ℕ) → k.items ≡ name
+    → list_any (λ t. same t name) (key_texts keys) ≡ false
+    → keys' ≡ cond (list_any (λ j. bytes_eq k.items j.items) keys) keys (keys ++ k ∷ [])
+    → key_texts keys' ≡ key_texts keys ++ name ∷ []
+keys-pushed keys keys' k name is new put =
+    let absent : list_any (λ j. bytes_eq k.items j.items) keys ≡ false =
+    any-keys keys k.items ∙ ap (λ (n : List ℕ). list_any (λ t. same t n) (key_texts keys)) is ∙ new in
+    ap key_texts (put ∙ ap (λ b. cond b keys (keys ++ k ∷ [])) absent)
+    ∙ map-append (λ (j : Vec ℕ Global). j.items) keys (k ∷ [])
+    ∙ ap (λ n. key_texts keys ++ n ∷ []) is

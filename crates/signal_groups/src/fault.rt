@@ -1,0 +1,46 @@
+//! Why a reference stands for no signals.
+
+ghost use Rattle.std.specs.Prelude.{◌≡◌};
+ghost use Rattle.signal_groups.specs.declared.fault.RefFault.TheVariants.{NoMemory};
+
+use std::alloc::{AllocError, AllocFailed};
+use std::error::Error;
+use std::fmt;
+
+/// Why a reference stands for no signals.
+#[derive(Clone, Copy, Debug, PartialEq, Eq)]
+pub enum RefFault {
+    NoMemory,
+    /// A text that is no group expression.
+    Shape,
+    /// A name of neither a signal nor a group, or an index without a signal.
+    UnknownName,
+}
+
+impl From<AllocError> for RefFault {
+    ghost from_gives = { λ _ fault. fault ≡ NoMemory };
+
+    fn from(_error: AllocError) -> RefFault {
+        RefFault::NoMemory
+    }
+}
+
+impl<T: Drop> From<AllocFailed<T>> for RefFault {
+    ghost from_gives = { λ _ fault. fault ≡ NoMemory };
+
+    fn from(_error: AllocFailed<T>) -> RefFault {
+        RefFault::NoMemory
+    }
+}
+
+impl fmt::Display for RefFault {
+    fn fmt<W: fmt::Write>(&self, f: &mut fmt::Formatter<W>) -> fmt::Result {
+        match self {
+            RefFault::NoMemory => write!(f, "out of memory"),
+            RefFault::Shape => write!(f, "no group expression"),
+            RefFault::UnknownName => write!(f, "no signal or group of this name"),
+        }
+    }
+}
+
+impl Error for RefFault {}

@@ -1,0 +1,160 @@
+//! What is known of the signals and groups of a text.
+
+ghost use Rattle.std.specs.Prelude.{◌≡◌, ◌<◌, ◌≤◌, ℕ, [], None, Some, IfSome, IfOk, All, length, slice_get, slice_index_or, slice_set};
+ghost use Rattle.stil_ast.specs.Meaning.Signals.{Names};
+ghost use Rattle.stil_ast.specs.Meaning.Members.{is_based_on, reference_kind, members};
+ghost use Rattle.signal_groups.specs.Table.{IsSound, table_of, with_members};
+ghost use Rattle.signal_groups.specs.Lookup.{number_in, Resolves};
+ghost use Rattle.signal_groups.specs.Graph.{needed_unless};
+
+use crate::fault::RefFault;
+use crate::resolve::resolved;
+use indexmap::IndexSet;
+use std::alloc::Global;
+use std::marker::Model;
+use stil_ast::SigRef;
+use tester_types::{Direction, Items, Text};
+
+/// The numbers of signals in order.
+pub type SignalList = Items<u16>;
+
+/// What is kept of a signal beside its text.
+#[derive(Drop)]
+pub(crate) struct Declared {
+    pub(crate) base: Option<Text>,
+    pub(crate) direction: Direction,
+}
+
+/// The signals of a text in declared order, and its groups with their signals. Signals and groups are numbered from 0.
+#[derive(Drop)]
+pub struct SignalTable {
+    pub(crate) texts: IndexSet<Vec<u8>>,
+    pub(crate) declared: Vec<Declared>,
+    pub(crate) groups: IndexSet<Vec<u8>>,
+    pub(crate) members: Vec<SignalList>,
+}
+
+impl Model for SignalTable {
+    ghost use Rattle.signal_groups.specs.Table.{Table, IsSound};
+    ghost use Rattle.signal_groups.specs.Memory.{table_in};
+
+    ghost Value = { Table };
+
+    ghost view = { table_in };
+
+    ghost invariant = { λ t. IsSound (table_in t) };
+}
+
+impl SignalTable {
+    /// How many signals there are, at most 1,024.
+    pub fn count(&self) -> usize
+        ensures count { result ≡ length self.now.texts }
+        ensures few { result ≤ 1024 }
+    {
+        self.texts.len()
+    }
+
+    /// The text of a signal.
+    pub fn name(&self, signal: usize) -> &[u8]
+        requires { signal < length self.now.texts }
+        ensures { slice_get self.now.texts signal ≡ Some result.now }
+    {
+        match self.texts.get_index(signal) {
+            Some(text) => text.as_slice(),
+            None => unreachable!(),
+        }
+    }
+
+    /// What a signal is for.
+    pub fn direction(&self, signal: usize) -> Direction
+        requires { signal < length self.now.texts }
+        ensures { slice_get self.now.directions signal ≡ Some result }
+    {
+        self.declared[signal].direction
+    }
+
+    /// The number of the signal of this text.
+    pub fn number(&self, name: &[u8]) -> Option<u16>
+        ensures number { result ≡ number_in self.now.texts name.now }
+        ensures within { IfSome result (λ signal. signal < length self.now.texts) }
+    {
+        let place = self.texts.get_index_of(name)?;
+        Some(place as u16)
+    }
+
+    /// The number of the group of this name.
+    pub(crate) fn group(&self, name: &[u8]) -> Option<usize>
+        ensures number { result ≡ number_in self.now.groups name.now }
+        ensures within { IfSome result (λ group. group < length self.now.members) }
+    {
+        self.groups.get_index_of(name)
+    }
+
+    /// The number of the group of a name that no signal has.
+    pub(crate) fn group_alone(&self, name: &[u8]) -> Option<u16>
+        ensures { result ≡ needed_unless (number_in self.now.texts name.now) (number_in self.now.groups name.now) None }
+    {
+        self.soundness();
+        if self.number(name).is_some() {
+            return None;
+        }
+        match self.group(name) {
+            Some(group) => Some(group as u16),
+            None => None,
+        }
+    }
+
+    /// Gives a group its signals.
+    pub(crate) fn set_members(&mut self, group: usize, signals: SignalList)
+        requires group { group < length self.old.members }
+        requires within { All (λ s. s < length self.old.texts) signals }
+        ensures { self.new ≡ with_members self.old (slice_set self.old.members group signals) }
+    {
+        self.members[group] = signals;
+    }
+
+    /// The signals of a group.
+    pub(crate) fn members(&self, group: usize) -> &[u16]
+        requires { group < length self.now.members }
+        ensures members { result.now ≡ slice_index_or self.now.members group [] }
+        ensures within { All (λ s. s < length self.now.texts) result.now }
+    {
+        self.members[group].as_slice()
+    }
+
+    /// Whether a signal was declared with brackets under this name.
+    pub(crate) fn is_based_on(&self, signal: usize, name: &[u8]) -> bool
+        requires { signal < length self.now.texts }
+        ensures { result ≡ is_based_on name.now (slice_index_or self.now.bases signal None) }
+    {
+        self.declared[signal].is_based_on(name)
+    }
+
+    /// That the table is within the limits.
+    pub fn soundness(&self)
+        ensures { IsSound self.now }
+    {
+        let _texts = &self.texts;
+    }
+
+    /// The signals for which a reference stands, in order.
+    pub fn resolve(&self, alloc: Global, reference: &SigRef) -> Result<SignalList, RefFault>
+        ensures signals { (names : Names) → self.now ≡ table_of names
+            → Resolves (reference_kind names reference.now) (members names reference.now) result }
+        ensures within { IfOk result (λ signals. All (λ s. s < length self.now.texts) signals) }
+    {
+        resolved(alloc, self, reference)
+    }
+}
+
+impl Declared {
+    /// Whether this signal was declared with brackets under this name.
+    fn is_based_on(&self, name: &[u8]) -> bool
+        ensures { result ≡ is_based_on name.now self.now.base }
+    {
+        match &self.base {
+            Some(base) => base.as_slice() == name,
+            None => false,
+        }
+    }
+}
