@@ -1,0 +1,98 @@
+//! The waveform tables of an executive, made.
+
+ghost use Rattle.std.specs.Prelude.{◌≡◌, ◌<◌, All, length, slice_get, find, Some};
+ghost use Rattle.std.specs.Option.{option_map};
+ghost use Rattle.wave_tables.specs.Waves.{AreInOrder, wave_key, is_wave, waves_at, wave_in};
+
+use std::marker::Model;
+use tester_types::{Table, Wave};
+
+/// The waveform tables of an executive in text order. The waves of each are in the order of their signals and of their
+/// characters, one for each pair that the table defines.
+#[derive(Drop)]
+pub struct WaveSet {
+    tables: Vec<Table>,
+}
+
+impl Model for WaveSet {
+    ghost use Rattle.std.specs.Prelude.{List, All};
+    ghost use Rattle.tester_types.specs.declared.wave.Table.{Table};
+    ghost use Rattle.wave_tables.specs.Waves.{AreInOrder};
+
+    ghost Value = { List Table };
+
+    ghost view = { λ s. s.tables.items };
+
+    ghost invariant = { λ s. All (λ (t : Table). AreInOrder t.waves) s.tables.items };
+}
+
+impl WaveSet {
+    /// Tables whose waves are in order.
+    pub fn from_vec(tables: Vec<Table>) -> WaveSet
+        requires { All (λ t. AreInOrder t.waves) tables.items }
+        ensures { result ≡ tables.items }
+    {
+        WaveSet { tables }
+    }
+
+    /// How many tables there are.
+    pub fn len(&self) -> usize
+        ensures { result ≡ length self.now }
+    {
+        self.tables.len()
+    }
+
+    /// The name of a table.
+    pub fn name(&self, table: usize) -> &[u8]
+        requires { table < length self.now }
+        ensures { option_map (λ t. t.name) (slice_get self.now table) ≡ Some result.now }
+    {
+        self.tables[table].name.as_slice()
+    }
+
+    /// The period of a table, in femtoseconds.
+    pub fn period(&self, table: usize) -> u64
+        requires { table < length self.now }
+        ensures { option_map (λ t. t.period) (slice_get self.now table) ≡ Some result }
+    {
+        self.tables[table].period
+    }
+
+    /// The waves of a table in the order of their signals and of their characters.
+    pub fn waves(&self, table: usize) -> &[Wave]
+        requires { table < length self.now }
+        ensures { result.now ≡ waves_at (slice_get self.now table) }
+    {
+        self.tables[table].waves.as_slice()
+    }
+
+    /// What a signal does in a cycle of a table in which it has this character, where the table says so. It takes time
+    /// in step with the logarithm of the number of waves.
+    pub fn wave(&self, table: usize, signal: u16, letter: u8) -> Option<&Wave>
+        ensures { option_map (λ w. w.now) result ≡ wave_in self.now table signal letter }
+    {
+        match self.tables.get(table) {
+            Some(found) => wave_of(found.waves.as_slice(), signal, letter),
+            None => None,
+        }
+    }
+}
+
+/// A number for each signal and character, in their order.
+fn key_of(signal: u16, letter: u8) -> u32
+    ensures { result ≡ wave_key signal letter }
+{
+    u32::from(signal) * 256 + u32::from(letter)
+}
+
+/// The wave of a signal and a character among waves in order.
+fn wave_of(waves: &[Wave], signal: u16, letter: u8) -> Option<&Wave>
+    requires { AreInOrder waves.now }
+    ensures { option_map (λ w. w.now) result ≡ find (is_wave signal letter) waves.now }
+{
+    let key = key_of(signal, letter);
+    match waves.binary_search_by_key(&key, |wave| key_of(wave.signal, wave.letter)) {
+        Ok(place) => waves.get(place),
+        Err(_) => None,
+    }
+}
