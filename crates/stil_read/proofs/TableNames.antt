@@ -1,0 +1,87 @@
+-- Behind each Timing block the names of tables differ under each title, and there are at most 64.
+use Rattle.std.proofs.Common.{◌≡◌, ℕ, ◌≤◌, arith, Bool, true, false, cond, List, [], ◌∷◌, ◌++◌, length, map, Result, Ok, refl, sym, ap, subst, ◌∙◌, append-nil, append_assoc}
+use Rattle.std.specs.Prelude.{if◌then◌else◌}
+use Rattle.std.specs.List.{flat_map}
+use Rattle.std.proofs.lemmas.List.{map-append}
+use Rattle.text_bytes.specs.Limits.{most_tables}
+use Rattle.first_fault.specs.Reading.{reading}
+use Rattle.stil_tree.specs.Trees.{Entry}
+use Rattle.stil_form.specs.Setting.{Setting, line_at, inner_of, unskipped}
+use Rattle.stil_ast.specs.Data.Texts.{same}
+use Rattle.stil_ast.specs.Meaning.Tables.{tables_named}
+use Rattle.stil_ast.specs.declared.timing.TableDecl.{TableDecl}
+use Rattle.stil_ast.specs.declared.timing.TimingBlock.{TimingBlock}
+use Rattle.stil_read.specs.Heads.{titled_block, under}
+use Rattle.stil_read.specs.Timings.{table_name, table_names, table_said, judge_table, tables_of, timing_block}
+use Rattle.stil_read.proofs.FormLemmas.{both_ok, reading-keeps}
+use Rattle.stil_read.proofs.TableLemmas.{name-table_of}
+use Rattle.stil_read.proofs.TimingForms.{table_name-parts}
+use Rattle.stil_read.proofs.DeclaredForms.{Differ, AtMost, Differ-push, AtMost-push, names_under, names_under-append, names_under-under}
+
+-- names that differ under each title, of which there are at most 64
+pub record AreTableNames (declared : List (List ℕ × List ℕ)) : Type 0 where
+  pub differ : Differ declared
+  pub within : AtMost most_tables declared
+
+-- one more table has one more name
+named_more : (declared : List (List ℕ × List ℕ)) (title : List ℕ) (before : List TableDecl) (x : TableDecl)
+    → (declared ++ under title (table_names before)) ++ (title, x.name) ∷ []
+    ≡ declared ++ under title (table_names (before ++ x ∷ []))
+named_more declared title before x =
+    append_assoc declared (under title (table_names before)) ((title, x.name) ∷ [])
+    ∙ ap (λ ds. declared ++ ds)
+    (sym (map-append (λ (called : List ℕ). (title, called)) (table_names before) (x.name ∷ []))
+    ∙ ap (under title) (sym (map-append (λ (t : TableDecl). t.name) before (x ∷ []))))
+
+-- a table that was read keeps what names are
+keeps_names : (s : Setting) (declared : List (List ℕ × List ℕ)) (title : List ℕ) (e : Entry) (x : TableDecl)
+    → table_said s declared title e ≡ Ok x → AreTableNames declared → AreTableNames (declared ++ (title, x.name) ∷ [])
+keeps_names s declared title e x is names =
+    let both = both_ok (table_name s declared title e) _ x is in
+    let parts = table_name-parts s declared title e both.given both.met in
+    let called = name-table_of s both.given (line_at s.tokens e.first) (inner_of e.body) x both.made in
+    subst (λ (n : List ℕ). AreTableNames (declared ++ (title, n) ∷ [])) (sym called)
+    (record {
+      differ = Differ-push declared title both.given names.differ parts.new.new;
+      within = AtMost-push most_tables declared title both.given names.within parts.new.room;
+    })
+
+-- so do all tables of a Timing block
+pub names-timing_block : (s : Setting) (declared : List (List ℕ × List ℕ)) (e : Entry) (timing : TimingBlock)
+    → timing_block s declared e ≡ Ok timing → AreTableNames declared
+    → AreTableNames (declared ++ under timing.name (table_names timing.tables))
+names-timing_block s declared e timing is names =
+    let outer = both_ok (titled_block s e) _ timing is in
+    let title : List ℕ = outer.given in
+    let es : List Entry = unskipped s (inner_of e.body) in
+    let both = both_ok (reading (judge_table s declared title) [] es) _ timing outer.made in
+    let same_block : record { name = title; tables = both.given } ≡ timing = cc in
+    subst (λ (t : TimingBlock). AreTableNames (declared ++ under t.name (table_names t.tables))) same_block
+    (reading-keeps (judge_table s declared title) (λ before. AreTableNames (declared ++ under title (table_names before)))
+    (λ before one x judged held.
+    subst AreTableNames (named_more declared title before x)
+    (keeps_names s (declared ++ under title (table_names before)) title one x judged held))
+    [] es both.given both.met (subst AreTableNames (sym (append-nil declared)) names))
+
+-- nothing was declared
+pub no_table_names : AreTableNames []
+no_table_names = record { differ = λ title. refl; within = λ title. omega arith }
+
+-- the names of tables that stand, or don't
+names_where : (b : Bool) (tables : List TableDecl) (rest : List (List ℕ))
+    → cond b (table_names tables) [] ++ rest ≡ table_names (cond b tables []) ++ rest
+names_where true tables rest = refl
+names_where false tables rest = refl
+
+-- the names under a title are those of the tables of that title
+pub names_under-tables : (timings : List TimingBlock) (title : List ℕ)
+    → names_under (flat_map (λ (t : TimingBlock). under t.name (map (λ (d : TableDecl). d.name) t.tables)) timings) title
+    ≡ map (λ (d : TableDecl). d.name) (tables_named timings title)
+names_under-tables [] title = refl
+names_under-tables (t ∷ ts) title =
+    let rest : List (List ℕ × List ℕ) = flat_map (λ (u : TimingBlock). under u.name (map (λ (d : TableDecl). d.name) u.tables)) ts in
+    names_under-append (under t.name (table_names t.tables)) rest title
+    ∙ ap (λ ns. ns ++ names_under rest title) (names_under-under t.name (table_names t.tables) title)
+    ∙ names_where (same t.name title) t.tables (names_under rest title)
+    ∙ ap (λ ns. table_names (cond (same t.name title) t.tables []) ++ ns) (names_under-tables ts title)
+    ∙ sym (map-append (λ (d : TableDecl). d.name) (cond (same t.name title) t.tables []) (tables_named ts title))

@@ -1,0 +1,232 @@
+//! PatternExec blocks (IEEE 1450-1999, clause 16).
+
+ghost use Rattle.std.specs.Prelude.{◌≡◌, [], ◌∷◌, ◌++◌, Ok, is_some};
+ghost use Rattle.stil_tree.specs.Trees.{entry_of};
+ghost use Rattle.stil_form.specs.Reading.{Answers, AnswersBy};
+ghost use Rattle.stil_form.specs.Setting.{setting_of, lexemes_at, at_statement};
+ghost use Rattle.stil_form.specs.Lexeme.{lexeme_of, lexemes};
+ghost use Rattle.stil_read.specs.Heads.{Says};
+ghost use Rattle.stil_read.specs.Executives as executives;
+ghost use Rattle.stil_read.specs.Executives.{name_behind, by_word, exec_said, first_named, with_named, exec_step, no_parts, exec_by, exec_in};
+
+use crate::head::{name_or_empty, only_name, titled_block};
+use crate::named::named_on;
+use std::alloc::Global;
+use stil_ast::{ExecDecl, Named, NamedList};
+use stil_form::{
+    FormFault, FormKind, Part, Reader, Source, StepForm, first_of, first_part, has_block, head_at,
+    inner_of, is_word, line_at, read_unskipped_steps,
+};
+use stil_tree::Stmt;
+use tester_types::{Items, Text};
+
+/// The keywords of a PatternExec.
+#[derive(Clone, Copy, Debug, PartialEq, Eq)]
+pub(crate) enum ExecWord {
+    Category,
+    Selector,
+    Timing,
+    Burst,
+}
+
+/// What the statements of a PatternExec name.
+#[derive(Drop)]
+pub(crate) struct ExecParts {
+    categories: NamedList,
+    selector: Option<Named>,
+    timing: Option<Named>,
+    burst: Option<Named>,
+}
+
+/// The keyword that a part is.
+fn exec_word(part: &Part) -> Option<ExecWord>
+    ensures { result ≡ executives.exec_word (lexeme_of part.now) }
+{
+    if is_word(part, b"Category") {
+        Some(ExecWord::Category)
+    } else if is_word(part, b"Selector") {
+        Some(ExecWord::Selector)
+    } else if is_word(part, b"Timing") {
+        Some(ExecWord::Timing)
+    } else if is_word(part, b"PatternBurst") {
+        Some(ExecWord::Burst)
+    } else {
+        None
+    }
+}
+
+/// The name behind a keyword.
+fn name_behind<'a>(word: ExecWord, rest: Source<'a>) -> Result<&'a [u8], FormKind>
+    ensures { Says (λ called. called.now) result (name_behind word (lexemes rest.entry)) }
+{
+    match word {
+        ExecWord::Timing => name_or_empty(rest),
+        ExecWord::Category | ExecWord::Selector | ExecWord::Burst => only_name(rest),
+    }
+}
+
+/// A statement by its keyword.
+fn by_word<'a>(
+    word: Option<ExecWord>,
+    has_block: bool,
+    rest: Source<'a>,
+) -> Result<(ExecWord, &'a [u8]), FormKind>
+    ensures { Says (λ said. (said.0, said.1.now)) result (by_word word has_block (lexemes rest.entry)) }
+{
+    let Some(word) = word else {
+        return Err(FormKind::LeftOut);
+    };
+    if has_block {
+        return Err(FormKind::Shape);
+    }
+    match name_behind(word, rest) {
+        Ok(called) => Ok((word, called)),
+        Err(kind) => Err(kind),
+    }
+}
+
+/// What a statement with this head says.
+fn exec_said<'a>(has_block: bool, head: Source<'a>) -> Result<(ExecWord, &'a [u8]), FormKind>
+    ensures { Says (λ said. (said.0, said.1.now)) result (exec_said has_block (lexemes head.entry)) }
+{
+    match first_part(head) {
+        Some((one, rest)) => by_word(exec_word(&one), has_block, rest),
+        None => Err(FormKind::LeftOut),
+    }
+}
+
+/// What a statement says, as a fault of the statement where it says nothing.
+fn read_said<'a>(reader: &Reader<'_, 'a>, stmt: &Stmt) -> Result<(ExecWord, &'a [u8]), FormFault>
+    ensures { AnswersBy (λ said. (said.0, said.1.now)) result
+        (at_statement (entry_of stmt.now).first
+        (exec_said (is_some (entry_of stmt.now).body) (lexemes_at (setting_of reader.now) (entry_of stmt.now)))) }
+{
+    match exec_said(has_block(stmt), head_at(reader.source, stmt)) {
+        Ok(said) => Ok(said),
+        Err(kind) => Err(FormFault::Refused(kind, first_of(stmt))),
+    }
+}
+
+/// A name for what has none yet, by a statement with this first token.
+fn first_named(before: Option<Named>, named: Named, first: u32) -> Result<Option<Named>, FormFault>
+    ensures { Answers result (at_statement first (first_named before named)) }
+{
+    match before {
+        None => Ok(Some(named)),
+        Some(_) => Err(FormFault::Refused(FormKind::Twice, first)),
+    }
+}
+
+/// One more name in a list.
+fn with_one(list: NamedList, named: Named) -> Result<NamedList, FormFault>
+    ensures { Answers result (Ok (list ++ named ∷ [])) }
+{
+    let mut list = list.into_vec();
+    list.push(named)?;
+    Ok(Items::from_vec(list))
+}
+
+/// One more name among those of an executive.
+fn with_named(
+    before: ExecParts,
+    word: ExecWord,
+    named: Named,
+    first: u32,
+) -> Result<ExecParts, FormFault>
+    ensures { Answers result (at_statement first (with_named before word named)) }
+{
+    let mut parts = before;
+    match word {
+        ExecWord::Category => {
+            parts.categories = with_one(parts.categories, named)?;
+        }
+        ExecWord::Selector => {
+            parts.selector = first_named(parts.selector, named, first)?;
+        }
+        ExecWord::Timing => {
+            parts.timing = first_named(parts.timing, named, first)?;
+        }
+        ExecWord::Burst => {
+            parts.burst = first_named(parts.burst, named, first)?;
+        }
+    }
+    Ok(parts)
+}
+
+/// Statements of a PatternExec.
+#[derive(Clone, Copy)]
+struct ExecForm<'k, 'a> {
+    reader: Reader<'k, 'a>,
+}
+
+impl StepForm for ExecForm<'_, '_> {
+    type State = ExecParts;
+
+    ghost step = { λ form before e. exec_step (setting_of form.reader) before e };
+
+    fn take(&self, alloc: Global, before: ExecParts, stmt: &Stmt) -> Result<ExecParts, FormFault> {
+        let (word, called) = read_said(&self.reader, stmt)?;
+        let named = named_on(alloc, &self.reader, stmt, called)?;
+        with_named(before, word, named, first_of(stmt))
+    }
+}
+
+/// Before the first statement.
+fn no_parts(alloc: Global) -> ExecParts
+    ensures { result ≡ no_parts }
+{
+    ExecParts {
+        categories: Items::from_vec(Vec::new(alloc)),
+        selector: None,
+        timing: None,
+        burst: None,
+    }
+}
+
+/// The executive that these names make.
+fn exec_by(line: u32, title: Text, parts: ExecParts) -> Result<ExecDecl, FormKind>
+    ensures { Says (λ read. read) result (exec_by line title parts parts.burst) }
+{
+    let ExecParts {
+        categories,
+        selector,
+        timing,
+        burst,
+    } = parts;
+    match burst {
+        Some(burst) => Ok(ExecDecl {
+            name: title,
+            categories,
+            selector,
+            timing,
+            burst,
+            line,
+        }),
+        None => Err(FormKind::Shape),
+    }
+}
+
+/// An executive of this title.
+fn exec_in(alloc: Global, reader: &Reader, stmt: &Stmt, title: &[u8]) -> Result<ExecDecl, FormFault>
+    ensures { Answers result (exec_in (setting_of reader.now) (entry_of stmt.now) title.now) }
+{
+    let form = ExecForm { reader: *reader };
+    let parts = read_unskipped_steps(alloc, &form, reader, no_parts(alloc), inner_of(stmt))?;
+    let title = Items::from_slice(alloc, title)?;
+    match exec_by(
+        line_at(reader.source.tokens, first_of(stmt) as usize),
+        title,
+        parts,
+    ) {
+        Ok(read) => Ok(read),
+        Err(kind) => Err(FormFault::Refused(kind, first_of(stmt))),
+    }
+}
+
+/// The PatternExec that a statement is.
+pub fn read_exec_block(alloc: Global, reader: &Reader, stmt: &Stmt) -> Result<ExecDecl, FormFault>
+    ensures { Answers result (executives.exec_block (setting_of reader.now) (entry_of stmt.now)) }
+{
+    let title = titled_block(reader, stmt)?;
+    exec_in(alloc, reader, stmt, title)
+}

@@ -1,0 +1,188 @@
+//! Signals blocks (IEEE 1450-1999, clause 14).
+
+ghost use Rattle.std.specs.Prelude.{◌≡◌, None, Some, MatchOption};
+ghost use Rattle.stil_tree.specs.Trees.{entry_of};
+ghost use Rattle.stil_form.specs.Lexeme.{lexeme_of, lexemes};
+ghost use Rattle.stil_form.specs.Reading.{Answers, AnswersBy};
+ghost use Rattle.stil_form.specs.Setting.{setting_of};
+ghost use Rattle.pat_read.specs.References as references;
+ghost use Rattle.stil_read.specs.Heads.{Says};
+ghost use Rattle.stil_read.specs.Signals as signals;
+ghost use Rattle.stil_read.specs.Signals.{signal_of};
+
+use crate::head::bare_block;
+use crate::quotes::skip_attributes;
+use std::alloc::Global;
+use stil_ast::{Direction, IndexRange, SignalDecl, SignalDeclList};
+use stil_form::{
+    Form, FormFault, FormKind, Part, Reader, SignKind, Source, Span, first_of, first_part, head_at,
+    index_front, inner_of, is_word, line_at, name_of, read_unskipped,
+};
+use stil_tree::Stmt;
+use tester_types::Items;
+
+/// What the head of a signal's statement says.
+#[derive(Clone, Copy, Debug)]
+pub(crate) struct SignalHead<'a> {
+    name: &'a [u8],
+    range: Option<IndexRange>,
+    direction: Direction,
+    line: u32,
+}
+
+/// What a signal is for.
+fn direction_of(part: &Part) -> Option<Direction>
+    ensures { result ≡ signals.direction_of (lexeme_of part.now) }
+{
+    if is_word(part, b"In") {
+        Some(Direction::In)
+    } else if is_word(part, b"Out") {
+        Some(Direction::Out)
+    } else if is_word(part, b"InOut") {
+        Some(Direction::InOut)
+    } else if is_word(part, b"Supply") {
+        Some(Direction::Supply)
+    } else if is_word(part, b"Pseudo") {
+        Some(Direction::Pseudo)
+    } else {
+        None
+    }
+}
+
+/// A direction, and nothing behind it.
+fn only_direction(rest: Source) -> Result<Direction, FormKind>
+    ensures { Says (λ direction. direction) result (signals.only_direction (lexemes rest.entry)) }
+{
+    let Some((one, behind)) = first_part(rest) else {
+        return Err(FormKind::Shape);
+    };
+    match first_part(behind) {
+        None => direction_of(&one).ok_or(FormKind::Shape),
+        Some(_) => Err(FormKind::Shape),
+    }
+}
+
+/// Whether two indices begin behind a `[`, with dots between them.
+fn are_two(inside: Source) -> bool
+    ensures { result ≡ signals.are_two (lexemes inside.entry) }
+{
+    match first_part(inside) {
+        Some((_, rest)) => matches!(first_part(rest), Some((Part::Sign(SignKind::Dot), _))),
+        None => false,
+    }
+}
+
+/// Indices `[n..n]` or none, and what stands behind them.
+fn span_front<'a>(rest: Source<'a>) -> Option<(Option<Span>, Source<'a>)>
+    ensures { MatchOption result (signals.span_front (lexemes rest.entry) ≡ None)
+        (λ found. signals.span_front (lexemes rest.entry) ≡ Some (found.0, lexemes found.1)) }
+{
+    match first_part(rest) {
+        Some((Part::Sign(SignKind::Open), inside)) => {
+            if !are_two(inside) {
+                return None;
+            }
+            let (span, behind) = index_front(rest)?;
+            Some((Some(span), behind))
+        }
+        _ => Some((None, rest)),
+    }
+}
+
+/// The indices of a name, each at most 2^32 - 1.
+fn range_of(span: Option<Span>) -> Result<Option<IndexRange>, FormKind>
+    ensures { result ≡ references.range_of span }
+{
+    match span {
+        None => Ok(None),
+        Some(span) => match span.indices() {
+            Some((first, last)) => Ok(Some(IndexRange { first, last })),
+            None => Err(FormKind::OutOfRange),
+        },
+    }
+}
+
+/// The signal of a name by what stands behind it.
+fn signal_named<'a>(line: u32, name: &'a [u8], rest: Source<'a>) -> Result<SignalHead<'a>, FormKind>
+    ensures { Says signal_of result
+        (signals.signal_named line name.now (signals.span_front (lexemes rest.entry))) }
+{
+    let Some((span, behind)) = span_front(rest) else {
+        return Err(FormKind::Shape);
+    };
+    let direction = only_direction(behind)?;
+    let range = range_of(span)?;
+    Ok(SignalHead {
+        name,
+        range,
+        direction,
+        line,
+    })
+}
+
+/// What `name dir` or `name[n..n] dir` says, on a line.
+fn signal_said<'a>(line: u32, head: Source<'a>) -> Result<SignalHead<'a>, FormKind>
+    ensures { Says signal_of result (signals.signal_said line (lexemes head.entry)) }
+{
+    let Some((one, rest)) = first_part(head) else {
+        return Err(FormKind::Shape);
+    };
+    match name_of(&one) {
+        Some(name) => signal_named(line, name, rest),
+        None => Err(FormKind::Shape),
+    }
+}
+
+/// What a statement's head says.
+fn signal_at<'a>(reader: &Reader<'_, 'a>, stmt: &Stmt) -> Result<SignalHead<'a>, FormFault>
+    ensures { AnswersBy signal_of result (signals.signal_at (setting_of reader.now) (entry_of stmt.now)) }
+{
+    let line = line_at(reader.source.tokens, first_of(stmt) as usize);
+    match signal_said(line, head_at(reader.source, stmt)) {
+        Ok(said) => Ok(said),
+        Err(kind) => Err(FormFault::Refused(kind, first_of(stmt))),
+    }
+}
+
+/// Statements of Signals blocks.
+#[derive(Clone, Copy)]
+struct SignalForm<'k, 'a> {
+    reader: Reader<'k, 'a>,
+}
+
+impl Form for SignalForm<'_, '_> {
+    type Data = SignalDecl;
+
+    ghost judge = { λ form before e. signals.judge_signal (setting_of form.reader) before e };
+
+    fn judge_one(
+        &self,
+        alloc: Global,
+        before: &[SignalDecl],
+        stmt: &Stmt,
+    ) -> Result<SignalDecl, FormFault> {
+        let _ = before;
+        let said = signal_at(&self.reader, stmt)?;
+        skip_attributes(alloc, &self.reader, stmt)?;
+        Ok(SignalDecl {
+            name: Items::from_slice(alloc, said.name)?,
+            range: said.range,
+            direction: said.direction,
+            line: said.line,
+        })
+    }
+}
+
+/// The signals of a Signals block.
+pub fn read_signals_block(
+    alloc: Global,
+    reader: &Reader,
+    stmt: &Stmt,
+) -> Result<SignalDeclList, FormFault>
+    ensures { Answers result (signals.signals_block (setting_of reader.now) (entry_of stmt.now)) }
+{
+    bare_block(reader, stmt)?;
+    let form = SignalForm { reader: *reader };
+    let read = read_unskipped(alloc, &form, reader, inner_of(stmt))?;
+    Ok(Items::from_vec(read))
+}
