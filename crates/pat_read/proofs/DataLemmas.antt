@@ -8,7 +8,8 @@ use Rattle.stil_ast.specs.Meaning.Statements.{Item}
 use Rattle.pat_read.specs.declared.data.Awaited.{Awaited}
 use Rattle.pat_read.specs.declared.fault.DataFault.{DataFault}
 use Rattle.pat_read.specs.declared.fault.DataFault.TheVariants.{NoMemory, Shape, LeftOut, OutOfRange}
-use Rattle.pat_read.specs.Fault.{followed, DataAnswers}
+use Rattle.first_fault.specs.Reading.{and_then}
+use Rattle.pat_read.specs.Fault.{DataAnswers}
 use Rattle.pat_read.specs.Data.{said_by, behind, data_from, said_behind}
 
 -- items behind items that stand behind items
@@ -19,20 +20,20 @@ behind-append before items (Err kind) = refl
 
 -- what a token says, and what stands behind it
 behind-said : (before : List Item) (said : Result (List Item × Awaited) FormKind) (rest : Awaited → Result (List Item) FormKind) →
-    behind before (followed said (λ s. behind s.0 (rest s.1))) ≡ followed (said_behind before said) (λ s. behind s.0 (rest s.1))
+    behind before (and_then said (λ s. behind s.0 (rest s.1))) ≡ and_then (said_behind before said) (λ s. behind s.0 (rest s.1))
 behind-said before (Ok said) rest = behind-append before said.0 (rest said.1)
 behind-said before (Err kind) rest = refl
 
 -- behind items stand a token and those behind it
 pub data-token : (before : List Item) (bytes : List ℕ) (wanted : Awaited) (token : Token) (tokens : List Token) →
     behind before (data_from bytes wanted (token ∷ tokens))
-    ≡ followed (said_behind before (said_by bytes wanted token)) (λ s. behind s.0 (data_from bytes s.1 tokens))
+    ≡ and_then (said_behind before (said_by bytes wanted token)) (λ s. behind s.0 (data_from bytes s.1 tokens))
 data-token before bytes wanted token tokens =
     behind-said before (said_by bytes wanted token) (λ next. data_from bytes next tokens)
 
 -- the token at hand in front of those behind it
 data-at : (before : List Item) (bytes : List ℕ) (wanted : Awaited) (tokens : List Token) (i : ℕ) (d : Token) → i < length tokens →
-    followed (said_behind before (said_by bytes wanted (get_or tokens i d)))
+    and_then (said_behind before (said_by bytes wanted (get_or tokens i d)))
     (λ s. behind s.0 (data_from bytes s.1 (drop (i + 1) tokens)))
     ≡ behind before (data_from bytes wanted (drop i tokens))
 data-at before bytes wanted tokens i d within =
@@ -48,16 +49,16 @@ pub data_goes_on : (before after : List Item) (bytes : List ℕ) (wanted next : 
     behind before (data_from bytes wanted (drop i tokens)) ≡ whole →
     behind after (data_from bytes next (drop (i + 1) tokens)) ≡ whole
 data_goes_on before after bytes wanted next tokens i d whole within said is =
-    ap (λ r. followed r (λ s. behind s.0 (data_from bytes s.1 (drop (i + 1) tokens)))) (sym said)
+    ap (λ r. and_then r (λ s. behind s.0 (data_from bytes s.1 (drop (i + 1) tokens)))) (sym said)
     ∙ data-at before bytes wanted tokens i d within ∙ is
 
 -- a fault of one step is the fault of all
 pub fault_stays : {X Y Z W : Type 0} (view : X → Y) (view' : Z → W) (fault : DataFault) (first : Result Y FormKind) (next : Y → Result W FormKind) →
-    DataAnswers {X = X} view (Err fault) first → DataAnswers {X = Z} view' (Err fault) (followed first next)
+    DataAnswers {X = X} view (Err fault) first → DataAnswers {X = Z} view' (Err fault) (and_then first next)
 fault_stays view view' NoMemory first next answer = tt
-fault_stays view view' Shape first next answer = ap (λ r. followed r next) answer
-fault_stays view view' LeftOut first next answer = ap (λ r. followed r next) answer
-fault_stays view view' OutOfRange first next answer = ap (λ r. followed r next) answer
+fault_stays view view' Shape first next answer = ap (λ r. and_then r next) answer
+fault_stays view view' LeftOut first next answer = ap (λ r. and_then r next) answer
+fault_stays view view' OutOfRange first next answer = ap (λ r. and_then r next) answer
 
 -- a fault at the token at hand is the fault of the whole
 pub data_stops : {Z : Type 0} (view : Z → List Item) (view' : Awaited → List Item × Awaited) (before : List Item)

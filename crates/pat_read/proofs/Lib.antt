@@ -1,3 +1,6 @@
+pub mod AcceptedLemmas
+pub mod AcceptedData
+pub mod AcceptedBodies
 pub mod DataLemmas
 pub mod FormLemmas
 pub mod BodyLemmas

@@ -13,7 +13,7 @@ use Rattle.pat_read.specs.declared.fault.DataFault.{DataFault}
 use Rattle.pat_read.specs.declared.fault.DataFault.TheVariants as fault
 use Rattle.pat_read.specs.declared.data.Awaited.{Awaited}
 use Rattle.pat_read.specs.declared.data.Awaited.TheVariants as awaited
-use Rattle.pat_read.specs.Fault.{followed}
+use Rattle.first_fault.specs.Reading.{and_then}
 
 -- a word has a `_`, which is no character of data
 abbrev pub has_underscore : List ℕ → Bool
@@ -78,13 +78,13 @@ ended (awaited.OfUnit times) = Err Shape
 
 -- items in front of others
 abbrev pub behind : List Item → Result (List Item) FormKind → Result (List Item) FormKind
-behind items more = followed more (λ rest. Ok (items ++ rest))
+behind items more = and_then more (λ rest. Ok (items ++ rest))
 
 -- the items of tokens, where this is awaited first
 abbrev pub data_from : List ℕ → Awaited → List Token → Result (List Item) FormKind
 data_from bytes wanted [] = ended wanted
 data_from bytes wanted (token ∷ tokens) =
-    followed (said_by bytes wanted token) (λ said. behind said.0 (data_from bytes said.1 tokens))
+    and_then (said_by bytes wanted token) (λ said. behind said.0 (data_from bytes said.1 tokens))
 
 -- the items that tokens spell, or the kind of the first fault from the left
 abbrev pub data_of : List ℕ → List Token → Result (List Item) FormKind
@@ -99,4 +99,4 @@ IsDataFault bytes tokens fault.OutOfRange = data_of bytes tokens ≡ Err OutOfRa
 
 -- what a token says behind items
 abbrev pub said_behind : List Item → Result (List Item × Awaited) FormKind → Result (List Item × Awaited) FormKind
-said_behind items said = followed said (λ more. Ok (items ++ more.0, more.1))
+said_behind items said = and_then said (λ more. Ok (items ++ more.0, more.1))

@@ -7,11 +7,6 @@ use Rattle.stil_form.specs.declared.fault.FormFault.TheVariants as form
 use Rattle.pat_read.specs.declared.fault.DataFault.{DataFault}
 use Rattle.pat_read.specs.declared.fault.DataFault.TheVariants.{NoMemory, Shape, LeftOut, OutOfRange}
 
--- one step after another
-abbrev pub followed : {X Y E : Type 0} → Result X E → (X → Result Y E) → Result Y E
-followed (Ok x) next = next x
-followed (Err fault) next = Err fault
-
 -- what a reader of data answers, where it is to answer this: the same, or want of memory
 abbrev pub DataAnswers : {X Y : Type 0} → (X → Y) → Result X DataFault → Result Y FormKind → Type 0
 DataAnswers view (Ok x) wanted = wanted ≡ Ok (view x)

@@ -6,3 +6,4 @@ pub mod References
 pub mod Statements
 pub mod Body
 pub mod Refusal
+pub mod Accepted

@@ -14,7 +14,7 @@ use Rattle.stil_ast.specs.declared.name.SigRef.TheVariants as ref
 use Rattle.stil_ast.specs.Data.AssignmentCuts.{reference_of}
 use Rattle.stil_ast.specs.declared.assignment_list.RefKind.{RefKind}
 use Rattle.stil_ast.specs.declared.body.Assignment.{Assignment}
-use Rattle.pat_read.specs.Fault.{followed}
+use Rattle.first_fault.specs.Reading.{and_then}
 use Rattle.pat_read.specs.Data.{data_of}
 
 -- the last tokens, so many of them
@@ -37,7 +37,7 @@ named_ref called range = ref.Name (record { name = called; range = range })
 
 -- a reference that begins on this line
 abbrev pub ref_of : ℕ → Ref → Result SigRef FormKind
-ref_of line (named called span) = followed (range_of span) (λ range. Ok (named_ref called range))
+ref_of line (named called span) = and_then (range_of span) (λ range. Ok (named_ref called range))
 ref_of line (group expression) = Ok (ref.Group (record { text = expression; line = line }))
 
 -- the data behind a reference: an `=`, and the last tokens, which are those behind it
@@ -53,7 +53,7 @@ referred line false reference = ref_of line reference
 -- an assignment of these items
 abbrev pub assigned : ℕ → Bool → Ref → List Item → Result Assignment FormKind
 assigned line has_block reference items =
-    followed (referred line has_block reference) (λ found.
+    and_then (referred line has_block reference) (λ found.
     Ok (record { reference = found; items = items; line = line }))
 
 -- an assignment by the kind and the bytes of its reference
@@ -65,7 +65,7 @@ abbrev pub assignment_by : List ℕ → List Token → ℕ → Bool → Option (
     → Result Assignment FormKind
 assignment_by bytes tokens line has_block None = Err Shape
 assignment_by bytes tokens line has_block (Some found) =
-    followed (data_behind bytes tokens found.1) (λ items. assigned line has_block found.0 items)
+    and_then (data_behind bytes tokens found.1) (λ items. assigned line has_block found.0 items)
 
 -- `ref = data;` on this line, by its tokens, which are these lexemes
 abbrev pub assignment_of : List ℕ → List Token → ℕ → Bool → List Lexeme → Result Assignment FormKind

@@ -8,7 +8,7 @@ use Rattle.stil_form.specs.Lexeme.{Lexeme, word, sign}
 use Rattle.text_bytes.specs.Numbers.{number_by}
 use Rattle.text_bytes.specs.Limits.{most_passes}
 use Rattle.stil_form.specs.Words.{is_keyword, named_by}
-use Rattle.pat_read.specs.Fault.{followed}
+use Rattle.first_fault.specs.Reading.{and_then}
 use Rattle.pat_read.specs.declared.outline.Keyword.{Keyword}
 use Rattle.pat_read.specs.declared.outline.Keyword.TheVariants as keyword
 use Rattle.pat_read.specs.declared.outline.Plain.{Plain}
@@ -58,7 +58,7 @@ only_name _ = Err Shape
 
 -- a plain statement of this name
 abbrev pub named : (List ℕ → Plain) → List Lexeme → Result Outline FormKind
-named said rest = followed (only_name rest) (λ called. Ok (outline.Step (said called)))
+named said rest = and_then (only_name rest) (λ called. Ok (outline.Step (said called)))
 
 -- a Loop runs 1 to 2^48 times
 abbrev pub of_times : Option ℕ → Result Outline FormKind

@@ -5,6 +5,7 @@
 mod assignment;
 mod data;
 mod fault;
+mod laws;
 mod outline;
 mod reader;
 mod refusal;
@@ -12,6 +13,7 @@ mod refusal;
 pub use assignment::read_ref;
 pub use data::vec_data;
 pub use fault::DataFault;
+pub use laws::bodies_have_form;
 pub use reader::{BodyPlace, read_body, read_written};
 pub use refusal::refused;
 

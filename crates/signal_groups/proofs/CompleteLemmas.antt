@@ -8,7 +8,7 @@ use Rattle.std.proofs.lemmas.List.Sums.{count_by-le-length}
 use Rattle.stil_ast.specs.Faults.Found.{fault_at, or_else, refuse_if, first_in}
 use Rattle.stil_ast.specs.Faults.SignalFaults.{kind_fault, group_fault, needs}
 use Rattle.stil_ast.specs.Meaning.Signals.{Group, Names}
-use Rattle.stil_ast.specs.Meaning.Statements.{Place}
+use Rattle.stil_ast.specs.Data.Places.{Place}
 use Rattle.stil_ast.specs.Meaning.GroupText.{Term}
 use Rattle.stil_ast.specs.Meaning.GroupReading.{terms_of}
 use Rattle.stil_ast.specs.Meaning.Members.{text_kind, text_members}

@@ -1,5 +1,5 @@
 -- The lexemes and items that the code finds are those of the definition.
-use Rattle.std.proofs.Common.{◌≡◌, ℕ, zero, suc, map, Option, Some, None, length-drop, drop-cons, ◌<◌, ◌≤◌, ◌+◌, ◌-◌, ◌==◌, ◌||◌, ◌&&◌, Bool, true, false, cond, nat_le, List, [], ◌∷◌, ◌++◌, length, get_or, take, drop, refl, sym, ap, ◌∙◌, subst, arith}
+use Rattle.std.proofs.Common.{◌≡◌, ℕ, zero, suc, map, Option, Some, None, length-drop, drop-cons, ◌<◌, ◌≤◌, ◌+◌, ◌-◌, ◌&&◌, Bool, true, false, cond, nat_le, List, [], ◌∷◌, ◌++◌, length, get_or, take, drop, refl, sym, ap, ◌∙◌, subst, arith}
 use Rattle.std.specs.Prelude.{◌*◌, ◌^◌, min, fold, slice_range, if◌then◌else◌}
 use Rattle.std.specs.List.{list_all}
 use Rattle.std.proofs.lemmas.Bool.{le-leb, lt-leb}
@@ -13,44 +13,9 @@ use Rattle.signal_groups.specs.declared.lexeme.ByteKind.TheVariants as kinds
 use Rattle.signal_groups.specs.declared.lexeme.Lexeme.{Lexeme as Held}
 use Rattle.signal_groups.specs.declared.term.Reading.{Reading}
 use Rattle.signal_groups.specs.Lexed.{kind_in, lexeme_of, behind, left_of, IsSign}
-use Rattle.text_bytes.specs.Bytes as bytes
+use Rattle.text_bytes.specs.Bytes.{is_digit, is_printable, begins_name}
 use Rattle.text_bytes.specs.Numbers.{with_digit}
-use Rattle.stil_ast.specs.Data.Texts.{is_word, is_blank, is_name, is_bare_name, number_of, index_of, within}
-
-or_comm : (a b : Bool) → (a || b) ≡ (b || a)
-or_comm true true = refl
-or_comm true false = refl
-or_comm false true = refl
-or_comm false false = refl
-
--- four tests, whichever comes first
-tests_in_order : (a b c d : Bool) → (a || b || c || d) ≡ (b || a || d || c)
-tests_in_order true true true true = refl
-tests_in_order true true true false = refl
-tests_in_order true true false true = refl
-tests_in_order true true false false = refl
-tests_in_order true false true true = refl
-tests_in_order true false true false = refl
-tests_in_order true false false true = refl
-tests_in_order true false false false = refl
-tests_in_order false true true true = refl
-tests_in_order false true true false = refl
-tests_in_order false true false true = refl
-tests_in_order false true false false = refl
-tests_in_order false false true true = refl
-tests_in_order false false true false = refl
-tests_in_order false false false true = refl
-tests_in_order false false false false = refl
-
--- a byte of a word
-pub same_word : (c : ℕ) → bytes.is_word c ≡ is_word c
-unfolding bytes.is_word
-same_word c = tests_in_order (within 97 122 c) (within 65 90 c) (within 48 57 c) (c == 95)
-
--- a blank
-pub same_blank : (c : ℕ) → bytes.is_blank c ≡ is_blank c
-unfolding bytes.is_blank
-same_blank c = refl
+use Rattle.stil_ast.specs.Data.Texts.{is_name, is_bare_name, number_of, index_of}
 
 -- one item more of a list's front
 take-next : {X : Type 0} (xs : List X) (n : ℕ) (d : X) → n < length xs → take (suc n) xs ≡ take n xs ++ get_or xs n d ∷ []
@@ -76,16 +41,14 @@ drop-at xs at d lt = let next : suc at ≡ at + 1 = omega arith in
 
 -- the first byte of a name
 pub is_name_some : (name : List ℕ) → 1 ≤ length name
-    → is_name name ≡ (nat_le (length name) 1024 && list_all bytes.is_printable name)
-unfolding bytes.is_printable
+    → is_name name ≡ (nat_le (length name) 1024 && list_all is_printable name)
 is_name_some [] some = absurd (omega arith)
 is_name_some (c ∷ cs) some = refl
 
 pub is_bare_name_some : (name : List ℕ) → 1 ≤ length name
-    → is_bare_name name ≡ (bytes.begins_name (get_or name 0 0) && is_name name)
-unfolding bytes.begins_name
+    → is_bare_name name ≡ (begins_name (get_or name 0 0) && is_name name)
 is_bare_name_some [] some = absurd (omega arith)
-is_bare_name_some (c ∷ cs) some = ap (λ b. (b || c == 95) && is_name (c ∷ cs)) (or_comm (within 65 90 c) (within 97 122 c))
+is_bare_name_some (c ∷ cs) some = refl
 
 -- a number that stops at a bound is small where the number itself is
 saturated : (digits : List ℕ) (n m : ℕ) → m ≡ min n (2 ^ 64 - 1)
@@ -109,14 +72,12 @@ large_number digits n e l =
     sym (ap (λ b. cond b (Some (number_of digits)) None) gt)
 
 -- an index is digits
-pub index_of-digits : (digits : List ℕ) → list_all bytes.is_digit digits ≡ true
+pub index_of-digits : (digits : List ℕ) → list_all is_digit digits ≡ true
     → (if nat_le (number_of digits) 4294967295 then Some (number_of digits) else None) ≡ index_of digits
-unfolding bytes.is_digit
 index_of-digits digits e =
     sym (ap (λ b. cond (b && nat_le (number_of digits) 4294967295) (Some (number_of digits)) None) e)
 
-pub index_of-other : (digits : List ℕ) → list_all bytes.is_digit digits ≡ false → None ≡ index_of digits
-unfolding bytes.is_digit
+pub index_of-other : (digits : List ℕ) → list_all is_digit digits ≡ false → None ≡ index_of digits
 index_of-other digits e =
     sym (ap (λ b. cond (b && nat_le (number_of digits) 4294967295) (Some (number_of digits)) None) e)
 

@@ -1,6 +1,7 @@
 -- Known names, with what their table is.
 use Rattle.std.proofs.Common.{◌≡◌, ℕ, List, [], ◌∷◌, Option, Some, None, refl, codes}
 use Rattle.std.specs.Fmt.{digits}
+use Rattle.text_bytes.specs.Bytes.{begins_name, is_blank, is_printable, is_word}
 use Rattle.stil_ast.specs.Meaning.Signals.{Signal, Group, Names, signals_place, groups_place}
 use Rattle.stil_ast.specs.declared.name.SigRef.TheVariants as refs
 use Rattle.tester_types.specs.declared.signal.Direction.TheVariants.{In}
@@ -22,6 +23,7 @@ known = record {
 
 -- a member stays at its first place, and what is removed may be added again
 pub members_of_groups : (table_of known).members ≡ (0 ∷ 1 ∷ []) ∷ (1 ∷ []) ∷ (0 ∷ []) ∷ []
+unfolding begins_name is_blank is_printable is_word
 members_of_groups = refl
 
 -- a signal comes before a group of its name, and a group before a base of its name
@@ -29,6 +31,7 @@ pub a_signal_first : signals_in (table_of known) (refs.Name (record { name = cod
 a_signal_first = refl
 
 pub a_group_first : signals_in (table_of known) (refs.Name (record { name = codes "bus"; range = None })) ≡ 0 ∷ []
+unfolding begins_name is_blank is_printable is_word
 a_group_first = refl
 
 -- indices name signals, as their whole texts do
@@ -38,4 +41,5 @@ unfolding digits
 by_index = refl
 
 pub by_text : signals_in (table_of known) (refs.Group (record { text = codes "\"bus[0]\""; line = 1 })) ≡ 2 ∷ []
+unfolding is_printable is_word
 by_text = refl

@@ -37,7 +37,6 @@ pub(crate) enum Place {
     InQuotes(usize),
 }
 
-#[tactic(auto, using(crate::proofs::LexedLemmas::same_word, crate::proofs::LexedLemmas::same_blank))]
 fn kind_of(byte: u8) -> ByteKind
     ensures { kind_in result ≡ kind_of byte }
 {

@@ -1,7 +1,8 @@
 -- No more characters of an argument are taken than statements and signals are walked.
 use Rattle.std.proofs.Common.{◌≡◌, ℕ, zero, suc, ◌+◌, ◌^◌, ◌≤◌, Bool, true, false, List, [], ◌∷◌, refl, ap, sym, subst, arith, length, slice_index_or, nat_lt}
 use Rattle.std.proofs.lemmas.Bool.{cond_both, leb-true}
-use Rattle.stil_ast.specs.Meaning.Statements.{Item, letter, hash, percent, Assign, of_macro, of_procedure}
+use Rattle.stil_ast.specs.Data.Places.{of_macro, of_procedure}
+use Rattle.stil_ast.specs.Meaning.Statements.{Item, letter, hash, percent, Assign}
 use Rattle.stil_ast.specs.Meaning.Arguments.{Argument, argument_of, one_taken, next_taken}
 use Rattle.stil_ast.specs.Meaning.Dealing.{deal_item, deal_pairs, spread, has_signal, mark_of}
 use Rattle.stil_ast.specs.Meaning.Shift.{passes, column, with_column, with_columns, columns}

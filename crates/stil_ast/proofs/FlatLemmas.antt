@@ -2,7 +2,8 @@
 use Rattle.std.proofs.Common.{◌≡◌, ℕ, zero, suc, Bool, true, ◌&&◌, List, Option, Some, None, refl, ap, sym, subst, ◌∙◌, length, slice_get}
 use Rattle.std.proofs.lemmas.Bool.{and_parts}
 use Rattle.stil_ast.specs.Meaning.State.{State}
-use Rattle.stil_ast.specs.Meaning.Statements.{Origin, Statements, finish, place, wave, vector, condition, loop, expand, call, shift, stop}
+use Rattle.stil_ast.specs.Data.Places.{Origin}
+use Rattle.stil_ast.specs.Meaning.Statements.{Statements, finish, place, wave, vector, condition, loop, expand, call, shift, stop}
 use Rattle.stil_ast.specs.Meaning.Arguments.{Argument, arguments}
 use Rattle.stil_ast.specs.Meaning.Dealing.{deal, takers, mark_of}
 use Rattle.stil_ast.specs.Meaning.Shift.{taking, passes, columns}

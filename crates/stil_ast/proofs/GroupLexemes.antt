@@ -3,7 +3,7 @@ use Rattle.std.proofs.Common.{◌≡◌, ◌⊎◌, ℕ, ◌<◌, Bool, true, fa
 use Rattle.std.specs.Prelude.{◌==◌}
 use Rattle.std.specs.List.{list_all}
 use Rattle.std.proofs.lemmas.Bool.{and_parts, and_from, cond-true, cond-false, eqb-true, true≢false, not-true, not_from_false}
-use Rattle.stil_ast.specs.Data.Texts.{is_word, is_blank}
+use Rattle.text_bytes.specs.Bytes.{is_word, is_blank}
 use Rattle.stil_ast.specs.Meaning.GroupText.{Lexeme, word, quoted, plus, minus, opens, closes, dot, stray, IsLexeme, Reads}
 use Rattle.stil_ast.specs.Meaning.GroupReading.{Kind, of_word, of_quote, of_blank, of_sign, kind_of, Within, between, in_word, in_quotes, sign_of, begun_by, ended_by, behind_kind, lexemes}
 
@@ -30,6 +30,7 @@ at_byte : (P : ℕ → Type 0) (byte c : ℕ) → P byte → (c == byte) ≡ tru
 at_byte P byte c holds e = subst P (sym (eqb-true c byte e)) holds
 
 blank_alone : (c : ℕ) → is_blank c ≡ true → OnlyBlank c
+unfolding is_word is_blank
 blank_alone c e = by_last (either (c == 32 || c == 9 || c == 10 || c == 12) (c == 13) e)
   where
     by_first : ((c == 32) ≡ true) ⊎ ((c == 9) ≡ true) → OnlyBlank c
@@ -262,6 +263,7 @@ over_quoted w (c ∷ v) text h =
 -- one lexeme, behind which no word goes on
 one_lexeme : (l : Lexeme) (piece text : List ℕ) → IsLexeme l piece → (is_word_then : (w : List ℕ) → l ≡ word w → EndsWord text)
     → lexemes between (piece ++ text) ≡ l ∷ lexemes between text
+unfolding is_word is_blank
 one_lexeme (word w) piece text is e =
     ap (λ (p : List ℕ). lexemes between (p ++ text)) is.spelled ∙ whole_word w text is.some is.each (e w refl)
 one_lexeme (quoted w) piece text is e =
@@ -283,6 +285,7 @@ behind_blanks (c ∷ blanks) text h e =
 
 piece_ends : (l : Lexeme) (ls : List Lexeme) (piece rest : List ℕ) → begins_apart (l ∷ ls) ≡ true → IsLexeme l piece
     → EndsWord (piece ++ rest)
+unfolding is_word
 piece_ends (word w) ls piece rest h is = absurd (true≢false (sym h))
 piece_ends (quoted w) ls piece rest h is = subst (λ (p : List ℕ). EndsWord (p ++ rest)) (sym is.spelled) refl
 piece_ends plus ls piece rest h is = subst (λ (p : List ℕ). EndsWord (p ++ rest)) (sym is) refl

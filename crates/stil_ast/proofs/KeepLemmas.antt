@@ -2,7 +2,8 @@
 use Rattle.std.proofs.Common.{◌≡◌, ◌≢◌, ℕ, zero, suc, ◌==◌, ◌||◌, Bool, true, false, not, List, [], ◌∷◌, ◌++◌, Option, Some, None, refl, sym, ◌∙◌, get_or, get_or-set_other, eq-eqb}
 use Rattle.std.proofs.lemmas.Bool.{and_parts}
 use Rattle.stil_ast.specs.Meaning.State.{State}
-use Rattle.stil_ast.specs.Meaning.Statements.{Item, letter, hash, percent, Assign, Origin, Statements, finish, place, wave, vector, condition, loop, expand, call, shift, stop}
+use Rattle.stil_ast.specs.Data.Places.{Origin}
+use Rattle.stil_ast.specs.Meaning.Statements.{Item, letter, hash, percent, Assign, Statements, finish, place, wave, vector, condition, loop, expand, call, shift, stop}
 use Rattle.stil_ast.specs.Meaning.Arguments.{Entry, Argument, next_entry}
 use Rattle.stil_ast.specs.Meaning.Dealing.{Gift, gift_of, deal_item, deal_pairs, spread, deal, letter_of, with_letter, received, has_signal}
 use Rattle.stil_ast.specs.Meaning.Shift.{taking, passes}

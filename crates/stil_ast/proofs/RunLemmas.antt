@@ -1,6 +1,7 @@
 -- Runs one after another, and the same run so often.
 use Rattle.std.proofs.Common.{◌≡◌, ℕ, zero, suc, ◌+◌, List, refl, ap, sym, ◌∙◌, append_assoc, zero-add, suc-add}
-use Rattle.stil_ast.specs.Meaning.Statements.{Origin, Statements, loop}
+use Rattle.stil_ast.specs.Data.Places.{Origin}
+use Rattle.stil_ast.specs.Meaning.Statements.{Statements, loop}
 use Rattle.stil_ast.specs.Meaning.Running.{Setting, Made, Ran, Here, behind, then_run, times, pass_at, run_list, run, calls}
 
 -- a run with these vectors

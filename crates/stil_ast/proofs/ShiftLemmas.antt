@@ -1,7 +1,8 @@
 -- A Shift shifts each character of its data once, in order.
 use Rattle.std.proofs.Common.{◌≡◌, ℕ, ◌-◌, ◌<◌, Bool, true, false, List, [], ◌∷◌, ◌++◌, Option, Some, None, refl, ap, ◌∙◌, arith, append-nil, length, map, max, replicate, get_or, set, get_or-set_same, length-set, slice_index_or}
 use Rattle.std.proofs.lemmas.List.{length-map}
-use Rattle.stil_ast.specs.Meaning.Statements.{Assign, Origin, hash, Statements, finish, vector}
+use Rattle.stil_ast.specs.Data.Places.{Origin}
+use Rattle.stil_ast.specs.Meaning.Statements.{Assign, hash, Statements, finish, vector}
 use Rattle.stil_ast.specs.Meaning.Arguments.{Entry, given, padding, Argument, argument_of, no_argument, first_of, one_taken}
 use Rattle.stil_ast.specs.Meaning.Dealing.{gift_of, received}
 use Rattle.stil_ast.specs.Meaning.Shift.{column}

@@ -4,7 +4,8 @@ use Rattle.std.proofs.lemmas.Bool.{and_from}
 use Rattle.std.proofs.lemmas.Option.{slice_get-map}
 use Rattle.std.specs.Option.{option_map}
 use Rattle.stil_ast.specs.Meaning.State.{State}
-use Rattle.stil_ast.specs.Meaning.Statements.{of_pattern, of_macro, of_procedure, Statements}
+use Rattle.stil_ast.specs.Data.Places.{of_pattern, of_macro, of_procedure}
+use Rattle.stil_ast.specs.Meaning.Statements.{Statements}
 use Rattle.stil_ast.specs.Meaning.Arguments.{Argument}
 use Rattle.stil_ast.specs.Meaning.Shift.{passes, columns}
 use Rattle.stil_ast.specs.Meaning.Running.{Setting, run, outside}

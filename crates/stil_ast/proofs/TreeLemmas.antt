@@ -5,7 +5,7 @@ use Rattle.std.proofs.Math.ListN.{get_or-append}
 use Rattle.std.proofs.lemmas.List.Sums.{sum_by-cons}
 use Rattle.std.proofs.lemmas.Grind.{flat_map-append}
 use Rattle.stil_ast.specs.Meaning.State.{State, start_of}
-use Rattle.stil_ast.specs.Meaning.Statements.{of_pattern, Titles}
+use Rattle.stil_ast.specs.Data.Places.{of_pattern, Titles}
 use Rattle.stil_ast.specs.Meaning.Flat.{measure}
 use Rattle.stil_ast.specs.Meaning.Running.{Ran, Made, Here, behind, then_run, run, outside, stops}
 use Rattle.stil_ast.specs.Meaning.Bursts.{Played, played, exec_scans}

@@ -1,5 +1,6 @@
--- What is written in a text: names and numbers, data, statements, and the words of faults.
+-- What is written in a text: names and numbers, places, data, statements, and the words of faults.
 pub mod Texts
+pub mod Places
 pub mod Items
 pub mod AssignmentCuts
 pub mod Assignments

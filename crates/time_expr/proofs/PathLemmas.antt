@@ -5,7 +5,7 @@ use Rattle.std.specs.Str.{bytes_eq}
 use Rattle.std.specs.List.{list_any}
 use Rattle.std.proofs.lemmas.List.{get_or_push}
 use Rattle.indexmap.specs.IndexSet.{IndexSet, keys}
-use Rattle.stil_ast.specs.Meaning.Statements.{Place}
+use Rattle.stil_ast.specs.Data.Places.{Place}
 use Rattle.stil_ast.specs.Meaning.Variables.{Variable, value_of, value_fault}
 use Rattle.stil_ast.specs.declared.fault.StilRefusal.{StilRefusal}
 use Rattle.time_expr.specs.Ratio.{Ratio}

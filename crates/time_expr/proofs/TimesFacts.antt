@@ -1,7 +1,7 @@
 -- Known times of texts and of variables, whose values and faults the definitions must give.
 use Rattle.std.proofs.Common.{◌≡◌, ℕ, ℤ, pos, List, [], ◌∷◌, Some, Result, Ok, Err, refl}
 use Rattle.std.specs.Prelude.{codes}
-use Rattle.stil_ast.specs.Meaning.Statements.{Place}
+use Rattle.stil_ast.specs.Data.Places.{Place}
 use Rattle.stil_ast.specs.Meaning.Times.{Met, in_text, elsewhere, time_at}
 use Rattle.stil_ast.specs.Meaning.Variables.{Variable, value_of}
 use Rattle.stil_ast.specs.declared.fault.StilFault.{StilFault}

@@ -1,7 +1,7 @@
 -- The evaluation of a name, from variable to variable.
 use Rattle.std.proofs.Common.{◌≡◌, ℕ, zero, suc, ◌+◌, ◌≤◌, Bool, true, false, not, ◌&&◌, ◌||◌, List, [], ◌∷◌, length, Some, None, Result, Ok, Err, refl, sym, ap, ◌∙◌, arith, count_by}
 use Rattle.std.specs.Str.{bytes_eq}
-use Rattle.stil_ast.specs.Meaning.Statements.{Place}
+use Rattle.stil_ast.specs.Data.Places.{Place}
 use Rattle.stil_ast.specs.Meaning.Times.{Met, in_text}
 use Rattle.stil_ast.specs.Meaning.Variables.{Variable, value_within, value_of_found, value_of, value_fault}
 use Rattle.stil_ast.specs.Data.Texts.{same, has_name}

@@ -1,7 +1,7 @@
 -- The variables of an executive, as the code keeps them. No public clause cites this file.
 use Rattle.std.specs.Prelude.{ℕ, List, Option, map, flat_map, codes}
 use Rattle.std.specs.Option.{option_copied}
-use Rattle.stil_ast.specs.Meaning.Statements.{Place}
+use Rattle.stil_ast.specs.Data.Places.{Place}
 use Rattle.stil_ast.specs.Meaning.Variables.{Variable, picked_category}
 use Rattle.stil_ast.specs.declared.variable.Selector.{Selector}
 use Rattle.stil_ast.specs.declared.variable.SpecBlock.{SpecBlock}

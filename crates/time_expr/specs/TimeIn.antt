@@ -1,6 +1,6 @@
 -- The time in a text, where names stand for values (IEEE 1450-1999, clauses 6 and 19).
 use Rattle.std.specs.Prelude.{◌≡◌, ◌⊎◌, ℕ, ℤ, List, Result, Ok, Err}
-use Rattle.stil_ast.specs.Meaning.Statements.{Place}
+use Rattle.stil_ast.specs.Data.Places.{Place}
 use Rattle.stil_ast.specs.Meaning.Times.{Met, time_at}
 use Rattle.stil_ast.specs.Faults.Found.{fault_at, on_line}
 use Rattle.stil_ast.specs.declared.fault.StilFault.{StilFault}

@@ -1,7 +1,7 @@
 //! Evaluates a variable, or the first variable without a value that it needs.
 
 ghost use Rattle.std.specs.Prelude.{◌≡◌, false};
-ghost use Rattle.stil_ast.specs.Meaning.Statements.{Place};
+ghost use Rattle.stil_ast.specs.Data.Places.{Place};
 ghost use Rattle.stil_ast.specs.Meaning.Variables.{placed};
 ghost use Rattle.time_expr.specs.TimesOf.{times_of};
 ghost use Rattle.time_expr.specs.Selected.{is_kept};

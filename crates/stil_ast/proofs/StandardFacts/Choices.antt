@@ -1,6 +1,7 @@
 -- Chosen variables, inherited tables, and bursts in bursts.
 use Rattle.std.proofs.Common.{◌≡◌, ℕ, ◌*◌, ◌^◌, Bool, false, List, [], ◌∷◌, Option, Some, None, Ok, refl, codes, pos, take_while, if◌then◌else◌, map}
-use Rattle.stil_ast.specs.Data.Texts.{is_digit, number_of}
+use Rattle.text_bytes.specs.Bytes.{is_digit}
+use Rattle.stil_ast.specs.Data.Texts.{number_of}
 use Rattle.stil_ast.specs.Meaning.Times.{Times}
 use Rattle.stil_ast.specs.Meaning.Variables.{picked, value_of, variables_fault}
 use Rattle.stil_ast.specs.Faults.BurstFaults.{exec_names_fault}
@@ -78,10 +79,12 @@ periods =
 
 -- Typ is taken without a Selector, and what the Selector says with one; a variable stands for another's value
 pub typ_is_default : value_of named_times (picked periods (exec_of None)) (codes "half") ≡ Ok (100 * 10 ^ 6)
+unfolding is_digit
 typ_is_default = refl
 
 pub selector_says_max : value_of named_times (picked periods (exec_of (Some (named 16 (codes "s"))))) (codes "half")
     ≡ Ok (200 * 10 ^ 6)
+unfolding is_digit
 selector_says_max = refl
 
 abbrev faults_of : List VariableDecl → Option StilFault
@@ -94,10 +97,12 @@ name_twice = refl
 
 pub unknown_variable : faults_of (same_for_all 5 (codes "x") (codes "1ns") ∷ same_for_all 6 (codes "z") (codes "y") ∷ [])
     ≡ refused UnknownName (codes "Spec") [] 6
+unfolding is_digit
 unknown_variable = refl
 
 pub needs_itself : faults_of (same_for_all 5 (codes "x") (codes "y") ∷ same_for_all 6 (codes "y") (codes "x") ∷ [])
     ≡ refused Cyclic (codes "Spec") [] 6
+unfolding is_digit
 needs_itself = refl
 
 -- a table that inherits another, and has its own character 1
@@ -115,12 +120,15 @@ inherited text =
 
 -- the heir has the period and the characters of the other table, and its own
 pub has_both : lines (inherited (codes "1")) ≡ cycle 0 0 0 (codes "1") ∷ cycle 1 70 0 (codes "1") ∷ []
+unfolding is_digit
 has_both = refl
 
 pub inherits_characters : fault (inherited (codes "1")) ≡ None
+unfolding is_digit
 inherits_characters = refl
 
 pub has_its_own : fault (inherited (codes "H")) ≡ None
+unfolding is_digit
 has_its_own = refl
 
 -- a table that inherits itself

@@ -7,10 +7,11 @@ use Rattle.std.proofs.lemmas.Bool.{false_from_ne_true, lt-leb, le-leb}
 use Rattle.std.proofs.lemmas.List.{length-append, length-replicate, length-map}
 use Rattle.std.proofs.lemmas.List.Elements.{All-nil, All-push}
 use Rattle.std.proofs.lemmas.List.Folds.{list_any_none}
+use Rattle.text_bytes.specs.Bytes.{is_digit}
 use Rattle.text_bytes.specs.Limits.{longest_name, most_cycles, most_signals}
 use Rattle.stil_ast.specs.Data.Texts.{same}
 use Rattle.stil_ast.specs.Meaning.State.{State, Vector, start_of}
-use Rattle.stil_ast.specs.Meaning.Statements.{of_pattern, Origin}
+use Rattle.stil_ast.specs.Data.Places.{of_pattern, Origin}
 use Rattle.stil_ast.specs.Meaning.Running.{Ran, Made, times, outside}
 use Rattle.stil_ast.specs.Meaning.Flat.{done, table, character, cycle, repeat, flat_run}
 use Rattle.stil_ast.specs.Meaning.ExecutiveData.{Executive, vectors_of}
@@ -118,10 +119,12 @@ executive = record {
 
 -- 2^20 waves of all executives are not too many, and one more is
 pub most_waves_pass : tables_fault (timed_of nanoseconds two_waves executive) (2 ^ 20 - 2) ≡ None
+unfolding is_digit
 most_waves_pass = refl
 
 pub wave_too_many : tables_fault (timed_of nanoseconds two_waves executive) (2 ^ 20 - 1)
     ≡ refused TooLarge (codes "Timing") (codes "t") 3
+unfolding is_digit
 wave_too_many = refl
 
 -- Signals.

@@ -1,7 +1,9 @@
 -- Executives as plain data: their cycles, rows, tables and faults, and flat trees that are as good as each other.
 use Rattle.std.proofs.Common.{◌≡◌, ℕ, zero, suc, ◌*◌, ◌^◌, List, [], ◌∷◌, Option, Some, None, refl, ap, map, codes}
 use Rattle.std.proofs.lemmas.List.{set-set}
-use Rattle.stil_ast.specs.Meaning.Statements.{hash, of_pattern, of_macro, Origin}
+use Rattle.text_bytes.specs.Bytes.{is_digit}
+use Rattle.stil_ast.specs.Data.Places.{of_pattern, of_macro, Origin}
+use Rattle.stil_ast.specs.Meaning.Statements.{hash}
 use Rattle.stil_ast.specs.Meaning.Flat.{Flat, done, table, character, cycle, repeat, flat_run}
 use Rattle.stil_ast.specs.Meaning.Flattening.{flat_calls}
 use Rattle.stil_ast.specs.Meaning.ExecutiveData.{Executive, cycles_of, measure_of, rows_of, code_table, IsSameFlat}
@@ -101,15 +103,15 @@ runs_m text = single 10 (Macro (codes "m") (assign 10 (codes "a") (items text) �
 
 -- outside of a Shift a signal may take again and again, but not in a Loop, and no more than was given
 pub takes_twice : with_macro (takes 20 (takes 21 no_more)) (runs_m (codes "10")) ≡ None
-unfolding check_calls flat_calls
+unfolding check_calls flat_calls is_digit
 takes_twice = refl
 
 pub takes_in_loop : with_macro (takes 20 (looped 21 2 (takes 22 no_more) no_more)) (runs_m (codes "10"))
     ≡ refused ShiftForm (codes "MacroDefs") [] 22
-unfolding check_calls
+unfolding check_calls is_digit
 takes_in_loop = refl
 
 pub takes_too_often : with_macro (takes 20 (takes 21 no_more)) (runs_m (codes "1"))
     ≡ refused NoData (codes "MacroDefs") [] 21
-unfolding check_calls
+unfolding check_calls is_digit
 takes_too_often = refl

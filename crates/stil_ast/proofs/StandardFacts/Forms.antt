@@ -1,6 +1,7 @@
 -- What reading lets pass: the scan text is of one text, and names, waveforms, bodies and counts end where they are to.
 use Rattle.std.proofs.Common.{◌≡◌, ℕ, ◌+◌, ◌^◌, ◌≤◌, length, Bool, true, false, List, [], ◌∷◌, ◌++◌, Some, None, refl, codes, replicate, arith, if◌then◌else◌}
-use Rattle.stil_ast.specs.Data.Texts.{same, is_wave_letter, is_name}
+use Rattle.text_bytes.specs.Bytes.{is_character, is_printable}
+use Rattle.stil_ast.specs.Data.Texts.{same, is_name}
 use Rattle.stil_ast.specs.Data.BlockForms.{is_wave_decl, is_body, is_cells_decl, is_chain_decl, is_burst, is_selector}
 use Rattle.stil_ast.specs.Data.OneText.{tables_differ_in, bodies_differ_in, AreOfOneText}
 use Rattle.stil_ast.specs.Data.Written.{no_more, single, looped}
@@ -33,6 +34,7 @@ either_way Holds false xs found missed = missed
 
 -- the scan text is of one text
 pub scan_text_is_one : AreOfOneText scan_text
+unfolding is_character is_printable
 scan_text_is_one = record {
   each_signal = refl;
   each_group_block = refl;
@@ -59,6 +61,7 @@ scan_text_is_one = record {
 
 -- a name has 1 to 1024 bytes, and a line feed is none of them
 pub longest_name : is_name (replicate 1024 97) ≡ true
+unfolding is_printable
 longest_name = refl
 
 pub too_long_name : is_name (replicate 1025 97) ≡ false
@@ -68,10 +71,12 @@ pub empty_name : is_name [] ≡ false
 empty_name = refl
 
 pub two_lines_name : is_name (codes "a\nb") ≡ false
+unfolding is_printable
 two_lines_name = refl
 
 -- waveform characters are letters and digits
-pub low_line_is_none : is_wave_letter 95 ≡ false
+pub low_line_is_none : is_character 95 ≡ false
+unfolding is_character
 low_line_is_none = refl
 
 abbrev event : List Act → EventDecl
@@ -82,18 +87,23 @@ wave letters events = record { letters = letters; events = events }
 
 -- two characters, with one act for both and one for each
 pub two_letters : is_wave_decl (wave (codes "01") (event (Push Down ∷ []) ∷ event (Push Down ∷ Push Up ∷ []) ∷ [])) ≡ true
+unfolding is_character
 two_letters = refl
 
 pub letter_twice : is_wave_decl (wave (codes "010") []) ≡ false
+unfolding is_character
 letter_twice = refl
 
 pub two_acts_for_three : is_wave_decl (wave (codes "01Z") (event (Push Down ∷ Push Up ∷ []) ∷ [])) ≡ false
+unfolding is_character
 two_acts_for_three = refl
 
 pub sixteen_events : is_wave_decl (wave (codes "0") (replicate 16 (event (Push Down ∷ [])))) ≡ true
+unfolding is_character
 sixteen_events = refl
 
 pub seventeen_events : is_wave_decl (wave (codes "0") (replicate 17 (event (Push Down ∷ [])))) ≡ false
+unfolding is_character
 seventeen_events = refl
 
 -- a Loop runs 1 to 2^48 times
@@ -118,6 +128,7 @@ stop_in_a_body = refl
 
 -- data of a character that is neither letter nor digit
 pub sign_in_data : is_body true (single 10 (Vector (assign 10 (codes "a") (items (codes "0-")) ∷ [])) no_more) ≡ false
+unfolding is_character is_printable
 sign_in_data = refl
 
 abbrev cells_to : ℕ → CellsDecl
@@ -128,21 +139,26 @@ cells_to last = record {
 
 -- cells are counted by their indices: 2^20 of them, and one more
 pub most_cells : is_cells_decl (cells_to 1048574) ≡ true
+unfolding is_printable
 most_cells = refl
 
 pub too_many_cells : is_cells_decl (cells_to 1048575) ≡ false
+unfolding is_printable
 too_many_cells = refl
 
 abbrev chain : List ChainStmt → ChainDecl
 chain stmts = record { name = codes "c"; stmts = stmts; line = 4 }
 
 pub too_long_chain : is_chain_decl (chain (stmt.Length (2 ^ 20 + 1) ∷ [])) ≡ false
+unfolding is_printable
 too_long_chain = refl
 
 pub length_twice : is_chain_decl (chain (stmt.Length 3 ∷ stmt.Cells (cells_to 1) ∷ stmt.Length 3 ∷ [])) ≡ false
+unfolding is_printable
 length_twice = refl
 
 pub length_and_cells : is_chain_decl (chain (stmt.Length 3 ∷ stmt.Cells (cells_to 1) ∷ [])) ≡ true
+unfolding is_printable
 length_and_cells = refl
 
 abbrev item : BurstWord → BurstItem
@@ -150,9 +166,11 @@ item word = record { word = word; name = codes "g"; line = 12 }
 
 -- a burst names SignalGroups as often as it likes, and MacroDefs once
 pub groups_twice : is_burst (record { name = codes "b"; items = item SignalGroups ∷ item SignalGroups ∷ item MacroDefs ∷ [] }) ≡ true
+unfolding is_printable
 groups_twice = refl
 
 pub macros_twice : is_burst (record { name = codes "b"; items = item MacroDefs ∷ item SignalGroups ∷ item MacroDefs ∷ [] }) ≡ false
+unfolding is_printable
 macros_twice = refl
 
 abbrev selection : Selection
@@ -160,4 +178,5 @@ selection = record { name = codes "per"; choice = Max }
 
 -- a Selector takes a variable's value once
 pub selection_twice : is_selector (record { name = codes "s"; selections = selection ∷ selection ∷ [] }) ≡ false
+unfolding is_printable
 selection_twice = refl

@@ -1,6 +1,7 @@
 -- The first fault of a text over all passes, how many cycles are printed, and data kept as runs.
 use Rattle.std.proofs.Common.{◌≡◌, ℕ, [], ◌∷◌, Some, None, refl, codes}
 use Rattle.std.specs.Fmt.{digits}
+use Rattle.text_bytes.specs.Bytes.{is_digit}
 use Rattle.stil_ast.specs.Data.Items.{run_length, lone_item}
 use Rattle.stil_ast.specs.Faults.FrontFaults.{refused_by, read_as, fault_of_front, too_many_beyond, too_many_at}
 use Rattle.stil_ast.specs.Meaning.Signals.{signal_texts}
@@ -24,9 +25,11 @@ pub reading_refuses : fault_of_front nanoseconds (refused_by no_exec) ≡ Some n
 reading_refuses = refl
 
 pub meaning_refuses : fault_of_front nanoseconds (read_as (first_text three_vectors)) ≡ refused NoTable (codes "Pattern") (codes "p") 11
+unfolding is_digit
 meaning_refuses = refl
 
 pub nothing_refuses : fault_of_front nanoseconds (read_as (first_text (use_table (codes "w") three_vectors))) ≡ None
+unfolding is_digit
 nothing_refuses = refl
 
 abbrev on_line : ℕ → ExecDecl

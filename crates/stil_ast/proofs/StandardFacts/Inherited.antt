@@ -1,6 +1,7 @@
 -- References with a fault, inherited tables, and the faults of scan chains.
 use Rattle.std.proofs.Common.{◌≡◌, ℕ, List, [], ◌∷◌, Option, Some, None, refl, codes, map, replicate}
 use Rattle.std.specs.Fmt.{digits}
+use Rattle.text_bytes.specs.Bytes.{begins_name, is_blank, is_digit, is_printable, is_word}
 use Rattle.stil_ast.specs.Meaning.Signals.{Names, names_of}
 use Rattle.stil_ast.specs.Meaning.Members.{members}
 use Rattle.stil_ast.specs.Meaning.Tables.{lineage, period_text}
@@ -45,9 +46,11 @@ not_all_declared = refl
 
 -- a text with an unknown item, and one without a form
 pub one_unknown : members names (by_text 7 (codes "y + z")) ≡ []
+unfolding begins_name is_blank is_printable is_word
 one_unknown = refl
 
 pub no_form : members names (by_text 7 (codes "y +")) ≡ []
+unfolding begins_name is_blank is_printable is_word
 no_form = refl
 
 -- `Shift { V { y=%; } V { 'y+z'=#; } }` with data for y
@@ -62,11 +65,11 @@ shifts text = fault (text_of declared [] [] (record { name = codes "m"; body = f
     (single 10 (Macro (codes "m") (assign 10 (codes "y") (items text) ∷ [])) no_more))
 
 pub unknown_in_shift : shifts (codes "LH") ≡ refused UnknownName (codes "MacroDefs") [] 22
-unfolding check_calls digits
+unfolding check_calls digits begins_name is_blank is_printable is_word
 unknown_in_shift = refl
 
 pub unknown_without_data : shifts [] ≡ refused UnknownName (codes "MacroDefs") [] 22
-unfolding check_calls digits
+unfolding check_calls digits begins_name is_blank is_printable is_word
 unknown_without_data = refl
 
 abbrev named : ℕ → List ℕ → Named
@@ -89,13 +92,13 @@ with_tables tables = fault (text_of declared [] tables [] [] no_more)
 pub unknown_is_not_inherited : with_tables
     (heir 3 (codes "v") (Some (codes "30ns")) (codes "w" ∷ []) [] ∷ table (codes "w") (codes "100ns") (looked_at (by_text 7 (codes "y+z")) ∷ []) ∷ [])
     ≡ refused UnknownName (codes "Timing") (codes "t") 7
-unfolding digits
+unfolding digits begins_name is_blank is_digit is_printable is_word
 unknown_is_not_inherited = refl
 
 pub known_is_inherited : with_tables
     (heir 3 (codes "v") (Some (codes "30ns")) (codes "w" ∷ []) [] ∷ table (codes "w") (codes "100ns") (looked_at (by_text 7 (codes "y")) ∷ []) ∷ [])
     ≡ refused EventOutside (codes "Timing") (codes "t") 7
-unfolding digits
+unfolding digits begins_name is_digit is_printable is_word
 known_is_inherited = refl
 
 -- u leads into the cycle of v and w without being part of it
@@ -123,7 +126,7 @@ pub last_period : period_text twice_over 0 ≡ Some (record { text = codes "40ns
 last_period = refl
 
 pub no_cycle_there : with_tables twice_over ≡ None
-unfolding digits
+unfolding digits is_digit
 no_cycle_there = refl
 
 abbrev chain : ℕ → List ℕ → List ChainStmt → ChainDecl

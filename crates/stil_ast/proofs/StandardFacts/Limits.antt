@@ -1,5 +1,6 @@
 -- How deep loops and calls go, and how large a pattern may be.
 use Rattle.std.proofs.Common.{◌≡◌, ℕ, zero, suc, List, [], ◌∷◌, None, refl, codes, replicate}
+use Rattle.text_bytes.specs.Bytes.{is_digit}
 use Rattle.stil_ast.specs.Meaning.Running.{calls}
 use Rattle.stil_ast.specs.Meaning.Flattening.{flat_calls}
 use Rattle.stil_ast.specs.Data.Written.{Written, no_more, single, looped}
@@ -22,16 +23,20 @@ looping n = text_of (signal (codes "a") In ∷ []) [] (table (codes "w") (codes 
 
 -- 21 loops have the measure 2^22 - 2, and 22 have more than 2^22
 pub largest : fault (looping 21) ≡ None
+unfolding is_digit
 largest = refl
 
 pub too_large : fault (looping 22) ≡ refused TooLarge (codes "PatternExec") [] 16
+unfolding is_digit
 too_large = refl
 
 -- 64 loops stand one in another, but not 65
 pub deepest_loops : fault (looping 64) ≡ refused TooLarge (codes "PatternExec") [] 16
+unfolding is_digit
 deepest_loops = refl
 
 pub too_deep_loops : fault (looping 65) ≡ refused TooLarge (codes "Pattern") (codes "p") 10
+unfolding is_digit
 too_deep_loops = refl
 
 -- a macro's name, by its number
@@ -50,9 +55,9 @@ calling n = text_of (signal (codes "a") In ∷ []) [] (table (codes "w") (codes 
 
 -- calls go 64 deep
 pub deepest_calls : fault (calling 63) ≡ None
-unfolding calls flat_calls check_calls
+unfolding calls flat_calls check_calls is_digit
 deepest_calls = refl
 
 pub too_deep_calls : fault (calling 64) ≡ refused TooLarge (codes "MacroDefs") [] 20
-unfolding calls flat_calls check_calls
+unfolding calls flat_calls check_calls is_digit
 too_deep_calls = refl

@@ -1,6 +1,7 @@
 -- Signals with indices, times of tables, and the faults of chains.
 use Rattle.std.proofs.Common.{◌≡◌, ℕ, List, [], ◌∷◌, Option, Some, None, refl, codes, replicate}
 use Rattle.std.specs.Fmt.{digits}
+use Rattle.text_bytes.specs.Bytes.{is_digit}
 use Rattle.stil_ast.specs.Data.Written.{no_more, single}
 use Rattle.stil_ast.proofs.StandardFacts.Texts.{signal, by_name, driven, table, assign, text_of, chain_at, with_chains}
 use Rattle.stil_ast.proofs.StandardFacts.Lines.{lines, cycle, items, fault, refused, use_table, first_text}
@@ -53,7 +54,7 @@ unfolding digits
 one_of_bus = refl
 
 pub beyond_bus : fault (one_vector (bus 2 0 ∷ []) (to_bus 2 3 (codes "10"))) ≡ refused UnknownName (codes "Pattern") (codes "p") 11
-unfolding digits
+unfolding digits is_digit
 beyond_bus = refl
 
 -- a range and one of its signals
@@ -75,12 +76,15 @@ pub no_period : fault (timed None []) ≡ refused NoPeriod (codes "Timing") (cod
 no_period = refl
 
 pub period_of_zero : fault (timed (Some (codes "0ns")) []) ≡ refused OutOfRange (codes "Timing") (codes "t") 4
+unfolding is_digit
 period_of_zero = refl
 
 pub too_long_period : fault (timed (Some (codes "1000001ns")) []) ≡ refused OutOfRange (codes "Timing") (codes "t") 4
+unfolding is_digit
 too_long_period = refl
 
 pub longest_period : fault (timed (Some (codes "1000000ns")) []) ≡ None
+unfolding is_digit
 longest_period = refl
 
 abbrev event : ℕ → List ℕ → EventDecl
@@ -96,9 +100,11 @@ two_events second = record {
 
 -- a later event isn't before an earlier one; equal times are in order
 pub falls_back : fault (timed (Some (codes "100ns")) (two_events (codes "39ns") ∷ [])) ≡ refused EventOrder (codes "Timing") (codes "t") 7
+unfolding is_digit
 falls_back = refl
 
 pub at_one_time : fault (timed (Some (codes "100ns")) (two_events (codes "40ns") ∷ [])) ≡ None
+unfolding is_digit
 at_one_time = refl
 
 -- chains of a text with signals a and y
@@ -107,9 +113,11 @@ chained chains = with_chains chains (first_text no_more)
 
 pub chain_twice : fault (chained (chain_at 4 (codes "c") (codes "y") ∷ chain_at 5 (codes "c") (codes "y") ∷ []))
     ≡ refused Twice (codes "ScanStructures") [] 5
+unfolding is_digit
 chain_twice = refl
 
 pub chain_without_end : fault (chained (chain_at 4 (codes "c") (codes "z") ∷ [])) ≡ refused UnknownName (codes "ScanStructures") [] 4
+unfolding is_digit
 chain_without_end = refl
 
 -- a chain from this signal to y, of one cell
@@ -122,14 +130,18 @@ chain_of input cell = record {
 }
 
 pub chain_from_nowhere : fault (chained (chain_of (codes "z") (codes "f") ∷ [])) ≡ refused UnknownName (codes "ScanStructures") [] 5
+unfolding is_digit
 chain_from_nowhere = refl
 
 pub longest_cell : fault (chained (chain_of (codes "a") (replicate 1024 97) ∷ [])) ≡ None
+unfolding is_digit
 longest_cell = refl
 
 pub too_long_cell : fault (chained (chain_of (codes "a") (replicate 1025 97) ∷ [])) ≡ refused OutOfRange (codes "ScanStructures") [] 7
+unfolding is_digit
 too_long_cell = refl
 
 -- two chains of one end are no fault
 pub one_end : fault (chained (chain_at 4 (codes "c") (codes "y") ∷ chain_at 5 (codes "d") (codes "y") ∷ [])) ≡ None
+unfolding is_digit
 one_end = refl

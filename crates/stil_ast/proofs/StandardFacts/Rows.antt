@@ -1,5 +1,6 @@
 -- Whole texts of one pattern, and their cycles.
 use Rattle.std.proofs.Common.{◌≡◌, List, [], ◌∷◌, None, refl, codes}
+use Rattle.text_bytes.specs.Bytes.{begins_name, is_blank, is_digit, is_printable, is_word}
 use Rattle.stil_ast.specs.Meaning.Statements.{hash}
 use Rattle.stil_ast.specs.Data.Items.{items_of}
 use Rattle.stil_ast.specs.Data.Written.{Written, no_more, single, looped, shifted}
@@ -17,9 +18,11 @@ use Rattle.stil_ast.specs.declared.blocks.BodyDef.{BodyDef}
 -- three vectors of two signals
 pub three_cycles : lines (first_text (use_table (codes "w") three_vectors))
     ≡ cycle 0 0 0 (codes "0H") ∷ cycle 1 100 0 (codes "1L") ∷ cycle 2 200 0 (codes "1X") ∷ []
+unfolding is_digit
 three_cycles = refl
 
 pub no_fault : fault (first_text (use_table (codes "w") three_vectors)) ≡ None
+unfolding is_digit
 no_fault = refl
 
 -- `\r3 X 1` is `XXX1`
@@ -35,6 +38,7 @@ grouped body =
 
 pub one_member_left : lines (grouped (use_table (codes "w") (single 11 (Vector (assign 11 (codes "g") (items (codes "1")) ∷ [])) no_more)))
     ≡ cycle 0 0 0 (codes "1-") ∷ []
+unfolding begins_name is_blank is_printable is_word
 one_member_left = refl
 
 -- tables t1 of 100ns and t2 of 50ns: `W t1; Loop 3 { V { a=1; } W t2; }`
@@ -45,6 +49,7 @@ two_tables = text_of (signal (codes "a") In ∷ []) []
 
 pub later_passes_differ : lines two_tables
     ≡ cycle 0 0 0 (codes "1") ∷ cycle 1 100 1 (codes "1") ∷ cycle 2 150 1 (codes "1") ∷ []
+unfolding is_digit
 later_passes_differ = refl
 
 -- signals a and b In, y Out
@@ -68,13 +73,13 @@ ends = single 13 (Vector (assign 13 (codes "a") (items (codes "1")) ∷ [])) no_
 -- a procedure gives the caller's characters back
 pub after_call : lines (three_signals [] q (begins (single 12 (Call (codes "q") []) ends)))
     ≡ cycle 0 0 0 (codes "00X") ∷ cycle 1 100 0 (codes "11H") ∷ cycle 2 200 0 (codes "10X") ∷ []
-unfolding calls
+unfolding calls is_digit
 after_call = refl
 
 -- and a macro leaves its own
 pub after_macro : lines (three_signals q [] (begins (single 12 (Macro (codes "q") []) ends)))
     ≡ cycle 0 0 0 (codes "00X") ∷ cycle 1 100 0 (codes "11H") ∷ cycle 2 200 0 (codes "11H") ∷ []
-unfolding calls
+unfolding calls is_digit
 after_macro = refl
 
 -- signals si1 and si2 In, so1 and so2 Out
@@ -101,11 +106,11 @@ two_unloads = scanned lu (held
 pub padded : lines two_unloads
     ≡ cycle 0 0 0 (codes "01LH") ∷ cycle 1 100 0 (codes "01HH") ∷ cycle 2 200 0 (codes "10LL") ∷ cycle 3 300 0 (codes "00XL") ∷ cycle 4 400 0 (codes "11XH")
     ∷ cycle 5 500 0 (codes "01XX") ∷ cycle 6 600 0 (codes "01XX") ∷ cycle 7 700 0 (codes "10XX") ∷ cycle 8 800 0 (codes "00XX") ∷ cycle 9 900 0 (codes "11XX") ∷ []
-unfolding calls
+unfolding calls is_digit
 padded = refl
 
 pub padded_without_fault : fault two_unloads ≡ None
-unfolding calls flat_calls check_calls
+unfolding calls flat_calls check_calls begins_name is_blank is_digit is_printable is_word
 padded_without_fault = refl
 
 -- a Stop ends the executive

@@ -1,5 +1,6 @@
 -- A scan test of the circuit s27 with one chain of three cells: its blocks, cycles and marks.
 use Rattle.std.proofs.Common.{◌≡◌, ℕ, List, [], ◌∷◌, None, refl, codes}
+use Rattle.text_bytes.specs.Bytes.{begins_name, is_blank, is_digit, is_printable, is_word}
 use Rattle.stil_ast.specs.Data.Written.{no_more, single, shifted}
 use Rattle.stil_ast.specs.Meaning.Statements.{hash}
 use Rattle.stil_ast.specs.Meaning.Running.{calls}
@@ -115,14 +116,14 @@ pub seven_cycles : lines scan_text
     ≡ cycle 0 0 0 (codes "P110000XX") ∷ cycle 1 100 0 (codes "P110000XX") ∷ cycle 2 200 0 (codes "P100000XX")
     ∷ cycle 3 300 0 (codes "P000101LX")
     ∷ cycle 4 400 0 (codes "P100000XH") ∷ cycle 5 500 0 (codes "P100000XH") ∷ cycle 6 600 0 (codes "P100000XL") ∷ []
-unfolding calls
+unfolding calls begins_name is_blank is_digit is_printable is_word
 seven_cycles = refl
 
 -- the chain's characters are counted anew in each call
 pub seven_marks : marks scan_text ≡ 1 ∷ 2 ∷ 3 ∷ 0 ∷ 1 ∷ 2 ∷ 3 ∷ []
-unfolding calls
+unfolding calls begins_name is_blank is_digit is_printable is_word
 seven_marks = refl
 
 pub scan_without_fault : fault scan_text ≡ None
-unfolding calls flat_calls check_calls
+unfolding calls flat_calls check_calls is_blank is_digit is_printable is_word
 scan_without_fault = refl

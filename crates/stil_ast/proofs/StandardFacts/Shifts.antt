@@ -1,5 +1,6 @@
 -- Shifts, arguments and patterns one after another.
 use Rattle.std.proofs.Common.{◌≡◌, ℕ, List, [], ◌∷◌, ◌++◌, None, refl, codes}
+use Rattle.text_bytes.specs.Bytes.{begins_name, is_blank, is_digit, is_printable, is_word}
 use Rattle.stil_ast.specs.Meaning.Statements.{Item, hash, percent}
 use Rattle.stil_ast.specs.Meaning.Running.{calls}
 use Rattle.stil_ast.specs.Meaning.Flattening.{flat_calls}
@@ -47,16 +48,16 @@ dealt = then_pattern (v (to (codes "y") (items (codes "X")) ∷ []) (single 24 S
 pub dealt_in_turn : lines dealt
     ≡ cycle 0 0 0 (codes "00L") ∷ cycle 1 100 0 (codes "01L") ∷ cycle 2 200 0 (codes "10H") ∷ cycle 3 300 0 (codes "11L")
     ∷ cycle 4 400 0 (codes "11X") ∷ []
-unfolding calls
+unfolding calls begins_name is_blank is_digit is_printable is_word
 dealt_in_turn = refl
 
 -- a mark counts what y has taken, in a Shift and outside of it
 pub dealt_marks : marks dealt ≡ 1 ∷ 0 ∷ 2 ∷ 3 ∷ 0 ∷ []
-unfolding calls
+unfolding calls begins_name is_blank is_printable is_word
 dealt_marks = refl
 
 pub dealt_without_fault : fault dealt ≡ None
-unfolding calls flat_calls check_calls
+unfolding calls flat_calls check_calls begins_name is_blank is_digit is_printable is_word
 dealt_without_fault = refl
 
 -- a Shift uses its signals up: a second one pads them with what is held
@@ -67,7 +68,7 @@ two_shifts = scanning In (shift (taken (codes "a") ∷ []) (shift (taken (codes 
 
 pub used_up : lines two_shifts
     ≡ cycle 0 0 0 (codes "10X") ∷ cycle 1 100 0 (codes "00X") ∷ cycle 2 200 0 (codes "00L") ∷ cycle 3 300 0 (codes "00H") ∷ []
-unfolding calls
+unfolding calls is_digit
 used_up = refl
 
 pub used_up_marks : marks two_shifts ≡ 0 ∷ 0 ∷ 1 ∷ 2 ∷ []
@@ -81,7 +82,7 @@ looking = scanning In (shifted 21 (v (to (codes "a") (percent ∷ []) ∷ to (co
 
 pub looks_in_a_shift : lines looking
     ≡ cycle 0 0 0 (codes "11-") ∷ cycle 1 100 0 (codes "11-") ∷ cycle 2 200 0 (codes "01-") ∷ cycle 3 300 0 (codes "01-") ∷ []
-unfolding calls
+unfolding calls is_digit
 looks_in_a_shift = refl
 
 -- short data of three signals, with so much held
@@ -91,13 +92,13 @@ short direction before = scanning direction (shift (taken (codes "a") ∷ taken 
 
 -- where nothing is held, a padded signal has no character: b in front, and y at the end
 pub nothing_held : lines (short In []) ≡ cycle 0 0 0 (codes "1-H") ∷ cycle 1 100 0 (codes "01-") ∷ []
-unfolding calls
+unfolding calls is_digit
 nothing_held = refl
 
 -- an InOut signal is padded in front, as an In signal is; padding counts in marks
 pub in_out_in_front : lines (short InOut (to (codes "b") (items (codes "0")) ∷ to (codes "y") (items (codes "X")) ∷ []))
     ≡ cycle 0 0 0 (codes "10H") ∷ cycle 1 100 0 (codes "01X") ∷ []
-unfolding calls
+unfolding calls is_digit
 in_out_in_front = refl
 
 pub padding_counts : marks (short InOut []) ≡ 1 ∷ 2 ∷ []
@@ -113,22 +114,22 @@ unfolding calls
 no_pass = refl
 
 pub no_pass_without_fault : fault (without_pass (codes "a")) ≡ None
-unfolding calls flat_calls check_calls
+unfolding calls flat_calls check_calls begins_name is_blank is_digit is_printable is_word
 no_pass_without_fault = refl
 
 -- but what it names has to be there
 pub unknown_without_pass : fault (without_pass (codes "zz")) ≡ refused UnknownName (codes "MacroDefs") [] 23
-unfolding calls flat_calls check_calls
+unfolding calls flat_calls check_calls begins_name is_blank is_digit is_printable is_word
 unknown_without_pass = refl
 
 -- outside of a Shift a `#` needs a character
 pub nothing_to_take : fault (scanning In (v (taken (codes "a") ∷ []) no_more) [] []) ≡ refused NoData (codes "MacroDefs") [] 23
-unfolding calls flat_calls check_calls
+unfolding calls flat_calls check_calls begins_name is_blank is_digit is_printable is_word
 nothing_to_take = refl
 
 -- an argument has no `%`
 pub peeks_in_argument : fault (scanning In no_more [] (to (codes "a") (percent ∷ []) ∷ [])) ≡ refused ShiftForm (codes "Pattern") (codes "p") 23
-unfolding calls flat_calls check_calls
+unfolding calls flat_calls check_calls begins_name is_blank is_digit is_printable is_word
 peeks_in_argument = refl
 
 -- a text whose chain stands in ScanStructures s, and whose burst names these blocks

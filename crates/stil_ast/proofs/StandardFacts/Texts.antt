@@ -1,6 +1,7 @@
 -- Blocks of small texts, in few words.
 use Rattle.std.proofs.Common.{ℕ, ◌*◌, ◌^◌, List, [], ◌∷◌, ◌++◌, Some, None, Ok, pos, take_while, codes}
-use Rattle.stil_ast.specs.Data.Texts.{is_digit, number_of}
+use Rattle.text_bytes.specs.Bytes.{is_digit}
+use Rattle.stil_ast.specs.Data.Texts.{number_of}
 use Rattle.stil_ast.specs.Meaning.Times.{Times}
 use Rattle.stil_ast.specs.Meaning.Statements.{Item}
 use Rattle.stil_ast.specs.Data.Written.{Written}

@@ -2,7 +2,8 @@
 use Rattle.std.specs.Prelude.{ℕ, suc, ◌-◌, ◌==◌, ◌&&◌, ◌||◌, Bool, true, false, List, Option, Some, None, nat_le, nat_eq, length, map, sum_by, count_by, if◌then◌else◌}
 use Rattle.std.specs.List.{list_all}
 use Rattle.text_bytes.specs.Limits.{most_cells, most_events, most_passes}
-use Rattle.stil_ast.specs.Data.Texts.{same, within, is_wave_letter, is_name}
+use Rattle.text_bytes.specs.Bytes.{is_character}
+use Rattle.stil_ast.specs.Data.Texts.{same, within, is_name}
 use Rattle.stil_ast.specs.Data.Forms.{all_differ, is_absent_or, is_line, is_optional_name, is_range, is_name_ref, is_quoted, is_sig_ref, is_named, is_optionally_named, is_item}
 use Rattle.stil_ast.specs.Data.Written.{Written, no_more, single, looped, shifted}
 use Rattle.stil_ast.specs.declared.name.IndexRange.{IndexRange}
@@ -88,7 +89,7 @@ is_event letters e = is_quoted e.time && (length e.acts == 1 || length e.acts ==
 -- a waveform: letters and digits, none twice, and not too many events
 abbrev pub is_wave_decl : WaveDecl → Bool
 is_wave_decl w =
-    nat_le 1 (length w.letters) && list_all is_wave_letter w.letters && all_differ nat_eq w.letters
+    nat_le 1 (length w.letters) && list_all is_character w.letters && all_differ nat_eq w.letters
     && nat_le (length w.events) most_events && list_all (is_event (length w.letters)) w.events
 
 -- what one reference in Waveforms stands before

@@ -1,7 +1,8 @@
 -- The form of names, lines, references and data in a text that was read (IEEE 1450-1999, clauses 6 and 21).
 use Rattle.std.specs.Prelude.{ℕ, ◌&&◌, not, Bool, true, List, [], ◌∷◌, Option, Some, None, nat_le}
 use Rattle.std.specs.List.{list_any}
-use Rattle.stil_ast.specs.Data.Texts.{within, is_wave_letter, is_name}
+use Rattle.text_bytes.specs.Bytes.{is_character}
+use Rattle.stil_ast.specs.Data.Texts.{within, is_name}
 use Rattle.stil_ast.specs.Meaning.Statements.{Item, letter, hash, percent}
 use Rattle.stil_ast.specs.declared.name.IndexRange.{IndexRange}
 use Rattle.stil_ast.specs.declared.name.Named.{Named}
@@ -56,6 +57,6 @@ is_optionally_named n = is_optional_name n.name && is_line n.line
 
 -- an item of data
 abbrev pub is_item : Item → Bool
-is_item (letter c) = is_wave_letter c
+is_item (letter c) = is_character c
 is_item hash = true
 is_item percent = true

@@ -1,7 +1,8 @@
 -- Names and numbers (IEEE 1450-1999, clause 6).
-use Rattle.std.specs.Prelude.{ℕ, zero, suc, ◌+◌, ◌-◌, ◌*◌, ◌==◌, ◌&&◌, ◌||◌, Bool, false, List, [], ◌∷◌, ◌++◌, Option, Some, None, nat_le, nat_eq, length, map, reverse, decimal, position, fold, if◌then◌else◌}
+use Rattle.std.specs.Prelude.{ℕ, zero, suc, ◌+◌, ◌-◌, ◌*◌, ◌&&◌, Bool, false, List, [], ◌∷◌, ◌++◌, Option, Some, None, nat_le, nat_eq, length, map, reverse, decimal, position, fold, if◌then◌else◌}
 use Rattle.std.specs.List.{list_all, list_any}
 use Rattle.std.specs.Cmp.Lexicographic.{pointwise}
+use Rattle.text_bytes.specs.Bytes.{is_digit, is_printable, begins_name}
 use Rattle.text_bytes.specs.Limits.{longest_name}
 use Rattle.stil_ast.specs.declared.name.IndexRange.{IndexRange}
 use Rattle.stil_ast.specs.declared.name.Named.{Named}
@@ -14,35 +15,15 @@ same a b = pointwise nat_eq a b
 abbrev pub within : ℕ → ℕ → ℕ → Bool
 within low high c = nat_le low c && nat_le c high
 
--- an ASCII digit
-abbrev pub is_digit : ℕ → Bool
-is_digit c = within 48 57 c
-
--- a letter or `_`
-abbrev pub is_letter : ℕ → Bool
-is_letter c = within 65 90 c || within 97 122 c || c == 95
-
--- a byte of a word
-abbrev pub is_word : ℕ → Bool
-is_word c = is_letter c || is_digit c
-
--- a waveform character, an ASCII letter or digit
-abbrev pub is_wave_letter : ℕ → Bool
-is_wave_letter c = is_digit c || within 65 90 c || within 97 122 c
-
--- space, tab, line feed, form feed and carriage return
-abbrev pub is_blank : ℕ → Bool
-is_blank c = c == 32 || c == 9 || c == 10 || c == 12 || c == 13
-
 -- a name has a byte at least and not too many, from 0x20 to 0x7E
 abbrev pub is_name : List ℕ → Bool
 is_name [] = false
-is_name (c ∷ cs) = nat_le (length (c ∷ cs)) longest_name && list_all (within 32 126) (c ∷ cs)
+is_name (c ∷ cs) = nat_le (length (c ∷ cs)) longest_name && list_all is_printable (c ∷ cs)
 
 -- a name without quotes begins with a letter or `_`
 abbrev pub is_bare_name : List ℕ → Bool
 is_bare_name [] = false
-is_bare_name (c ∷ cs) = is_letter c && is_name (c ∷ cs)
+is_bare_name (c ∷ cs) = begins_name c && is_name (c ∷ cs)
 
 -- the number that digits spell
 abbrev pub number_of : List ℕ → ℕ

@@ -2,7 +2,8 @@
 use Rattle.std.specs.Prelude.{ℕ, ◌+◌, ◌%◌, ◌==◌, ◌&&◌, ◌||◌, Bool, true, false, List, [], ◌∷◌, ◌++◌, Option, Some, None, length, is_some, nat_le, if◌then◌else◌}
 use Rattle.std.specs.List.{list_all, list_any}
 use Rattle.text_bytes.specs.Limits.{most_walked}
-use Rattle.stil_ast.specs.Meaning.Statements.{Item, Assign, Body}
+use Rattle.stil_ast.specs.Data.Places.{Body}
+use Rattle.stil_ast.specs.Meaning.Statements.{Item, Assign}
 use Rattle.stil_ast.specs.Meaning.Arguments.{Argument, next_entry}
 use Rattle.stil_ast.specs.Meaning.Dealing.{deal, spread, takers, has_signal, is_hash, is_character}
 use Rattle.stil_ast.specs.Faults.Found.{fault_in}

@@ -1,7 +1,7 @@
 -- The first fault of an executive's names (IEEE 1450-1999, clauses 16 and 17).
 use Rattle.std.specs.Prelude.{ℕ, zero, suc, ◌&&◌, ◌||◌, Bool, true, false, not, List, [], ◌∷◌, Option, Some, None, length, flat_map, is_some, nat_le, codes, if◌then◌else◌}
 use Rattle.std.specs.List.{list_any}
-use Rattle.stil_ast.specs.Meaning.Statements.{Place}
+use Rattle.stil_ast.specs.Data.Places.{Place}
 use Rattle.stil_ast.specs.Data.Texts.{same, has_name}
 use Rattle.stil_ast.specs.Faults.Found.{fault_at, unless, refuse_if, or_else, first_in}
 use Rattle.stil_ast.specs.Meaning.Bursts.{pattern_named, burst_named, is_entry, played}

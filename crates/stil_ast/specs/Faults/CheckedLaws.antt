@@ -3,7 +3,7 @@ use Rattle.std.specs.Prelude.{◌≡◌, ℕ, ◌<◌, ◌≤◌, true, List, �
 use Rattle.text_bytes.specs.Limits.{most_walked}
 use Rattle.stil_ast.specs.Data.Written.{Written}
 use Rattle.stil_ast.specs.Meaning.State.{State}
-use Rattle.stil_ast.specs.Meaning.Statements.{of_pattern}
+use Rattle.stil_ast.specs.Data.Places.{of_pattern}
 use Rattle.stil_ast.specs.Meaning.Arguments.{argument_of}
 use Rattle.stil_ast.specs.Meaning.Dealing.{mark_of}
 use Rattle.stil_ast.specs.Meaning.Running.{Here, run, outside}

@@ -3,7 +3,7 @@ use Rattle.std.specs.Prelude.{ℕ, ◌+◌, ◌*◌, ◌==◌, ◌&&◌, Bool, t
 use Rattle.std.specs.List.{list_any}
 use Rattle.text_bytes.specs.Limits.{most_measure, most_cycles, most_row_characters}
 use Rattle.stil_ast.specs.Meaning.State.{State, start_of}
-use Rattle.stil_ast.specs.Meaning.Statements.{Titles}
+use Rattle.stil_ast.specs.Data.Places.{Titles}
 use Rattle.stil_ast.specs.Meaning.Running.{Made}
 use Rattle.stil_ast.specs.Faults.Found.{fault_at, fault_in, unless, or_else, first_in}
 use Rattle.stil_ast.specs.Meaning.Signals.{names_of}

@@ -1,7 +1,7 @@
 -- The first fault of executives before they are compiled: names, variables, tables, chains, patterns.
 use Rattle.std.specs.Prelude.{ℕ, List, [], ◌∷◌, ◌++◌, Option, Some, None, Bool, true, false, length, sum_by}
 use Rattle.stil_ast.specs.Faults.Found.{or_else}
-use Rattle.stil_ast.specs.Meaning.Statements.{of_pattern}
+use Rattle.stil_ast.specs.Data.Places.{of_pattern}
 use Rattle.stil_ast.specs.Meaning.Running.{stops}
 use Rattle.stil_ast.specs.Meaning.Signals.{names_of}
 use Rattle.stil_ast.specs.Meaning.Times.{Times}

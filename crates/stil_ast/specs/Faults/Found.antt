@@ -1,6 +1,6 @@
 -- How the first fault of several rules is found.
 use Rattle.std.specs.Prelude.{ℕ, Bool, true, false, List, [], ◌∷◌, Option, Some, None, codes}
-use Rattle.stil_ast.specs.Meaning.Statements.{Place, Body, of_pattern, of_macro, of_procedure, Origin, Titles}
+use Rattle.stil_ast.specs.Data.Places.{Place, Body, of_pattern, of_macro, of_procedure, Origin, Titles}
 use Rattle.stil_ast.specs.declared.fault.StilFault.{StilFault}
 use Rattle.stil_ast.specs.declared.fault.StilKind.{StilKind}
 

@@ -2,7 +2,7 @@
 use Rattle.std.specs.Prelude.{ℕ, zero, suc, ◌+◌, ◌==◌, ◌&&◌, Bool, true, false, not, List, [], ◌∷◌, Option, Some, None, length, nat_lt, slice_get}
 use Rattle.std.specs.List.{list_any}
 use Rattle.text_bytes.specs.Limits.{deepest_calls, deepest_loops}
-use Rattle.stil_ast.specs.Meaning.Statements.{Body, of_pattern, of_macro, of_procedure}
+use Rattle.stil_ast.specs.Data.Places.{Body, of_pattern, of_macro, of_procedure}
 use Rattle.stil_ast.specs.Data.Written.{Written, no_more, single, looped, shifted}
 use Rattle.stil_ast.specs.Data.Texts.{has_name}
 use Rattle.stil_ast.specs.Meaning.Arguments.{Argument, arguments}

@@ -8,7 +8,7 @@ use Rattle.stil_ast.specs.Meaning.Signals.{Signal, Group, Names, names_of}
 use Rattle.stil_ast.specs.Meaning.GroupText.{Term}
 use Rattle.stil_ast.specs.Meaning.GroupReading.{terms_of}
 use Rattle.stil_ast.specs.Meaning.Members.{signal_of, group_of, text_kind}
-use Rattle.stil_ast.specs.Meaning.Statements.{Place}
+use Rattle.stil_ast.specs.Data.Places.{Place}
 use Rattle.stil_ast.specs.declared.name.IndexRange.{IndexRange}
 use Rattle.stil_ast.specs.declared.blocks.Blocks.{Blocks}
 use Rattle.stil_ast.specs.declared.fault.StilFault.{StilFault}

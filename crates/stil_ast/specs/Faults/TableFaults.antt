@@ -2,7 +2,7 @@
 use Rattle.std.specs.Prelude.{ℕ, suc, ◌+◌, ◌==◌, ◌&&◌, Bool, false, not, ℤ, pos, int_le, int_lt, List, [], ◌∷◌, Option, Some, None, Result, Ok, Err, length, nat_le, sum_by, if◌then◌else◌}
 use Rattle.std.specs.List.{list_any, enumerate_from}
 use Rattle.text_bytes.specs.Limits.{most_waves, longest_period}
-use Rattle.stil_ast.specs.Meaning.Statements.{Place}
+use Rattle.stil_ast.specs.Data.Places.{Place}
 use Rattle.stil_ast.specs.Data.Texts.{upwards}
 use Rattle.stil_ast.specs.Faults.Found.{fault_at, on_line, unless, refuse_if, or_else, first_in}
 use Rattle.stil_ast.specs.Meaning.Signals.{Names}

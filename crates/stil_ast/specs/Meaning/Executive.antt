@@ -1,7 +1,8 @@
 -- The cycles of an executive (IEEE 1450-1999, clauses 16 to 18 and 23).
 use Rattle.std.specs.Prelude.{ℕ, Bool, true, false, List, [], ◌∷◌, Result, map, length, codes}
 use Rattle.stil_ast.specs.Meaning.State.{Vector, start_of}
-use Rattle.stil_ast.specs.Meaning.Statements.{Place, of_pattern, Titles, Statements}
+use Rattle.stil_ast.specs.Data.Places.{Place, of_pattern, Titles}
+use Rattle.stil_ast.specs.Meaning.Statements.{Statements}
 use Rattle.stil_ast.specs.Meaning.Cycles.{Dated, dated}
 use Rattle.stil_ast.specs.Meaning.Running.{Setting, Ran, Here, Made, still, then_run, run, outside, stops}
 use Rattle.stil_ast.specs.Meaning.ExecutiveData.{vector_period, Tree, Executive}

@@ -1,7 +1,7 @@
 -- Executives as plain data, what they run, and the rows and tables of the code of several (IEEE 1450-1999, clause 16).
 use Rattle.std.specs.Prelude.{◌≡◌, ℕ, ◌+◌, List, [], ◌∷◌, ◌++◌, Option, Some, None, map, flat_map, length, slice_get, sum_by, unwrap_or, if◌then◌else◌}
 use Rattle.stil_ast.specs.Meaning.State.{State, Vector, start_of}
-use Rattle.stil_ast.specs.Meaning.Statements.{Titles}
+use Rattle.stil_ast.specs.Data.Places.{Titles}
 use Rattle.stil_ast.specs.Meaning.Cycles.{Dated, dated}
 use Rattle.stil_ast.specs.Meaning.Running.{Ran, Made, still, then_run, outside}
 use Rattle.stil_ast.specs.Meaning.Flat.{Flat, flat_run, measure}

@@ -1,7 +1,7 @@
 -- Flat trees: what a pattern is once names, calls, arguments and shifts are resolved.
 use Rattle.std.specs.Prelude.{ℕ, ◌+◌, ◌*◌, Bool, true, false, [], ◌∷◌, Some, None, slice_index_or}
 use Rattle.stil_ast.specs.Meaning.State.{State}
-use Rattle.stil_ast.specs.Meaning.Statements.{Origin}
+use Rattle.stil_ast.specs.Data.Places.{Origin}
 use Rattle.stil_ast.specs.Meaning.Dealing.{with_letter}
 use Rattle.stil_ast.specs.Meaning.Running.{Ran, still, behind, then_run, times}
 

@@ -1,6 +1,6 @@
 -- How the items of a group expression are found. What is found is what `SpellsTerms` says, as a law states.
 use Rattle.std.specs.Prelude.{◌≡◌, ℕ, ◌==◌, List, [], ◌∷◌, ◌++◌, Option, Some, None, Bool, true, false, if◌then◌else◌}
-use Rattle.stil_ast.specs.Data.Texts.{is_word, is_blank}
+use Rattle.text_bytes.specs.Bytes.{is_word, is_blank}
 use Rattle.stil_ast.specs.Meaning.GroupText.{Lexeme, word, quoted, plus, minus, opens, closes, dot, stray, Term, item_of, SpellsTerms}
 use Rattle.stil_ast.specs.declared.name.NameRef.{NameRef}
 

@@ -1,7 +1,8 @@
 -- Group expressions: items joined by `+` and `-` (IEEE 1450-1999, clause 6, signal references).
 use Rattle.std.specs.Prelude.{◌≡◌, ℕ, ◌<◌, ◌==◌, not, Bool, true, false, List, [], ◌∷◌, ◌++◌, Option, Some, None, length, if◌then◌else◌}
 use Rattle.std.specs.List.{list_all}
-use Rattle.stil_ast.specs.Data.Texts.{is_word, is_blank, is_name, is_bare_name, index_of}
+use Rattle.text_bytes.specs.Bytes.{is_word, is_blank}
+use Rattle.stil_ast.specs.Data.Texts.{is_name, is_bare_name, index_of}
 use Rattle.stil_ast.specs.declared.name.IndexRange.{IndexRange}
 use Rattle.stil_ast.specs.declared.name.NameRef.{NameRef}
 

@@ -1,7 +1,8 @@
 -- Statements with their names looked up (IEEE 1450-1999, clause 6, name resolution, and clauses 22 to 24).
 use Rattle.std.specs.Prelude.{ℕ, Bool, true, false, List, [], map, flat_map, if◌then◌else◌}
 use Rattle.std.specs.List.{position_or_len}
-use Rattle.stil_ast.specs.Meaning.Statements.{Assign, Body, of_macro, of_procedure, Origin, Titles, Statements, finish, place, wave, vector, condition, loop, expand, call, shift, stop}
+use Rattle.stil_ast.specs.Data.Places.{Body, of_macro, of_procedure, Origin, Titles}
+use Rattle.stil_ast.specs.Meaning.Statements.{Assign, Statements, finish, place, wave, vector, condition, loop, expand, call, shift, stop}
 use Rattle.stil_ast.specs.Data.Written.{Written, no_more, single, looped, shifted}
 use Rattle.stil_ast.specs.Data.Texts.{same}
 use Rattle.stil_ast.specs.Meaning.Signals.{Names, Signal}

@@ -2,7 +2,8 @@
 use Rattle.std.specs.Prelude.{ℕ, zero, suc, Bool, true, false, List, [], ◌∷◌, ◌++◌, Option, Some, None, length, slice_get}
 use Rattle.text_bytes.specs.Limits.{deepest_calls}
 use Rattle.stil_ast.specs.Meaning.State.{State, Vector}
-use Rattle.stil_ast.specs.Meaning.Statements.{Assign, of_pattern, Origin, Statements, finish, place, wave, vector, condition, loop, expand, call, shift, stop}
+use Rattle.stil_ast.specs.Data.Places.{of_pattern, Origin}
+use Rattle.stil_ast.specs.Meaning.Statements.{Assign, Statements, finish, place, wave, vector, condition, loop, expand, call, shift, stop}
 use Rattle.stil_ast.specs.Meaning.Arguments.{Argument, arguments}
 use Rattle.stil_ast.specs.Meaning.Dealing.{Dealt, deal, received, takers, mark_of}
 use Rattle.stil_ast.specs.Meaning.Shift.{taking, passes, columns}

@@ -1,6 +1,6 @@
 -- The signals and the groups that a text declares (IEEE 1450-1999, clauses 14 and 15).
 use Rattle.std.specs.Prelude.{ℕ, List, [], ◌∷◌, Option, Some, None, map, flat_map, codes}
-use Rattle.stil_ast.specs.Meaning.Statements.{Place}
+use Rattle.stil_ast.specs.Data.Places.{Place}
 use Rattle.stil_ast.specs.Data.Texts.{indices, indexed, names_with}
 use Rattle.stil_ast.specs.declared.name.IndexRange.{IndexRange}
 use Rattle.tester_types.specs.declared.signal.Direction.{Direction}

@@ -1,5 +1,6 @@
 -- The statements of a pattern, with tables, signals and bodies by their numbers (IEEE 1450-1999, clauses 22 to 24).
 use Rattle.std.specs.Prelude.{ℕ, List}
+use Rattle.stil_ast.specs.Data.Places.{Origin}
 
 -- an item of data: a waveform character, `#` or `%`
 pub data Item : Type 0 where
@@ -11,29 +12,6 @@ pub data Item : Type 0 where
 pub record Assign : Type 0 where
   pub signals : List ℕ
   pub items : List Item
-
--- the place of a fault: the keyword and the name of its top-level statement, and its line
-pub record Place : Type 0 where
-  pub block : List ℕ
-  pub name : List ℕ
-  pub line : ℕ
-
--- the kinds of bodies: a pattern's own statements, those of a macro, those of a procedure
-pub data Body : Type 0 where
-  of_pattern : Body
-  of_macro : Body
-  of_procedure : Body
-
--- where a statement of a pattern stands: in a body of which kind, and on which line
-pub record Origin : Type 0 where
-  pub body : Body
-  pub line : ℕ
-
--- the names of the blocks in which the bodies of a pattern stand
-pub record Titles : Type 0 where
-  pub pattern : List ℕ
-  pub macros : List ℕ
-  pub procedures : List ℕ
 
 -- statements in order; each holds those behind it
 pub data Statements : Type 0 where

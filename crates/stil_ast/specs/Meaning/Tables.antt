@@ -1,7 +1,7 @@
 -- Waveform tables: what each signal does for each character (IEEE 1450-1999, clause 18).
 use Rattle.std.specs.Prelude.{ℕ, zero, suc, Bool, true, ◌==◌, ◌&&◌, ℤ, nat_abs, List, [], ◌∷◌, ◌++◌, Option, Some, None, Result, Ok, Err, length, map, flat_map, filter_map, find, reverse, position, slice_get, sum_by, count_by, is_some, if◌then◌else◌}
 use Rattle.std.specs.List.{list_any, enumerate_from, position_or_len}
-use Rattle.stil_ast.specs.Meaning.Statements.{Place}
+use Rattle.stil_ast.specs.Data.Places.{Place}
 use Rattle.stil_ast.specs.Data.Texts.{same, upwards}
 use Rattle.stil_ast.specs.Meaning.Signals.{Names}
 use Rattle.stil_ast.specs.Meaning.Members.{members}
