@@ -46,20 +46,24 @@ fn signals(alloc: Global) -> Result<Items<SignalDecl>, AllocError> {
     Ok(Items::from_vec(signals))
 }
 
-fn group(alloc: Global, name: &[u8], members: &[u8]) -> Result<GroupDecl, AllocError> {
+fn group(alloc: Global, name: &[u8], members: &[u8], line: u32) -> Result<GroupDecl, AllocError> {
     Ok(GroupDecl {
         name: text(alloc, name)?,
-        text: quoted(alloc, members)?,
+        text: Quoted {
+            text: text(alloc, members)?,
+            line,
+        },
         line: 5,
     })
 }
 
-/// The groups of a text: one that names another, which is named like a signal, and this last text.
+/// The groups of a text: one that names another, which is named like a signal, and this last text. Their texts stand on
+/// the lines 7 to 9.
 fn groups(alloc: Global, last: &[u8]) -> Result<Items<GroupBlock>, AllocError> {
     let mut groups = Vec::new(alloc);
-    groups.push(group(alloc, b"first", b"last + a")?)?;
-    groups.push(group(alloc, b"a", b"b")?)?;
-    groups.push(group(alloc, b"last", last)?)?;
+    groups.push(group(alloc, b"first", b"last + a", 7)?)?;
+    groups.push(group(alloc, b"a", b"b", 8)?)?;
+    groups.push(group(alloc, b"last", last, 9)?)?;
     Items::of_one(
         alloc,
         GroupBlock {
@@ -69,10 +73,14 @@ fn groups(alloc: Global, last: &[u8]) -> Result<Items<GroupBlock>, AllocError> {
     )
 }
 
-fn blocks(alloc: Global, last: &[u8]) -> Result<Blocks, AllocError> {
+fn blocks_of(
+    alloc: Global,
+    signals: Items<SignalDecl>,
+    groups: Items<GroupBlock>,
+) -> Result<Blocks, AllocError> {
     Ok(Blocks {
-        signals: signals(alloc)?,
-        groups: groups(alloc, last)?,
+        signals,
+        groups,
         specs: Items::from_vec(Vec::new(alloc)),
         selectors: Items::from_vec(Vec::new(alloc)),
         timings: Items::from_vec(Vec::new(alloc)),
@@ -83,6 +91,12 @@ fn blocks(alloc: Global, last: &[u8]) -> Result<Blocks, AllocError> {
         bursts: Items::from_vec(Vec::new(alloc)),
         executives: Items::from_vec(Vec::new(alloc)),
     })
+}
+
+fn blocks(alloc: Global, last: &[u8]) -> Result<Blocks, AllocError> {
+    let signals = signals(alloc)?;
+    let groups = groups(alloc, last)?;
+    blocks_of(alloc, signals, groups)
 }
 
 #[test]
@@ -103,24 +117,64 @@ fn references_are_resolved(rt: HostRuntime) -> Result<(), Fail> {
     Ok(())
 }
 
-/// The kind of the fault of a text with this last group.
-fn kind_of(alloc: Global, last: &[u8]) -> Option<StilKind> {
-    let blocks = blocks(alloc, last).ok()?;
-    match build(alloc, &blocks) {
-        Err(StilRefusal::Fault(fault)) => Some(fault.kind),
+/// The kind and the line of the fault of blocks.
+fn fault_of(alloc: Global, blocks: &Blocks) -> Option<(StilKind, u32)> {
+    match build(alloc, blocks) {
+        Err(StilRefusal::Fault(fault)) => Some((fault.kind, fault.line)),
         _ => None,
     }
 }
 
+/// The same of a text with this last group.
+fn fault_with(alloc: Global, last: &[u8]) -> Option<(StilKind, u32)> {
+    let blocks = blocks(alloc, last).ok()?;
+    fault_of(alloc, &blocks)
+}
+
 #[test]
 fn the_first_fault_refuses(rt: HostRuntime) {
-    let rows: [(&[u8], StilKind); 4] = [
-        (b"first", StilKind::Cyclic),
-        (b"a - last", StilKind::Cyclic),
-        (b"a +", StilKind::Shape),
-        (b"a + c", StilKind::UnknownName),
+    // the group `first` of line 7 needs the last one, and isn't cyclic where it only leads into a cycle
+    let rows: [(&[u8], StilKind, u32); 4] = [
+        (b"first", StilKind::Cyclic, 7),
+        (b"b - last", StilKind::Cyclic, 9),
+        (b"a +", StilKind::Shape, 9),
+        (b"a + c", StilKind::UnknownName, 9),
     ];
-    for (last, kind) in rows {
-        assert!(rt; kind_of(rt.alloc(), last) == Some(kind), "{kind:?}");
+    for (last, kind, line) in rows {
+        assert!(rt;
+            fault_with(rt.alloc(), last) == Some((kind, line)),
+            "{kind:?}"
+        );
+    }
+}
+
+/// The fault of a text that declares signals under a name of so many bytes.
+fn range_fault(alloc: Global, length: usize, first: u32, last: u32) -> Option<(StilKind, u32)> {
+    let mut name = Vec::new(alloc);
+    for _ in 0..length {
+        name.push(b'n').ok()?;
+    }
+    let decl = signal(alloc, name.as_slice(), Some(IndexRange { first, last })).ok()?;
+    let signals = Items::of_one(alloc, decl).ok()?;
+    let blocks = blocks_of(alloc, signals, Items::from_vec(Vec::new(alloc))).ok()?;
+    fault_of(alloc, &blocks)
+}
+
+#[test]
+fn the_text_of_a_signal_has_1024_bytes_at_most(rt: HostRuntime) {
+    let too_long = Some((StilKind::OutOfRange, 3));
+    let rows: [(usize, u32, u32, bool); 5] = [
+        (1021, 0, 9, false),
+        (1021, 9, 10, true),
+        (1021, 10, 9, true),
+        (1020, 99, 10, false),
+        (1020, 100, 99, true),
+    ];
+    for (length, first, last, refused) in rows {
+        let fault = range_fault(rt.alloc(), length, first, last);
+        assert!(rt;
+            fault == (if refused { too_long } else { None }),
+            "{first}..{last}"
+        );
     }
 }
