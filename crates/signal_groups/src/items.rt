@@ -15,7 +15,7 @@ use std::alloc::{AllocError, Global};
 use stil_ast::IndexRange;
 
 /// `name[index]`.
-pub(crate) fn indexed(alloc: Global, name: &[u8], index: u32) -> Result<Vec<u8>, AllocError>
+pub fn indexed(alloc: Global, name: &[u8], index: u32) -> Result<Vec<u8>, AllocError>
     ensures { IfOk result (λ text. text.items ≡ indexed name.now index) }
 {
     let mut buffer = Buffer::new();
@@ -27,7 +27,7 @@ pub(crate) fn indexed(alloc: Global, name: &[u8], index: u32) -> Result<Vec<u8>,
 }
 
 /// How many indices a range has.
-pub(crate) fn count_of(range: IndexRange) -> u64
+pub fn index_count(range: IndexRange) -> u64
     ensures count { result ≡ length (indices range) }
     ensures some { 0 < result }
     ensures few { result ≤ 2 ^ 32 }
@@ -39,8 +39,8 @@ pub(crate) fn count_of(range: IndexRange) -> u64
     }
 }
 
-/// The index at a place of a range.
-pub(crate) fn index_at(range: IndexRange, place: u64) -> u32
+/// The index at a place of a range, which counts upwards or downwards.
+pub fn index_at(range: IndexRange, place: u64) -> u32
     requires { place < length (indices range) }
     ensures { result ≡ slice_index (indices range) place }
 {
@@ -93,7 +93,7 @@ fn ranged(
         ≡ filter_map (λ i. number_in table.now.texts (indexed name.now i)) (indices range)) }
 {
     let mut found = Vec::new(alloc);
-    for place in 0..count_of(range) {
+    for place in 0..index_count(range) {
         add_at(alloc, table, &mut found, name, index_at(range, place))?;
     }
     Ok(found)
@@ -205,7 +205,7 @@ fn is_range_known(
     ensures { IfOk result (λ known. known
         ≡ list_all (λ i. is_some (number_in table.now.texts (indexed name.now i))) (indices range)) }
 {
-    for place in 0..count_of(range) {
+    for place in 0..index_count(range) {
         if number_at(alloc, table, name, index_at(range, place))?.is_none() {
             return Ok(false);
         }

@@ -20,6 +20,7 @@ mod term;
 
 pub use building::build;
 pub use fault::RefFault;
+pub use items::{index_at, index_count, indexed};
 pub use table::{SignalList, SignalTable};
 
 #[cfg(test)]

@@ -9,7 +9,7 @@ ghost use Rattle.stil_ast.specs.Meaning.Signals.{signals_place, declared_as, dec
 ghost use Rattle.signal_groups.specs.Memory.{key_texts};
 ghost use Rattle.signal_groups.specs.Begun.{Begun, begun_in, signal_said, with_signal, signal_as, decl_said, Refuses, Tells};
 
-use crate::items::{count_of, index_at, indexed};
+use crate::items::{index_at, index_count, indexed};
 use crate::table::Declared;
 use indexmap::IndexSet;
 use std::alloc::{AllocError, Global};
@@ -112,7 +112,7 @@ fn take_range(
     ensures { Tells (begun_in texts.new.keys kept.new.items) result
         (stepping signal_said (begun_in texts.old.keys kept.old.items) (declared_as decl.now (Some range))) }
 {
-    for place in 0..count_of(range) {
+    for place in 0..index_count(range) {
         take_at(alloc, texts, kept, index_at(range, place), decl)?;
     }
     Ok(())

@@ -9,7 +9,7 @@ pub loop-place-preserved : goal.loop-place-preserved
 loop-place-preserved c =
     let is = indices c.args.range in
     let place = c.loop-place.place in
-    let lt : place < length is = omega (arith, c.loop-place-test.true, c.count_of-place-end.ensures.count) in
+    let lt : place < length is = omega (arith, c.loop-place-test.true, c.index_count-place-end.ensures.count) in
     let next : c.index_at.result ∷ drop (place + 1) is ≡ drop place is =
     ap (λ i. i ∷ drop (place + 1) is) c.index_at.ensures ∙ sym (drop-at is place 0 lt) in
     c.in_ok-add_at.ensures (drop (place + 1) is)

@@ -1,0 +1,59 @@
+-- The four clauses of an answer on the chains of an executive, from one fact.
+use Rattle.std.proofs.Common.{◌≡◌, ℕ, zero, suc, List, [], ◌∷◌, get_or, Option, Some, None, refl, sym, ap, subst, ◌∙◌, inl, inr, ◌⊎◌}
+use Rattle.std.specs.Prelude.{Result, Ok, Err, IfOk, IfErr, MatchResult, slice_get}
+use Rattle.stil_ast.specs.Meaning.Chains.{Chain}
+use Rattle.stil_ast.specs.Meaning.Executive.{chain_list}
+use Rattle.stil_ast.specs.declared.blocks.Blocks.{Blocks}
+use Rattle.stil_ast.specs.declared.executive.ExecDecl.{ExecDecl}
+use Rattle.stil_ast.specs.declared.fault.StilFault.{StilFault}
+use Rattle.stil_ast.specs.declared.fault.StilRefusal.{StilRefusal}
+use Rattle.stil_ast.specs.declared.fault.StilRefusal.TheVariants as refusal
+use Rattle.scan_chain.specs.Fault.{chain_list_fault, IsChainFault, Scans}
+
+-- what is said of the executive at an index is said of the one that is found there
+pub scans-of : (blocks : Blocks) (exec : ℕ) (e here : ExecDecl) (r : Result (List Chain) StilRefusal)
+    → slice_get blocks.executives exec ≡ Some e
+    → here ≡ get_or blocks.executives exec here → Scans blocks here r → Scans blocks e r
+scans-of blocks exec e here r at is h = subst (λ x. Scans blocks x r) (is ∙ found blocks.executives exec e here at) h
+  where
+    found : (xs : List ExecDecl) (i : ℕ) (e d : ExecDecl) → slice_get xs i ≡ Some e → get_or xs i d ≡ e
+    found [] i e d at = absurd (none e at)
+      where
+        none : (e : ExecDecl) → ◌≡◌ {A = Option ExecDecl} None (Some e) → ⊥
+        none e at = cc
+    found (x ∷ xs) zero e d at = same x e at
+      where
+        same : (x e : ExecDecl) → ◌≡◌ {A = Option ExecDecl} (Some x) (Some e) → x ≡ e
+        same x e at = cc
+    found (x ∷ xs) (suc i) e d at = found xs i e d at
+
+not_both : (o : Option StilFault) (f : StilFault) → o ≡ None → o ≡ Some f → ⊥
+not_both o f e g = cc
+
+one : (f g : StilFault) → ◌≡◌ {A = Option StilFault} (Some f) (Some g) → f ≡ g
+one f g e = cc
+
+module _ (blocks : Blocks) (e : ExecDecl) where
+  pub is_found : (r : Result (List Chain) StilRefusal) → Scans blocks e r
+      → IfOk r (λ chains. (chain_list_fault blocks e ≡ None) × (chains ≡ chain_list blocks e))
+  is_found (Ok chains) h = h
+  is_found (Err r) h = tt
+
+  pub only_chains : (r : Result (List Chain) StilRefusal) → Scans blocks e r → chain_list_fault blocks e ≡ None
+      → MatchResult r (λ chains. chains ≡ chain_list blocks e) (λ r. r ≡ refusal.NoMemory)
+  only_chains (Ok chains) h none = h.1
+  only_chains (Err refusal.NoMemory) h none = refl
+  only_chains (Err (refusal.Fault f)) h none = absurd (not_both (chain_list_fault blocks e) f none h)
+
+  pub is_fault : (r : Result (List Chain) StilRefusal) → Scans blocks e r
+      → IfErr r (λ r. (r ≡ refusal.NoMemory) ⊎ IsChainFault blocks e r)
+  is_fault (Ok chains) h = tt
+  is_fault (Err refusal.NoMemory) h = inl refl
+  is_fault (Err (refusal.Fault f)) h = inr (record { fault = f; is = refl; first = h })
+
+  pub is_refused : (r : Result (List Chain) StilRefusal) → Scans blocks e r → (f : StilFault)
+      → chain_list_fault blocks e ≡ Some f
+      → MatchResult r (λ _. ⊥) (λ r. (r ≡ refusal.NoMemory) ⊎ (r ≡ refusal.Fault f))
+  is_refused (Ok chains) h f first = not_both (chain_list_fault blocks e) f h.0 first
+  is_refused (Err refusal.NoMemory) h f first = inl refl
+  is_refused (Err (refusal.Fault g)) h f first = inr (ap (λ x. refusal.Fault x) (one g f (sym h ∙ first)))

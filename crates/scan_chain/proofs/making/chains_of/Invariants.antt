@@ -1,0 +1,13 @@
+use Rattle.std.proofs.Common.{◌≡◌, drop}
+use Rattle.stil_ast.specs.Meaning.Signals.{Names}
+use Rattle.stil_ast.specs.Meaning.Chains.{distinct_chains, chains_of}
+use Rattle.signal_groups.specs.Table.{table_of}
+use Rattle.scan_chain.specs.Held.{behind, chains_in}
+use Rattle.scan_chain.proofs.CellLemmas.{declared_chains}
+use Rattle.scan_chain.proofs.making.chains_of.Given as goal
+
+abbrev pub invariant-loop-decl : goal.invariant-loop-decl
+invariant-loop-decl l =
+    (names : Names) → l.signals ≡ table_of names
+    → distinct_chains (chains_in l.chains.items) (declared_chains names (behind (drop l.decl-index l.decls)))
+    ≡ chains_of names (behind l.decls)

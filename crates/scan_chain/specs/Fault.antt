@@ -1,0 +1,28 @@
+-- What is answered of the chains of an executive.
+use Rattle.std.specs.Prelude.{◌≡◌, List, [], Option, Some, None, Result, Ok, Err}
+use Rattle.stil_ast.specs.Meaning.Signals.{names_of}
+use Rattle.stil_ast.specs.Meaning.Chains.{Chain, chains_named, chains_fault}
+use Rattle.stil_ast.specs.Meaning.Bursts.{exec_scans}
+use Rattle.stil_ast.specs.Meaning.Executive.{chain_list}
+use Rattle.stil_ast.specs.declared.blocks.Blocks.{Blocks}
+use Rattle.stil_ast.specs.declared.executive.ExecDecl.{ExecDecl}
+use Rattle.stil_ast.specs.declared.fault.StilFault.{StilFault}
+use Rattle.stil_ast.specs.declared.fault.StilRefusal.{StilRefusal}
+use Rattle.stil_ast.specs.declared.fault.StilRefusal.TheVariants as refusal
+
+-- the first fault of the chains of an executive
+abbrev pub chain_list_fault : Blocks → ExecDecl → Option StilFault
+chain_list_fault blocks e =
+    chains_fault (names_of blocks) (exec_scans blocks e) [] (chains_named blocks.scans (exec_scans blocks e))
+
+-- the fault by which an executive is refused for its chains
+pub record IsChainFault (blocks : Blocks) (e : ExecDecl) (r : StilRefusal) : Type 0 where
+  pub fault : StilFault
+  pub is : r ≡ refusal.Fault fault
+  pub first : chain_list_fault blocks e ≡ Some fault
+
+-- the chains of an executive, or their first fault, or want of memory
+abbrev pub Scans : Blocks → ExecDecl → Result (List Chain) StilRefusal → Type 0
+Scans blocks e (Ok chains) = (chain_list_fault blocks e ≡ None) × (chains ≡ chain_list blocks e)
+Scans blocks e (Err refusal.NoMemory) = Unit {0}
+Scans blocks e (Err (refusal.Fault fault)) = chain_list_fault blocks e ≡ Some fault

@@ -1,0 +1,17 @@
+//! The scan chains of an executive, and the data of a Shift (IEEE 1450-1999, clauses 20, 21 and 24).
+#![tactic(auto)]
+
+mod building;
+mod chain;
+mod checking;
+mod found;
+mod making;
+mod outs;
+mod shift;
+
+pub use building::build;
+pub use chain::{Chains, ScanChain};
+pub use shift::{ColumnList, column, column_place, passes};
+
+#[cfg(test)]
+mod tests;
