@@ -1,8 +1,8 @@
 -- What readers accept has its form: names, lines and references; and what each statement keeps, all keep.
-use Rattle.std.proofs.Common.{◌≡◌, ℕ, suc, ◌+◌, ◌^◌, ◌<◌, List, [], ◌∷◌, ◌++◌, length, take, drop, map, Result, Ok, Err, Option, Some, None, Bool, true, false, ◌&&◌, cond, nat_lt, nat_le, is_some, option_map, refl, ap, sym, subst, ◌∙◌, arith, length-append}
+use Rattle.std.proofs.Common.{◌≡◌, ℕ, suc, ◌+◌, ◌^◌, ◌<◌, List, [], ◌∷◌, ◌++◌, length, drop, Result, Ok, Err, Option, Some, None, Bool, true, false, ◌&&◌, cond, nat_lt, nat_le, is_some, option_map, refl, subst, ◌∙◌, arith, length-append}
 use Rattle.std.specs.Prelude.{option_and_then}
 use Rattle.std.specs.List.{list_all}
-use Rattle.std.proofs.lemmas.Bool.{and_parts, and_from, ltb-true, lt-ltb, leb-true, le-leb}
+use Rattle.std.proofs.lemmas.Bool.{and_parts, and_from, ltb-true, le-leb}
 use Rattle.std.proofs.lemmas.List.{length-take, length-drop, length-map}
 use Rattle.std.proofs.lemmas.List.Folds.{list_all-append}
 use Rattle.text_bytes.specs.Bytes.{begins_name, is_printable, begins_with}
@@ -10,13 +10,10 @@ use Rattle.text_bytes.specs.Limits.{longest_name}
 use Rattle.first_fault.specs.Reading.{and_then, reading, stepping}
 use Rattle.stil_tree.specs.Trees.{Entry}
 use Rattle.stil_form.specs.declared.fault.FormKind.{FormKind}
-use Rattle.stil_form.specs.declared.fault.FormKind.TheVariants.{Shape, OutOfRange}
-use Rattle.stil_form.specs.declared.fault.FormFault.{FormFault}
 use Rattle.stil_form.specs.declared.front.Span.{Span}
 use Rattle.stil_form.specs.Lexeme.{Lexeme, word, name, text, sign, lexeme_at, lexemes_of}
 use Rattle.stil_form.specs.Words.{named_by, fits_name}
-use Rattle.stil_form.specs.Fronts.{Ref, named, group, behind_name, reference_front, ranged, opened_front, indices_of}
-use Rattle.stil_form.specs.declared.part.SignKind.{SignKind}
+use Rattle.stil_form.specs.Fronts.{Ref, named, group, behind_name, reference_front, ranged, opened_front}
 use Rattle.stil_form.specs.declared.part.SignKind.TheVariants as mark
 use Rattle.stil_form.specs.Setting.{Setting, lexemes_at, line_at, at_statement}
 use Rattle.stil_ast.specs.Data.Texts.{within, is_name}
@@ -26,7 +23,7 @@ use Rattle.stil_ast.specs.declared.name.SigRef.{SigRef}
 use Rattle.stil_ast.specs.declared.name.SigRef.TheVariants as ref
 use Rattle.pat_read.specs.Fault.{followed}
 use Rattle.pat_read.specs.References.{within_32, range_of, named_ref, ref_of}
-use Rattle.stil_read.specs.Heads.{is_there, where_so, only_name, only_text, name_or_empty, title_of, behind_first, rest_at, named_block, titled_block}
+use Rattle.stil_read.specs.Heads.{is_there, where_so, only_name, name_or_empty, title_of, behind_first, rest_at, named_block, titled_block}
 
 -- each token of a text has a line, counted from 1, in 32 bits
 abbrev pub HasLines : Setting → Type 0

@@ -15,3 +15,6 @@ pub mod BurstLemmas
 pub mod CellLemmas
 pub mod ChainLemmas
 pub mod DefLemmas
+pub mod NameLemmas
+pub mod KeptLemmas
+pub mod TextLemmas

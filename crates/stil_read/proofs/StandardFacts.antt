@@ -11,3 +11,4 @@ pub mod ExecutiveBlocks
 pub mod BurstBlocks
 pub mod BodyBlocks
 pub mod ScanBlocks
+pub mod Texts

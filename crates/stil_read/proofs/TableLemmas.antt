@@ -1,14 +1,8 @@
 -- A table that was read has the name that stands behind its keyword.
-use Rattle.std.proofs.Common.{◌≡◌, ℕ, List, [], ◌∷◌, ◌++◌, Result, Ok, Err, Option, Some, None, Bool, true, false, is_some, refl, ap, sym, subst, ◌∙◌, cond}
-use Rattle.first_fault.specs.Reading.{and_then, stepping}
+use Rattle.std.proofs.Common.{◌≡◌, ℕ, List, Ok, Option, Some, None, is_some, refl, ap, sym, ◌∙◌}
 use Rattle.stil_tree.specs.Trees.{Entry}
-use Rattle.stil_form.specs.declared.fault.FormKind.{FormKind}
 use Rattle.stil_form.specs.declared.fault.FormKind.TheVariants.{Twice}
-use Rattle.stil_form.specs.declared.fault.FormFault.{FormFault}
-use Rattle.stil_form.specs.declared.fault.FormFault.TheVariants.{NoMemory, Refused}
-use Rattle.stil_form.specs.Lexeme.{Lexeme}
-use Rattle.stil_form.specs.Reading.{AnswersBy}
-use Rattle.stil_form.specs.Setting.{Setting, lexemes_at, at_statement, inner_of, unskipped}
+use Rattle.stil_form.specs.Setting.{Setting, lexemes_at, inner_of, unskipped}
 use Rattle.stil_ast.specs.declared.name.Quoted.{Quoted}
 use Rattle.stil_ast.specs.declared.timing.TableDecl.{TableDecl}
 use Rattle.stil_read.specs.declared.timings.TableWord.{TableWord}

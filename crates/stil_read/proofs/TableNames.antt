@@ -1,6 +1,5 @@
 -- Behind each Timing block the names of tables differ under each title, and there are at most 64.
-use Rattle.std.proofs.Common.{◌≡◌, ℕ, ◌≤◌, arith, Bool, true, false, cond, List, [], ◌∷◌, ◌++◌, length, map, Result, Ok, refl, sym, ap, subst, ◌∙◌, append-nil, append_assoc}
-use Rattle.std.specs.Prelude.{if◌then◌else◌}
+use Rattle.std.proofs.Common.{◌≡◌, ℕ, arith, Bool, true, false, cond, List, [], ◌∷◌, ◌++◌, map, Ok, refl, sym, ap, subst, ◌∙◌, append-nil, append_assoc}
 use Rattle.std.specs.List.{flat_map}
 use Rattle.std.proofs.lemmas.List.{map-append}
 use Rattle.text_bytes.specs.Limits.{most_tables}
@@ -12,7 +11,7 @@ use Rattle.stil_ast.specs.Meaning.Tables.{tables_named}
 use Rattle.stil_ast.specs.declared.timing.TableDecl.{TableDecl}
 use Rattle.stil_ast.specs.declared.timing.TimingBlock.{TimingBlock}
 use Rattle.stil_read.specs.Heads.{titled_block, under}
-use Rattle.stil_read.specs.Timings.{table_name, table_names, table_said, judge_table, tables_of, timing_block}
+use Rattle.stil_read.specs.Timings.{table_name, table_names, table_said, judge_table, timing_block}
 use Rattle.stil_read.proofs.FormLemmas.{both_ok, reading-keeps}
 use Rattle.stil_read.proofs.TableLemmas.{name-table_of}
 use Rattle.stil_read.proofs.TimingForms.{table_name-parts}

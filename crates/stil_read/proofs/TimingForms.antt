@@ -1,5 +1,5 @@
 -- What is read of a Timing block has its form.
-use Rattle.std.proofs.Common.{◌≡◌, ℕ, zero, suc, ◌+◌, ◌<◌, List, [], ◌∷◌, ◌++◌, length, not, Result, Ok, Err, Option, Some, None, Bool, true, false, ◌&&◌, ◌||◌, cond, nat_lt, nat_le, nat_eq, is_some, refl, ap, sym, subst, ◌∙◌, arith}
+use Rattle.std.proofs.Common.{◌≡◌, ℕ, ◌<◌, List, [], ◌∷◌, ◌++◌, length, not, Result, Ok, Err, Option, Some, None, Bool, true, false, ◌&&◌, ◌||◌, cond, nat_lt, nat_le, nat_eq, is_some, refl, ap, sym, subst, ◌∙◌, arith}
 use Rattle.std.specs.Prelude.{◌==◌}
 use Rattle.std.specs.List.{list_all}
 use Rattle.std.proofs.lemmas.Bool.{and_parts, and_from, ltb-true, le-leb}
@@ -8,11 +8,9 @@ use Rattle.std.proofs.lemmas.List.Folds.{list_all-append}
 use Rattle.text_bytes.specs.Bytes.{is_character}
 use Rattle.text_bytes.specs.Limits.{most_events, most_tables}
 use Rattle.first_fault.specs.Reading.{and_then, reading}
-use Rattle.tester_types.specs.declared.wave.Act.{Act}
 use Rattle.stil_tree.specs.Trees.{Entry}
 use Rattle.stil_form.specs.declared.fault.FormKind.{FormKind}
 use Rattle.stil_form.specs.declared.fault.FormKind.TheVariants.{Shape, LeftOut, OutOfRange, Twice}
-use Rattle.stil_form.specs.declared.fault.FormFault.{FormFault}
 use Rattle.stil_form.specs.declared.fault.FormFault.TheVariants.{Refused}
 use Rattle.stil_form.specs.Lexeme.{Lexeme, word, name, text, sign}
 use Rattle.stil_form.specs.Fronts.{Ref, reference_front}
@@ -33,7 +31,7 @@ use Rattle.stil_read.specs.declared.timings.TableWord.{TableWord}
 use Rattle.stil_read.specs.declared.timings.TableWord.TheVariants as word_of
 use Rattle.stil_read.specs.Heads.{where_so, only_name, only_text, rest_at, bare_block, named_block, titled_block, is_declared, count_under, under}
 use Rattle.stil_read.specs.Waveforms.{time_of, acts_of, event_at, new_event, judge_event, are_letters, letters_of, in_block, letters_at, judge_wave, lone, lone_ref, ref_at, judge_signal, signals_of}
-use Rattle.stil_read.specs.Timings.{plain_text, plain_name, with_period, with_inherit, with_waveforms, text_at, name_at, table_by, first_word, table_step, empty_table, table_of, is_table, new_name, table_name, table_names, table_said, judge_table, tables_of, timing_block}
+use Rattle.stil_read.specs.Timings.{plain_text, plain_name, with_period, with_inherit, with_waveforms, text_at, name_at, table_by, first_word, table_step, empty_table, table_of, is_table, new_name, table_name, table_names, table_said, judge_table, timing_block}
 use Rattle.stil_read.proofs.FormLemmas.{HasLines, both_ok, said_at, said_where, said_so, made_where, stepping-keeps, reading-each, reading-within, list_all-one, first_line, second_line, is_name-only_name, is_name-named_block, is_optional_name-titled_block, behind_keyword, FitsRef, fits_front, is_sig_ref-ref_of}
 
 -- an event begins with a lexeme

@@ -14,3 +14,6 @@ pub mod Cells
 pub mod Chains
 pub mod Timings
 pub mod Selectors
+pub mod Top
+pub mod Reads
+pub mod Text

@@ -69,7 +69,7 @@ pub(crate) fn only_text<'a>(rest: Source<'a>) -> Result<&'a [u8], FormKind>
 }
 
 /// What stands behind the first part of a head.
-fn behind_first<'a>(head: Source<'a>) -> Source<'a>
+pub(crate) fn behind_first<'a>(head: Source<'a>) -> Source<'a>
     ensures { lexemes result ≡ heads.behind_first (lexemes head.entry) }
 {
     match first_part(head) {

@@ -1,6 +1,7 @@
 //! Reads the blocks of a STIL text by their forms (IEEE 1450-1999, clauses 8 to 24).
 #![tactic(auto)]
 
+mod block;
 mod body;
 mod burst;
 mod cells;
@@ -9,11 +10,16 @@ mod declared;
 mod executive;
 mod groups;
 mod head;
+mod kept;
+mod keyword;
 mod named;
 mod quotes;
+mod read;
 mod selectors;
 mod signals;
+mod text;
 mod timings;
+mod top;
 mod variables;
 mod waveforms;
 
@@ -25,5 +31,6 @@ pub use executive::read_exec_block;
 pub use groups::read_groups_block;
 pub use selectors::read_selector_block;
 pub use signals::read_signals_block;
+pub use text::read_blocks;
 pub use timings::read_timing_block;
 pub use variables::read_spec_block;

@@ -1,5 +1,5 @@
 -- What known Timing blocks and their statements say, and each way in which they are refused.
-use Rattle.std.proofs.Common.{◌≡◌, ℕ, ◌+◌, List, [], ◌∷◌, Some, None, Ok, Err, refl, replicate}
+use Rattle.std.proofs.Common.{◌≡◌, ℕ, ◌+◌, [], ◌∷◌, Some, None, Ok, Err, refl, replicate}
 use Rattle.std.specs.Prelude.{codes}
 use Rattle.text_bytes.specs.Bytes.{is_digit, begins_name, is_printable, is_character}
 use Rattle.tester_types.specs.declared.wave.Act.TheVariants as act

@@ -1,4 +1,4 @@
-use Rattle.std.proofs.Common.{List, ◌++◌, map-id, ap, sym, ◌∙◌}
+use Rattle.std.proofs.Common.{◌++◌, map-id, ap, sym, ◌∙◌}
 use Rattle.std.proofs.lemmas.Iterator.Adapters.{fact_from_extend, YieldsList-from_vec}
 use Rattle.stil_read.proofs.timings.append.Goals as goal
 

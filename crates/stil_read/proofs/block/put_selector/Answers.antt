@@ -1,0 +1,21 @@
+use Rattle.std.proofs.Common.{◌≡◌, ℕ, List, [], ◌∷◌, ◌++◌, refl, sym, ap, ◌∙◌}
+use Rattle.stil_tree.specs.Trees.{entry_of}
+use Rattle.stil_form.specs.Setting.{setting_of, inner_of}
+use Rattle.stil_ast.specs.declared.variable.Selector.{Selector}
+use Rattle.stil_read.specs.Heads.{named_block}
+use Rattle.stil_read.specs.Selectors.{selections_of, selector_of}
+use Rattle.stil_read.specs.Top.{selector_names}
+use Rattle.stil_read.proofs.NameLemmas.{named-by, untitled-more}
+use Rattle.stil_read.proofs.block.put_selector.Goals as goal
+
+pub returns-clause-names : goal.returns-clause-names
+returns-clause-names k =
+    let called = k.in_ok-called.called.now in
+    let is : k.in_ok-one.one.name ≡ called =
+    named-by (λ (x : Selector). x.name) selector_of (λ c y. refl) (named_block (setting_of k.args.reader.now) (entry_of k.args.stmt.now))
+    (λ (c : List ℕ). selections_of (setting_of k.args.reader.now) (inner_of (entry_of k.args.stmt.now).body))
+    called k.in_ok-one.one k.in_ok-called.ensures k.in_ok-one.ensures in
+    k.in_ok-names.ensures
+    ∙ ap (λ (ns : List (List ℕ × List ℕ)). ns ++ ([], called) ∷ []) k.requires
+    ∙ sym (untitled-more (λ (x : Selector). x.name) k.args.before.now.items k.in_ok-one.one called is)
+    ∙ sym (ap selector_names k.in_ok-add.ensures.added)
