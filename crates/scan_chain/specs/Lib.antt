@@ -1,5 +1,6 @@
--- Read Held first (how the code holds chains and data), then Cell (which cell a mark names) and Fault (what is answered
--- of the chains of an executive).
+-- Read Held first (how the code holds chains and data), then Cell (which cell a mark names), Fault (what is answered of
+-- the chains of an executive) and Short (how long chains are).
 pub mod Held
 pub mod Cell
 pub mod Fault
+pub mod Short

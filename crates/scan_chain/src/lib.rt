@@ -5,12 +5,14 @@ mod building;
 mod chain;
 mod checking;
 mod found;
+mod laws;
 mod making;
 mod outs;
 mod shift;
 
 pub use building::build;
 pub use chain::{Chains, ScanChain};
+pub use laws::chains_are_short;
 pub use shift::{ColumnList, column, column_place, passes};
 
 #[cfg(test)]
