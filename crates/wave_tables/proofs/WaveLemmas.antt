@@ -24,8 +24,8 @@ find_first p (x ∷ xs) (suc i) d h is none =
     ∙ find_first p xs i d (omega arith) is (λ j k. none (suc j) (omega arith))
 
 -- no item passes
-pub find_none : {X : Type 0} (p : X → Bool) (xs : List X) (d : X)
-    → ((j : ℕ) → j < length xs → p (get_or xs j d) ≡ false) → find p xs ≡ None
+pub find_none : {X : Type 0} (p : X → Bool) (xs : List X) (d : X) → ((j : ℕ) → j < length xs → p (get_or xs j d) ≡ false)
+    → find p xs ≡ None
 find_none p [] d none = refl
 find_none p (x ∷ xs) d none =
     ap (λ b. cond b (Some x) (find p xs)) (none 0 (omega arith)) ∙ find_none p xs d (λ j k. none (suc j) (omega arith))
@@ -51,8 +51,7 @@ same_key w signal letter h k e =
 
 -- the item at a place
 pub got : {X : Type 0} (o : Option (Bor X)) (xs : List X) (i : ℕ) → i < length xs
-    → MatchOption o (length xs ≤ i) (λ x. (i < length xs) × HoldsAt (λ y. x.now ≡ y) xs i)
-    → option_map (λ x. x.now) o ≡ slice_get xs i
+    → MatchOption o (length xs ≤ i) (λ x. (i < length xs) × HoldsAt (λ y. x.now ≡ y) xs i) → option_map (λ x. x.now) o ≡ slice_get xs i
 got None xs i h past = absurd (omega arith)
 got (Some x) xs i h at = ap Some (at.1 x.now) ∙ sym (slice_get-get_or xs i x.now h)
 
@@ -77,8 +76,7 @@ module _ (waves : List Wave) (in_order : AreInOrder waves) (signal letter : ℕ)
   -- a search by key ends at the wave, or there is none
   pub searched_wave : (r : Result ℕ ℕ) → IsSearchInRange r (length waves)
       → IsBinarySearchResult (λ (w : Wave). nat_cmp (key_in w) (wave_key signal letter)) waves r
-      → MatchResult r (λ i. slice_get waves i ≡ find (is_wave signal letter) waves)
-      (λ _. None ≡ find (is_wave signal letter) waves)
+      → MatchResult r (λ i. slice_get waves i ≡ find (is_wave signal letter) waves) (λ _. None ≡ find (is_wave signal letter) waves)
   searched_wave (Ok i) within equal =
       let key : key_in (get_or waves i blank) ≡ wave_key signal letter = ranked _ (wave_key signal letter) _ (sym (equal blank)) in
       let here : is_wave signal letter (get_or waves i blank) ≡ true =

@@ -1,9 +1,23 @@
-//! The waveform tables of an executive, made: each pair of a signal and a waveform character that a table defines has
-//! one wave, and is found by a search (IEEE 1450-1999, clause 18).
+//! The waveform tables of an executive: what each signal does for each character, with its times (IEEE 1450-1999, clause 18).
 #![tactic(auto)]
 
+mod asked;
+mod building;
+mod check;
+mod judge;
+mod lineage;
+mod make;
+mod own;
+mod rows;
+mod scope;
 mod set;
+mod source;
+mod standing;
+mod times;
+mod trouble;
+mod waves;
 
+pub use building::build;
 pub use set::WaveSet;
 
 #[cfg(test)]

@@ -66,8 +66,8 @@ impl WaveSet {
         self.tables[table].waves.as_slice()
     }
 
-    /// What a signal does in a cycle of a table in which it has this character, where the table says so. It takes time
-    /// in step with the logarithm of the number of waves.
+    /// What a signal does in a cycle of a table in which it has this character, where the table says so. It takes in step
+    /// with the logarithm of the number of waves.
     pub fn wave(&self, table: usize, signal: u16, letter: u8) -> Option<&Wave>
         ensures { option_map (λ w. w.now) result ≡ wave_in self.now table signal letter }
     {

@@ -1,0 +1,82 @@
+-- The first fault of items that are judged one after another.
+use Rattle.std.proofs.Common.{◌≡◌, ℕ, suc, ◌+◌, ◌<◌, ◌≤◌, List, [], ◌∷◌, ◌++◌, Option, Some, None, length, get_or, drop, refl, sym, ap, ◌∙◌, arith}
+use Rattle.std.proofs.Math.Seq.{drop-cons}
+use Rattle.std.proofs.lemmas.List.{drop_all}
+use Rattle.std.specs.Prelude.{Result, Ok, Err, OnOk, IfErr}
+use Rattle.stil_ast.specs.Meaning.Statements.{Place}
+use Rattle.stil_ast.specs.Faults.Found.{or_else, first_in}
+use Rattle.stil_ast.specs.declared.fault.StilFault.{StilFault}
+use Rattle.wave_tables.specs.declared.trouble.Trouble.{Trouble}
+use Rattle.wave_tables.specs.declared.trouble.Trouble.TheVariants.{NoMemory, At}
+use Rattle.wave_tables.specs.Check.{IsAt}
+
+-- what follows from an answer's fact
+pub ok_then : {A B : Type 0} (r : Result A B) {P Q : Type 0} → (P → Q) → OnOk r P → OnOk r Q
+ok_then (Ok a) f h = f h
+ok_then (Err b) f h = tt
+
+-- the same of a refusal
+pub err_then : {A B : Type 0} (r : Result A B) {P Q : B → Type 0} → ((b : B) → P b → Q b) → IfErr r P → IfErr r Q
+err_then (Ok a) f h = tt
+err_then (Err b) f h = f b h
+
+-- the fault of the first of two
+pub at_first : (place : Place) (a b : Option StilFault) (e : Trouble) → IsAt place a e → IsAt place (or_else a b) e
+at_first place a b NoMemory h = tt
+at_first place a b (At kind line) h = ap (λ (o : Option StilFault). or_else o b) h
+
+-- the fault of the second, where the first has none
+pub at_second : (place : Place) (a b : Option StilFault) (e : Trouble) → a ≡ None → IsAt place b e → IsAt place (or_else a b) e
+at_second place a b e none h = rw none h
+
+-- none of two
+pub none_both : (a b : Option StilFault) → a ≡ None → b ≡ None → or_else a b ≡ None
+none_both a b first second = ap (λ (o : Option StilFault). or_else o b) first ∙ second
+
+-- none of two tells that the first has none
+pub none_first : (a b : Option StilFault) → or_else a b ≡ None → a ≡ None
+none_first None b e = refl
+none_first (Some f) b e = cc
+
+-- and the second neither
+pub none_second : (a b : Option StilFault) → or_else a b ≡ None → b ≡ None
+none_second None b e = e
+none_second (Some f) b e = cc
+
+or_else-both : (a b c : Option StilFault) → or_else a (or_else b c) ≡ or_else (or_else a b) c
+or_else-both None b c = refl
+or_else-both (Some f) b c = refl
+
+-- the first of items behind others
+pub first_in-append : {X : Type 0} (f : X → Option StilFault) (xs ys : List X)
+    → first_in f (xs ++ ys) ≡ or_else (first_in f xs) (first_in f ys)
+first_in-append f [] ys = refl
+first_in-append f (x ∷ xs) ys =
+    ap (or_else (f x)) (first_in-append f xs ys) ∙ or_else-both (f x) (first_in f xs) (first_in f ys)
+
+-- none of those before has a fault: the first is that of those from here on
+pub first_step : {X : Type 0} (f : X → Option StilFault) (xs : List X) (i : ℕ) (x : X) → i < length xs → x ≡ get_or xs i x
+    → first_in f (drop i xs) ≡ or_else (f x) (first_in f (drop (i + 1) xs))
+first_step f xs i x within is =
+    let next : suc i ≡ i + 1 = omega arith in
+    ap (first_in f) (drop-cons xs i x within)
+    ∙ ap (λ y. or_else (f y) (first_in f (drop (suc i) xs))) (sym is)
+    ∙ ap (λ (n : ℕ). or_else (f x) (first_in f (drop n xs))) next
+
+-- an item without a fault
+pub first_more : {X : Type 0} (f : X → Option StilFault) (xs : List X) (i : ℕ) (x : X) → i < length xs → x ≡ get_or xs i x
+    → first_in f xs ≡ first_in f (drop i xs) → f x ≡ None → first_in f xs ≡ first_in f (drop (i + 1) xs)
+first_more f xs i x within is before none =
+    before ∙ first_step f xs i x within is ∙ ap (λ (o : Option StilFault). or_else o (first_in f (drop (i + 1) xs))) none
+
+-- an item with a fault
+pub first_found : {X : Type 0} (f : X → Option StilFault) (xs : List X) (i : ℕ) (x : X) (place : Place) (e : Trouble)
+    → i < length xs → x ≡ get_or xs i x
+    → first_in f xs ≡ first_in f (drop i xs) → IsAt place (f x) e → IsAt place (first_in f xs) e
+first_found f xs i x place e within is before at =
+    rw (before ∙ first_step f xs i x within is) (at_first place (f x) (first_in f (drop (i + 1) xs)) e at)
+
+-- all items are without a fault
+pub first_none : {X : Type 0} (f : X → Option StilFault) (xs : List X) (i : ℕ) → length xs ≤ i
+    → first_in f xs ≡ first_in f (drop i xs) → first_in f xs ≡ None
+first_none f xs i past before = before ∙ ap (first_in f) (drop_all i xs past)

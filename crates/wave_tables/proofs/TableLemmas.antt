@@ -1,0 +1,107 @@
+-- The first fault of the tables, one table after another.
+use Rattle.std.proofs.Common.{◌≡◌, ℕ, zero, suc, ◌+◌, ◌<◌, ◌||◌, Bool, true, false, List, [], ◌∷◌, Option, Some, None, length, nat_le, refl, sym, ap, ◌∙◌, arith}
+use Rattle.std.specs.Prelude.{slice_get}
+use Rattle.std.specs.List.{list_any, filter_map, cons_option, enumerate_from}
+use Rattle.text_bytes.specs.Limits.{most_waves}
+use Rattle.stil_ast.specs.Meaning.Statements.{Place}
+use Rattle.stil_ast.specs.Meaning.Signals.{Names}
+use Rattle.stil_ast.specs.Meaning.Tables.{table_of, inherited_by, leads_into_cycle, waveforms, wave_count}
+use Rattle.stil_ast.specs.Faults.Found.{first_in, refuse_if, fault_at, on_line, unless}
+use Rattle.stil_ast.specs.Faults.TableFaults.{Timed, inherit_found, inherit_fault, waves_of_first, table_fault, tables_fault}
+use Rattle.stil_ast.specs.declared.fault.StilFault.{StilFault}
+use Rattle.stil_ast.specs.declared.fault.StilKind.TheVariants.{TooLarge}
+use Rattle.stil_ast.specs.declared.name.Named.{Named}
+use Rattle.stil_ast.specs.declared.timing.TableDecl.{TableDecl}
+use Rattle.time_expr.specs.Ratio.{Ratio}
+use Rattle.wave_tables.specs.declared.lineage.Whole.{Whole}
+use Rattle.wave_tables.specs.Lineage.{AreWhole}
+use Rattle.wave_tables.specs.Check.{count_fault, behind_names}
+use Rattle.wave_tables.proofs.FirstLemmas.{none_first, none_second}
+use Rattle.wave_tables.proofs.RowLemmas.{sum_more}
+
+-- a name without a fault leads into no cycle
+not_cyclic : (b : Bool) (f : StilFault) → refuse_if b f None ≡ None → b ≡ false
+not_cyclic true f e = cc
+not_cyclic false f e = refl
+
+name_free : (p : Place) (tables : List TableDecl) (i : Named) (names : List Named) (o : Option ℕ) → table_of tables i.name ≡ o
+    → inherit_fault p tables i ≡ None
+    → list_any (leads_into_cycle tables) (filter_map (λ (i : Named). table_of tables i.name) names) ≡ false
+    → list_any (leads_into_cycle tables) (filter_map (λ (i : Named). table_of tables i.name) (i ∷ names)) ≡ false
+name_free p tables i names None is none rest =
+    absurd (never (sym (ap (inherit_found (on_line p i.line) tables) is) ∙ none))
+  where
+    never : {f : StilFault} → Some f ≡ None → ⊥
+    never e = cc
+name_free p tables i names (Some k) is none rest =
+    let free : leads_into_cycle tables k ≡ false =
+    not_cyclic (leads_into_cycle tables k) _ (sym (ap (inherit_found (on_line p i.line) tables) is) ∙ none) in
+    ap (λ (o : Option ℕ). list_any (leads_into_cycle tables) (cons_option o (filter_map (λ (i : Named). table_of tables i.name) names))) is
+    ∙ ap (λ (b : Bool). b || list_any (leads_into_cycle tables) (filter_map (λ (i : Named). table_of tables i.name) names)) free ∙ rest
+
+names_free : (p : Place) (tables : List TableDecl) (names : List Named) → first_in (inherit_fault p tables) names ≡ None
+    → list_any (leads_into_cycle tables) (filter_map (λ (i : Named). table_of tables i.name) names) ≡ false
+names_free p tables [] e = refl
+names_free p tables (i ∷ names) e =
+    name_free p tables i names (table_of tables i.name) refl
+    (none_first (inherit_fault p tables i) (first_in (inherit_fault p tables) names) e)
+    (names_free p tables names (none_second (inherit_fault p tables i) (first_in (inherit_fault p tables) names) e))
+
+-- a table whose names have no fault leads into no cycle
+pub free_at : (t : Timed Ratio) (wholes : List (Option Whole)) (k : ℕ) (d : TableDecl) → AreWhole t wholes → k < length t.tables
+    → slice_get t.tables k ≡ Some d → first_in (inherit_fault t.place t.tables) d.inherits ≡ None → leads_into_cycle t.tables k ≡ false
+free_at t wholes k d whole within at none =
+    whole.closed k within
+    ∙ ap (λ (o : Option TableDecl). list_any (leads_into_cycle t.tables) (inherited_by t.tables o)) at
+    ∙ names_free t.place t.tables d.inherits none
+
+-- what is found at a place is within the list
+pub within_at : {X : Type 0} (xs : List X) (i : ℕ) (x : X) → slice_get xs i ≡ Some x → i < length xs
+within_at [] i x e = cc
+within_at (y ∷ ys) zero x e = omega arith
+within_at (y ∷ ys) (suc i) x e = omega (arith, within_at ys i x e)
+
+-- within a list something is found
+found_at : {X : Type 0} (xs : List X) (i : ℕ) → i < length xs → (x : X) × (slice_get xs i ≡ Some x)
+found_at [] i h = absurd (omega arith)
+found_at (x ∷ xs) zero h = (x, refl)
+found_at (x ∷ xs) (suc i) h = found_at xs i (omega arith)
+
+none_at : {X : Type 0} (f : ℕ × X → Option StilFault) (n : ℕ) (xs : List X) (i : ℕ) (x : X) → first_in f (enumerate_from n xs) ≡ None
+    → slice_get xs i ≡ Some x → f (n + i, x) ≡ None
+none_at f n [] i x e at = cc
+none_at f n (y ∷ ys) zero x e at =
+    let same : y ≡ x = cc in
+    let here : n + 0 ≡ n = omega arith in
+    ap (λ (m : ℕ). f (m, x)) here ∙ ap (λ z. f (n, z)) (sym same) ∙ none_first (f (n, y)) (first_in f (enumerate_from (n + 1) ys)) e
+none_at f n (y ∷ ys) (suc i) x e at =
+    let moved : n + suc i ≡ n + 1 + i = omega arith in
+    ap (λ (m : ℕ). f (m, x)) moved
+    ∙ none_at f (n + 1) ys i x (none_second (f (n, y)) (first_in f (enumerate_from (n + 1) ys)) e) at
+
+-- where no table has a fault none leads into a cycle
+pub all_free : (t : Timed Ratio) (before : ℕ) (wholes : List (Option Whole)) → AreWhole t wholes → tables_fault t before ≡ None
+    → (k : ℕ) → k < length t.tables → leads_into_cycle t.tables k ≡ false
+all_free t before wholes whole none k within =
+    let d : (d : TableDecl) × (slice_get t.tables k ≡ Some d) = found_at t.tables k within in
+    let at_zero : 0 + k ≡ k = omega arith in
+    let here : table_fault t before (k, d.0) ≡ None =
+    ap (λ (n : ℕ). table_fault t before (n, d.0)) (sym at_zero) ∙ none_at (table_fault t before) 0 t.tables k d.0 none d.1 in
+    free_at t wholes k d.0 whole within d.1
+    (none_first (first_in (inherit_fault t.place t.tables) d.0.inherits) (behind_names t before (k, d.0)) here)
+
+-- the waves of so many tables, and one more
+pub waves_more : (names : Names) (tables : List TableDecl) (k : ℕ)
+    → waves_of_first names tables (k + 1) ≡ waves_of_first names tables k + wave_count (waveforms names tables k) (length names.signals)
+waves_more names tables k = sum_more (λ table. wave_count (waveforms names tables table) (length names.signals)) k
+
+-- the judgement of the number of waves, from their total
+pub count_is : (t : Timed Ratio) (base before total k : ℕ) (d : TableDecl) → before ≡ base + waves_of_first t.names t.tables k
+    → total ≡ before + wave_count (waveforms t.names t.tables k) (length t.names.signals)
+    → count_fault t base (k, d) ≡ unless (nat_le total most_waves) (fault_at (on_line t.place d.line) TooLarge) None
+count_is t base before total k d at sum =
+    let next : suc k ≡ k + 1 = omega arith in
+    let whole : base + waves_of_first t.names t.tables (suc k) ≡ total =
+    ap (λ (n : ℕ). base + waves_of_first t.names t.tables n) next
+    ∙ omega (arith, waves_more t.names t.tables k, at, sum) in
+    ap (λ (n : ℕ). unless (nat_le n most_waves) (fault_at (on_line t.place d.line) TooLarge) None) whole

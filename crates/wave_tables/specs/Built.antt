@@ -1,0 +1,30 @@
+-- What is answered of an executive's tables.
+use Rattle.std.specs.Prelude.{◌≡◌, ℕ, List, Option, Some, None, Result, Ok, Err}
+use Rattle.stil_ast.specs.Meaning.Tables.{made_tables}
+use Rattle.stil_ast.specs.Faults.TableFaults.{Timed, tables_fault}
+use Rattle.stil_ast.specs.declared.fault.StilFault.{StilFault}
+use Rattle.stil_ast.specs.declared.fault.StilRefusal.{StilRefusal}
+use Rattle.stil_ast.specs.declared.fault.StilRefusal.TheVariants as refusal
+use Rattle.tester_types.specs.declared.wave.Table.{Table}
+use Rattle.time_expr.specs.Ratio.{Ratio}
+use Rattle.wave_tables.specs.declared.trouble.Trouble.{Trouble}
+use Rattle.wave_tables.specs.Check.{IsAt}
+
+-- all tables that are judged so
+abbrev pub tables_in : Timed Ratio → List Table
+tables_in t = made_tables t.times t.vars t.names t.place t.tables
+
+-- the tables, where they have no fault, else the first fault
+abbrev pub IsSet : Timed Ratio → ℕ → Result (List Table) Trouble → Type 0
+IsSet t before (Ok set) = (tables_fault t before ≡ None) × (set ≡ tables_in t)
+IsSet t before (Err trouble) = IsAt t.place (tables_fault t before) trouble
+
+-- a refusal by a fault, or want of memory
+abbrev pub IsRefused : Option StilFault → StilRefusal → Type 0
+IsRefused fault refusal.NoMemory = Unit {0}
+IsRefused fault (refusal.Fault f) = fault ≡ Some f
+
+-- these tables where there is no fault, else the refusal
+abbrev pub IsBuilt : Option StilFault → List Table → Result (List Table) StilRefusal → Type 0
+IsBuilt fault tables (Ok set) = (fault ≡ None) × (set ≡ tables)
+IsBuilt fault tables (Err e) = IsRefused fault e

@@ -1,0 +1,79 @@
+-- What the code answers where there is a fault.
+use Rattle.std.specs.Prelude.{◌≡◌, ℕ, suc, ◌+◌, nat_le, ℤ, pos, int_lt, List, length, Result, Ok, Err, Option, None, Some}
+use Rattle.text_bytes.specs.Limits.{most_waves}
+use Rattle.stil_ast.specs.Faults.TableFaults.{Timed, events_fault, line_of, signal_fault, with_period, inherited_fault, late_waveform, waves_of_first}
+use Rattle.stil_ast.specs.Meaning.Tables.{Waveform, waveforms, wave_count, period_text}
+use Rattle.stil_ast.specs.declared.timing.TableDecl.{TableDecl}
+use Rattle.stil_ast.specs.Faults.SignalFaults.{kind_fault}
+use Rattle.stil_ast.specs.Meaning.Members.{reference_kind}
+use Rattle.stil_ast.specs.declared.fault.StilKind.{StilKind}
+use Rattle.stil_ast.specs.declared.fault.StilKind.TheVariants.{EventOutside, TooLarge}
+use Rattle.stil_ast.specs.declared.timing.SignalWaves.{SignalWaves}
+use Rattle.wave_tables.specs.declared.times.ReadEvent.{ReadEvent}
+use Rattle.stil_ast.specs.declared.timing.WaveDecl.{WaveDecl}
+use Rattle.time_expr.specs.Ratio.{Ratio}
+use Rattle.stil_ast.specs.Meaning.Statements.{Place}
+use Rattle.stil_ast.specs.Faults.Found.{fault_at, on_line, unless, or_else, first_in}
+use Rattle.stil_ast.specs.declared.fault.StilFault.{StilFault}
+use Rattle.wave_tables.specs.declared.trouble.Trouble.{Trouble}
+use Rattle.wave_tables.specs.declared.trouble.Trouble.TheVariants.{NoMemory, At}
+
+-- the fault is that which is answered, unless memory ran out
+abbrev pub IsAt : Place → Option StilFault → Trouble → Type 0
+IsAt place fault NoMemory = Unit {0}
+IsAt place fault (At kind line) = fault ≡ Some (fault_at (on_line place line) kind)
+
+-- the fault of a waveform's events
+abbrev pub wave_fault : Timed Ratio → ℤ → WaveDecl → Option StilFault
+wave_fault t period w = events_fault t period (pos 0) w.events
+
+-- the fault of a reference in Waveforms
+abbrev pub reference_fault : Timed Ratio → SignalWaves → Option StilFault
+reference_fault t s = kind_fault (on_line t.place (line_of s.reference s.line)) (reference_kind t.names s.reference)
+
+-- a time that isn't below a period, where it has no fault of its own
+abbrev pub late_time : Place → ℤ → Result ℤ StilKind → Option StilFault
+late_time place period (Err kind) = None
+late_time place period (Ok time) = unless (int_lt time period) (fault_at place EventOutside) None
+
+-- the same of an event
+abbrev pub late_read : Place → ℤ → ReadEvent → Option StilFault
+late_read place period e = late_time (on_line place e.time.line) period e.time.time
+
+-- the first event of a waveform that isn't below the period of a table, where it inherits it and it still stands
+abbrev pub late_one : Timed Ratio → ℤ → ℕ → Waveform → Option StilFault
+late_one t period table w = late_waveform t period table (waveforms t.names t.tables table) w
+
+-- the same of waveforms
+abbrev pub late_in : Timed Ratio → ℤ → ℕ → List Waveform → Option StilFault
+late_in t period table list = first_in (late_one t period table) list
+
+-- too many waves of all tables so far, so many of them in the executives before
+abbrev pub count_fault : Timed Ratio → ℕ → ℕ × TableDecl → Option StilFault
+count_fault t before d =
+    unless (nat_le (before + waves_of_first t.names t.tables (suc d.0)) most_waves)
+    (fault_at (on_line t.place d.1.line) TooLarge) None
+
+-- the fault of a table behind those of its period
+abbrev pub behind_period : Timed Ratio → ℕ → ℕ × TableDecl → ℤ → Option StilFault
+behind_period t before d period =
+    or_else (first_in (signal_fault t period) d.1.waveforms)
+    (or_else (inherited_fault t period d.0) (count_fault t before d))
+
+-- the fault of a table behind those of the names that it inherits
+abbrev pub behind_names : Timed Ratio → ℕ → ℕ × TableDecl → Option StilFault
+behind_names t before d = with_period t d.1.line (period_text t.tables d.0) (behind_period t before d)
+
+-- how many waves there are with those of a table, where so many stand before it
+abbrev pub with_waves : Timed Ratio → ℕ → ℕ → ℕ
+with_waves t before number = before + wave_count (waveforms t.names t.tables number) (length t.names.signals)
+
+-- there is no fault, however many of the waves before a table are of the executives before
+abbrev pub IsFree : Timed Ratio → ℕ → ℕ → (ℕ → Option StilFault) → Type 0
+IsFree t before number fault =
+    (base : ℕ) → before ≡ base + waves_of_first t.names t.tables number → fault base ≡ None
+
+-- the fault is that which is answered, however many they are
+abbrev pub IsRefusedBy : Timed Ratio → ℕ → ℕ → (ℕ → Option StilFault) → Trouble → Type 0
+IsRefusedBy t before number fault e =
+    (base : ℕ) → before ≡ base + waves_of_first t.names t.tables number → IsAt t.place (fault base) e

@@ -1,0 +1,233 @@
+//! The faults of a table, in their order.
+
+ghost use Rattle.std.specs.Prelude.{◌≡◌, ◌∷◌, ℤ, pos, List, Option, None, Some, if◌then◌else◌, IfOk, IfErr, OnOk};
+ghost use Rattle.stil_ast.specs.Faults.Found.{first_in, fault_at, on_line};
+ghost use Rattle.stil_ast.specs.Faults.TableFaults.{inherit_fault, with_period, events_fault, line_of, signal_fault};
+ghost use Rattle.stil_ast.specs.Meaning.Statements.{Place};
+ghost use Rattle.stil_ast.specs.declared.fault.StilFault.{StilFault};
+ghost use Rattle.stil_ast.specs.declared.fault.StilKind.TheVariants.{EventOutside};
+ghost use Rattle.stil_ast.specs.declared.name.Quoted.{Quoted};
+ghost use Rattle.stil_ast.specs.declared.timing.EventDecl.{EventDecl};
+ghost use Rattle.wave_tables.specs.Scope.{timed};
+ghost use Rattle.wave_tables.specs.Lineage.{AreWhole, IsPeriod, is_there};
+ghost use Rattle.wave_tables.specs.Check.{IsAt, wave_fault, reference_fault, late_read};
+
+use crate::lineage::{Whole, table_of};
+use crate::scope::Scope;
+use crate::times::{ReadEvent, ReadTime};
+use crate::trouble::Trouble;
+use std::alloc::Global;
+use stil_ast::{EventDecl, Named, SigRef, SignalWaves, StilKind, WaveDecl};
+
+/// Whether a table is there.
+fn is_there(wholes: &[Option<Whole>], table: usize) -> bool
+    ensures { result ≡ is_there wholes.now table }
+{
+    wholes.get(table).is_some_and(|whole| whole.is_some())
+}
+
+/// Refuses the name of an unknown table, and of one that leads into a cycle.
+fn check_inherit(scope: &Scope, wholes: &[Option<Whole>], named: &Named) -> Result<(), Trouble>
+    requires { AreWhole (timed scope.now) wholes.now }
+    ensures known { OnOk result (inherit_fault (timed scope.now).place (timed scope.now).tables named.now ≡ None) }
+    ensures fault { IfErr result (λ e. IsAt (timed scope.now).place (inherit_fault (timed scope.now).place (timed scope.now).tables named.now) e) }
+{
+    match table_of(scope.tables(), named.name.as_slice()) {
+        None => Err(Trouble::At(StilKind::UnknownName, named.line)),
+        Some(table) => {
+            if is_there(wholes, table) {
+                Ok(())
+            } else {
+                Err(Trouble::At(StilKind::Cyclic, named.line))
+            }
+        }
+    }
+}
+
+/// The period of a table, which is to be there, a whole number from 1 to 10^12.
+pub(crate) fn check_period(
+    scope: &Scope,
+    period: Option<ReadTime>,
+    line: u32,
+) -> Result<u64, Trouble>
+    ensures fits { IfOk result (λ time. (text : Option Quoted) (rest : ℤ → Option StilFault) → IsPeriod (timed scope.now) text period
+        → with_period (timed scope.now) line text rest ≡ rest (pos time)) }
+    ensures fault { IfErr result (λ e. (text : Option Quoted) (rest : ℤ → Option StilFault) → IsPeriod (timed scope.now) text period
+        → IsAt (timed scope.now).place (with_period (timed scope.now) line text rest) e) }
+{
+    match period {
+        None => Err(Trouble::At(StilKind::NoPeriod, line)),
+        Some(read) => match read.time {
+            Err(kind) => Err(Trouble::At(kind, read.line)),
+            Ok(time) => {
+                if 1 <= time && time <= 1_000_000_000_000 {
+                    Ok(time as u64)
+                } else {
+                    Err(Trouble::At(StilKind::OutOfRange, read.line))
+                }
+            }
+        },
+    }
+}
+
+/// Refuses the first name of an unknown table, or of one that leads into a cycle.
+pub(crate) fn check_inherits(
+    scope: &Scope,
+    wholes: &[Option<Whole>],
+    inherits: &[Named],
+) -> Result<(), Trouble>
+    requires { AreWhole (timed scope.now) wholes.now }
+    ensures known { OnOk result (first_in (inherit_fault (timed scope.now).place (timed scope.now).tables) inherits.now ≡ None) }
+    ensures fault { IfErr result (λ e. IsAt (timed scope.now).place (first_in (inherit_fault (timed scope.now).place (timed scope.now).tables) inherits.now) e) }
+{
+    for named in inherits {
+        match check_inherit(scope, wholes, named) {
+            Ok(()) => {}
+            Err(trouble) => return Err(trouble),
+        }
+    }
+    Ok(())
+}
+
+/// Judges an event behind one at `before`; its time.
+fn check_event(
+    alloc: Global,
+    scope: &Scope,
+    period: u64,
+    before: u64,
+    event: &EventDecl,
+) -> Result<u64, Trouble>
+    ensures fits { IfOk result (λ time. (rest : List EventDecl)
+        → events_fault (timed scope.now) (pos period) (pos before) (event.now ∷ rest) ≡ events_fault (timed scope.now) (pos period) (pos time) rest) }
+    ensures fault { IfErr result (λ e. (rest : List EventDecl)
+        → IsAt (timed scope.now).place (events_fault (timed scope.now) (pos period) (pos before) (event.now ∷ rest)) e) }
+{
+    let read = scope.time(alloc, &event.time)?;
+    match read.time {
+        Err(kind) => Err(Trouble::At(kind, read.line)),
+        Ok(time) => {
+            if time < 0 || time >= i128::from(period) {
+                Err(Trouble::At(StilKind::EventOutside, read.line))
+            } else if time < i128::from(before) {
+                Err(Trouble::At(StilKind::EventOrder, read.line))
+            } else {
+                Ok(time as u64)
+            }
+        }
+    }
+}
+
+/// Judges the events of a waveform.
+fn check_events(
+    alloc: Global,
+    scope: &Scope,
+    period: u64,
+    events: &[EventDecl],
+) -> Result<(), Trouble>
+    ensures fits { OnOk result (events_fault (timed scope.now) (pos period) (pos 0) events.now ≡ None) }
+    ensures fault { IfErr result (λ e. IsAt (timed scope.now).place (events_fault (timed scope.now) (pos period) (pos 0) events.now) e) }
+{
+    let mut before = 0;
+    for event in events {
+        match check_event(alloc, scope, period, before, event) {
+            Ok(time) => before = time,
+            Err(trouble) => return Err(trouble),
+        }
+    }
+    Ok(())
+}
+
+/// Judges the waveforms behind a reference.
+fn check_waves(alloc: Global, scope: &Scope, period: u64, waves: &[WaveDecl]) -> Result<(), Trouble>
+    ensures fits { OnOk result (first_in (wave_fault (timed scope.now) (pos period)) waves.now ≡ None) }
+    ensures fault { IfErr result (λ e. IsAt (timed scope.now).place (first_in (wave_fault (timed scope.now) (pos period)) waves.now) e) }
+{
+    for wave in waves {
+        match check_events(alloc, scope, period, wave.events.as_slice()) {
+            Ok(()) => {}
+            Err(trouble) => return Err(trouble),
+        }
+    }
+    Ok(())
+}
+
+/// The line of a reference: its own only where it is a text.
+fn line_of(signals: &SignalWaves) -> u32
+    ensures { result ≡ line_of signals.now.reference signals.now.line }
+{
+    match &signals.reference {
+        SigRef::Name(_name) => signals.line,
+        SigRef::Group(text) => text.line,
+    }
+}
+
+/// Judges a reference in Waveforms.
+fn check_reference(alloc: Global, scope: &Scope, signals: &SignalWaves) -> Result<(), Trouble>
+    ensures known { OnOk result (reference_fault (timed scope.now) signals.now ≡ None) }
+    ensures fault { IfErr result (λ e. IsAt (timed scope.now).place (reference_fault (timed scope.now) signals.now) e) }
+{
+    match scope.kind(alloc, &signals.reference) {
+        Ok(None) => Ok(()),
+        Ok(Some(kind)) => Err(Trouble::At(kind, line_of(signals))),
+        Err(_) => Err(Trouble::NoMemory),
+    }
+}
+
+/// Judges a reference in Waveforms, and then the waveforms behind it.
+fn check_signal(
+    alloc: Global,
+    scope: &Scope,
+    period: u64,
+    signals: &SignalWaves,
+) -> Result<(), Trouble>
+    ensures fits { OnOk result (signal_fault (timed scope.now) (pos period) signals.now ≡ None) }
+    ensures fault { IfErr result (λ e. IsAt (timed scope.now).place (signal_fault (timed scope.now) (pos period) signals.now) e) }
+{
+    match check_reference(alloc, scope, signals) {
+        Ok(()) => check_waves(alloc, scope, period, signals.waves.as_slice()),
+        Err(trouble) => Err(trouble),
+    }
+}
+
+/// Judges a table's own waveforms in text order.
+pub(crate) fn check_signals(
+    alloc: Global,
+    scope: &Scope,
+    period: u64,
+    list: &[SignalWaves],
+) -> Result<(), Trouble>
+    ensures fits { OnOk result (first_in (signal_fault (timed scope.now) (pos period)) list.now ≡ None) }
+    ensures fault { IfErr result (λ e. IsAt (timed scope.now).place (first_in (signal_fault (timed scope.now) (pos period)) list.now) e) }
+{
+    for signals in list {
+        match check_signal(alloc, scope, period, signals) {
+            Ok(()) => {}
+            Err(trouble) => return Err(trouble),
+        }
+    }
+    Ok(())
+}
+
+/// Refuses the first event of an inherited waveform that isn't below the period. A time with a fault is left to its own table.
+pub(crate) fn check_late(period: u64, events: &[ReadEvent]) -> Result<(), Trouble>
+    ensures early { OnOk result ((place : Place) → first_in (late_read place (pos period)) events.now ≡ None) }
+    ensures late { IfErr result (λ e. (place : Place) → IsAt place (first_in (late_read place (pos period)) events.now) e) }
+{
+    for event in events {
+        if is_late(period, event) {
+            return Err(Trouble::At(StilKind::EventOutside, event.time.line));
+        }
+    }
+    Ok(())
+}
+
+/// Whether an event isn't below the period.
+fn is_late(period: u64, event: &ReadEvent) -> bool
+    ensures late { (place : Place) → late_read place (pos period) event.now
+        ≡ (if result then Some (fault_at (on_line place event.now.time.line) EventOutside) else None) }
+{
+    match event.time.time {
+        Ok(time) => time >= i128::from(period),
+        Err(_kind) => false,
+    }
+}

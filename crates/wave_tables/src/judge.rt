@@ -1,0 +1,160 @@
+//! The first fault of tables.
+
+ghost use Rattle.std.specs.Prelude.{◌≡◌, Some, None, pos, map, slice_get, slice_index_or, IfOk, IfErr, IfSome, OnOk};
+ghost use Rattle.stil_ast.specs.Meaning.Tables.{lineage};
+ghost use Rattle.stil_ast.specs.Faults.TableFaults.{table_fault, tables_fault};
+ghost use Rattle.wave_tables.specs.Scope.{timed};
+ghost use Rattle.wave_tables.specs.Lineage.{HasOf, AreWhole};
+ghost use Rattle.wave_tables.specs.ReadWaves.{read_waves};
+ghost use Rattle.wave_tables.specs.Standing.{MapsTable};
+ghost use Rattle.wave_tables.specs.Check.{IsAt, count_fault, behind_period, behind_names, with_waves, IsFree, IsRefusedBy};
+
+use crate::check::{check_inherits, check_period, check_signals};
+use crate::lineage::Whole;
+use crate::rows::slot_count;
+use crate::scope::Scope;
+use crate::source::Source;
+use crate::standing::{Heir, check_inherited};
+use crate::times::ReadWave;
+use crate::trouble::Trouble;
+use std::alloc::Global;
+use stil_ast::{StilKind, TableDecl};
+use tester_types::Items;
+use text_bytes::MOST_WAVES;
+
+/// The table of this number, with all that it has.
+pub(crate) fn whole_at(wholes: &[Option<Whole>], number: usize) -> Option<&Whole>
+    ensures { IfSome result (λ whole. slice_index_or wholes.now number None ≡ Some whole.now) }
+{
+    match wholes.get(number) {
+        Some(Some(whole)) => Some(whole),
+        Some(None) | None => None,
+    }
+}
+
+/// How many waves there are with those of a table, where `before` stand before it; refuses too many.
+fn check_count(
+    scope: &Scope,
+    number: usize,
+    table: &TableDecl,
+    slots: &[Option<Source>],
+    before: u64,
+) -> Result<u64, Trouble>
+    requires maps { MapsTable (timed scope.now) number slots.now }
+    ensures total { IfOk result (λ total. total ≡ with_waves (timed scope.now) before number) }
+    ensures fits { OnOk result (IsFree (timed scope.now) before number (λ base. count_fault (timed scope.now) base (number, table.now))) }
+    ensures fault { IfErr result (IsRefusedBy (timed scope.now) before number (λ base. count_fault (timed scope.now) base (number, table.now))) }
+{
+    let signals = scope.short_count()?;
+    let count = slot_count(slots, signals)?;
+    let total = before.checked_add(count).ok_or(Trouble::NoMemory)?;
+    if total <= MOST_WAVES as u64 {
+        Ok(total)
+    } else {
+        Err(Trouble::At(StilKind::TooLarge, table.line))
+    }
+}
+
+/// Judges what stands behind the period of a table; how many waves there are with its own.
+fn check_behind_period(
+    alloc: Global,
+    scope: &Scope,
+    heir: &Heir,
+    table: &TableDecl,
+    reads: &[Items<ReadWave>],
+    before: u64,
+) -> Result<u64, Trouble>
+    requires maps { MapsTable (timed scope.now) heir.now.number heir.now.slots.now }
+    requires reads { reads.now ≡ map (read_waves (timed scope.now)) (timed scope.now).tables }
+    ensures total { IfOk result (λ total. total ≡ with_waves (timed scope.now) before heir.now.number) }
+    ensures fits { OnOk result (IsFree (timed scope.now) before heir.now.number (λ base. behind_period (timed scope.now) base (heir.now.number, table.now) (pos heir.now.period))) }
+    ensures fault { IfErr result (IsRefusedBy (timed scope.now) before heir.now.number (λ base. behind_period (timed scope.now) base (heir.now.number, table.now) (pos heir.now.period))) }
+{
+    match check_signals(alloc, scope, heir.period, table.waveforms.as_slice()) {
+        Err(trouble) => Err(trouble),
+        Ok(()) => match check_inherited(alloc, scope, heir, reads) {
+            Err(trouble) => Err(trouble),
+            Ok(()) => check_count(scope, heir.number, table, heir.slots, before),
+        },
+    }
+}
+
+/// Judges what stands behind the names that a table inherits; how many waves there are with its own.
+fn check_whole(
+    alloc: Global,
+    scope: &Scope,
+    reads: &[Items<ReadWave>],
+    number: usize,
+    table: &TableDecl,
+    whole: &Whole,
+    before: u64,
+) -> Result<u64, Trouble>
+    requires has { HasOf (timed scope.now) (lineage (timed scope.now).tables number) whole.now }
+    requires reads { reads.now ≡ map (read_waves (timed scope.now)) (timed scope.now).tables }
+    ensures total { IfOk result (λ total. total ≡ with_waves (timed scope.now) before number) }
+    ensures fits { OnOk result (IsFree (timed scope.now) before number (λ base. behind_names (timed scope.now) base (number, table.now))) }
+    ensures fault { IfErr result (IsRefusedBy (timed scope.now) before number (λ base. behind_names (timed scope.now) base (number, table.now))) }
+{
+    match check_period(scope, whole.period, table.line) {
+        Err(trouble) => Err(trouble),
+        Ok(period) => {
+            let slots = whole.slots.as_slice();
+            let heir = Heir {
+                number,
+                period,
+                slots,
+            };
+            check_behind_period(alloc, scope, &heir, table, reads, before)
+        }
+    }
+}
+
+/// Judges the table of this number; how many waves there are with its own.
+fn check_table(
+    alloc: Global,
+    scope: &Scope,
+    wholes: &[Option<Whole>],
+    reads: &[Items<ReadWave>],
+    number: usize,
+    table: &TableDecl,
+    before: u64,
+) -> Result<u64, Trouble>
+    requires wholes { AreWhole (timed scope.now) wholes.now }
+    requires reads { reads.now ≡ map (read_waves (timed scope.now)) (timed scope.now).tables }
+    requires at { slice_get (timed scope.now).tables number ≡ Some table.now }
+    ensures total { IfOk result (λ total. total ≡ with_waves (timed scope.now) before number) }
+    ensures fits { OnOk result (IsFree (timed scope.now) before number (λ base. table_fault (timed scope.now) base (number, table.now))) }
+    ensures fault { IfErr result (IsRefusedBy (timed scope.now) before number (λ base. table_fault (timed scope.now) base (number, table.now))) }
+{
+    match check_inherits(scope, wholes, table.inherits.as_slice()) {
+        Err(trouble) => Err(trouble),
+        Ok(()) => match whole_at(wholes, number) {
+            Some(whole) => check_whole(alloc, scope, reads, number, table, whole, before),
+            None => Err(Trouble::NoMemory),
+        },
+    }
+}
+
+/// Refuses the first fault of the tables in text order, where the executives before have so many waves.
+pub(crate) fn check_tables(
+    alloc: Global,
+    scope: &Scope,
+    wholes: &[Option<Whole>],
+    reads: &[Items<ReadWave>],
+    before: u64,
+) -> Result<(), Trouble>
+    requires wholes { AreWhole (timed scope.now) wholes.now }
+    requires reads { reads.now ≡ map (read_waves (timed scope.now)) (timed scope.now).tables }
+    ensures fits { OnOk result (tables_fault (timed scope.now) before ≡ None) }
+    ensures fault { IfErr result (λ e. IsAt (timed scope.now).place (tables_fault (timed scope.now) before) e) }
+{
+    let tables = scope.tables();
+    let mut total = before;
+    for number in 0..tables.len() {
+        match check_table(alloc, scope, wholes, reads, number, tables[number], total) {
+            Ok(next) => total = next,
+            Err(trouble) => return Err(trouble),
+        }
+    }
+    Ok(())
+}

@@ -1,0 +1,28 @@
+//! What the tables of an executive are made from.
+
+ghost use Rattle.std.specs.Prelude.{◌≡◌, true};
+ghost use Rattle.stil_ast.specs.Meaning.Executive.{exec_tables, exec_value};
+ghost use Rattle.stil_ast.specs.Meaning.Signals.{names_of};
+ghost use Rattle.signal_groups.specs.Table.{table_of};
+ghost use Rattle.time_expr.specs.TimeIn.{AreNames};
+ghost use Rattle.time_expr.specs.TimesOf.{times_of};
+ghost use Rattle.wave_tables.specs.Behind.{behind};
+ghost use Rattle.wave_tables.specs.Letters.{are_lettered};
+
+use signal_groups::SignalTable;
+use stil_ast::{Blocks, ExecDecl, TableDecl};
+use time_expr::Vars;
+
+/// The blocks, the executive, its tables in text order, the signals of the text, and the variables of the executive.
+#[derive(Drop)]
+pub(crate) struct Scope<'a> {
+    pub(crate) blocks: &'a Blocks,
+    pub(crate) exec: &'a ExecDecl,
+    pub(crate) tables: Vec<&'a TableDecl>,
+    pub(crate) signals: &'a SignalTable,
+    pub(crate) vars: &'a Vars,
+    ghost in_order: { behind tables.items ≡ exec_tables blocks.now exec.now },
+    ghost all_signals: { signals.now ≡ table_of (names_of blocks.now) },
+    ghost lettered: { are_lettered (exec_tables blocks.now exec.now) ≡ true },
+    ghost all_vars: { AreNames (exec_value times_of blocks.now exec.now) vars.now },
+}

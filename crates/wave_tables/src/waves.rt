@@ -1,0 +1,111 @@
+//! The waves of a table.
+
+ghost use Rattle.std.specs.Prelude.{◌≡◌, ◌==◌, ◌++◌, filter_map, IfOk, OnOk};
+ghost use Rattle.std.specs.List.{position_or_len};
+ghost use Rattle.std.specs.Option.{option_map, option_to_list};
+ghost use Rattle.stil_ast.specs.Meaning.Tables.{act_of};
+ghost use Rattle.wave_tables.specs.Made.{event_read, read_at, wave_read};
+
+use crate::source::Source;
+use crate::times::{ReadEvent, ReadWave};
+use std::alloc::{AllocError, Global};
+use tester_types::{Act, Event, EventList, Items, Wave};
+
+/// The act of an event for a character: one act is for all characters, else there is one for each.
+fn act_of(letters: &[u8], letter: u8, acts: &[Act]) -> Option<Act>
+    ensures { result ≡ act_of letters.now letter acts.now }
+{
+    match acts {
+        [] => None,
+        [act] => Some(*act),
+        [_, _, ..] => acts.get(place_of(letters, letter)).copied(),
+    }
+}
+
+/// The place of a character, or how many there are.
+fn place_of(letters: &[u8], letter: u8) -> usize
+    ensures { result ≡ position_or_len (λ c. c == letter) letters.now }
+{
+    letters.iter().take_while(|c| **c != letter).count()
+}
+
+/// An event for a character. Its time was judged before: one that is none of a cycle is answered as want of memory.
+fn event_for(letters: &[u8], letter: u8, event: &ReadEvent) -> Result<Option<Event>, AllocError>
+    ensures { IfOk result (λ found. found ≡ event_read letters.now letter event.now) }
+{
+    match (
+        event.time.time,
+        act_of(letters, letter, event.acts.as_slice()),
+    ) {
+        (Ok(time), Some(act)) => {
+            if 0 <= time && time <= 1_000_000_000_000 {
+                Ok(Some(Event {
+                    time: time as u64,
+                    act,
+                }))
+            } else {
+                Err(AllocError)
+            }
+        }
+        (Ok(_time), None) => Ok(None),
+        (Err(_kind), _act) => Ok(None),
+    }
+}
+
+/// Appends an event that is there.
+fn push_found(list: &mut Vec<Event>, found: Option<Event>) -> Result<(), AllocError>
+    ensures { OnOk result (list.new.items ≡ list.old.items ++ option_to_list found) }
+{
+    if let Some(event) = found {
+        list.push(event)?;
+    }
+    Ok(())
+}
+
+/// The events of a waveform for one of its characters, in written order.
+fn events_for(alloc: Global, letter: u8, wave: &ReadWave) -> Result<EventList, AllocError>
+    ensures { IfOk result (λ list. list ≡ filter_map (event_read wave.now.letters letter) wave.now.events) }
+{
+    let mut list = Vec::new(alloc);
+    for event in wave.events.as_slice() {
+        push_found(
+            &mut list,
+            event_for(wave.letters.as_slice(), letter, event)?,
+        )?;
+    }
+    Ok(EventList::from_vec(list))
+}
+
+/// The waveform that a source names, where there is one.
+fn read_at(reads: &[Items<ReadWave>], source: Source) -> Option<&ReadWave>
+    ensures { option_map (λ w. w.now) result ≡ read_at reads.now source }
+{
+    match reads.get(usize::from(source.table)) {
+        Some(table) => table.as_slice().get(source.number as usize),
+        None => None,
+    }
+}
+
+/// Appends the wave of a signal and a character, if a waveform counts for them.
+pub(crate) fn push_wave(
+    alloc: Global,
+    waves: &mut Vec<Wave>,
+    reads: &[Items<ReadWave>],
+    signal: u16,
+    letter: u8,
+    source: Option<Source>,
+) -> Result<(), AllocError>
+    ensures { OnOk result (waves.new.items ≡ waves.old.items ++ option_to_list (wave_read reads.now signal letter source)) }
+{
+    if let Some(place) = source {
+        if let Some(read) = read_at(reads, place) {
+            let events = events_for(alloc, letter, read)?;
+            waves.push(Wave {
+                signal,
+                letter,
+                events,
+            })?;
+        }
+    }
+    Ok(())
+}
