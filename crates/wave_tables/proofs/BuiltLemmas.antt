@@ -14,9 +14,13 @@ use Rattle.tester_types.specs.declared.wave.Table.{Table}
 use Rattle.time_expr.specs.TimesOf.{times_of}
 use Rattle.wave_tables.specs.Built.{IsBuilt}
 
+not_both : {o : Option StilFault} {f : StilFault} → o ≡ None → o ≡ Some f → ⊥
+not_both e g = cc
+
 module _ (fault : Option StilFault) (tables : List Table) where
   -- tables are only given where there is no fault
-  pub is_found : (r : Result (List Table) StilRefusal) → IsBuilt fault tables r → IfOk r (λ set. (fault ≡ None) × (set ≡ tables))
+  pub is_found : (r : Result (List Table) StilRefusal) → IsBuilt fault tables r
+      → IfOk r (λ set. (fault ≡ None) × (set ≡ tables))
   is_found (Ok set) h = h
   is_found (Err e) h = tt
 
@@ -26,9 +30,6 @@ module _ (fault : Option StilFault) (tables : List Table) where
   only_tables (Ok set) h none = h.1
   only_tables (Err refusal.NoMemory) h none = refl
   only_tables (Err (refusal.Fault f)) h none = absurd (not_both none h)
-    where
-      not_both : {o : Option StilFault} {f : StilFault} → o ≡ None → o ≡ Some f → ⊥
-      not_both e g = cc
 
   -- a refusal is by the fault
   pub is_fault : (r : Result (List Table) StilRefusal) → IsBuilt fault tables r
@@ -41,9 +42,6 @@ module _ (fault : Option StilFault) (tables : List Table) where
   pub is_refused : (r : Result (List Table) StilRefusal) → IsBuilt fault tables r → (f : StilFault) → fault ≡ Some f
       → MatchResult r (λ _. ⊥) (λ e. (e ≡ refusal.NoMemory) ⊎ (e ≡ refusal.Fault f))
   is_refused (Ok set) h f some = absurd (not_both h.0 some)
-    where
-      not_both : {o : Option StilFault} {f : StilFault} → o ≡ None → o ≡ Some f → ⊥
-      not_both e g = cc
   is_refused (Err refusal.NoMemory) h f some = inl refl
   is_refused (Err (refusal.Fault g)) h f some = inr (same h some)
     where
@@ -51,12 +49,14 @@ module _ (fault : Option StilFault) (tables : List Table) where
       same e k = cc
 
 -- the answer for the executive at a place is that for what is found there
-pub built_at : (blocks : Blocks) (before : ℕ) (r : Result (List Table) StilRefusal) (exec : ℕ) (d e : ExecDecl) (list : List ExecDecl)
+pub built_at : (blocks : Blocks) (before : ℕ) (r : Result (List Table) StilRefusal) (exec : ℕ) (d e : ExecDecl)
+    (list : List ExecDecl)
     → list ≡ blocks.executives → exec < length list → d ≡ get_or list exec d → slice_get blocks.executives exec ≡ Some e
     → IsBuilt (tables_fault (timed_of times_of blocks d) before) (table_list times_of blocks d) r
     → IsBuilt (tables_fault (timed_of times_of blocks e) before) (table_list times_of blocks e) r
 built_at blocks before r exec d e list are within is at built =
     let here : Some d ≡ Some e =
     ap Some is ∙ sym (slice_get-get_or list exec d within) ∙ ap (λ (l : List ExecDecl). slice_get l exec) are ∙ at in
-    subst (λ (x : ExecDecl). IsBuilt (tables_fault (timed_of times_of blocks x) before) (table_list times_of blocks x) r)
+    subst (λ (x : ExecDecl). IsBuilt (tables_fault (timed_of times_of blocks x) before) (table_list times_of blocks x)
+    r)
     (same_Some d e here) built

@@ -1,5 +1,8 @@
 -- The first fault of items that are judged one after another.
 use Rattle.std.proofs.Common.{◌≡◌, ℕ, suc, ◌+◌, ◌<◌, ◌≤◌, List, [], ◌∷◌, ◌++◌, Option, Some, None, length, get_or, drop, refl, sym, ap, ◌∙◌, arith}
+use Rattle.std.specs.List.{enumerate_from}
+use Rattle.std.specs.Prelude.{slice_get}
+use Rattle.wave_tables.proofs.TakenLemmas.{drop_found}
 use Rattle.std.proofs.Math.Seq.{drop-cons}
 use Rattle.std.proofs.lemmas.List.{drop_all}
 use Rattle.std.specs.Prelude.{Result, Ok, Err, OnOk, IfErr}
@@ -26,7 +29,8 @@ at_first place a b NoMemory h = tt
 at_first place a b (At kind line) h = ap (λ (o : Option StilFault). or_else o b) h
 
 -- the fault of the second, where the first has none
-pub at_second : (place : Place) (a b : Option StilFault) (e : Trouble) → a ≡ None → IsAt place b e → IsAt place (or_else a b) e
+pub at_second : (place : Place) (a b : Option StilFault) (e : Trouble) → a ≡ None → IsAt place b e
+    → IsAt place (or_else a b) e
 at_second place a b e none h = rw none h
 
 -- none of two
@@ -55,7 +59,8 @@ first_in-append f (x ∷ xs) ys =
     ap (or_else (f x)) (first_in-append f xs ys) ∙ or_else-both (f x) (first_in f xs) (first_in f ys)
 
 -- none of those before has a fault: the first is that of those from here on
-pub first_step : {X : Type 0} (f : X → Option StilFault) (xs : List X) (i : ℕ) (x : X) → i < length xs → x ≡ get_or xs i x
+pub first_step : {X : Type 0} (f : X → Option StilFault) (xs : List X) (i : ℕ) (x : X) → i < length xs
+    → x ≡ get_or xs i x
     → first_in f (drop i xs) ≡ or_else (f x) (first_in f (drop (i + 1) xs))
 first_step f xs i x within is =
     let next : suc i ≡ i + 1 = omega arith in
@@ -64,10 +69,12 @@ first_step f xs i x within is =
     ∙ ap (λ (n : ℕ). or_else (f x) (first_in f (drop n xs))) next
 
 -- an item without a fault
-pub first_more : {X : Type 0} (f : X → Option StilFault) (xs : List X) (i : ℕ) (x : X) → i < length xs → x ≡ get_or xs i x
+pub first_more : {X : Type 0} (f : X → Option StilFault) (xs : List X) (i : ℕ) (x : X) → i < length xs
+    → x ≡ get_or xs i x
     → first_in f xs ≡ first_in f (drop i xs) → f x ≡ None → first_in f xs ≡ first_in f (drop (i + 1) xs)
 first_more f xs i x within is before none =
-    before ∙ first_step f xs i x within is ∙ ap (λ (o : Option StilFault). or_else o (first_in f (drop (i + 1) xs))) none
+    before ∙ first_step f xs i x within is
+    ∙ ap (λ (o : Option StilFault). or_else o (first_in f (drop (i + 1) xs))) none
 
 -- an item with a fault
 pub first_found : {X : Type 0} (f : X → Option StilFault) (xs : List X) (i : ℕ) (x : X) (place : Place) (e : Trouble)
@@ -80,3 +87,9 @@ first_found f xs i x place e within is before at =
 pub first_none : {X : Type 0} (f : X → Option StilFault) (xs : List X) (i : ℕ) → length xs ≤ i
     → first_in f xs ≡ first_in f (drop i xs) → first_in f xs ≡ None
 first_none f xs i past before = before ∙ ap (first_in f) (drop_all i xs past)
+
+-- the first of numbered items, from one on
+pub first_numbered : {X : Type 0} (f : ℕ × X → Option StilFault) (xs : List X) (i : ℕ) (x : X) → slice_get xs i ≡ Some x
+    → first_in f (enumerate_from i (drop i xs))
+    ≡ or_else (f (i, x)) (first_in f (enumerate_from (i + 1) (drop (i + 1) xs)))
+first_numbered f xs i x at = ap (λ l. first_in f (enumerate_from i l)) (drop_found xs i x at)

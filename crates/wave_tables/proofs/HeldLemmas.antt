@@ -34,8 +34,10 @@ IsHeld t reads w =
     read_at reads (record { table = w.table; number = w.number })
     ≡ Some (record { letters = w.letters; events = map (read_event t) w.events })
 
-module _ (t : Timed Ratio) (reads : List (List ReadWave)) (k : ℕ) (rs : List ReadWave) (at : slice_get reads k ≡ Some rs) where
-  held_waves : (n : ℕ) (signals : List ℕ) (ws : List WaveDecl) (rest : List ReadWave) → drop n rs ≡ map (read_wave t) ws ++ rest
+module _ (t : Timed Ratio) (reads : List (List ReadWave)) (k : ℕ) (rs : List ReadWave)
+    (at : slice_get reads k ≡ Some rs) where
+  held_waves : (n : ℕ) (signals : List ℕ) (ws : List WaveDecl) (rest : List ReadWave)
+      → drop n rs ≡ map (read_wave t) ws ++ rest
       → All (IsHeld t reads) (numbered_from n (waves_for k signals ws))
   held_waves n signals [] rest e = All-nil (IsHeld t reads)
   held_waves n signals (w ∷ ws) rest e =
@@ -44,21 +46,27 @@ module _ (t : Timed Ratio) (reads : List (List ReadWave)) (k : ℕ) (rs : List R
       (ap (λ (o : Option (List ReadWave)). slice_get (reads_of o) n) at ∙ p.0)
       (held_waves (n + 1) signals ws rest p.1)
 
-  held_list : (n : ℕ) (list : List SignalWaves) → drop n rs ≡ flat_map (λ (s : SignalWaves). map (read_wave t) s.waves) list
+  held_list : (n : ℕ) (list : List SignalWaves)
+      → drop n rs ≡ flat_map (λ (s : SignalWaves). map (read_wave t) s.waves) list
       → All (IsHeld t reads) (numbered_from n (flat_map (own_for t.names k) list))
   held_list n [] e = All-nil (IsHeld t reads)
   held_list n (s ∷ list) e =
       let p = stand_reference t rs n (s ∷ list) s list refl e in
       let each : SignalWaves → List ReadWave = λ s. map (read_wave t) s.waves in
       let split : numbered_from n (own_for t.names k s ++ flat_map (own_for t.names k) list)
-      ≡ numbered_from n (own_for t.names k s) ++ numbered_from (n + length s.waves) (flat_map (own_for t.names k) list) =
+      ≡ numbered_from n (own_for t.names k s)
+      ++ numbered_from (n + length s.waves) (flat_map (own_for t.names k) list) =
       numbered_from-append n (own_for t.names k s) (flat_map (own_for t.names k) list)
-      ∙ ap (λ (m : ℕ). numbered_from n (own_for t.names k s) ++ numbered_from (n + m) (flat_map (own_for t.names k) list)) (length-map s.waves _) in
-      rw split (All-append (IsHeld t reads) (numbered_from n (own_for t.names k s)) (numbered_from (n + length s.waves) (flat_map (own_for t.names k) list))
-      (held_waves n (members t.names s.reference) s.waves (flat_map each list) e) (held_list (n + length s.waves) list p.1))
+      ∙ ap (λ (m : ℕ). numbered_from n (own_for t.names k s)
+      ++ numbered_from (n + m) (flat_map (own_for t.names k) list)) (length-map s.waves _) in
+      rw split (All-append (IsHeld t reads) (numbered_from n (own_for t.names k s))
+      (numbered_from (n + length s.waves) (flat_map (own_for t.names k) list))
+      (held_waves n (members t.names s.reference) s.waves (flat_map each list) e)
+      (held_list (n + length s.waves) list p.1))
 
 -- a table's own waveforms
-own_held : (t : Timed Ratio) (reads : List (List ReadWave)) (k : ℕ) (o : Option TableDecl) → slice_get reads k ≡ option_map (read_waves t) o
+own_held : (t : Timed Ratio) (reads : List (List ReadWave)) (k : ℕ) (o : Option TableDecl)
+    → slice_get reads k ≡ option_map (read_waves t) o
     → All (IsHeld t reads) (own_of t.names k o)
 own_held t reads k None e = All-nil (IsHeld t reads)
 own_held t reads k (Some d) e = held_list t reads k (read_waves t d) e 0 d.waveforms refl
@@ -67,7 +75,8 @@ lineage_held : (t : Timed Ratio) (reads : List (List ReadWave)) → reads ≡ ma
     → All (IsHeld t reads) (flat_map (λ (k : ℕ). own_of t.names k (slice_get t.tables k)) ks)
 lineage_held t reads are [] = All-nil (IsHeld t reads)
 lineage_held t reads are (k ∷ ks) =
-    All-append (IsHeld t reads) (own_of t.names k (slice_get t.tables k)) (flat_map (λ (k : ℕ). own_of t.names k (slice_get t.tables k)) ks)
+    All-append (IsHeld t reads) (own_of t.names k (slice_get t.tables k))
+    (flat_map (λ (k : ℕ). own_of t.names k (slice_get t.tables k)) ks)
     (own_held t reads k (slice_get t.tables k) (ap (λ l. slice_get l k) are ∙ slice_get-map (read_waves t) t.tables k))
     (lineage_held t reads are ks)
 
@@ -86,7 +95,8 @@ one_holds P s c (w ∷ all) h =
     let first : P w = All-get_or P (w ∷ all) 0 w (omega arith) h in
     let others : All P all = All-from_get_or P all w (λ i k. All-get_or P (w ∷ all) (suc i) w (omega arith) h) in
     rw (waveform_of-append (w ∷ []) all s c)
-    (some_or P (waveform_of all s c) (cond (defines s c w) (Some w) None) (one_holds P s c all others) (some_where P (defines s c w) w first))
+    (some_or P (waveform_of all s c) (cond (defines s c w) (Some w) None) (one_holds P s c all others)
+    (some_where P (defines s c w) w first))
 
 timed_same : (r : Result ℤ StilFault) (a : Option Act) → timed_read (kind_met r) a ≡ timed_act r a
 timed_same (Ok time) None = refl
@@ -95,7 +105,8 @@ timed_same (Err fault) a = refl
 
 -- the events of a waveform for a character
 events_same : (t : Timed Ratio) (letters : List ℕ) (c : ℕ) (es : List EventDecl)
-    → filter_map (event_read letters c) (map (read_event t) es) ≡ filter_map (event_of t.times t.vars t.place letters c) es
+    → filter_map (event_read letters c) (map (read_event t) es)
+    ≡ filter_map (event_of t.times t.vars t.place letters c) es
 events_same t letters c [] = refl
 events_same t letters c (e ∷ es) =
     ap (λ (o : Option Event). cons_option o (filter_map (event_read letters c) (map (read_event t) es)))
@@ -107,7 +118,8 @@ held_wave : (t : Timed Ratio) (reads : List (List ReadWave)) (s c : ℕ) (o : Op
 held_wave t reads s c None h = refl
 held_wave t reads s c (Some w) h =
     ap (wave_made s c) h
-    ∙ ap (λ (es : List Event). Some (record { signal = s; letter = c; events = es })) (events_same t w.letters c w.events)
+    ∙ ap (λ (es : List Event). Some (record { signal = s; letter = c; events = es }))
+    (events_same t w.letters c w.events)
 
 -- the wave of the waveform that counts
 pub wave_is : (t : Timed Ratio) (reads : List (List ReadWave)) (table s c : ℕ) → reads ≡ map (read_waves t) t.tables
@@ -115,4 +127,5 @@ pub wave_is : (t : Timed Ratio) (reads : List (List ReadWave)) (table s c : ℕ)
     ≡ wave_with t.times t.vars t.place s c (waveform_of (waveforms t.names t.tables table) s c)
 wave_is t reads table s c are =
     held_wave t reads s c (waveform_of (waveforms t.names t.tables table) s c)
-    (one_holds (IsHeld t reads) s c (waveforms t.names t.tables table) (lineage_held t reads are (lineage t.tables table)))
+    (one_holds (IsHeld t reads) s c (waveforms t.names t.tables table)
+    (lineage_held t reads are (lineage t.tables table)))

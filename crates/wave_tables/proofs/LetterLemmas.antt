@@ -13,7 +13,8 @@ use Rattle.stil_ast.specs.declared.timing.TimingBlock.{TimingBlock}
 use Rattle.wave_tables.specs.Letters.{has_letters, waves_lettered, signals_lettered, are_lettered}
 
 -- what one test tells of each item, the other does
-each_tells : {X : Type 0} (p q : X → Bool) → ((x : X) → p x ≡ true → q x ≡ true) → (xs : List X) → list_all p xs ≡ true → list_all q xs ≡ true
+each_tells : {X : Type 0} (p q : X → Bool) → ((x : X) → p x ≡ true → q x ≡ true) → (xs : List X) → list_all p xs ≡ true
+    → list_all q xs ≡ true
 each_tells p q tells [] h = refl
 each_tells p q tells (x ∷ xs) h =
     let parts = and_parts (p x) (list_all p xs) h in
@@ -34,11 +35,13 @@ signal_lettered s h =
 table_lettered : (t : TableDecl) → is_table_decl t ≡ true → signals_lettered t.waveforms ≡ true
 table_lettered t h =
     let a = and_parts _ _ h in
-    each_tells is_signal_waves (λ (s : SignalWaves). waves_lettered s.waves) signal_lettered t.waveforms (and_parts _ _ a.0).1
+    each_tells is_signal_waves (λ (s : SignalWaves). waves_lettered s.waves) signal_lettered t.waveforms
+    (and_parts _ _ a.0).1
 
 block_lettered : (t : TimingBlock) → is_timing_block t ≡ true → are_lettered t.tables ≡ true
 block_lettered t h =
-    each_tells is_table_decl (λ (t : TableDecl). signals_lettered t.waveforms) table_lettered t.tables (and_parts _ _ h).1
+    each_tells is_table_decl (λ (t : TableDecl). signals_lettered t.waveforms) table_lettered t.tables
+    (and_parts _ _ h).1
 
 -- the tables of Timing blocks of a name
 pub named_lettered : (timings : List TimingBlock) (name : List ℕ) → list_all is_timing_block timings ≡ true
@@ -46,8 +49,10 @@ pub named_lettered : (timings : List TimingBlock) (name : List ℕ) → list_all
 named_lettered [] name h = refl
 named_lettered (t ∷ timings) name h =
     let parts = and_parts (is_timing_block t) (list_all is_timing_block timings) h in
-    list_all-append (λ (t : TableDecl). signals_lettered t.waveforms) (cond (same t.name name) t.tables []) (tables_named timings name)
-    ∙ ap (λ (b : Bool). b && are_lettered (tables_named timings name)) (either (same t.name name) t.tables (block_lettered t parts.0))
+    list_all-append (λ (t : TableDecl). signals_lettered t.waveforms) (cond (same t.name name) t.tables [])
+    (tables_named timings name)
+    ∙ ap (λ (b : Bool). b && are_lettered (tables_named timings name))
+    (either (same t.name name) t.tables (block_lettered t parts.0))
     ∙ named_lettered timings name parts.1
   where
     either : (b : Bool) (tables : List TableDecl) → are_lettered tables ≡ true → are_lettered (cond b tables []) ≡ true

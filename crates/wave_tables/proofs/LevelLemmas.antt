@@ -12,7 +12,8 @@ use Rattle.stil_ast.specs.Meaning.Tables.{table_of, inherited_by, inherited, goe
 use Rattle.stil_ast.specs.declared.timing.TableDecl.{TableDecl}
 
 -- where a test fails nowhere else, it fails
-any_fails : (p q : ℕ → Bool) → ((k : ℕ) → p k ≡ false → q k ≡ false) → (ks : List ℕ) → list_any p ks ≡ false → list_any q ks ≡ false
+any_fails : (p q : ℕ → Bool) → ((k : ℕ) → p k ≡ false → q k ≡ false) → (ks : List ℕ) → list_any p ks ≡ false
+    → list_any q ks ≡ false
 any_fails p q h [] e = refl
 any_fails p q h (k ∷ ks) e =
     let parts = or_parts (p k) (list_any p ks) e in
@@ -46,24 +47,36 @@ all_not p (k ∷ ks) = both (p k) (list_all (λ k. not (p k)) ks) (list_any p ks
     both false b c e = e
 
 -- tests that agree on a list's items
-pub all_same : (p q : ℕ → Bool) (n : ℕ) → ((k : ℕ) → k < n → p k ≡ q k) → (ks : List ℕ) → list_all (λ k. ltb k n) ks ≡ true
+pub all_same : (p q : ℕ → Bool) (n : ℕ) → ((k : ℕ) → k < n → p k ≡ q k) → (ks : List ℕ)
+    → list_all (λ k. ltb k n) ks ≡ true
     → list_all p ks ≡ list_all q ks
 all_same p q n h [] within = refl
 all_same p q n h (k ∷ ks) within =
     let parts = and_parts (ltb k n) (list_all (λ k. ltb k n) ks) within in
-    ap (λ (b : Bool). b && list_all p ks) (h k (ltb-true k n parts.0)) ∙ ap (λ (b : Bool). q k && b) (all_same p q n h ks parts.1)
+    ap (λ (b : Bool). b && list_all p ks) (h k (ltb-true k n parts.0))
+    ∙ ap (λ (b : Bool). q k && b) (all_same p q n h ks parts.1)
 
 -- the same of whether one passes
-pub any_same : (p q : ℕ → Bool) (n : ℕ) → ((k : ℕ) → k < n → p k ≡ q k) → (ks : List ℕ) → list_all (λ k. ltb k n) ks ≡ true
+pub any_same : (p q : ℕ → Bool) (n : ℕ) → ((k : ℕ) → k < n → p k ≡ q k) → (ks : List ℕ)
+    → list_all (λ k. ltb k n) ks ≡ true
     → list_any p ks ≡ list_any q ks
 any_same p q n h [] within = refl
 any_same p q n h (k ∷ ks) within =
     let parts = and_parts (ltb k n) (list_all (λ k. ltb k n) ks) within in
-    ap (λ (b : Bool). b || list_any p ks) (h k (ltb-true k n parts.0)) ∙ ap (λ (b : Bool). q k || b) (any_same p q n h ks parts.1)
+    ap (λ (b : Bool). b || list_any p ks) (h k (ltb-true k n parts.0))
+    ∙ ap (λ (b : Bool). q k || b) (any_same p q n h ks parts.1)
 
 -- a table's number is one of theirs
-number_within : (tables : List TableDecl) (name : List ℕ) (k : ℕ) → table_of tables name ≡ Some k → ltb k (length tables) ≡ true
-number_within tables name k e = grind (arith, nat_tests, cond_some (ltb (position_or_len (λ (t : TableDecl). same t.name name) tables) (length tables)) (position_or_len (λ (t : TableDecl). same t.name name) tables) k e)
+number_within : (tables : List TableDecl) (name : List ℕ) (k : ℕ) → table_of tables name ≡ Some k
+    → ltb k (length tables) ≡ true
+number_within tables name k e =
+    grind (
+      arith,
+      nat_tests,
+      cond_some
+          (ltb (position_or_len (λ (t : TableDecl). same t.name name) tables) (length tables))
+          (position_or_len (λ (t : TableDecl). same t.name name) tables) k e,
+    )
 
 -- one found, or none
 one_within : (tables : List TableDecl) (name : List ℕ) (o : Option ℕ) → table_of tables name ≡ o → (ks : List ℕ)
@@ -76,18 +89,22 @@ found_within : (tables : List TableDecl) (names : List Named)
     → list_all (λ i. ltb i (length tables)) (filter_map (λ (i : Named). table_of tables i.name) names) ≡ true
 found_within tables [] = refl
 found_within tables (i ∷ names) =
-    one_within tables i.name (table_of tables i.name) refl (filter_map (λ (i : Named). table_of tables i.name) names) (found_within tables names)
+    one_within tables i.name (table_of tables i.name) refl (filter_map (λ (i : Named). table_of tables i.name) names)
+    (found_within tables names)
 
-within_by : (tables : List TableDecl) (o : Option TableDecl) → list_all (λ i. ltb i (length tables)) (inherited_by tables o) ≡ true
+within_by : (tables : List TableDecl) (o : Option TableDecl)
+    → list_all (λ i. ltb i (length tables)) (inherited_by tables o) ≡ true
 within_by tables None = refl
 within_by tables (Some t) = found_within tables t.inherits
 
 -- inherited tables are tables
-pub inherited_within : (tables : List TableDecl) (k : ℕ) → list_all (λ i. ltb i (length tables)) (inherited tables k) ≡ true
+pub inherited_within : (tables : List TableDecl) (k : ℕ)
+    → list_all (λ i. ltb i (length tables)) (inherited tables k) ≡ true
 inherited_within tables k = within_by tables (slice_get tables k)
 
 -- once a round adds nothing, no round does
-pub stays : (tables : List TableDecl) (n : ℕ) → ((k : ℕ) → k < length tables → goes_on tables n k ≡ goes_on tables (suc n) k)
+pub stays : (tables : List TableDecl) (n : ℕ)
+    → ((k : ℕ) → k < length tables → goes_on tables n k ≡ goes_on tables (suc n) k)
     → (m k : ℕ) → k < length tables → goes_on tables (m + n) k ≡ goes_on tables n k
 stays tables n h zero k within = ap (λ (i : ℕ). goes_on tables i k) (zero_plus n)
   where
@@ -95,7 +112,8 @@ stays tables n h zero k within = ap (λ (i : ℕ). goes_on tables i k) (zero_plu
     zero_plus n = omega arith
 stays tables n h (suc m) k within =
     ap (λ (i : ℕ). goes_on tables i k) (suc_plus m n)
-    ∙ any_same (goes_on tables (m + n)) (goes_on tables n) (length tables) (stays tables n h m) (inherited tables k) (inherited_within tables k)
+    ∙ any_same (goes_on tables (m + n)) (goes_on tables n) (length tables) (stays tables n h m) (inherited tables k)
+    (inherited_within tables k)
     ∙ sym (h k within)
   where
     suc_plus : (m n : ℕ) → suc m + n ≡ suc (m + n)

@@ -16,3 +16,4 @@ pub mod OrderLemmas
 pub mod TableLemmas
 pub mod BuiltLemmas
 pub mod LetterLemmas
+pub mod CountLemmas

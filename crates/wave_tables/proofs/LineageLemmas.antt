@@ -44,17 +44,21 @@ pub has_over : (t : Timed Ratio) (a b : List ℕ) (low top new : Whole) → HasO
 has_over t a b low top new under here is_over = record {
   slots = subst (λ (w : List Waveform). Maps (length t.names.signals) w new.slots.items)
       (sym (flat_map-append (λ (k : ℕ). own_of t.names k (slice_get t.tables k)) a b))
-      (maps_fill (length t.names.signals) (waveforms_in t.names t.tables a) (waveforms_in t.names t.tables b) top.slots.items low.slots.items new.slots.items here.slots under.slots is_over.slots);
+      (maps_fill (length t.names.signals) (waveforms_in t.names t.tables a) (waveforms_in t.names t.tables b)
+      top.slots.items low.slots.items new.slots.items here.slots under.slots is_over.slots);
   period =
       let is : period_in t.tables (a ++ b) ≡ later (period_in t.tables a) (period_in t.tables b) =
       ap last_of (map-append (λ (k : ℕ). own_period (slice_get t.tables k)) a b)
-      ∙ last_of-append (map (λ (k : ℕ). own_period (slice_get t.tables k)) a) (map (λ (k : ℕ). own_period (slice_get t.tables k)) b) in
-      rw (is, is_over.period) (period_over t (period_in t.tables a) (period_in t.tables b) low.period top.period under.period here.period);
+      ∙ last_of-append (map (λ (k : ℕ). own_period (slice_get t.tables k)) a)
+      (map (λ (k : ℕ). own_period (slice_get t.tables k)) b) in
+      rw (is, is_over.period) (period_over t (period_in t.tables a) (period_in t.tables b) low.period top.period
+      under.period here.period);
 }
 
 -- what a table has of its own
 pub has_own : (t : Timed Ratio) (k : ℕ) (table : TableDecl) (whole : Whole) → slice_get t.tables k ≡ Some table
-    → Maps (length t.names.signals) (own_waveforms t.names k table) whole.slots.items → IsPeriod t table.period whole.period
+    → Maps (length t.names.signals) (own_waveforms t.names k table) whole.slots.items
+    → IsPeriod t table.period whole.period
     → HasOf t (k ∷ []) whole
 has_own t k table whole is slots period = record {
   slots =
@@ -62,7 +66,8 @@ has_own t k table whole is slots period = record {
       append-nil (own_of t.names k (slice_get t.tables k)) ∙ ap (own_of t.names k) is in
       rw one slots;
   period =
-      let one : period_in t.tables (k ∷ []) ≡ table.period = last_one (own_period (slice_get t.tables k)) ∙ ap own_period is in
+      let one : period_in t.tables (k ∷ []) ≡ table.period = last_one (own_period (slice_get t.tables k))
+      ∙ ap own_period is in
       rw one period;
 }
   where
@@ -79,10 +84,12 @@ pub position-map : {X Y : Type 0} (p : Y → Bool) (f : X → Y) (xs : List X)
     → position p (map f xs) ≡ position (λ x. p (f x)) xs
 position-map p f xs =
     ap (λ (n : ℕ). cond (ltb n (length (map f xs))) (Some n) None) (position_or_len-map p f xs)
-    ∙ ap (λ (m : ℕ). cond (ltb (position_or_len (λ x. p (f x)) xs) m) (Some (position_or_len (λ x. p (f x)) xs)) None) (length-map xs f)
+    ∙ ap (λ (m : ℕ). cond (ltb (position_or_len (λ x. p (f x)) xs) m) (Some (position_or_len (λ x. p (f x)) xs)) None)
+    (length-map xs f)
 
 -- one table more, from the last one on
-pub has_more : (t : Timed Ratio) (wholes : List (Option Whole)) (inherits own : List ℕ) (left next : ℕ) (top new : Whole)
+pub has_more : (t : Timed Ratio) (wholes : List (Option Whole)) (inherits own : List ℕ) (left next : ℕ)
+    (top new : Whole)
     → left ≡ next + 1 → left ≤ length inherits → AreMadeAt t wholes inherits
     → HasOf t (flat_map (lineage t.tables) (drop left inherits) ++ own) top
     → ((under : Whole) → get_or wholes (get_or inherits next 0) None ≡ Some under → IsOver top under new)
@@ -91,11 +98,13 @@ has_more t wholes inherits own left next top new at within made here over =
     let low : IsMade t wholes (get_or inherits next 0) = made next (omega arith) in
     let front : List ℕ = lineage t.tables (get_or inherits next 0) in
     let done : HasOf t (front ++ (flat_map (lineage t.tables) (drop left inherits) ++ own)) new =
-    has_over t front (flat_map (lineage t.tables) (drop left inherits) ++ own) low.whole top new low.has here (over low.whole low.there) in
+    has_over t front (flat_map (lineage t.tables) (drop left inherits) ++ own) low.whole top new low.has here
+    (over low.whole low.there) in
     let behind_next : suc next ≡ left = omega arith in
     let split : drop next inherits ≡ get_or inherits next 0 ∷ drop left inherits =
     drop-cons inherits next 0 (omega arith) ∙ ap (λ (n : ℕ). get_or inherits next 0 ∷ drop n inherits) behind_next in
-    let whole : front ++ (flat_map (lineage t.tables) (drop left inherits) ++ own) ≡ flat_map (lineage t.tables) (drop next inherits) ++ own =
+    let whole : front ++ (flat_map (lineage t.tables) (drop left inherits) ++ own)
+    ≡ flat_map (lineage t.tables) (drop next inherits) ++ own =
     sym (append_assoc front (flat_map (lineage t.tables) (drop left inherits)) own)
     ∙ ap (λ (l : List ℕ). flat_map (lineage t.tables) l ++ own) (sym split) in
     subst (λ (l : List ℕ). HasOf t l new) whole done

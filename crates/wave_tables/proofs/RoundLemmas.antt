@@ -3,7 +3,7 @@ use Rattle.std.proofs.Common.{◌≡◌, ℕ, zero, suc, ◌+◌, ◌-◌, ◌<�
 use Rattle.std.specs.List.{flat_map, list_any, list_all}
 use Rattle.std.specs.Prelude.{slice_get}
 use Rattle.std.proofs.lemmas.List.{length-map, get_or_past}
-use Rattle.std.proofs.lemmas.Bool.{and_parts, or_parts, cases_lt, true≢false}
+use Rattle.std.proofs.lemmas.Bool.{or_parts, cases_lt, true≢false}
 use Rattle.stil_ast.proofs.InheritLemmas.{lineage_follows}
 use Rattle.stil_ast.specs.Meaning.Tables.{inherited_by, inherited, lineage, goes_on, leads_into_cycle}
 use Rattle.stil_ast.specs.Faults.TableFaults.{Timed}
@@ -11,6 +11,7 @@ use Rattle.stil_ast.specs.declared.timing.TableDecl.{TableDecl}
 use Rattle.time_expr.specs.Ratio.{Ratio}
 use Rattle.wave_tables.specs.declared.lineage.Whole.{Whole}
 use Rattle.wave_tables.specs.Lineage.{is_there, HasOf, AreMadeAt, Adds, HaveAll, IsLevel, AreWhole}
+use Rattle.wave_tables.proofs.TakenLemmas.{item_passes}
 use Rattle.wave_tables.proofs.LevelLemmas.{goes_less, all_not, all_same, inherited_within, stays}
 
 -- before the first round no table is there
@@ -46,7 +47,8 @@ level_last t n wholes few level same = record {
         ap (λ (i : ℕ). goes_on t.tables i k) (sym more) ∙ stays t.tables n same (suc (length t.tables - n)) k h
 
 -- what is seen of the item at a place
-map_at : {X Y : Type 0} (g : X → Y) (xs : List X) (k : ℕ) (d : Y) (e : X) → k < length xs → get_or (map g xs) k d ≡ g (get_or xs k e)
+map_at : {X Y : Type 0} (g : X → Y) (xs : List X) (k : ℕ) (d : Y) (e : X) → k < length xs
+    → get_or (map g xs) k d ≡ g (get_or xs k e)
 map_at g [] k d e h = absurd (omega arith)
 map_at g (x ∷ xs) zero d e h = refl
 map_at g (x ∷ xs) (suc k) d e h = map_at g xs k d e (omega arith)
@@ -57,12 +59,6 @@ each_at : (f : Option TableDecl → List ℕ) → f None ≡ [] → (tables : Li
 each_at f none [] k = sym none
 each_at f none (d ∷ tables) zero = refl
 each_at f none (d ∷ tables) (suc k) = each_at f none tables k
-
--- all pass, so this one does
-all_at : (p : ℕ → Bool) (ks : List ℕ) (i : ℕ) → list_all p ks ≡ true → i < length ks → p (get_or ks i 0) ≡ true
-all_at p [] i e h = absurd (omega arith)
-all_at p (k ∷ ks) zero e h = (and_parts (p k) (list_all p ks) e).0
-all_at p (k ∷ ks) (suc i) e h = all_at p ks i (and_parts (p k) (list_all p ks) e).1 (omega arith)
 
 -- none passes, so this one doesn't
 none_at : (p : ℕ → Bool) (ks : List ℕ) (i : ℕ) → list_any p ks ≡ false → i < length ks → p (get_or ks i 0) ≡ false
@@ -92,9 +88,11 @@ not_tells true false e = cc
 not_tells false true e = cc
 not_tells false false e = refl
 
-module _ (t : Timed Ratio) (n : ℕ) (old new : List (Option Whole)) (inherits : List (List ℕ)) (ready : List Bool) (added : Bool)
+module _ (t : Timed Ratio) (n : ℕ) (old new : List (Option Whole)) (inherits : List (List ℕ)) (ready : List Bool)
+    (added : Bool)
     (level : IsLevel t n old) (listed : inherits ≡ map (λ (d : TableDecl). inherited_by t.tables (Some d)) t.tables)
-    (found : ready ≡ map (λ (ks : List ℕ). list_all (is_there old) ks) inherits) (adds : Adds t inherits ready old new added) where
+    (found : ready ≡ map (λ (ks : List ℕ). list_all (is_there old) ks) inherits)
+    (adds : Adds t inherits ready old new added) where
   -- what is listed for a table
   inherits_at : (k : ℕ) → get_or inherits k [] ≡ inherited t.tables k
   inherits_at k = ap (λ (l : List (List ℕ)). get_or l k []) listed ∙ each_at (inherited_by t.tables) refl t.tables k
@@ -117,7 +115,8 @@ module _ (t : Timed Ratio) (n : ℕ) (old new : List (Option Whole)) (inherits :
   ready_is : (k : ℕ) → k < length t.tables → get_or ready k false ≡ not (goes_on t.tables (suc n) k)
   ready_is k h =
       ready_all k h
-      ∙ all_same (is_there old) (λ (j : ℕ). not (goes_on t.tables n j)) (length t.tables) level.there (inherited t.tables k) (inherited_within t.tables k)
+      ∙ all_same (is_there old) (λ (j : ℕ). not (goes_on t.tables n j)) (length t.tables) level.there
+      (inherited t.tables k) (inherited_within t.tables k)
       ∙ all_not (goes_on t.tables n) (inherited t.tables k)
 
   there_next : (k : ℕ) → k < length t.tables → is_there new k ≡ not (goes_on t.tables (suc n) k)
@@ -133,8 +132,14 @@ module _ (t : Timed Ratio) (n : ℕ) (old new : List (Option Whole)) (inherits :
   made_all k is_ready h lead = rw (inherits_at k) (λ i low.
       let at : ℕ = get_or (inherited t.tables k) i 0 in
       let all : list_all (is_there old) (inherited t.tables k) ≡ true = sym (ready_all k h) ∙ is_ready in
-      let is : (whole : Whole) × (get_or old at None ≡ Some whole) = there_is (get_or old at None) (all_at (is_there old) (inherited t.tables k) i all low) in
-      record { whole = is.0; there = is.1; has = level.have at is.0 is.1 (heirs t.tables (length t.tables) k i lead low) })
+      let is : (whole : Whole) × (get_or old at None ≡ Some whole) =
+      there_is (get_or old at None) (item_passes (is_there old) (inherited t.tables k) i 0 all low) in
+      record {
+        whole = is.0;
+        there = is.1;
+        has = level.have at is.0 is.1
+            (heirs t.tables (length t.tables) k i lead low);
+      })
 
   have_next : HaveAll t new
   have_next k w e lead =
@@ -144,9 +149,11 @@ module _ (t : Timed Ratio) (n : ℕ) (old new : List (Option Whole)) (inherits :
             elim (cases_lt k (length t.tables)) [
               | inr past ↦ absurd (true≢false (sym p.0 ∙ get_or_past ready k false (omega (arith, ready_len))))
               | inl h ↦
-                  let has : HasOf t (flat_map (lineage t.tables) (get_or inherits k []) ++ k ∷ []) w = p.1 (made_all k p.0 h lead) in
+                  let has : HasOf t (flat_map (lineage t.tables) (get_or inherits k []) ++ k ∷ []) w =
+                  p.1 (made_all k p.0 h lead) in
                   let whole : lineage t.tables k ≡ flat_map (lineage t.tables) (get_or inherits k []) ++ k ∷ [] =
-                  lineage_follows t.tables k lead ∙ ap (λ (l : List ℕ). flat_map (lineage t.tables) l ++ k ∷ []) (sym (inherits_at k)) in
+                  lineage_follows t.tables k lead
+                  ∙ ap (λ (l : List ℕ). flat_map (lineage t.tables) l ++ k ∷ []) (sym (inherits_at k)) in
                   subst (λ (l : List ℕ). HasOf t l w) (sym whole) has
             ]
       ]
@@ -154,7 +161,8 @@ module _ (t : Timed Ratio) (n : ℕ) (old new : List (Option Whole)) (inherits :
   -- a round more
   pub level_more : IsLevel t (n + 1) new
   level_more =
-      let next : IsLevel t (suc n) new = record { size = adds.size ∙ level.size; there = there_next; have = have_next } in
+      let next : IsLevel t (suc n) new =
+      record { size = adds.size ∙ level.size; there = there_next; have = have_next } in
       let same : suc n ≡ n + 1 = omega arith in
       subst (λ (i : ℕ). IsLevel t i new) same next
 

@@ -1,6 +1,6 @@
 -- The slots of a table tell which inherited waveforms still stand, and the first of their late events is found.
 use Rattle.std.proofs.Common.{◌≡◌, ℕ, ℤ, suc, ◌+◌, ◌<◌, ◌==◌, ◌&&◌, ◌||◌, not, Bool, true, false, cond, List, [], ◌∷◌, ◌++◌, Option, Some, None, Result, Ok, Err, length, get_or, map, drop, refl, sym, ap, ◌∙◌, arith}
-use Rattle.std.specs.List.{list_any, flat_map, All, enumerate_from}
+use Rattle.std.specs.List.{list_any, flat_map, All}
 use Rattle.std.specs.Prelude.{slice_get}
 use Rattle.std.proofs.lemmas.List.{length-map}
 use Rattle.std.proofs.lemmas.List.Elements.{All-get_or}
@@ -29,7 +29,7 @@ use Rattle.wave_tables.specs.Standing.{source_for, is_source, counts_for, counts
 use Rattle.wave_tables.specs.Check.{late_time, late_read, late_one, late_in}
 use Rattle.wave_tables.proofs.FirstLemmas.{first_in-append}
 use Rattle.wave_tables.proofs.OwnLemmas.{numbered_from-append}
-use Rattle.wave_tables.proofs.TakenLemmas.{item_passes, found_drop, drop_found, drop_behind}
+use Rattle.wave_tables.proofs.TakenLemmas.{item_passes, found_drop, drop_behind}
 
 late_time_is : (p : Place) (period : ℤ) (r : Result ℤ StilFault) → late_time p period (kind_met r) ≡ late_at p period r
 late_time_is p period (Ok time) = refl
@@ -64,27 +64,34 @@ any_agree p q (x ∷ xs) h =
     ∙ ap (λ (b : Bool). q x || b) (any_agree p q xs (λ i k. h (suc i) (omega arith)))
 
 -- a waveform stands where its source counts
-pub stands_is : (t : Timed Ratio) (table : ℕ) (slots : List (Option Source)) (source : Source) (r : SigRef) (w : WaveDecl)
+pub stands_is : (t : Timed Ratio) (table : ℕ) (slots : List (Option Source)) (source : Source) (r : SigRef)
+    (w : WaveDecl)
     → (signals letters : List ℕ) → MapsTable t table slots → signals ≡ members t.names r → letters ≡ w.letters
     → All (λ s. s < length t.names.signals) signals → has_letters w.letters ≡ true
-    → counts_in slots source signals letters ≡ stands (waveforms t.names t.tables table) (waveform_at t.names source r w)
+    → counts_in slots source signals letters
+    ≡ stands (waveforms t.names t.tables table) (waveform_at t.names source r w)
 stands_is t table slots source r w signals letters maps listed written within lettered =
     ap (λ (l : List ℕ). counts_in slots source signals l) written
     ∙ any_agree (λ s. counts_for slots source s w.letters) (λ s. list_any (test s) w.letters) signals (λ i h.
-    any_agree (λ c. is_source source (source_for slots (get_or signals i 0) c)) (test (get_or signals i 0)) w.letters (λ j k.
-    ap (is_source source) (source_for_is (length t.names.signals) (waveforms t.names t.tables table) slots (get_or signals i 0)
+    any_agree (λ c. is_source source (source_for slots (get_or signals i 0) c)) (test (get_or signals i 0)) w.letters
+    (λ j k.
+    ap (is_source source) (source_for_is (length t.names.signals) (waveforms t.names t.tables table) slots
+    (get_or signals i 0)
     (get_or w.letters j 0) maps (All-get_or (λ s. s < length t.names.signals) signals i 0 h within)
     (item_passes is_wave_letter w.letters j 0 lettered k))
-    ∙ is_source_of t.names source r w (waveform_of (waveforms t.names t.tables table) (get_or signals i 0) (get_or w.letters j 0))))
+    ∙ is_source_of t.names source r w
+    (waveform_of (waveforms t.names t.tables table) (get_or signals i 0) (get_or w.letters j 0))))
     ∙ ap (list_any (λ s. list_any (test s) w.letters)) listed
   where
     test : ℕ → ℕ → Bool
     test s c = is_waveform (waveform_at t.names source r w) (waveform_of (waveforms t.names t.tables table) s c)
 
 -- a table's own waveform isn't inherited
-pub not_late_own : (t : Timed Ratio) (period : ℤ) (table : ℕ) (w : Waveform) → w.table ≡ table → late_one t period table w ≡ None
+pub not_late_own : (t : Timed Ratio) (period : ℤ) (table : ℕ) (w : Waveform) → w.table ≡ table
+    → late_one t period table w ≡ None
 not_late_own t period table w own =
-    ap (λ (b : Bool). first_in (late_event t period) (cond (not b && stands (waveforms t.names t.tables table) w) w.events []))
+    ap (λ (b : Bool). first_in (late_event t period)
+    (cond (not b && stands (waveforms t.names t.tables table) w) w.events []))
     (eq-eqb w.table table own)
 
 first_of_either : (f : EventDecl → Option StilFault) (b : Bool) (es : List EventDecl) → first_in f es ≡ None
@@ -93,17 +100,20 @@ first_of_either f true es e = e
 first_of_either f false es e = refl
 
 -- one without a late event isn't late
-pub not_late_early : (t : Timed Ratio) (period : ℤ) (table : ℕ) (w : Waveform) → first_in (late_event t period) w.events ≡ None
+pub not_late_early : (t : Timed Ratio) (period : ℤ) (table : ℕ) (w : Waveform)
+    → first_in (late_event t period) w.events ≡ None
     → late_one t period table w ≡ None
 not_late_early t period table w early =
-    first_of_either (late_event t period) (not (w.table == table) && stands (waveforms t.names t.tables table) w) w.events early
+    first_of_either (late_event t period) (not (w.table == table) && stands (waveforms t.names t.tables table) w)
+    w.events early
 
 and_no : (b : Bool) → (b && false) ≡ false
 and_no true = refl
 and_no false = refl
 
 -- one that doesn't stand isn't late
-pub not_late_gone : (t : Timed Ratio) (period : ℤ) (table : ℕ) (w : Waveform) → stands (waveforms t.names t.tables table) w ≡ false
+pub not_late_gone : (t : Timed Ratio) (period : ℤ) (table : ℕ) (w : Waveform)
+    → stands (waveforms t.names t.tables table) w ≡ false
     → late_one t period table w ≡ None
 not_late_gone t period table w gone =
     ap (λ (b : Bool). first_in (late_event t period) (cond (not (w.table == table) && b) w.events [])) gone
@@ -111,67 +121,79 @@ not_late_gone t period table w gone =
 
 -- one of another table that stands is as late as its events
 pub late_standing : (t : Timed Ratio) (period : ℤ) (table : ℕ) (w : Waveform) → (w.table ≡ table → ⊥)
-    → stands (waveforms t.names t.tables table) w ≡ true → late_one t period table w ≡ first_in (late_event t period) w.events
+    → stands (waveforms t.names t.tables table) w ≡ true
+    → late_one t period table w ≡ first_in (late_event t period) w.events
 late_standing t period table w other standing =
-    ap (λ (b : Bool). first_in (late_event t period) (cond (not b && stands (waveforms t.names t.tables table) w) w.events []))
+    ap (λ (b : Bool). first_in (late_event t period)
+    (cond (not b && stands (waveforms t.names t.tables table) w) w.events []))
     (ne_eqb w.table table other)
     ∙ ap (λ (b : Bool). first_in (late_event t period) (cond b w.events [])) standing
 
 -- the waveform of the next number stands first
-pub stand_first : (t : Timed Ratio) (reads : List ReadWave) (number : ℕ) (waves : List WaveDecl) (w : WaveDecl) (rest : List WaveDecl)
+pub stand_first : (t : Timed Ratio) (reads : List ReadWave) (number : ℕ) (waves : List WaveDecl) (w : WaveDecl)
+    (rest : List WaveDecl)
     → waves ≡ w ∷ rest → StandAt t reads number waves → slice_get reads number ≡ Some (read_wave t w)
 stand_first t reads number waves w rest split stand =
-    let whole : drop number reads ≡ read_wave t w ∷ (map (read_wave t) rest ++ drop (number + suc (length rest)) reads) =
+    let whole : drop number reads ≡ read_wave t
+    w ∷ (map (read_wave t) rest ++ drop (number + suc (length rest)) reads) =
     rw split at stand in
-    (found_drop reads number (read_wave t w) (map (read_wave t) rest ++ drop (number + suc (length rest)) reads) whole).0
+    (found_drop reads number (read_wave t w) (map (read_wave t) rest ++ drop (number + suc (length rest)) reads)
+    whole).0
 
 -- and then the others
-pub stand_next : (t : Timed Ratio) (reads : List ReadWave) (number : ℕ) (waves : List WaveDecl) (w : WaveDecl) (rest : List WaveDecl)
+pub stand_next : (t : Timed Ratio) (reads : List ReadWave) (number : ℕ) (waves : List WaveDecl) (w : WaveDecl)
+    (rest : List WaveDecl)
     → waves ≡ w ∷ rest → StandAt t reads number waves → StandAt t reads (number + 1) rest
 stand_next t reads number waves w rest split stand =
-    let whole : drop number reads ≡ read_wave t w ∷ (map (read_wave t) rest ++ drop (number + suc (length rest)) reads) =
+    let whole : drop number reads ≡ read_wave t
+    w ∷ (map (read_wave t) rest ++ drop (number + suc (length rest)) reads) =
     rw split at stand in
     let moved : number + suc (length rest) ≡ number + 1 + length rest = omega arith in
-    (found_drop reads number (read_wave t w) (map (read_wave t) rest ++ drop (number + suc (length rest)) reads) whole).1
+    (found_drop reads number (read_wave t w) (map (read_wave t) rest ++ drop (number + suc (length rest)) reads)
+    whole).1
     ∙ ap (λ (n : ℕ). map (read_wave t) rest ++ drop n reads) moved
 
 -- the waveforms behind a reference, from one on
-pub late_waves : (t : Timed Ratio) (period : ℤ) (heir table number : ℕ) (r : SigRef) (waves : List WaveDecl) (w : WaveDecl) (rest : List WaveDecl)
+pub late_waves : (t : Timed Ratio) (period : ℤ) (heir table number : ℕ) (r : SigRef) (waves : List WaveDecl)
+    (w : WaveDecl) (rest : List WaveDecl)
     → waves ≡ w ∷ rest
     → late_in t period heir (numbered_from number (waves_for table (members t.names r) waves))
     ≡ or_else (late_one t period heir (waveform_at t.names (record { table = table; number = number }) r w))
     (late_in t period heir (numbered_from (number + 1) (waves_for table (members t.names r) rest)))
 late_waves t period heir table number r waves w rest split =
-    ap (λ (l : List WaveDecl). late_in t period heir (numbered_from number (waves_for table (members t.names r) l))) split
+    ap (λ (l : List WaveDecl). late_in t period heir (numbered_from number (waves_for table (members t.names r) l)))
+    split
 
 -- the waveforms of a table, from a reference on
-pub late_references : (t : Timed Ratio) (period : ℤ) (heir table number : ℕ) (list : List SignalWaves) (s : SignalWaves) (rest : List SignalWaves)
+pub late_references : (t : Timed Ratio) (period : ℤ) (heir table number : ℕ) (list : List SignalWaves)
+    (s : SignalWaves) (rest : List SignalWaves)
     → list ≡ s ∷ rest
     → late_in t period heir (numbered_from number (flat_map (own_for t.names table) list))
     ≡ or_else (late_in t period heir (numbered_from number (own_for t.names table s)))
     (late_in t period heir (numbered_from (number + length s.waves) (flat_map (own_for t.names table) rest)))
 late_references t period heir table number list s rest split =
-    ap (λ (l : List SignalWaves). late_in t period heir (numbered_from number (flat_map (own_for t.names table) l))) split
-    ∙ ap (late_in t period heir) (numbered_from-append number (own_for t.names table s) (flat_map (own_for t.names table) rest)
-    ∙ ap (λ (n : ℕ). numbered_from number (own_for t.names table s) ++ numbered_from (number + n) (flat_map (own_for t.names table) rest))
+    ap (λ (l : List SignalWaves). late_in t period heir (numbered_from number (flat_map (own_for t.names table) l)))
+    split
+    ∙ ap (late_in t period heir) (numbered_from-append number (own_for t.names table s)
+    (flat_map (own_for t.names table) rest)
+    ∙ ap (λ (n : ℕ). numbered_from number (own_for t.names table s)
+    ++ numbered_from (number + n) (flat_map (own_for t.names table) rest))
     (length-map s.waves _))
     ∙ first_in-append (late_one t period heir) (numbered_from number (own_for t.names table s))
     (numbered_from (number + length s.waves) (flat_map (own_for t.names table) rest))
 
 -- the waveforms with their times behind a reference, and then those behind the next ones
-pub stand_reference : (t : Timed Ratio) (reads : List ReadWave) (number : ℕ) (list : List SignalWaves) (s : SignalWaves) (rest : List SignalWaves)
+pub stand_reference : (t : Timed Ratio) (reads : List ReadWave) (number : ℕ) (list : List SignalWaves)
+    (s : SignalWaves) (rest : List SignalWaves)
     → list ≡ s ∷ rest
     → drop number reads ≡ flat_map (λ (s : SignalWaves). map (read_wave t) s.waves) list
     → StandAt t reads number s.waves
     × (drop (number + length s.waves) reads ≡ flat_map (λ (s : SignalWaves). map (read_wave t) s.waves) rest)
 stand_reference t reads number list s rest split stand =
     let each : SignalWaves → List ReadWave = λ s. map (read_wave t) s.waves in
-    let whole : drop number reads ≡ map (read_wave t) s.waves ++ flat_map each rest = stand ∙ ap (flat_map each) split in
+    let whole : drop number reads ≡ map (read_wave t) s.waves ++ flat_map each rest = stand
+    ∙ ap (flat_map each) split in
     let next : drop (number + length s.waves) reads ≡ flat_map each rest =
-    drop_behind reads number (length s.waves) (map (read_wave t) s.waves) (flat_map each rest) (length-map s.waves (read_wave t)) whole in
+    drop_behind reads number (length s.waves) (map (read_wave t) s.waves) (flat_map each rest)
+    (length-map s.waves (read_wave t)) whole in
     (whole ∙ ap (λ l. map (read_wave t) s.waves ++ l) (sym next), next)
-
--- the tables, from one on
-pub late_tables : {X : Type 0} (f : ℕ × X → Option StilFault) (xs : List X) (i : ℕ) (x : X) → slice_get xs i ≡ Some x
-    → first_in f (enumerate_from i (drop i xs)) ≡ or_else (f (i, x)) (first_in f (enumerate_from (i + 1) (drop (i + 1) xs)))
-late_tables f xs i x at = ap (λ l. first_in f (enumerate_from i l)) (drop_found xs i x at)

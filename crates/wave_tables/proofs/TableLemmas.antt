@@ -24,7 +24,8 @@ not_cyclic : (b : Bool) (f : StilFault) → refuse_if b f None ≡ None → b �
 not_cyclic true f e = cc
 not_cyclic false f e = refl
 
-name_free : (p : Place) (tables : List TableDecl) (i : Named) (names : List Named) (o : Option ℕ) → table_of tables i.name ≡ o
+name_free : (p : Place) (tables : List TableDecl) (i : Named) (names : List Named) (o : Option ℕ)
+    → table_of tables i.name ≡ o
     → inherit_fault p tables i ≡ None
     → list_any (leads_into_cycle tables) (filter_map (λ (i : Named). table_of tables i.name) names) ≡ false
     → list_any (leads_into_cycle tables) (filter_map (λ (i : Named). table_of tables i.name) (i ∷ names)) ≡ false
@@ -36,8 +37,10 @@ name_free p tables i names None is none rest =
 name_free p tables i names (Some k) is none rest =
     let free : leads_into_cycle tables k ≡ false =
     not_cyclic (leads_into_cycle tables k) _ (sym (ap (inherit_found (on_line p i.line) tables) is) ∙ none) in
-    ap (λ (o : Option ℕ). list_any (leads_into_cycle tables) (cons_option o (filter_map (λ (i : Named). table_of tables i.name) names))) is
-    ∙ ap (λ (b : Bool). b || list_any (leads_into_cycle tables) (filter_map (λ (i : Named). table_of tables i.name) names)) free ∙ rest
+    ap (λ (o : Option ℕ). list_any (leads_into_cycle tables)
+    (cons_option o (filter_map (λ (i : Named). table_of tables i.name) names))) is
+    ∙ ap (λ (b : Bool). b || list_any (leads_into_cycle tables)
+    (filter_map (λ (i : Named). table_of tables i.name) names)) free ∙ rest
 
 names_free : (p : Place) (tables : List TableDecl) (names : List Named) → first_in (inherit_fault p tables) names ≡ None
     → list_any (leads_into_cycle tables) (filter_map (λ (i : Named). table_of tables i.name) names) ≡ false
@@ -48,8 +51,10 @@ names_free p tables (i ∷ names) e =
     (names_free p tables names (none_second (inherit_fault p tables i) (first_in (inherit_fault p tables) names) e))
 
 -- a table whose names have no fault leads into no cycle
-pub free_at : (t : Timed Ratio) (wholes : List (Option Whole)) (k : ℕ) (d : TableDecl) → AreWhole t wholes → k < length t.tables
-    → slice_get t.tables k ≡ Some d → first_in (inherit_fault t.place t.tables) d.inherits ≡ None → leads_into_cycle t.tables k ≡ false
+pub free_at : (t : Timed Ratio) (wholes : List (Option Whole)) (k : ℕ) (d : TableDecl) → AreWhole t wholes
+    → k < length t.tables
+    → slice_get t.tables k ≡ Some d → first_in (inherit_fault t.place t.tables) d.inherits ≡ None
+    → leads_into_cycle t.tables k ≡ false
 free_at t wholes k d whole within at none =
     whole.closed k within
     ∙ ap (λ (o : Option TableDecl). list_any (leads_into_cycle t.tables) (inherited_by t.tables o)) at
@@ -67,36 +72,42 @@ found_at [] i h = absurd (omega arith)
 found_at (x ∷ xs) zero h = (x, refl)
 found_at (x ∷ xs) (suc i) h = found_at xs i (omega arith)
 
-none_at : {X : Type 0} (f : ℕ × X → Option StilFault) (n : ℕ) (xs : List X) (i : ℕ) (x : X) → first_in f (enumerate_from n xs) ≡ None
+none_at : {X : Type 0} (f : ℕ × X → Option StilFault) (n : ℕ) (xs : List X) (i : ℕ) (x : X)
+    → first_in f (enumerate_from n xs) ≡ None
     → slice_get xs i ≡ Some x → f (n + i, x) ≡ None
 none_at f n [] i x e at = cc
 none_at f n (y ∷ ys) zero x e at =
     let same : y ≡ x = cc in
     let here : n + 0 ≡ n = omega arith in
-    ap (λ (m : ℕ). f (m, x)) here ∙ ap (λ z. f (n, z)) (sym same) ∙ none_first (f (n, y)) (first_in f (enumerate_from (n + 1) ys)) e
+    ap (λ (m : ℕ). f (m, x)) here ∙ ap (λ z. f (n, z)) (sym same)
+    ∙ none_first (f (n, y)) (first_in f (enumerate_from (n + 1) ys)) e
 none_at f n (y ∷ ys) (suc i) x e at =
     let moved : n + suc i ≡ n + 1 + i = omega arith in
     ap (λ (m : ℕ). f (m, x)) moved
     ∙ none_at f (n + 1) ys i x (none_second (f (n, y)) (first_in f (enumerate_from (n + 1) ys)) e) at
 
 -- where no table has a fault none leads into a cycle
-pub all_free : (t : Timed Ratio) (before : ℕ) (wholes : List (Option Whole)) → AreWhole t wholes → tables_fault t before ≡ None
+pub all_free : (t : Timed Ratio) (before : ℕ) (wholes : List (Option Whole)) → AreWhole t wholes
+    → tables_fault t before ≡ None
     → (k : ℕ) → k < length t.tables → leads_into_cycle t.tables k ≡ false
 all_free t before wholes whole none k within =
     let d : (d : TableDecl) × (slice_get t.tables k ≡ Some d) = found_at t.tables k within in
     let at_zero : 0 + k ≡ k = omega arith in
     let here : table_fault t before (k, d.0) ≡ None =
-    ap (λ (n : ℕ). table_fault t before (n, d.0)) (sym at_zero) ∙ none_at (table_fault t before) 0 t.tables k d.0 none d.1 in
+    ap (λ (n : ℕ). table_fault t before (n, d.0)) (sym at_zero)
+    ∙ none_at (table_fault t before) 0 t.tables k d.0 none d.1 in
     free_at t wholes k d.0 whole within d.1
     (none_first (first_in (inherit_fault t.place t.tables) d.0.inherits) (behind_names t before (k, d.0)) here)
 
 -- the waves of so many tables, and one more
 pub waves_more : (names : Names) (tables : List TableDecl) (k : ℕ)
-    → waves_of_first names tables (k + 1) ≡ waves_of_first names tables k + wave_count (waveforms names tables k) (length names.signals)
+    → waves_of_first names tables (k + 1)
+    ≡ waves_of_first names tables k + wave_count (waveforms names tables k) (length names.signals)
 waves_more names tables k = sum_more (λ table. wave_count (waveforms names tables table) (length names.signals)) k
 
 -- the judgement of the number of waves, from their total
-pub count_is : (t : Timed Ratio) (base before total k : ℕ) (d : TableDecl) → before ≡ base + waves_of_first t.names t.tables k
+pub count_is : (t : Timed Ratio) (base before total k : ℕ) (d : TableDecl)
+    → before ≡ base + waves_of_first t.names t.tables k
     → total ≡ before + wave_count (waveforms t.names t.tables k) (length t.names.signals)
     → count_fault t base (k, d) ≡ unless (nat_le total most_waves) (fault_at (on_line t.place d.line) TooLarge) None
 count_is t base before total k d at sum =

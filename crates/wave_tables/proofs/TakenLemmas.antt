@@ -12,7 +12,8 @@ use Rattle.std.proofs.lemmas.List.Elements.{filter_map-append}
 use Rattle.std.proofs.lemmas.Bool.{and_parts}
 
 -- the front with the item at hand
-pub take_taken : {X : Type 0} (xs : List X) (i : ℕ) (x : X) → i < length xs → x ≡ get_or xs i x → take (i + 1) xs ≡ take i xs ++ x ∷ []
+pub take_taken : {X : Type 0} (xs : List X) (i : ℕ) (x : X) → i < length xs → x ≡ get_or xs i x
+    → take (i + 1) xs ≡ take i xs ++ x ∷ []
 take_taken xs i x within is = take_more xs i x within ∙ ap (λ y. take i xs ++ y ∷ []) (sym is)
 
 -- what is seen of it
@@ -25,7 +26,8 @@ one_found : {X Y : Type 0} (f : X → Option Y) (x : X) → filter_map f (x ∷ 
 one_found f x = search rules
 
 -- what is found of it
-pub filter_map_taken : {X Y : Type 0} (f : X → Option Y) (xs : List X) (i : ℕ) (x : X) → i < length xs → x ≡ get_or xs i x
+pub filter_map_taken : {X Y : Type 0} (f : X → Option Y) (xs : List X) (i : ℕ) (x : X) → i < length xs
+    → x ≡ get_or xs i x
     → filter_map f (take i xs) ++ option_to_list (f x) ≡ filter_map f (take (i + 1) xs)
 filter_map_taken f xs i x within is =
     sym (ap (filter_map f) (take_taken xs i x within is) ∙ filter_map-append f (take i xs) (x ∷ [])
@@ -38,14 +40,9 @@ item_passes p [] i d e h = absurd (omega arith)
 item_passes p (x ∷ xs) zero d e h = (and_parts (p x) (list_all p xs) e).0
 item_passes p (x ∷ xs) (suc i) d e h = item_passes p xs i d (and_parts (p x) (list_all p xs) e).1 (omega arith)
 
--- each passes, so each from here on does
-pub rest_passes : {X : Type 0} (p : X → Bool) (xs : List X) (i : ℕ) → list_all p xs ≡ true → list_all p (drop i xs) ≡ true
-rest_passes p xs zero e = e
-rest_passes p [] (suc i) e = refl
-rest_passes p (x ∷ xs) (suc i) e = rest_passes p xs i (and_parts (p x) (list_all p xs) e).1
-
 -- what is found at a place passes
-pub found_passes : {X : Type 0} (p : X → Bool) (xs : List X) (i : ℕ) (x : X) → list_all p xs ≡ true → slice_get xs i ≡ Some x
+pub found_passes : {X : Type 0} (p : X → Bool) (xs : List X) (i : ℕ) (x : X) → list_all p xs ≡ true
+    → slice_get xs i ≡ Some x
     → p x ≡ true
 found_passes p [] i x e at = cc
 found_passes p (y ∷ ys) zero x e at = let same : y ≡ x = cc in ap p (sym same) ∙ (and_parts (p y) (list_all p ys) e).0
@@ -88,7 +85,8 @@ drop_by (suc n) k (x ∷ xs) = ap (λ (m : ℕ). drop m (x ∷ xs)) moved ∙ dr
     moved = omega arith
 
 -- what stands behind a front that is found at a place
-pub drop_behind : {X : Type 0} (xs : List X) (n k : ℕ) (front rest : List X) → length front ≡ k → drop n xs ≡ front ++ rest
+pub drop_behind : {X : Type 0} (xs : List X) (n k : ℕ) (front rest : List X) → length front ≡ k
+    → drop n xs ≡ front ++ rest
     → drop (n + k) xs ≡ rest
 drop_behind xs n k front rest long e =
     drop_by n k xs ∙ ap (drop k) e ∙ ap (λ (m : ℕ). drop m (front ++ rest)) (sym long) ∙ drop-append_seam front rest
@@ -105,13 +103,15 @@ enumerate_more k (y ∷ ys) x =
     moved k n = omega arith
 
 -- what a reference at a place points to
-pub behind_at : {X : Type 0} (bs : List (Bor X)) (xs : List X) (i : ℕ) (b : Bor X) → behind bs ≡ xs → i < length bs → b ≡ get_or bs i b
+pub behind_at : {X : Type 0} (bs : List (Bor X)) (xs : List X) (i : ℕ) (b : Bor X) → behind bs ≡ xs → i < length bs
+    → b ≡ get_or bs i b
     → slice_get xs i ≡ Some b.now
 behind_at bs xs i b are within is =
     ap (λ l. slice_get l i) (sym are) ∙ slice_get-map (λ b. b.now) bs i
     ∙ ap (option_map (λ b. b.now)) (slice_get-get_or bs i b within ∙ ap Some (sym is))
 
-front_found : {X : Type 0} (xs : List X) (i : ℕ) (x : X) → slice_get xs i ≡ Some x → take (i + 1) xs ≡ take i xs ++ x ∷ []
+front_found : {X : Type 0} (xs : List X) (i : ℕ) (x : X) → slice_get xs i ≡ Some x
+    → take (i + 1) xs ≡ take i xs ++ x ∷ []
 front_found [] i x at = cc
 front_found (y ∷ ys) zero x at = let same : y ≡ x = cc in ap (λ z. z ∷ []) same
 front_found (y ∷ ys) (suc i) x at =

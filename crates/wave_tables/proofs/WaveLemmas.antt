@@ -24,7 +24,8 @@ find_first p (x ∷ xs) (suc i) d h is none =
     ∙ find_first p xs i d (omega arith) is (λ j k. none (suc j) (omega arith))
 
 -- no item passes
-pub find_none : {X : Type 0} (p : X → Bool) (xs : List X) (d : X) → ((j : ℕ) → j < length xs → p (get_or xs j d) ≡ false)
+pub find_none : {X : Type 0} (p : X → Bool) (xs : List X) (d : X)
+    → ((j : ℕ) → j < length xs → p (get_or xs j d) ≡ false)
     → find p xs ≡ None
 find_none p [] d none = refl
 find_none p (x ∷ xs) d none =
@@ -51,7 +52,8 @@ same_key w signal letter h k e =
 
 -- the item at a place
 pub got : {X : Type 0} (o : Option (Bor X)) (xs : List X) (i : ℕ) → i < length xs
-    → MatchOption o (length xs ≤ i) (λ x. (i < length xs) × HoldsAt (λ y. x.now ≡ y) xs i) → option_map (λ x. x.now) o ≡ slice_get xs i
+    → MatchOption o (length xs ≤ i) (λ x. (i < length xs) × HoldsAt (λ y. x.now ≡ y) xs i)
+    → option_map (λ x. x.now) o ≡ slice_get xs i
 got None xs i h past = absurd (omega arith)
 got (Some x) xs i h at = ap Some (at.1 x.now) ∙ sym (slice_get-get_or xs i x.now h)
 
@@ -62,7 +64,8 @@ blank = record { signal = 0; letter = 0; events = [] }
 module _ (waves : List Wave) (in_order : AreInOrder waves) (signal letter : ℕ) (byte : letter < 256) where
   -- the comparisons with a key rise along waves in order
   rises : IsNonDecreasingBy (λ (w : Wave). ordering_index (nat_cmp (key_in w) (wave_key signal letter))) waves
-  rises = IsNonDecreasingBy-from_default (λ (w : Wave). ordering_index (nat_cmp (key_in w) (wave_key signal letter))) waves blank (λ i j le within.
+  rises = IsNonDecreasingBy-from_default (λ (w : Wave). ordering_index (nat_cmp (key_in w) (wave_key signal letter)))
+      waves blank (λ i j le within.
       let up : key_in (get_or waves i blank) ≤ key_in (get_or waves j blank) = below i j le within in
       grind (arith, nat_tests))
     where
@@ -76,13 +79,16 @@ module _ (waves : List Wave) (in_order : AreInOrder waves) (signal letter : ℕ)
   -- a search by key ends at the wave, or there is none
   pub searched_wave : (r : Result ℕ ℕ) → IsSearchInRange r (length waves)
       → IsBinarySearchResult (λ (w : Wave). nat_cmp (key_in w) (wave_key signal letter)) waves r
-      → MatchResult r (λ i. slice_get waves i ≡ find (is_wave signal letter) waves) (λ _. None ≡ find (is_wave signal letter) waves)
+      → MatchResult r (λ i. slice_get waves i ≡ find (is_wave signal letter) waves)
+      (λ _. None ≡ find (is_wave signal letter) waves)
   searched_wave (Ok i) within equal =
-      let key : key_in (get_or waves i blank) ≡ wave_key signal letter = ranked _ (wave_key signal letter) _ (sym (equal blank)) in
+      let key : key_in (get_or waves i blank) ≡ wave_key signal letter =
+      ranked _ (wave_key signal letter) _ (sym (equal blank)) in
       let here : is_wave signal letter (get_or waves i blank) ≡ true =
       same_key (get_or waves i blank) signal letter (in_order.bytes i blank within) byte key in
       let before : (j : ℕ) → j < i → is_wave signal letter (get_or waves j blank) ≡ false =
-      λ j lt. other_key (get_or waves j blank) signal letter (λ e. omega (arith, e, key, in_order.rising j i blank lt within)) in
+      λ j lt. other_key (get_or waves j blank) signal letter
+      (λ e. omega (arith, e, key, in_order.rising j i blank lt within)) in
       slice_get-get_or waves i blank within ∙ sym (find_first (is_wave signal letter) waves i blank within here before)
   searched_wave (Err i) within parted =
       let low : (j : ℕ) → j < i → key_in (get_or waves j blank) < wave_key signal letter =

@@ -1,5 +1,6 @@
--- Read Scope first (what the tables are made from), then Sources (which waveform counts), Own and ReadWaves (how the code
--- holds waveforms), Lineage and Check (tables made of others, and what is refused).
+-- Read Scope first (what the tables are made from), then Sources (which waveform counts), Own, ReadWaves and Made (how
+-- the code holds waveforms), Lineage (tables made of others), Standing and Check (what is refused), Rows (the waves of a
+-- table), and Built last (what is answered).
 pub mod Behind
 pub mod Letters
 pub mod Scope
@@ -13,3 +14,4 @@ pub mod Made
 pub mod Standing
 pub mod Rows
 pub mod Built
+pub mod Laws

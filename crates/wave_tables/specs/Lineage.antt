@@ -58,7 +58,8 @@ IsAdded t inherits old k whole =
     → HasOf t (flat_map (lineage t.tables) (slice_index_or inherits k []) ++ (k ∷ [])) whole
 
 -- a table is put in where it is ready and isn't there
-pub record AddsAt (t : Timed Ratio) (inherits : List (List ℕ)) (is_ready : Bool) (number : ℕ) (old new : List (Option Whole)) (added : Bool) : Type 0 where
+pub record AddsAt (t : Timed Ratio) (inherits : List (List ℕ)) (is_ready : Bool) (number : ℕ)
+    (old new : List (Option Whole)) (added : Bool) : Type 0 where
   pub size : length new ≡ length old
   pub others : (k : ℕ) → (number ≡ k → ⊥) → slice_index_or new k None ≡ slice_index_or old k None
   pub kept : added ≡ false → new ≡ old
@@ -68,13 +69,15 @@ pub record AddsAt (t : Timed Ratio) (inherits : List (List ℕ)) (is_ready : Boo
       → (is_ready ≡ true) × IsAdded t inherits old number whole
 
 -- the tables that are ready are put in
-pub record Adds (t : Timed Ratio) (inherits : List (List ℕ)) (ready : List Bool) (old new : List (Option Whole)) (added : Bool) : Type 0 where
+pub record Adds (t : Timed Ratio) (inherits : List (List ℕ)) (ready : List Bool) (old new : List (Option Whole))
+    (added : Bool) : Type 0 where
   pub size : length new ≡ length old
   pub there : (k : ℕ) → k < length old → is_there new k ≡ (is_there old k || slice_index_or ready k false)
   pub kept : added ≡ false → new ≡ old
   pub grows : (k : ℕ) (whole : Whole) → slice_index_or old k None ≡ Some whole → slice_index_or new k None ≡ Some whole
   pub has : (k : ℕ) (whole : Whole) → slice_index_or new k None ≡ Some whole
-      → (slice_index_or old k None ≡ Some whole) ⊎ ((slice_index_or ready k false ≡ true) × IsAdded t inherits old k whole)
+      → (slice_index_or old k None ≡ Some whole)
+      ⊎ ((slice_index_or ready k false ≡ true) × IsAdded t inherits old k whole)
 
 -- each table that is there has what its lineage has, if it leads into no cycle
 abbrev pub HaveAll : Timed Ratio → List (Option Whole) → Type 0

@@ -77,8 +77,8 @@ pub fn build(
     )
 }
 
-/// The same for an executive.
-fn built_for(
+/// The same for an executive, where waveforms are for waveform characters.
+pub(crate) fn built_for(
     alloc: Global,
     blocks: &Blocks,
     exec: &ExecDecl,
@@ -86,10 +86,11 @@ fn built_for(
     vars: &Vars,
     before: u32,
 ) -> Result<WaveSet, StilRefusal>
-    requires text { AreOfOneText blocks.now }
+    requires lettered { are_lettered (exec_tables blocks.now exec.now) ≡ true }
     requires signals { signals.now ≡ table_of (names_of blocks.now) }
     requires vars { AreNames (exec_value times_of blocks.now exec.now) vars.now }
-    ensures { IsBuilt (tables_fault (timed_of times_of blocks.now exec.now) before) (table_list times_of blocks.now exec.now) result }
+    ensures { IsBuilt (tables_fault (timed_of times_of blocks.now exec.now) before)
+        (table_list times_of blocks.now exec.now) result }
 {
     let tables = tables_named(alloc, blocks.timings.as_slice(), timing_name(exec))?;
     let scope = Scope {

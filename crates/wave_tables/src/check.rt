@@ -30,7 +30,8 @@ fn is_there(wholes: &[Option<Whole>], table: usize) -> bool
 fn check_inherit(scope: &Scope, wholes: &[Option<Whole>], named: &Named) -> Result<(), Trouble>
     requires { AreWhole (timed scope.now) wholes.now }
     ensures known { OnOk result (inherit_fault (timed scope.now).place (timed scope.now).tables named.now ≡ None) }
-    ensures fault { IfErr result (λ e. IsAt (timed scope.now).place (inherit_fault (timed scope.now).place (timed scope.now).tables named.now) e) }
+    ensures fault { IfErr result (λ e. IsAt (timed scope.now).place
+        (inherit_fault (timed scope.now).place (timed scope.now).tables named.now) e) }
 {
     match table_of(scope.tables(), named.name.as_slice()) {
         None => Err(Trouble::At(StilKind::UnknownName, named.line)),
@@ -50,9 +51,11 @@ pub(crate) fn check_period(
     period: Option<ReadTime>,
     line: u32,
 ) -> Result<u64, Trouble>
-    ensures fits { IfOk result (λ time. (text : Option Quoted) (rest : ℤ → Option StilFault) → IsPeriod (timed scope.now) text period
+    ensures fits { IfOk result (λ time. (text : Option Quoted) (rest : ℤ → Option StilFault)
+        → IsPeriod (timed scope.now) text period
         → with_period (timed scope.now) line text rest ≡ rest (pos time)) }
-    ensures fault { IfErr result (λ e. (text : Option Quoted) (rest : ℤ → Option StilFault) → IsPeriod (timed scope.now) text period
+    ensures fault { IfErr result (λ e. (text : Option Quoted) (rest : ℤ → Option StilFault)
+        → IsPeriod (timed scope.now) text period
         → IsAt (timed scope.now).place (with_period (timed scope.now) line text rest) e) }
 {
     match period {
@@ -77,8 +80,10 @@ pub(crate) fn check_inherits(
     inherits: &[Named],
 ) -> Result<(), Trouble>
     requires { AreWhole (timed scope.now) wholes.now }
-    ensures known { OnOk result (first_in (inherit_fault (timed scope.now).place (timed scope.now).tables) inherits.now ≡ None) }
-    ensures fault { IfErr result (λ e. IsAt (timed scope.now).place (first_in (inherit_fault (timed scope.now).place (timed scope.now).tables) inherits.now) e) }
+    ensures known { OnOk result (first_in (inherit_fault (timed scope.now).place (timed scope.now).tables) inherits.now
+        ≡ None) }
+    ensures fault { IfErr result (λ e. IsAt (timed scope.now).place
+        (first_in (inherit_fault (timed scope.now).place (timed scope.now).tables) inherits.now) e) }
 {
     for named in inherits {
         match check_inherit(scope, wholes, named) {
@@ -98,9 +103,11 @@ fn check_event(
     event: &EventDecl,
 ) -> Result<u64, Trouble>
     ensures fits { IfOk result (λ time. (rest : List EventDecl)
-        → events_fault (timed scope.now) (pos period) (pos before) (event.now ∷ rest) ≡ events_fault (timed scope.now) (pos period) (pos time) rest) }
+        → events_fault (timed scope.now) (pos period) (pos before) (event.now ∷ rest)
+        ≡ events_fault (timed scope.now) (pos period) (pos time) rest) }
     ensures fault { IfErr result (λ e. (rest : List EventDecl)
-        → IsAt (timed scope.now).place (events_fault (timed scope.now) (pos period) (pos before) (event.now ∷ rest)) e) }
+        → IsAt (timed scope.now).place (events_fault (timed scope.now) (pos period) (pos before) (event.now ∷ rest))
+        e) }
 {
     let read = scope.time(alloc, &event.time)?;
     match read.time {
@@ -125,7 +132,8 @@ fn check_events(
     events: &[EventDecl],
 ) -> Result<(), Trouble>
     ensures fits { OnOk result (events_fault (timed scope.now) (pos period) (pos 0) events.now ≡ None) }
-    ensures fault { IfErr result (λ e. IsAt (timed scope.now).place (events_fault (timed scope.now) (pos period) (pos 0) events.now) e) }
+    ensures fault { IfErr result (λ e. IsAt (timed scope.now).place
+        (events_fault (timed scope.now) (pos period) (pos 0) events.now) e) }
 {
     let mut before = 0;
     for event in events {
@@ -140,7 +148,8 @@ fn check_events(
 /// Judges the waveforms behind a reference.
 fn check_waves(alloc: Global, scope: &Scope, period: u64, waves: &[WaveDecl]) -> Result<(), Trouble>
     ensures fits { OnOk result (first_in (wave_fault (timed scope.now) (pos period)) waves.now ≡ None) }
-    ensures fault { IfErr result (λ e. IsAt (timed scope.now).place (first_in (wave_fault (timed scope.now) (pos period)) waves.now) e) }
+    ensures fault { IfErr result (λ e. IsAt (timed scope.now).place
+        (first_in (wave_fault (timed scope.now) (pos period)) waves.now) e) }
 {
     for wave in waves {
         match check_events(alloc, scope, period, wave.events.as_slice()) {
@@ -181,7 +190,8 @@ fn check_signal(
     signals: &SignalWaves,
 ) -> Result<(), Trouble>
     ensures fits { OnOk result (signal_fault (timed scope.now) (pos period) signals.now ≡ None) }
-    ensures fault { IfErr result (λ e. IsAt (timed scope.now).place (signal_fault (timed scope.now) (pos period) signals.now) e) }
+    ensures fault { IfErr result (λ e. IsAt (timed scope.now).place
+        (signal_fault (timed scope.now) (pos period) signals.now) e) }
 {
     match check_reference(alloc, scope, signals) {
         Ok(()) => check_waves(alloc, scope, period, signals.waves.as_slice()),
@@ -197,7 +207,8 @@ pub(crate) fn check_signals(
     list: &[SignalWaves],
 ) -> Result<(), Trouble>
     ensures fits { OnOk result (first_in (signal_fault (timed scope.now) (pos period)) list.now ≡ None) }
-    ensures fault { IfErr result (λ e. IsAt (timed scope.now).place (first_in (signal_fault (timed scope.now) (pos period)) list.now) e) }
+    ensures fault { IfErr result (λ e. IsAt (timed scope.now).place
+        (first_in (signal_fault (timed scope.now) (pos period)) list.now) e) }
 {
     for signals in list {
         match check_signal(alloc, scope, period, signals) {
@@ -208,10 +219,12 @@ pub(crate) fn check_signals(
     Ok(())
 }
 
-/// Refuses the first event of an inherited waveform that isn't below the period. A time with a fault is left to its own table.
+/// Refuses the first event of an inherited waveform that isn't below the period. A time with a fault is left to its own
+/// table.
 pub(crate) fn check_late(period: u64, events: &[ReadEvent]) -> Result<(), Trouble>
     ensures early { OnOk result ((place : Place) → first_in (late_read place (pos period)) events.now ≡ None) }
-    ensures late { IfErr result (λ e. (place : Place) → IsAt place (first_in (late_read place (pos period)) events.now) e) }
+    ensures late { IfErr result (λ e. (place : Place)
+        → IsAt place (first_in (late_read place (pos period)) events.now) e) }
 {
     for event in events {
         if is_late(period, event) {

@@ -42,8 +42,10 @@ fn check_count(
 ) -> Result<u64, Trouble>
     requires maps { MapsTable (timed scope.now) number slots.now }
     ensures total { IfOk result (λ total. total ≡ with_waves (timed scope.now) before number) }
-    ensures fits { OnOk result (IsFree (timed scope.now) before number (λ base. count_fault (timed scope.now) base (number, table.now))) }
-    ensures fault { IfErr result (IsRefusedBy (timed scope.now) before number (λ base. count_fault (timed scope.now) base (number, table.now))) }
+    ensures fits { OnOk result (IsFree (timed scope.now) before number
+        (λ base. count_fault (timed scope.now) base (number, table.now))) }
+    ensures fault { IfErr result (IsRefusedBy (timed scope.now) before number
+        (λ base. count_fault (timed scope.now) base (number, table.now))) }
 {
     let signals = scope.short_count()?;
     let count = slot_count(slots, signals)?;
@@ -67,8 +69,10 @@ fn check_behind_period(
     requires maps { MapsTable (timed scope.now) heir.now.number heir.now.slots.now }
     requires reads { reads.now ≡ map (read_waves (timed scope.now)) (timed scope.now).tables }
     ensures total { IfOk result (λ total. total ≡ with_waves (timed scope.now) before heir.now.number) }
-    ensures fits { OnOk result (IsFree (timed scope.now) before heir.now.number (λ base. behind_period (timed scope.now) base (heir.now.number, table.now) (pos heir.now.period))) }
-    ensures fault { IfErr result (IsRefusedBy (timed scope.now) before heir.now.number (λ base. behind_period (timed scope.now) base (heir.now.number, table.now) (pos heir.now.period))) }
+    ensures fits { OnOk result (IsFree (timed scope.now) before heir.now.number
+        (λ base. behind_period (timed scope.now) base (heir.now.number, table.now) (pos heir.now.period))) }
+    ensures fault { IfErr result (IsRefusedBy (timed scope.now) before heir.now.number
+        (λ base. behind_period (timed scope.now) base (heir.now.number, table.now) (pos heir.now.period))) }
 {
     match check_signals(alloc, scope, heir.period, table.waveforms.as_slice()) {
         Err(trouble) => Err(trouble),
@@ -92,8 +96,10 @@ fn check_whole(
     requires has { HasOf (timed scope.now) (lineage (timed scope.now).tables number) whole.now }
     requires reads { reads.now ≡ map (read_waves (timed scope.now)) (timed scope.now).tables }
     ensures total { IfOk result (λ total. total ≡ with_waves (timed scope.now) before number) }
-    ensures fits { OnOk result (IsFree (timed scope.now) before number (λ base. behind_names (timed scope.now) base (number, table.now))) }
-    ensures fault { IfErr result (IsRefusedBy (timed scope.now) before number (λ base. behind_names (timed scope.now) base (number, table.now))) }
+    ensures fits { OnOk result (IsFree (timed scope.now) before number
+        (λ base. behind_names (timed scope.now) base (number, table.now))) }
+    ensures fault { IfErr result (IsRefusedBy (timed scope.now) before number
+        (λ base. behind_names (timed scope.now) base (number, table.now))) }
 {
     match check_period(scope, whole.period, table.line) {
         Err(trouble) => Err(trouble),
@@ -123,8 +129,10 @@ fn check_table(
     requires reads { reads.now ≡ map (read_waves (timed scope.now)) (timed scope.now).tables }
     requires at { slice_get (timed scope.now).tables number ≡ Some table.now }
     ensures total { IfOk result (λ total. total ≡ with_waves (timed scope.now) before number) }
-    ensures fits { OnOk result (IsFree (timed scope.now) before number (λ base. table_fault (timed scope.now) base (number, table.now))) }
-    ensures fault { IfErr result (IsRefusedBy (timed scope.now) before number (λ base. table_fault (timed scope.now) base (number, table.now))) }
+    ensures fits { OnOk result (IsFree (timed scope.now) before number
+        (λ base. table_fault (timed scope.now) base (number, table.now))) }
+    ensures fault { IfErr result (IsRefusedBy (timed scope.now) before number
+        (λ base. table_fault (timed scope.now) base (number, table.now))) }
 {
     match check_inherits(scope, wholes, table.inherits.as_slice()) {
         Err(trouble) => Err(trouble),

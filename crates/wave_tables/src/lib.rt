@@ -1,10 +1,12 @@
-//! The waveform tables of an executive: what each signal does for each character, with its times (IEEE 1450-1999, clause 18).
+//! The waveform tables of an executive: what each signal does for each character, with its times (IEEE 1450-1999,
+//! clause 18).
 #![tactic(auto)]
 
 mod asked;
 mod building;
 mod check;
 mod judge;
+mod laws;
 mod lineage;
 mod make;
 mod own;
@@ -18,7 +20,10 @@ mod trouble;
 mod waves;
 
 pub use building::build;
+pub use laws::waves_are_counted;
 pub use set::WaveSet;
 
+#[cfg(test)]
+mod staged;
 #[cfg(test)]
 mod tests;

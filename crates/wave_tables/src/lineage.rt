@@ -139,7 +139,8 @@ fn inherited(
 
 /// The same for each table.
 fn each_inherited(alloc: Global, tables: &[&TableDecl]) -> Result<Vec<Items<usize>>, AllocError>
-    ensures { IfOk result (λ list. list.items ≡ map (λ t. inherited_by (behind tables.now) (Some t)) (behind tables.now)) }
+    ensures { IfOk result (λ list. list.items
+        ≡ map (λ t. inherited_by (behind tables.now) (Some t)) (behind tables.now)) }
 {
     let mut list = Vec::with_capacity(alloc, tables.len())?;
     for table in tables {
@@ -191,13 +192,16 @@ fn add_one(
     requires same { length wholes.old ≡ length (timed scope.now).tables }
     requires each { length inherits.now ≡ length (timed scope.now).tables }
     ensures length { OnOk result (length wholes.new ≡ length wholes.old) }
-    ensures others { OnOk result ((k : ℕ) → (number ≡ k → ⊥) → slice_index_or wholes.new k None ≡ slice_index_or wholes.old k None) }
+    ensures others { OnOk result ((k : ℕ) → (number ≡ k → ⊥)
+        → slice_index_or wholes.new k None ≡ slice_index_or wholes.old k None) }
     ensures kept { IfOk result (λ added. added ≡ false → wholes.new ≡ wholes.old) }
     ensures there { IfOk result (λ added. number < length wholes.old → is_there wholes.new number ≡ true) }
     ensures was { IfOk result (λ added. is_there wholes.old number ≡ true → wholes.new ≡ wholes.old) }
-    ensures has { IfOk result (λ added. added ≡ true → (whole : Whole) → slice_index_or wholes.new number None ≡ Some whole
+    ensures has { IfOk result (λ added. added ≡ true → (whole : Whole)
+        → slice_index_or wholes.new number None ≡ Some whole
         → AreMadeAt (timed scope.now) wholes.old (slice_index_or inherits.now number [])
-        → HasOf (timed scope.now) (flat_map (lineage (timed scope.now).tables) (slice_index_or inherits.now number []) ++ (number ∷ [])) whole) }
+        → HasOf (timed scope.now) (flat_map (lineage (timed scope.now).tables) (slice_index_or inherits.now number [])
+        ++ (number ∷ [])) whole) }
 {
     if number >= wholes.len() || wholes[number].is_some() {
         return Ok(false);

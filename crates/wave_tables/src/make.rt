@@ -49,7 +49,8 @@ fn made_table(
 ) -> Result<Table, AllocError>
     requires has { HasOf (timed scope.now) (lineage (timed scope.now).tables number) whole.now }
     requires reads { reads.now ≡ map (read_waves (timed scope.now)) (timed scope.now).tables }
-    ensures { IfOk result (λ made. made ≡ made_table (timed scope.now).times (timed scope.now).vars (timed scope.now).names
+    ensures { IfOk result (λ made. made
+        ≡ made_table (timed scope.now).times (timed scope.now).vars (timed scope.now).names
         (timed scope.now).place (timed scope.now).tables (number, table.now)) }
 {
     let signals = scope.short_count()?;
@@ -75,7 +76,8 @@ fn made_at(
     requires wholes { AreWhole (timed scope.now) wholes.now }
     requires reads { reads.now ≡ map (read_waves (timed scope.now)) (timed scope.now).tables }
     requires free { leads_into_cycle (timed scope.now).tables number ≡ false }
-    ensures { IfOk result (λ made. made ≡ made_table (timed scope.now).times (timed scope.now).vars (timed scope.now).names
+    ensures { IfOk result (λ made. made
+        ≡ made_table (timed scope.now).times (timed scope.now).vars (timed scope.now).names
         (timed scope.now).place (timed scope.now).tables (number, table.now)) }
 {
     match whole_at(wholes, number) {
@@ -93,8 +95,10 @@ pub(crate) fn made_tables(
 ) -> Result<Vec<Table>, AllocError>
     requires wholes { AreWhole (timed scope.now) wholes.now }
     requires reads { reads.now ≡ map (read_waves (timed scope.now)) (timed scope.now).tables }
-    requires free { (k : ℕ) → k < length (timed scope.now).tables → leads_into_cycle (timed scope.now).tables k ≡ false }
-    ensures { IfOk result (λ made. made.items ≡ made_tables (timed scope.now).times (timed scope.now).vars (timed scope.now).names
+    requires free { (k : ℕ) → k < length (timed scope.now).tables
+        → leads_into_cycle (timed scope.now).tables k ≡ false }
+    ensures { IfOk result (λ made. made.items
+        ≡ made_tables (timed scope.now).times (timed scope.now).vars (timed scope.now).names
         (timed scope.now).place (timed scope.now).tables) }
 {
     let tables = scope.tables();

@@ -90,10 +90,12 @@ fn refuse_standing(
     requires maps { MapsTable (timed scope.now) heir.now.number heir.now.slots.now }
     requires letters { has_letters wave.now.letters ≡ true }
     requires other { source.table ≡ heir.now.number → ⊥ }
-    requires late { IsAt (timed scope.now).place (first_in (late_event (timed scope.now) (pos heir.now.period)) wave.now.events) late }
+    requires late { IsAt (timed scope.now).place
+        (first_in (late_event (timed scope.now) (pos heir.now.period)) wave.now.events) late }
     ensures fits { OnOk result (late_one (timed scope.now) (pos heir.now.period) heir.now.number
         (waveform_at (timed scope.now).names source reference.now wave.now) ≡ None) }
-    ensures fault { IfErr result (λ e. IsAt (timed scope.now).place (late_one (timed scope.now) (pos heir.now.period) heir.now.number
+    ensures fault { IfErr result (λ e. IsAt (timed scope.now).place
+        (late_one (timed scope.now) (pos heir.now.period) heir.now.number
         (waveform_at (timed scope.now).names source reference.now wave.now)) e) }
 {
     match is_standing(alloc, scope, heir, source, reference, wave) {
@@ -118,7 +120,8 @@ fn check_inherited_wave(
     requires read { read.now ≡ read_wave (timed scope.now) wave.now }
     ensures fits { OnOk result (late_one (timed scope.now) (pos heir.now.period) heir.now.number
         (waveform_at (timed scope.now).names source reference.now wave.now) ≡ None) }
-    ensures fault { IfErr result (λ e. IsAt (timed scope.now).place (late_one (timed scope.now) (pos heir.now.period) heir.now.number
+    ensures fault { IfErr result (λ e. IsAt (timed scope.now).place
+        (late_one (timed scope.now) (pos heir.now.period) heir.now.number
         (waveform_at (timed scope.now).names source reference.now wave.now)) e) }
 {
     if usize::from(source.table) == heir.number {
@@ -145,7 +148,8 @@ fn check_numbered(
     requires read { slice_get reads.now source.number ≡ Some (read_wave (timed scope.now) wave.now) }
     ensures fits { OnOk result (late_one (timed scope.now) (pos heir.now.period) heir.now.number
         (waveform_at (timed scope.now).names source reference.now wave.now) ≡ None) }
-    ensures fault { IfErr result (λ e. IsAt (timed scope.now).place (late_one (timed scope.now) (pos heir.now.period) heir.now.number
+    ensures fault { IfErr result (λ e. IsAt (timed scope.now).place
+        (late_one (timed scope.now) (pos heir.now.period) heir.now.number
         (waveform_at (timed scope.now).names source reference.now wave.now)) e) }
 {
     match reads.get(source.number as usize) {
@@ -170,7 +174,8 @@ fn check_reference(
     ensures next { IfOk result (λ next. next ≡ start + length signals.now.waves) }
     ensures fits { OnOk result (late_in (timed scope.now) (pos heir.now.period) heir.now.number
         (numbered_from start (own_for (timed scope.now).names table signals.now)) ≡ None) }
-    ensures fault { IfErr result (λ e. IsAt (timed scope.now).place (late_in (timed scope.now) (pos heir.now.period) heir.now.number
+    ensures fault { IfErr result (λ e. IsAt (timed scope.now).place
+        (late_in (timed scope.now) (pos heir.now.period) heir.now.number
         (numbered_from start (own_for (timed scope.now).names table signals.now))) e) }
 {
     let mut number = start;
@@ -199,7 +204,8 @@ fn check_table_waves(
     requires reads { reads.now ≡ read_waves (timed scope.now) table.now }
     ensures fits { OnOk result (late_in (timed scope.now) (pos heir.now.period) heir.now.number
         (own_waveforms (timed scope.now).names number table.now) ≡ None) }
-    ensures fault { IfErr result (λ e. IsAt (timed scope.now).place (late_in (timed scope.now) (pos heir.now.period) heir.now.number
+    ensures fault { IfErr result (λ e. IsAt (timed scope.now).place
+        (late_in (timed scope.now) (pos heir.now.period) heir.now.number
         (own_waveforms (timed scope.now).names number table.now)) e) }
 {
     let mut next = 0;
@@ -226,7 +232,8 @@ fn check_other(
     requires reads { slice_get reads.now number ≡ Some (read_waves (timed scope.now) table.now) }
     ensures fits { OnOk result (late_in (timed scope.now) (pos heir.now.period) heir.now.number
         (own_waveforms (timed scope.now).names number table.now) ≡ None) }
-    ensures fault { IfErr result (λ e. IsAt (timed scope.now).place (late_in (timed scope.now) (pos heir.now.period) heir.now.number
+    ensures fault { IfErr result (λ e. IsAt (timed scope.now).place
+        (late_in (timed scope.now) (pos heir.now.period) heir.now.number
         (own_waveforms (timed scope.now).names number table.now)) e) }
 {
     let short = u16::try_from(number).map_err(|_| Trouble::NoMemory)?;
@@ -246,7 +253,8 @@ pub(crate) fn check_inherited(
     requires maps { MapsTable (timed scope.now) heir.now.number heir.now.slots.now }
     requires reads { reads.now ≡ map (read_waves (timed scope.now)) (timed scope.now).tables }
     ensures fits { OnOk result (inherited_fault (timed scope.now) (pos heir.now.period) heir.now.number ≡ None) }
-    ensures fault { IfErr result (λ e. IsAt (timed scope.now).place (inherited_fault (timed scope.now) (pos heir.now.period) heir.now.number) e) }
+    ensures fault { IfErr result (λ e. IsAt (timed scope.now).place
+        (inherited_fault (timed scope.now) (pos heir.now.period) heir.now.number) e) }
 {
     let tables = scope.tables();
     for number in 0..tables.len() {

@@ -95,7 +95,8 @@ pub(crate) fn push_wave(
     letter: u8,
     source: Option<Source>,
 ) -> Result<(), AllocError>
-    ensures { OnOk result (waves.new.items ≡ waves.old.items ++ option_to_list (wave_read reads.now signal letter source)) }
+    ensures { OnOk result (waves.new.items ≡ waves.old.items
+        ++ option_to_list (wave_read reads.now signal letter source)) }
 {
     if let Some(place) = source {
         if let Some(read) = read_at(reads, place) {

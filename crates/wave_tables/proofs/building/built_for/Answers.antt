@@ -1,11 +1,9 @@
 use Rattle.std.proofs.Common.{ℕ, ◌∙◌, ap, subst}
-use Rattle.stil_ast.specs.Data.Texts.{name_or_none}
 use Rattle.stil_ast.specs.Faults.ExecutiveFaults.{timed_of}
 use Rattle.stil_ast.specs.Faults.TableFaults.{tables_fault}
 use Rattle.stil_ast.specs.Meaning.Tables.{tables_named}
 use Rattle.time_expr.specs.TimesOf.{times_of}
 use Rattle.wave_tables.specs.Check.{IsAt}
-use Rattle.wave_tables.proofs.LetterLemmas.{named_lettered}
 use Rattle.wave_tables.proofs.building.built_for.Goals as goal
 
 pub invariant_of-scope : goal.invariant_of-scope
@@ -13,7 +11,7 @@ invariant_of-scope c = record {
   in_order = c.in_ok-tables.ensures ∙ ap (λ l. tables_named l c.timing_name.result.now) c.as_slice.ensures
       ∙ ap (tables_named c.args.blocks.now.timings) c.timing_name.ensures;
   all_signals = c.requires.signals;
-  lettered = named_lettered c.args.blocks.now.timings (name_or_none c.args.exec.now.timing) c.requires.text.each_timing;
+  lettered = c.requires.lettered;
   all_vars = c.requires.vars;
 }
 

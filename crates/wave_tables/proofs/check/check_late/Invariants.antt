@@ -6,4 +6,5 @@ use Rattle.wave_tables.proofs.check.check_late.Given as goal
 
 abbrev pub invariant-loop-event : goal.invariant-loop-event
 invariant-loop-event l =
-    (place : Place) → first_in (late_read place (pos l.period)) l.events ≡ first_in (late_read place (pos l.period)) (drop l.event-index l.events)
+    (place : Place) → first_in (late_read place (pos l.period)) l.events
+    ≡ first_in (late_read place (pos l.period)) (drop l.event-index l.events)

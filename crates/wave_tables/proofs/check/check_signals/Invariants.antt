@@ -6,4 +6,5 @@ use Rattle.wave_tables.proofs.check.check_signals.Given as goal
 
 abbrev pub invariant-loop-signals : goal.invariant-loop-signals
 invariant-loop-signals l =
-    first_in (signal_fault (timed l.scope) (pos l.period)) l.list ≡ first_in (signal_fault (timed l.scope) (pos l.period)) (drop l.signals-index l.list)
+    first_in (signal_fault (timed l.scope) (pos l.period)) l.list
+    ≡ first_in (signal_fault (timed l.scope) (pos l.period)) (drop l.signals-index l.list)

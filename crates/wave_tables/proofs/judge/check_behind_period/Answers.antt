@@ -11,12 +11,14 @@ pub returns-in-Ok-check_inherited-clause-fits : goal.returns-in-Ok-check_inherit
 returns-in-Ok-check_inherited-clause-fits c =
     let t = timed c.args.scope.now in
     let own = rw c.as_slice.ensures at c.in-Ok.ensures.fits in
-    let step : IsFree t c.args.before c.args.heir.now.number (λ base. count_fault t base (c.args.heir.now.number, c.args.table.now))
+    let step : IsFree t c.args.before c.args.heir.now.number
+    (λ base. count_fault t base (c.args.heir.now.number, c.args.table.now))
     → IsFree t c.args.before c.args.heir.now.number
     (λ base. behind_period t base (c.args.heir.now.number, c.args.table.now) (pos c.args.heir.now.period)) =
     λ fits base at. none_both (first_in (signal_fault t (pos c.args.heir.now.period)) c.args.table.now.waveforms) _ own
     (none_both (inherited_fault t (pos c.args.heir.now.period) c.args.heir.now.number)
-    (count_fault t base (c.args.heir.now.number, c.args.table.now)) c.in-Ok-check_inherited.ensures.fits (fits base at)) in
+    (count_fault t base (c.args.heir.now.number, c.args.table.now)) c.in-Ok-check_inherited.ensures.fits
+    (fits base at)) in
     ok_then c.check_count.result step c.check_count.ensures.fits
 
 pub returns-in-Ok-check_inherited-clause-fault : goal.returns-in-Ok-check_inherited-clause-fault
@@ -24,10 +26,13 @@ returns-in-Ok-check_inherited-clause-fault c =
     let t = timed c.args.scope.now in
     let own = rw c.as_slice.ensures at c.in-Ok.ensures.fits in
     let step : (e : Trouble)
-    → IsRefusedBy t c.args.before c.args.heir.now.number (λ base. count_fault t base (c.args.heir.now.number, c.args.table.now)) e
+    → IsRefusedBy t c.args.before c.args.heir.now.number
+    (λ base. count_fault t base (c.args.heir.now.number, c.args.table.now)) e
     → IsRefusedBy t c.args.before c.args.heir.now.number
     (λ base. behind_period t base (c.args.heir.now.number, c.args.table.now) (pos c.args.heir.now.period)) e =
-    λ e fault base at. at_second t.place (first_in (signal_fault t (pos c.args.heir.now.period)) c.args.table.now.waveforms) _ e own
+    λ e fault base at. at_second t.place
+    (first_in (signal_fault t (pos c.args.heir.now.period)) c.args.table.now.waveforms) _ e own
     (at_second t.place (inherited_fault t (pos c.args.heir.now.period) c.args.heir.now.number)
-    (count_fault t base (c.args.heir.now.number, c.args.table.now)) e c.in-Ok-check_inherited.ensures.fits (fault base at)) in
+    (count_fault t base (c.args.heir.now.number, c.args.table.now)) e c.in-Ok-check_inherited.ensures.fits
+    (fault base at)) in
     err_then c.check_count.result step c.check_count.ensures.fault

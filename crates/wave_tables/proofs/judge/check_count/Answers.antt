@@ -15,15 +15,18 @@ use Rattle.wave_tables.proofs.judge.check_count.Goals as goal
 pub returns-then-total-clause-total : goal.returns-then-total-clause-total
 returns-then-total-clause-total c =
     let sum : c.in_ok-total.total ≡ c.args.before + c.in_ok-count.count = grind (arith, common_steps) in
-    sum ∙ ap (λ (n : ℕ). c.args.before + n) (c.in_ok-count.ensures ∙ ap (slot_count c.args.slots.now) c.in_ok-signals.ensures
+    sum ∙ ap (λ (n : ℕ). c.args.before + n)
+    (c.in_ok-count.ensures ∙ ap (slot_count c.args.slots.now) c.in_ok-signals.ensures
     ∙ counted (timed c.args.scope.now) c.args.number c.args.slots.now c.requires.maps)
 
 pub returns-then-total-clause-fits : goal.returns-then-total-clause-fits
 returns-then-total-clause-fits c = λ base at.
     let t = timed c.args.scope.now in
     let sum : c.in_ok-total.total ≡ c.args.before + c.in_ok-count.count = grind (arith, common_steps) in
-    let whole : c.in_ok-total.total ≡ c.args.before + wave_count (waveforms t.names t.tables c.args.number) (length t.names.signals) =
-    sum ∙ ap (λ (n : ℕ). c.args.before + n) (c.in_ok-count.ensures ∙ ap (slot_count c.args.slots.now) c.in_ok-signals.ensures
+    let whole : c.in_ok-total.total
+    ≡ c.args.before + wave_count (waveforms t.names t.tables c.args.number) (length t.names.signals) =
+    sum ∙ ap (λ (n : ℕ). c.args.before + n)
+    (c.in_ok-count.ensures ∙ ap (slot_count c.args.slots.now) c.in_ok-signals.ensures
     ∙ counted t c.args.number c.args.slots.now c.requires.maps) in
     let few : nat_le c.in_ok-total.total most_waves ≡ true = le-leb c.in_ok-total.total most_waves (omega arith) in
     count_is t base c.args.before c.in_ok-total.total c.args.number c.args.table.now at whole
@@ -33,8 +36,10 @@ pub returns-else-total-clause-fault : goal.returns-else-total-clause-fault
 returns-else-total-clause-fault c = λ base at.
     let t = timed c.args.scope.now in
     let sum : c.in_ok-total.total ≡ c.args.before + c.in_ok-count.count = grind (arith, common_steps) in
-    let whole : c.in_ok-total.total ≡ c.args.before + wave_count (waveforms t.names t.tables c.args.number) (length t.names.signals) =
-    sum ∙ ap (λ (n : ℕ). c.args.before + n) (c.in_ok-count.ensures ∙ ap (slot_count c.args.slots.now) c.in_ok-signals.ensures
+    let whole : c.in_ok-total.total
+    ≡ c.args.before + wave_count (waveforms t.names t.tables c.args.number) (length t.names.signals) =
+    sum ∙ ap (λ (n : ℕ). c.args.before + n)
+    (c.in_ok-count.ensures ∙ ap (slot_count c.args.slots.now) c.in_ok-signals.ensures
     ∙ counted t c.args.number c.args.slots.now c.requires.maps) in
     let many : nat_le c.in_ok-total.total most_waves ≡ false = grind (arith, nat_tests) in
     count_is t base c.args.before c.in_ok-total.total c.args.number c.args.table.now at whole

@@ -12,7 +12,8 @@ check_whole-requires-clause-has c =
     let t = timed c.args.scope.now in
     let known = rw c.as_slice.ensures at c.in-Ok.ensures.known in
     c.requires.wholes.have c.args.number c.in-Some.whole.now c.in-Some.ensures
-    (free_at t c.args.wholes.now c.args.number c.args.table.now c.requires.wholes (within_at t.tables c.args.number c.args.table.now c.requires.at)
+    (free_at t c.args.wholes.now c.args.number c.args.table.now c.requires.wholes
+    (within_at t.tables c.args.number c.args.table.now c.requires.at)
     c.requires.at known)
 
 pub returns-in-Some-clause-fits : goal.returns-in-Some-clause-fits

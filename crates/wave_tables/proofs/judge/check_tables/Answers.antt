@@ -6,10 +6,9 @@ use Rattle.stil_ast.specs.Meaning.Tables.{waveforms, wave_count}
 use Rattle.stil_ast.specs.declared.fault.StilFault.{StilFault}
 use Rattle.wave_tables.specs.Scope.{timed}
 use Rattle.wave_tables.specs.Check.{IsAt}
-use Rattle.wave_tables.proofs.FirstLemmas.{at_first}
+use Rattle.wave_tables.proofs.FirstLemmas.{at_first, first_numbered}
 use Rattle.wave_tables.proofs.TakenLemmas.{behind_at}
 use Rattle.wave_tables.proofs.TableLemmas.{waves_more}
-use Rattle.wave_tables.proofs.StandingLemmas.{late_tables}
 use Rattle.wave_tables.proofs.judge.check_tables.Goals as goal
 
 pub returns-in-Err-clause-fault : goal.returns-in-Err-clause-fault
@@ -18,7 +17,7 @@ returns-in-Err-clause-fault c =
     let at = behind_at c.tables-tables.result.now t.tables c.loop-number.number c.index-tables-number.result
     c.tables-tables.ensures (omega arith) c.index-tables-number.is in
     let whole = c.loop-number.invariant.none
-    ∙ late_tables (table_fault t c.args.before) t.tables c.loop-number.number c.index-tables-number.result.now at in
+    ∙ first_numbered (table_fault t c.args.before) t.tables c.loop-number.number c.index-tables-number.result.now at in
     subst (λ (o : Option StilFault). IsAt t.place o c.in-Err.trouble) (sym whole)
     (at_first t.place _ _ c.in-Err.trouble (c.in-Err.ensures.fault c.args.before c.loop-number.invariant.total))
 
@@ -30,9 +29,16 @@ loop-number-preserved c =
     record {
       total =
           let own : ℕ = wave_count (waveforms t.names t.tables c.loop-number.number) (length t.names.signals) in
-          omega (arith, c.in-Ok.ensures.total, c.loop-number.invariant.total, waves_more t.names t.tables c.loop-number.number);
+          omega (
+            arith,
+            c.in-Ok.ensures.total,
+            c.loop-number.invariant.total,
+            waves_more t.names t.tables
+                c.loop-number.number,
+          );
       none = c.loop-number.invariant.none
-          ∙ late_tables (table_fault t c.args.before) t.tables c.loop-number.number c.index-tables-number.result.now at
+          ∙ first_numbered (table_fault t c.args.before) t.tables c.loop-number.number c.index-tables-number.result.now
+          at
           ∙ ap (λ (o : Option StilFault). or_else o (first_in (table_fault t c.args.before)
           (enumerate_from (c.loop-number.number + 1) (drop (c.loop-number.number + 1) t.tables))))
           (c.in-Ok.ensures.fits c.args.before c.loop-number.invariant.total);

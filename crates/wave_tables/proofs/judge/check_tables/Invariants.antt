@@ -9,5 +9,6 @@ abbrev pub invariant-loop-number : goal.invariant-loop-number
 invariant-loop-number l = record {
   total : l.total ≡ l.before + waves_of_first (timed l.scope).names (timed l.scope).tables l.number;
   none : tables_fault (timed l.scope) l.before
-      ≡ first_in (table_fault (timed l.scope) l.before) (enumerate_from l.number (drop l.number (timed l.scope).tables));
+      ≡ first_in (table_fault (timed l.scope) l.before)
+      (enumerate_from l.number (drop l.number (timed l.scope).tables));
 }

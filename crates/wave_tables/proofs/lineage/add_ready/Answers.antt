@@ -13,5 +13,6 @@ loop-number-preserved c =
     let here = get_or c.args.ready.now c.loop-number.number false in
     let more = adds_more (timed c.args.scope.now) c.args.inherits.now c.args.ready.now c.loop-number.number here
     c.args.wholes.now c.loop-number.wholes c.add_if.new.wholes c.loop-number.added c.in_ok-more.more within
-    (get_or_default c.args.ready.now c.loop-number.number false here within) c.loop-number.invariant c.in_ok-more.ensures in
+    (get_or_default c.args.ready.now c.loop-number.number false here within) c.loop-number.invariant
+    c.in_ok-more.ensures in
     rw c.either-added.ensures more

@@ -6,4 +6,5 @@ use Rattle.wave_tables.proofs.lineage.each_inherited.Given as goal
 
 abbrev pub invariant-loop-table : goal.invariant-loop-table
 invariant-loop-table l =
-    l.list.items ≡ map (λ (t : TableDecl). inherited_by (behind l.tables) (Some t)) (behind (take l.table-index l.tables))
+    l.list.items ≡ map (λ (t : TableDecl). inherited_by (behind l.tables) (Some t))
+    (behind (take l.table-index l.tables))

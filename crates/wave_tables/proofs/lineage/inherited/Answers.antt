@@ -13,5 +13,7 @@ loop-named-preserved c =
     let found = c.table_of.ensures ∙ ap (table_of (behind c.args.tables.now)) c.as_slice.ensures in
     c.in_ok-push_found.ensures
     ∙ ap (λ (l : List ℕ). l ++ option_to_list c.table_of.result) c.loop-named.invariant
-    ∙ ap (λ (o : Option ℕ). filter_map number (take c.loop-named.named-index c.as_slice-named-items.result.now) ++ option_to_list o) found
-    ∙ filter_map_taken number c.as_slice-named-items.result.now c.loop-named.named-index c.named-item.result (omega arith) c.named-item.is
+    ∙ ap (λ (o : Option ℕ). filter_map number (take c.loop-named.named-index c.as_slice-named-items.result.now)
+    ++ option_to_list o) found
+    ∙ filter_map_taken number c.as_slice-named-items.result.now c.loop-named.named-index c.named-item.result
+    (omega arith) c.named-item.is

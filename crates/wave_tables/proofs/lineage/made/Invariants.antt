@@ -9,7 +9,8 @@ abbrev pub invariant-loop-left : goal.invariant-loop-left
 invariant-loop-left l = record {
   within : l.left ≤ length l.inherits;
   has : AreMadeAt (timed l.scope) l.wholes l.inherits
-      → HasOf (timed l.scope) (flat_map (lineage (timed l.scope).tables) (drop l.left l.inherits) ++ (l.number ∷ [])) l.whole;
+      → HasOf (timed l.scope) (flat_map (lineage (timed l.scope).tables) (drop l.left l.inherits) ++ (l.number ∷ []))
+      l.whole;
 }
 
 abbrev pub decreases-loop-left : goal.decreases-loop-left

@@ -15,11 +15,18 @@ returns c =
     let long : c.in_ok-period.period ≡ period_of t.times t.vars t.place (period_text t.tables c.args.number) =
     c.in_ok-period.ensures t (period_text t.tables c.args.number) c.requires.has.period in
     let maps : MapsTable t c.args.number c.deref.result.now = rw c.deref.ensures.value c.requires.has.slots in
-    let all : c.in_ok-waves.waves ≡ waves_of t.times t.vars t.place (waveforms t.names t.tables c.args.number) (length t.names.signals) =
+    let all : c.in_ok-waves.waves ≡ waves_of t.times t.vars t.place (waveforms t.names t.tables c.args.number)
+    (length t.names.signals) =
     c.in_ok-waves.ensures ∙ ap (rows_of c.args.reads.now c.deref.result.now) c.in_ok-signals.ensures
     ∙ rows_are t c.args.number c.deref.result.now maps c.args.reads.now c.requires.reads in
-    let name_in : List ℕ → Table = λ n. record { name = n; period = c.in_ok-period.period; waves = c.in_ok-waves.waves } in
+    let name_in : List ℕ → Table =
+    λ n. record { name = n; period = c.in_ok-period.period; waves = c.in_ok-waves.waves } in
     let period_in : ℕ → Table = λ p. record { name = c.args.table.now.name; period = p; waves = c.in_ok-waves.waves } in
     let waves_in : List Wave → Table =
-    λ w. record { name = c.args.table.now.name; period = period_of t.times t.vars t.place (period_text t.tables c.args.number); waves = w } in
+    λ w. record {
+      name = c.args.table.now.name;
+      period = period_of t.times t.vars t.place
+          (period_text t.tables c.args.number);
+      waves = w;
+    } in
     ap name_in written ∙ ap period_in long ∙ ap waves_in all

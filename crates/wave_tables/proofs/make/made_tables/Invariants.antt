@@ -6,5 +6,6 @@ use Rattle.wave_tables.proofs.make.made_tables.Given as goal
 
 abbrev pub invariant-loop-number : goal.invariant-loop-number
 invariant-loop-number l =
-    l.made.items ≡ map (made_table (timed l.scope).times (timed l.scope).vars (timed l.scope).names (timed l.scope).place (timed l.scope).tables)
+    l.made.items ≡ map (made_table (timed l.scope).times (timed l.scope).vars (timed l.scope).names
+    (timed l.scope).place (timed l.scope).tables)
     (enumerate_from 0 (take l.number (timed l.scope).tables))

@@ -11,14 +11,14 @@ use Rattle.wave_tables.specs.Scope.{timed}
 use Rattle.wave_tables.specs.Letters.{signals_lettered}
 use Rattle.wave_tables.specs.ReadWaves.{read_waves}
 use Rattle.wave_tables.specs.Check.{IsAt, late_in}
-use Rattle.wave_tables.proofs.FirstLemmas.{at_first}
+use Rattle.wave_tables.proofs.FirstLemmas.{at_first, first_numbered}
 use Rattle.wave_tables.proofs.TakenLemmas.{behind_at, found_passes}
-use Rattle.wave_tables.proofs.StandingLemmas.{late_tables}
 use Rattle.wave_tables.proofs.standing.check_inherited.Goals as goal
 
 pub check_other-requires-clause-letters : goal.check_other-requires-clause-letters
 check_other-requires-clause-letters c =
-    let at = behind_at c.tables-tables.result.now (timed c.args.scope.now).tables c.loop-number.number c.index-tables-number.result
+    let at = behind_at c.tables-tables.result.now (timed c.args.scope.now).tables c.loop-number.number
+    c.index-tables-number.result
     c.tables-tables.ensures (omega arith) c.index-tables-number.is in
     found_passes (λ (t : TableDecl). signals_lettered t.waveforms) (timed c.args.scope.now).tables c.loop-number.number
     c.index-tables-number.result.now c.args.scope.now.lettered at
@@ -28,7 +28,8 @@ check_other-requires-clause-reads c =
     let t = timed c.args.scope.now in
     let at = behind_at c.tables-tables.result.now t.tables c.loop-number.number c.index-tables-number.result
     c.tables-tables.ensures (omega arith) c.index-tables-number.is in
-    ap (λ l. slice_get l c.loop-number.number) c.requires.reads ∙ slice_get-map (read_waves t) t.tables c.loop-number.number
+    ap (λ l. slice_get l c.loop-number.number) c.requires.reads
+    ∙ slice_get-map (read_waves t) t.tables c.loop-number.number
     ∙ ap (option_map (read_waves t)) at
 
 pub returns-in-Err-clause-fault : goal.returns-in-Err-clause-fault
@@ -38,8 +39,10 @@ returns-in-Err-clause-fault c =
     c.tables-tables.ensures (omega arith) c.index-tables-number.is in
     let rule : ℕ × TableDecl → Option StilFault =
     λ other. late_in t (pos c.args.heir.now.period) c.args.heir.now.number (own_waveforms t.names other.0 other.1) in
-    let whole = c.loop-number.invariant ∙ late_tables rule t.tables c.loop-number.number c.index-tables-number.result.now at in
-    subst (λ (o : Option StilFault). IsAt t.place o c.in-Err.trouble) (sym whole) (at_first t.place _ _ c.in-Err.trouble c.in-Err.ensures.fault)
+    let whole = c.loop-number.invariant
+    ∙ first_numbered rule t.tables c.loop-number.number c.index-tables-number.result.now at in
+    subst (λ (o : Option StilFault). IsAt t.place o c.in-Err.trouble) (sym whole)
+    (at_first t.place _ _ c.in-Err.trouble c.in-Err.ensures.fault)
 
 pub loop-number-preserved : goal.loop-number-preserved
 loop-number-preserved c =
@@ -48,6 +51,7 @@ loop-number-preserved c =
     c.tables-tables.ensures (omega arith) c.index-tables-number.is in
     let rule : ℕ × TableDecl → Option StilFault =
     λ other. late_in t (pos c.args.heir.now.period) c.args.heir.now.number (own_waveforms t.names other.0 other.1) in
-    c.loop-number.invariant ∙ late_tables rule t.tables c.loop-number.number c.index-tables-number.result.now at
-    ∙ ap (λ (o : Option StilFault). or_else o (first_in rule (enumerate_from (c.loop-number.number + 1) (drop (c.loop-number.number + 1) t.tables))))
+    c.loop-number.invariant ∙ first_numbered rule t.tables c.loop-number.number c.index-tables-number.result.now at
+    ∙ ap (λ (o : Option StilFault). or_else o
+    (first_in rule (enumerate_from (c.loop-number.number + 1) (drop (c.loop-number.number + 1) t.tables))))
     c.in-Ok.ensures.fits

@@ -15,7 +15,8 @@ refuse_standing-requires-clause-late c =
     let events : c.as_slice.result.now ≡ map (read_event t) c.args.wave.now.events =
     c.as_slice.ensures ∙ ap (λ (r : ReadWave). r.events) c.requires.read in
     subst (λ (o : Option StilFault). IsAt t.place o c.in-Err.late)
-    (ap (first_in (late_read t.place (pos c.args.heir.now.period))) events ∙ late_is t (pos c.args.heir.now.period) c.args.wave.now.events)
+    (ap (first_in (late_read t.place (pos c.args.heir.now.period))) events
+    ∙ late_is t (pos c.args.heir.now.period) c.args.wave.now.events)
     (c.in-Err.ensures.late t.place)
 
 pub returns-in-Ok-clause-fits : goal.returns-in-Ok-clause-fits
@@ -23,6 +24,8 @@ returns-in-Ok-clause-fits c =
     let t = timed c.args.scope.now in
     let events : c.as_slice.result.now ≡ map (read_event t) c.args.wave.now.events =
     c.as_slice.ensures ∙ ap (λ (r : ReadWave). r.events) c.requires.read in
-    not_late_early t (pos c.args.heir.now.period) c.args.heir.now.number (waveform_at t.names c.args.source c.args.reference.now c.args.wave.now)
-    (sym (ap (first_in (late_read t.place (pos c.args.heir.now.period))) events ∙ late_is t (pos c.args.heir.now.period) c.args.wave.now.events)
+    not_late_early t (pos c.args.heir.now.period) c.args.heir.now.number
+    (waveform_at t.names c.args.source c.args.reference.now c.args.wave.now)
+    (sym (ap (first_in (late_read t.place (pos c.args.heir.now.period))) events
+    ∙ late_is t (pos c.args.heir.now.period) c.args.wave.now.events)
     ∙ c.in-Ok.ensures.early t.place)

@@ -10,7 +10,9 @@ abbrev pub invariant-loop-wave : goal.invariant-loop-wave
 invariant-loop-wave l = record {
   number : l.number ≡ l.start + l.wave-index;
   stand : StandAt (timed l.scope) l.reads l.number (drop l.wave-index l.wave-items);
-  none : late_in (timed l.scope) (pos l.heir.period) l.heir.number (numbered_from l.start (own_for (timed l.scope).names l.table l.signals))
+  none : late_in (timed l.scope) (pos l.heir.period) l.heir.number
+      (numbered_from l.start (own_for (timed l.scope).names l.table l.signals))
       ≡ late_in (timed l.scope) (pos l.heir.period) l.heir.number
-      (numbered_from l.number (waves_for l.table (members (timed l.scope).names l.signals.reference) (drop l.wave-index l.wave-items)));
+      (numbered_from l.number (waves_for l.table (members (timed l.scope).names l.signals.reference)
+      (drop l.wave-index l.wave-items)));
 }

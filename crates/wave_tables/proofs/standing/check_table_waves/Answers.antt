@@ -15,7 +15,8 @@ check_reference-requires-clause-reads c =
     let items = c.as_slice-signals-items.result.now in
     let i = c.loop-signals.signals-index in
     let within : i < length items = omega arith in
-    (stand_reference (timed c.args.scope.now) c.args.reads.now c.loop-signals.next (drop i items) c.signals-item.result (drop (i + 1) items)
+    (stand_reference (timed c.args.scope.now) c.args.reads.now c.loop-signals.next (drop i items) c.signals-item.result
+    (drop (i + 1) items)
     (drop-item items i c.signals-item.result within c.signals-item.is) c.loop-signals.invariant.reads).0
 
 pub returns-in-Err-clause-fault : goal.returns-in-Err-clause-fault
@@ -26,7 +27,8 @@ returns-in-Err-clause-fault c =
     let within : i < length items = omega arith in
     let split = drop-item items i c.signals-item.result within c.signals-item.is in
     let whole = c.loop-signals.invariant.none
-    ∙ late_references t (pos c.args.heir.now.period) c.args.heir.now.number c.args.number c.loop-signals.next (drop i items)
+    ∙ late_references t (pos c.args.heir.now.period) c.args.heir.now.number c.args.number c.loop-signals.next
+    (drop i items)
     c.signals-item.result (drop (i + 1) items) split in
     subst (λ (o : Option StilFault). IsAt t.place o c.in-Err.trouble) (sym whole)
     (at_first t.place _ _ c.in-Err.trouble c.in-Err.ensures.fault)
@@ -41,13 +43,17 @@ loop-signals-preserved c =
     let split = drop-item items i c.signals-item.result within c.signals-item.is in
     let next : c.in-Ok.behind ≡ c.loop-signals.next + length c.signals-item.result.waves = c.in-Ok.ensures.next in
     let behind : ℕ → Option StilFault =
-    λ n. late_in t (pos c.args.heir.now.period) c.args.heir.now.number (numbered_from n (flat_map (own_for t.names c.args.number) rest)) in
+    λ n. late_in t (pos c.args.heir.now.period) c.args.heir.now.number
+    (numbered_from n (flat_map (own_for t.names c.args.number) rest)) in
     record {
-      reads = rw next (stand_reference t c.args.reads.now c.loop-signals.next (drop i items) c.signals-item.result rest split
+      reads = rw next (stand_reference t c.args.reads.now c.loop-signals.next (drop i items) c.signals-item.result rest
+          split
           c.loop-signals.invariant.reads).1;
       none = c.loop-signals.invariant.none
-          ∙ late_references t (pos c.args.heir.now.period) c.args.heir.now.number c.args.number c.loop-signals.next (drop i items)
+          ∙ late_references t (pos c.args.heir.now.period) c.args.heir.now.number c.args.number c.loop-signals.next
+          (drop i items)
           c.signals-item.result rest split
-          ∙ ap (λ (o : Option StilFault). or_else o (behind (c.loop-signals.next + length c.signals-item.result.waves))) c.in-Ok.ensures.fits
+          ∙ ap (λ (o : Option StilFault). or_else o
+          (behind (c.loop-signals.next + length c.signals-item.result.waves))) c.in-Ok.ensures.fits
           ∙ ap behind (sym next);
     }

@@ -10,8 +10,10 @@ use Rattle.wave_tables.proofs.standing.check_table_waves.Given as goal
 
 abbrev pub invariant-loop-signals : goal.invariant-loop-signals
 invariant-loop-signals l = record {
-  reads : drop l.next l.reads ≡ flat_map (λ (s : SignalWaves). map (read_wave (timed l.scope)) s.waves) (drop l.signals-index l.signals-items);
-  none : late_in (timed l.scope) (pos l.heir.period) l.heir.number (own_waveforms (timed l.scope).names l.number l.table)
+  reads : drop l.next l.reads ≡ flat_map (λ (s : SignalWaves). map (read_wave (timed l.scope)) s.waves)
+      (drop l.signals-index l.signals-items);
+  none : late_in (timed l.scope) (pos l.heir.period) l.heir.number
+      (own_waveforms (timed l.scope).names l.number l.table)
       ≡ late_in (timed l.scope) (pos l.heir.period) l.heir.number
       (numbered_from l.next (flat_map (own_for (timed l.scope).names l.number) (drop l.signals-index l.signals-items)));
 }

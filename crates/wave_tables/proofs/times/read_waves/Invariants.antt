@@ -7,4 +7,5 @@ use Rattle.wave_tables.proofs.times.read_waves.Given as goal
 
 abbrev pub invariant-loop-signals : goal.invariant-loop-signals
 invariant-loop-signals l =
-    l.read.items ≡ flat_map (λ (s : SignalWaves). map (read_wave (timed l.scope)) s.waves) (take l.signals-index l.signals-items)
+    l.read.items ≡ flat_map (λ (s : SignalWaves). map (read_wave (timed l.scope)) s.waves)
+    (take l.signals-index l.signals-items)

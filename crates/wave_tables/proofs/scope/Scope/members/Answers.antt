@@ -12,4 +12,5 @@ returns-in-Err-Shape-clause-signals c =
 pub returns-in-Err-UnknownName-clause-signals : goal.returns-in-Err-UnknownName-clause-signals
 returns-in-Err-UnknownName-clause-signals c =
     let h = rw c.in-Err-UnknownName.field-0-is at c.in-Err-UnknownName.ensures.signals in
-    c.from_vec-in-Err-UnknownName.ensures ∙ c.new-in-Err-UnknownName.ensures.items ∙ members_none (timed c.args.self.now).names c.args.reference.now UnknownName h
+    c.from_vec-in-Err-UnknownName.ensures ∙ c.new-in-Err-UnknownName.ensures.items
+    ∙ members_none (timed c.args.self.now).names c.args.reference.now UnknownName h
