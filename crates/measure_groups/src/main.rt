@@ -82,10 +82,9 @@ fn blocks(alloc: Global, upwards: bool, count: u32) -> Result<Blocks, AllocError
 /// How many signals the first group has, once all are built.
 fn built(alloc: Global, blocks: &Blocks) -> Option<usize> {
     let table = build(alloc, blocks).ok()?;
-    let range = None;
     let first = SigRef::Name(NameRef {
         name: name_of(alloc, 0).ok()?,
-        range,
+        range: None,
     });
     let signals = table.resolve(alloc, &first).ok()?;
     Some(signals.len())

@@ -130,7 +130,7 @@ fn built(
     let blocks = blocks(alloc, chains)?;
     let signals = signal_groups::build(alloc, &blocks).map_err(|_| "signals")?;
     if blocks.executives.is_empty() {
-        return Err("executives")?;
+        return Err(Fail::from("executives"));
     }
     let built = build(alloc, &blocks, 0, &signals);
     Ok((signals, built))
