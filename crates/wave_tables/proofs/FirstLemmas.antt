@@ -6,7 +6,7 @@ use Rattle.wave_tables.proofs.TakenLemmas.{drop_found}
 use Rattle.std.proofs.Math.Seq.{drop-cons}
 use Rattle.std.proofs.lemmas.List.{drop_all}
 use Rattle.std.specs.Prelude.{Result, Ok, Err, OnOk, IfErr}
-use Rattle.stil_ast.specs.Meaning.Statements.{Place}
+use Rattle.stil_ast.specs.Data.Places.{Place}
 use Rattle.stil_ast.specs.Faults.Found.{or_else, first_in}
 use Rattle.stil_ast.specs.declared.fault.StilFault.{StilFault}
 use Rattle.wave_tables.specs.declared.trouble.Trouble.{Trouble}

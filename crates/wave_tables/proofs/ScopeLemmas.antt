@@ -1,6 +1,6 @@
 -- What a scope answers.
 use Rattle.std.proofs.Common.{◌≡◌, ◌⊎◌, ℕ, List, [], Option, Some, Result, Err, sym, ap, ◌∙◌, inl, inr}
-use Rattle.stil_ast.specs.Meaning.Statements.{Place}
+use Rattle.stil_ast.specs.Data.Places.{Place}
 use Rattle.stil_ast.specs.Meaning.Times.{Met, time_at}
 use Rattle.stil_ast.specs.Meaning.Signals.{Names}
 use Rattle.stil_ast.specs.Meaning.Members.{members, followed, none_where, reference_kind}

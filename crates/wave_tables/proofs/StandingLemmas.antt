@@ -5,8 +5,8 @@ use Rattle.std.specs.Prelude.{slice_get}
 use Rattle.std.proofs.lemmas.List.{length-map}
 use Rattle.std.proofs.lemmas.List.Elements.{All-get_or}
 use Rattle.std.proofs.lemmas.Bool.{eq-eqb, ne_eqb}
-use Rattle.stil_ast.specs.Data.Texts.{is_wave_letter}
-use Rattle.stil_ast.specs.Meaning.Statements.{Place}
+use Rattle.text_bytes.specs.Bytes.{is_character}
+use Rattle.stil_ast.specs.Data.Places.{Place}
 use Rattle.stil_ast.specs.Meaning.Times.{time_at}
 use Rattle.stil_ast.specs.Meaning.Signals.{Names}
 use Rattle.stil_ast.specs.Meaning.Members.{members}
@@ -46,7 +46,7 @@ late_is t period (e ∷ es) =
 
 -- the source of a signal and a waveform character
 pub source_for_is : (n : ℕ) (all : List Waveform) (slots : List (Option Source)) (s c : ℕ) → Maps n all slots → s < n
-    → is_wave_letter c ≡ true → source_for slots s c ≡ source_of (waveform_of all s c)
+    → is_character c ≡ true → source_for slots s c ≡ source_of (waveform_of all s c)
 source_for_is n all slots s c maps h k =
     ap (λ (b : Bool). cond b (at_slot slots s c) None) k ∙ maps.each s c h k
 
@@ -78,7 +78,7 @@ stands_is t table slots source r w signals letters maps listed written within le
     ap (is_source source) (source_for_is (length t.names.signals) (waveforms t.names t.tables table) slots
     (get_or signals i 0)
     (get_or w.letters j 0) maps (All-get_or (λ s. s < length t.names.signals) signals i 0 h within)
-    (item_passes is_wave_letter w.letters j 0 lettered k))
+    (item_passes is_character w.letters j 0 lettered k))
     ∙ is_source_of t.names source r w
     (waveform_of (waveforms t.names t.tables table) (get_or signals i 0) (get_or w.letters j 0))))
     ∙ ap (list_any (λ s. list_any (test s) w.letters)) listed

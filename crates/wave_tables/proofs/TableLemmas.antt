@@ -3,7 +3,7 @@ use Rattle.std.proofs.Common.{◌≡◌, ℕ, zero, suc, ◌+◌, ◌<◌, ◌||
 use Rattle.std.specs.Prelude.{slice_get}
 use Rattle.std.specs.List.{list_any, filter_map, cons_option, enumerate_from}
 use Rattle.text_bytes.specs.Limits.{most_waves}
-use Rattle.stil_ast.specs.Meaning.Statements.{Place}
+use Rattle.stil_ast.specs.Data.Places.{Place}
 use Rattle.stil_ast.specs.Meaning.Signals.{Names}
 use Rattle.stil_ast.specs.Meaning.Tables.{table_of, inherited_by, leads_into_cycle, waveforms, wave_count}
 use Rattle.stil_ast.specs.Faults.Found.{first_in, refuse_if, fault_at, on_line, unless}

@@ -1,14 +1,14 @@
 -- The characters of waveforms.
 use Rattle.std.specs.Prelude.{ℕ, Bool, List}
 use Rattle.std.specs.List.{list_all}
-use Rattle.stil_ast.specs.Data.Texts.{is_wave_letter}
+use Rattle.text_bytes.specs.Bytes.{is_character}
 use Rattle.stil_ast.specs.declared.timing.WaveDecl.{WaveDecl}
 use Rattle.stil_ast.specs.declared.timing.SignalWaves.{SignalWaves}
 use Rattle.stil_ast.specs.declared.timing.TableDecl.{TableDecl}
 
 -- each of these is a waveform character
 abbrev pub has_letters : List ℕ → Bool
-has_letters letters = list_all is_wave_letter letters
+has_letters letters = list_all is_character letters
 
 -- these waveforms are for waveform characters
 abbrev pub waves_lettered : List WaveDecl → Bool

@@ -1,7 +1,7 @@
 -- Which inherited waveforms still stand, as the code finds it.
 use Rattle.std.specs.Prelude.{◌≡◌, ℕ, ◌+◌, ◌++◌, map, drop, ◌==◌, ◌&&◌, Bool, false, List, Option, Some, None, length, if◌then◌else◌}
 use Rattle.std.specs.List.{list_any}
-use Rattle.stil_ast.specs.Data.Texts.{is_wave_letter}
+use Rattle.text_bytes.specs.Bytes.{is_character}
 use Rattle.stil_ast.specs.Meaning.Signals.{Names}
 use Rattle.stil_ast.specs.Meaning.Members.{members}
 use Rattle.stil_ast.specs.Meaning.Tables.{Waveform, waveforms}
@@ -16,7 +16,7 @@ use Rattle.wave_tables.specs.Sources.{at_slot, Maps}
 
 -- the source of a signal and a character, where it is a waveform character
 abbrev pub source_for : List (Option Source) → ℕ → ℕ → Option Source
-source_for slots signal letter = if is_wave_letter letter then at_slot slots signal letter else None
+source_for slots signal letter = if is_character letter then at_slot slots signal letter else None
 
 -- whether it is that source
 abbrev pub is_source : Source → Option Source → Bool

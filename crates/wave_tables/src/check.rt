@@ -3,7 +3,7 @@
 ghost use Rattle.std.specs.Prelude.{◌≡◌, ◌∷◌, ℤ, pos, List, Option, None, Some, if◌then◌else◌, IfOk, IfErr, OnOk};
 ghost use Rattle.stil_ast.specs.Faults.Found.{first_in, fault_at, on_line};
 ghost use Rattle.stil_ast.specs.Faults.TableFaults.{inherit_fault, with_period, events_fault, line_of, signal_fault};
-ghost use Rattle.stil_ast.specs.Meaning.Statements.{Place};
+ghost use Rattle.stil_ast.specs.Data.Places.{Place};
 ghost use Rattle.stil_ast.specs.declared.fault.StilFault.{StilFault};
 ghost use Rattle.stil_ast.specs.declared.fault.StilKind.TheVariants.{EventOutside};
 ghost use Rattle.stil_ast.specs.declared.name.Quoted.{Quoted};

@@ -1,5 +1,5 @@
 use Rattle.std.proofs.Common.{◌≡◌, drop, pos}
-use Rattle.stil_ast.specs.Meaning.Statements.{Place}
+use Rattle.stil_ast.specs.Data.Places.{Place}
 use Rattle.stil_ast.specs.Faults.Found.{first_in}
 use Rattle.wave_tables.specs.Check.{late_read}
 use Rattle.wave_tables.proofs.check.check_late.Given as goal
