@@ -1,9 +1,9 @@
 -- What readers accept has its form: names, titles, lines, and states that statements move on.
-use Rattle.std.proofs.Common.{◌≡◌, ℕ, Bool, true, false, cond, not, ◌&&◌, ◌||◌, List, [], ◌∷◌, ◌++◌, length, nat_lt, nat_le, Option, Some, None, Result, Ok, Err, refl, ap, subst, ◌∙◌, filter}
-use Rattle.std.specs.List.{AllByRecursion, list_all, list_any}
+use Rattle.std.proofs.Common.{◌≡◌, ℕ, Bool, true, false, cond, not, ◌&&◌, List, [], ◌∷◌, ◌++◌, length, nat_lt, nat_le, Option, Some, None, Result, Ok, Err, refl, ap, subst, ◌∙◌, filter}
+use Rattle.std.specs.List.{AllByRecursion, list_all}
 use Rattle.std.specs.Cmp.Derive.{both_true}
-use Rattle.std.proofs.lemmas.Bool.{and_parts, or_parts}
-use Rattle.std.proofs.lemmas.List.Folds.{list_all-append, list_any-append}
+use Rattle.std.proofs.lemmas.Bool.{and_parts}
+use Rattle.std.proofs.lemmas.List.Folds.{list_all-append}
 use Rattle.text_bytes.specs.Limits.{longest_name}
 use Rattle.text_bytes.specs.Bytes.{is_printable, begins_with, begins_name}
 use Rattle.first_fault.specs.Reading.{and_then, reading, stepping}
@@ -14,7 +14,7 @@ use Rattle.stil_form.specs.Words.{fits_name, named_by}
 use Rattle.stil_form.specs.Setting.{Setting, lexemes_at, line_at, at_statement, inner_of, unskipped}
 use Rattle.stil_form.specs.Reading.{is_skipped}
 use Rattle.stil_ast.specs.Data.Texts.{is_name}
-use Rattle.stil_ast.specs.Data.Forms.{is_line, is_optional_name, all_differ}
+use Rattle.stil_ast.specs.Data.Forms.{is_line, is_optional_name}
 use Rattle.stil_read.specs.Heads.{is_there, where_so, only_name, name_or_empty, title_of}
 use Rattle.stil_read.specs.Defs.{trees_in}
 
@@ -175,19 +175,3 @@ kept_read judge P Q each before read [] all holds is = let same : before ≡ rea
 kept_read judge P Q each before read (e ∷ es) all holds is =
     let parts = both_taken (judge before e) (λ x. reading judge (before ++ x ∷ []) es) read is in
     kept_read judge P Q each (before ++ parts.0 ∷ []) read es all.1 (each before e parts.0 all.0 holds parts.1) parts.2
-
--- neither of two
-neither : (a b : Bool) → not a ≡ true → b ≡ false → not (a || (b || false)) ≡ true
-neither true b p q = cc
-neither false true p q = cc
-neither false false p q = refl
-
--- one more item that differs
-pub all_differ-more : {A : Type 0} (equal : A → A → Bool) (xs : List A) (k : A) → all_differ equal xs ≡ true
-    → list_any (λ x. equal x k) xs ≡ false → all_differ equal (xs ++ k ∷ []) ≡ true
-all_differ-more equal [] k differ new = refl
-all_differ-more equal (x ∷ xs) k differ new =
-    let parts = and_parts (not (list_any (equal x) xs)) (all_differ equal xs) differ in
-    let apart = or_parts (equal x k) (list_any (λ y. equal y k) xs) new in
-    both_true (ap not (list_any-append (equal x) xs (k ∷ [])) ∙ neither (list_any (equal x) xs) (equal x k) parts.0 apart.0)
-    (all_differ-more equal xs k parts.1 apart.1)

@@ -30,7 +30,8 @@ use Rattle.stil_read.specs.Heads.{where_so, only_name, title_of, rest_at, titled
 use Rattle.stil_read.specs.Named.{Names, named_on}
 use Rattle.stil_read.specs.Cells.{cells_said}
 use Rattle.stil_read.specs.Chains.{names_of, word_of, word_number, same_word, only_number, length_by, end_by, inversion_by, cells_on, stmt_said, plain_said, with_said, with_stmt, by_word, chain_step, no_parts, is_chain, chain_name, one_more, new_chain, chain_on, parts_in, chain_said, judge_chain, chains_in, scans_called, scan_block}
-use Rattle.stil_read.proofs.AcceptedLemmas.{both_taken, said_at, said_so, kept, kept_each, kept_read, only_name-is, title_of-is, IsLined, HasLine, inner_lined, all_more, all_differ-more}
+use Rattle.stil_read.proofs.AcceptedLemmas.{both_taken, said_at, said_so, kept, kept_each, kept_read, only_name-is, title_of-is, IsLined, HasLine, inner_lined, all_more}
+use Rattle.stil_read.proofs.DeclaredForms.{all_differ-push}
 use Rattle.stil_read.proofs.CellLemmas.{cells_said-are}
 
 -- a statement of this keyword has its form
@@ -150,7 +151,7 @@ said_fits words stmts w (Some stmt) fit one new =
     fit.2 (word_number w) (list_any-map word_number (nat_eq (word_number w)) words ∙ new) in (
       all_more is_chain_stmt stmts stmt fit.0 one.0,
       ap (all_differ nat_eq) (map-append chain_kind stmts (stmt ∷ []))
-          ∙ all_differ-more nat_eq (map chain_kind stmts) (chain_kind stmt) fit.1
+          ∙ all_differ-push nat_eq (map chain_kind stmts) (chain_kind stmt) fit.1
           (any_back (chain_kind stmt) (map chain_kind stmts) (ap (λ k. list_any (nat_eq k) (map chain_kind stmts)) one.1 ∙ away)),
       λ n none_of.
           let parts = of_more words w n none_of in

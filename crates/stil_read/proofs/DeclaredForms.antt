@@ -1,6 +1,7 @@
 -- Names that were judged to be new differ under each title, and are no more than their limit.
-use Rattle.std.proofs.Common.{◌≡◌, ℕ, ◌+◌, ◌≤◌, Bool, true, false, not, ◌&&◌, ◌||◌, cond, nat_lt, List, [], ◌∷◌, ◌++◌, length, refl, sym, ap, subst, ◌∙◌, inl, inr, arith, append-nil, length-append}
-use Rattle.std.specs.List.{list_any}
+use Rattle.std.proofs.Common.{◌≡◌, ℕ, ◌+◌, ◌≤◌, Bool, true, false, not, ◌&&◌, ◌||◌, cond, nat_lt, List, [], ◌∷◌, ◌++◌, length, map, refl, sym, ap, subst, ◌∙◌, inl, inr, arith, append-nil, length-append}
+use Rattle.std.specs.List.{list_any, flat_map}
+use Rattle.std.proofs.lemmas.List.{map-append}
 use Rattle.std.proofs.lemmas.Bool.{and_parts, and_from, or_parts, not-true, cases_Bool, ltb-true}
 use Rattle.std.proofs.lemmas.List.Folds.{list_any-append}
 use Rattle.std.proofs.lemmas.List.Sums.{sum_by-cons}
@@ -52,6 +53,26 @@ names_under-under title [] other = none_more (same title other)
 names_under-under title (called ∷ names) other =
     ap (λ ys. cond (same title other) (called ∷ ys) ys) (names_under-under title names other)
     ∙ one_more (same title other) called names
+
+-- the names of items that stand, or don't
+names_where : {D : Type 0} (name : D → List ℕ) (b : Bool) (items : List D) (rest : List (List ℕ))
+    → cond b (map name items) [] ++ rest ≡ map name (cond b items []) ++ rest
+names_where name true items rest = refl
+names_where name false items rest = refl
+
+-- the names under a title are those of the items in blocks of that title
+pub names_under-blocks : {B D : Type 0} (title : B → List ℕ) (items : B → List D) (name : D → List ℕ) (bs : List B) (other : List ℕ)
+    → names_under (flat_map (λ b. under (title b) (map name (items b))) bs) other
+    ≡ map name (flat_map (λ b. cond (same (title b) other) (items b) []) bs)
+names_under-blocks title items name [] other = refl
+names_under-blocks title items name (b ∷ bs) other =
+    let rest : List (List ℕ × List ℕ) = flat_map (λ c. under (title c) (map name (items c))) bs in
+    let more = flat_map (λ c. cond (same (title c) other) (items c) []) bs in
+    names_under-append (under (title b) (map name (items b))) rest other
+    ∙ ap (λ ns. ns ++ names_under rest other) (names_under-under (title b) (map name (items b)) other)
+    ∙ names_where name (same (title b) other) (items b) (names_under rest other)
+    ∙ ap (λ ns. map name (cond (same (title b) other) (items b) []) ++ ns) (names_under-blocks title items name bs other)
+    ∙ sym (map-append name (cond (same (title b) other) (items b) []) more)
 
 -- neither passes
 neither : (a b : Bool) → a ≡ false → b ≡ false → (a || b) ≡ false

@@ -1,6 +1,6 @@
 -- Patterns, macros and procedures that are read have their form, where the bodies that are read have theirs; no name
 -- stands twice under a title.
-use Rattle.std.proofs.Common.{◌≡◌, ℕ, Bool, true, false, cond, ◌&&◌, List, [], ◌∷◌, ◌++◌, map, is_some, Result, Ok, Err, refl, sym, ap, subst, ◌∙◌}
+use Rattle.std.proofs.Common.{◌≡◌, ℕ, Bool, true, false, cond, List, [], ◌∷◌, ◌++◌, map, is_some, Result, Ok, Err, refl, sym, ap, subst, ◌∙◌}
 use Rattle.std.specs.Cmp.Derive.{both_true}
 use Rattle.std.proofs.lemmas.List.{map-append, append_assoc, append-nil}
 use Rattle.stil_tree.specs.Trees.{Entry}
@@ -8,8 +8,7 @@ use Rattle.first_fault.specs.Reading.{and_then}
 use Rattle.stil_form.specs.declared.fault.FormKind.{FormKind}
 use Rattle.stil_form.specs.declared.fault.FormKind.TheVariants.{Twice}
 use Rattle.stil_form.specs.Setting.{Setting, lexemes_at, at_statement, inner_of, unskipped}
-use Rattle.stil_ast.specs.Data.Texts.{is_name, same}
-use Rattle.stil_ast.specs.Data.Forms.{all_differ}
+use Rattle.stil_ast.specs.Data.Texts.{is_name}
 use Rattle.stil_ast.specs.Data.Written.{Written}
 use Rattle.stil_ast.specs.Data.BlockForms.{is_body, is_body_def, is_def_block, is_pattern}
 use Rattle.stil_ast.specs.declared.blocks.BodyDef.{BodyDef}
@@ -20,7 +19,8 @@ use Rattle.pat_read.specs.declared.reader.BodyPlace.TheVariants as place
 use Rattle.stil_read.specs.Heads.{where_so, only_name, title_of, rest_at, named_block, titled_block, is_declared, under}
 use Rattle.stil_read.specs.Named.{Names}
 use Rattle.stil_read.specs.Defs.{body_in, pattern_called, pattern_block, def_called, names_of, def_name, new_name, new_def, def_said, judge_def, defs_in, defs_called, defs_block}
-use Rattle.stil_read.proofs.AcceptedLemmas.{both_taken, said_at, said_so, kept_each, kept_read, only_name-is, title_of-is, IsLined, inner_lined, all_differ-more}
+use Rattle.stil_read.proofs.AcceptedLemmas.{both_taken, said_at, said_so, kept_each, kept_read, only_name-is, title_of-is, IsLined, inner_lined}
+use Rattle.stil_read.proofs.DeclaredForms.{Differ, Differ-push}
 
 -- a pattern that is read has its form
 pub pattern_block-is : (s : Setting) (e : Entry) (p : Pattern)
@@ -85,10 +85,6 @@ defs_block-is s here declared e b bodies lined is =
     let same_one : defs_called outer.0 inner.0 ≡ b = cc in
     subst (λ (x : DefBlock). is_def_block x ≡ true) same_one (both_true titled each)
 
--- two declarations of one name under one title
-abbrev pub same_pair : List ℕ × List ℕ → List ℕ × List ℕ → Bool
-same_pair a b = same a.0 b.0 && same a.1 b.1
-
 -- one more name under a title
 under-more : (title : List ℕ) (declared : Names) (read : List BodyDef) (d : BodyDef)
     → declared ++ under title (names_of (read ++ d ∷ [])) ≡ (declared ++ under title (names_of read)) ++ (title, d.name) ∷ []
@@ -100,17 +96,15 @@ under-more title declared read d =
 
 -- no name stands twice under a title behind a block where none did before
 pub defs_block-differ : (s : Setting) (here : BodyPlace) (declared : Names) (e : Entry) (b : DefBlock)
-    → BodiesFit s here → IsLined s e → all_differ same_pair declared ≡ true
-    → defs_block s here declared e ≡ Ok b
-    → all_differ same_pair (declared ++ under b.name (names_of b.bodies)) ≡ true
+    → BodiesFit s here → IsLined s e → Differ declared → defs_block s here declared e ≡ Ok b
+    → Differ (declared ++ under b.name (names_of b.bodies))
 defs_block-differ s here declared e b bodies lined differ is =
     let outer = both_taken (titled_block s e) (λ title. and_then (defs_in s here title declared (inner_of e.body)) (λ read. Ok (defs_called title read))) b is in
     let inner = both_taken (defs_in s here outer.0 declared (inner_of e.body)) (λ read. Ok (defs_called outer.0 read)) b outer.2 in
-    let P : List BodyDef → Type 0 = λ read. all_differ same_pair (declared ++ under outer.0 (names_of read)) ≡ true in
-    let all = kept_read (judge_def s here outer.0 declared) P (IsLined s)
-    (λ before x d l p i. ap (all_differ same_pair) (under-more outer.0 declared before d)
-    ∙ all_differ-more same_pair (declared ++ under outer.0 (names_of before)) (outer.0, d.name) p
-    (def_fits s here outer.0 (declared ++ under outer.0 (names_of before)) x d (λ w. bodies x w l) i).1)
-    [] inner.0 (unskipped s (inner_of e.body)) (inner_lined s e lined) (ap (all_differ same_pair) (append-nil declared) ∙ differ) inner.1 in
+    let all = kept_read (judge_def s here outer.0 declared) (λ read. Differ (declared ++ under outer.0 (names_of read))) (IsLined s)
+    (λ before x d l p i. subst Differ (sym (under-more outer.0 declared before d))
+    (Differ-push (declared ++ under outer.0 (names_of before)) outer.0 d.name p
+    (def_fits s here outer.0 (declared ++ under outer.0 (names_of before)) x d (λ w. bodies x w l) i).1))
+    [] inner.0 (unskipped s (inner_of e.body)) (inner_lined s e lined) (subst Differ (sym (append-nil declared)) differ) inner.1 in
     let same_one : defs_called outer.0 inner.0 ≡ b = cc in
-    subst (λ (x : DefBlock). all_differ same_pair (declared ++ under x.name (names_of x.bodies)) ≡ true) same_one all
+    subst (λ (x : DefBlock). Differ (declared ++ under x.name (names_of x.bodies))) same_one all

@@ -17,4 +17,6 @@ pub mod ChainLemmas
 pub mod DefLemmas
 pub mod NameLemmas
 pub mod KeptLemmas
+pub mod LexedLemmas
+pub mod OneTextLemmas
 pub mod TextLemmas

@@ -22,7 +22,9 @@ use Rattle.stil_read.specs.Heads.{is_there, bare_block, titled_block}
 use Rattle.stil_read.specs.Quotes.{text_behind, texted, equal_text, equal_text_at, quoted_at, attributes}
 use Rattle.stil_read.specs.Signals.{only_direction, span_front, signal_with, signal_named, signal_said, signal_at, judge_signal, signals_of, signals_block}
 use Rattle.stil_read.specs.Groups.{group_of, judge_group, groups_of, group_block, groups_block}
-use Rattle.stil_read.proofs.FormLemmas.{HasLines, both_ok, said_at, reading-each, within_tokens, first_line, is_name-named_by, is_range-range_of, is_optional_name-titled_block}
+use Rattle.pat_read.specs.Accepted.{HasLines}
+use Rattle.pat_read.proofs.AcceptedLemmas.{both_ok, said_at, reading-each, within_tokens, first_line, is_name-named_by, is_range-range_of}
+use Rattle.stil_read.proofs.FormLemmas.{is_optional_name-titled_block}
 
 -- what is answered is the same
 pub same_ok : {X F : Type 0} (x y : X) → ◌≡◌ {A = Result X F} (Ok x) (Ok y) → x ≡ y

@@ -7,7 +7,8 @@ use Rattle.stil_ast.specs.declared.name.Quoted.{Quoted}
 use Rattle.stil_ast.specs.declared.timing.TableDecl.{TableDecl}
 use Rattle.stil_read.specs.declared.timings.TableWord.{TableWord}
 use Rattle.stil_read.specs.declared.timings.TableWord.TheVariants as word
-use Rattle.stil_read.proofs.FormLemmas.{both_ok, said_at, made_where, stepping-keeps}
+use Rattle.pat_read.proofs.AcceptedLemmas.{both_ok, said_at}
+use Rattle.stil_read.proofs.FormLemmas.{made_where, stepping-keeps}
 use Rattle.stil_read.specs.Heads.{bare_block}
 use Rattle.stil_read.specs.Waveforms.{signals_of}
 use Rattle.stil_read.specs.Timings.{plain_text, plain_name, with_period, with_inherit, with_waveforms, text_at, name_at, table_by, first_word, table_step, empty_table, table_of}

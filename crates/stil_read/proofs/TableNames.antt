@@ -1,21 +1,18 @@
 -- Behind each Timing block the names of tables differ under each title, and there are at most 64.
-use Rattle.std.proofs.Common.{◌≡◌, ℕ, arith, Bool, true, false, cond, List, [], ◌∷◌, ◌++◌, map, Ok, refl, sym, ap, subst, ◌∙◌, append-nil, append_assoc}
-use Rattle.std.specs.List.{flat_map}
+use Rattle.std.proofs.Common.{◌≡◌, ℕ, arith, List, [], ◌∷◌, ◌++◌, Ok, refl, sym, ap, subst, ◌∙◌, append-nil, append_assoc}
 use Rattle.std.proofs.lemmas.List.{map-append}
 use Rattle.text_bytes.specs.Limits.{most_tables}
 use Rattle.first_fault.specs.Reading.{reading}
 use Rattle.stil_tree.specs.Trees.{Entry}
 use Rattle.stil_form.specs.Setting.{Setting, line_at, inner_of, unskipped}
-use Rattle.stil_ast.specs.Data.Texts.{same}
-use Rattle.stil_ast.specs.Meaning.Tables.{tables_named}
 use Rattle.stil_ast.specs.declared.timing.TableDecl.{TableDecl}
 use Rattle.stil_ast.specs.declared.timing.TimingBlock.{TimingBlock}
 use Rattle.stil_read.specs.Heads.{titled_block, under}
 use Rattle.stil_read.specs.Timings.{table_name, table_names, table_said, judge_table, timing_block}
-use Rattle.stil_read.proofs.FormLemmas.{both_ok, reading-keeps}
+use Rattle.pat_read.proofs.AcceptedLemmas.{both_ok, reading-keeps}
 use Rattle.stil_read.proofs.TableLemmas.{name-table_of}
 use Rattle.stil_read.proofs.TimingForms.{table_name-parts}
-use Rattle.stil_read.proofs.DeclaredForms.{Differ, AtMost, Differ-push, AtMost-push, names_under, names_under-append, names_under-under}
+use Rattle.stil_read.proofs.DeclaredForms.{Differ, AtMost, Differ-push, AtMost-push}
 
 -- names that differ under each title, of which there are at most 64
 pub record AreTableNames (declared : List (List ℕ × List ℕ)) : Type 0 where
@@ -65,22 +62,3 @@ names-timing_block s declared e timing is names =
 -- nothing was declared
 pub no_table_names : AreTableNames []
 no_table_names = record { differ = λ title. refl; within = λ title. omega arith }
-
--- the names of tables that stand, or don't
-names_where : (b : Bool) (tables : List TableDecl) (rest : List (List ℕ))
-    → cond b (table_names tables) [] ++ rest ≡ table_names (cond b tables []) ++ rest
-names_where true tables rest = refl
-names_where false tables rest = refl
-
--- the names under a title are those of the tables of that title
-pub names_under-tables : (timings : List TimingBlock) (title : List ℕ)
-    → names_under (flat_map (λ (t : TimingBlock). under t.name (map (λ (d : TableDecl). d.name) t.tables)) timings) title
-    ≡ map (λ (d : TableDecl). d.name) (tables_named timings title)
-names_under-tables [] title = refl
-names_under-tables (t ∷ ts) title =
-    let rest : List (List ℕ × List ℕ) = flat_map (λ (u : TimingBlock). under u.name (map (λ (d : TableDecl). d.name) u.tables)) ts in
-    names_under-append (under t.name (table_names t.tables)) rest title
-    ∙ ap (λ ns. ns ++ names_under rest title) (names_under-under t.name (table_names t.tables) title)
-    ∙ names_where (same t.name title) t.tables (names_under rest title)
-    ∙ ap (λ ns. table_names (cond (same t.name title) t.tables []) ++ ns) (names_under-tables ts title)
-    ∙ sym (map-append (λ (d : TableDecl). d.name) (cond (same t.name title) t.tables []) (tables_named ts title))

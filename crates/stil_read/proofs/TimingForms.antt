@@ -3,7 +3,6 @@ use Rattle.std.proofs.Common.{◌≡◌, ℕ, ◌<◌, List, [], ◌∷◌, ◌+
 use Rattle.std.specs.Prelude.{◌==◌}
 use Rattle.std.specs.List.{list_all}
 use Rattle.std.proofs.lemmas.Bool.{and_parts, and_from, ltb-true, le-leb}
-use Rattle.std.proofs.lemmas.Bool.Decides.{nat_tests}
 use Rattle.std.proofs.lemmas.List.Folds.{list_all-append}
 use Rattle.text_bytes.specs.Bytes.{is_character}
 use Rattle.text_bytes.specs.Limits.{most_events, most_tables}
@@ -15,7 +14,7 @@ use Rattle.stil_form.specs.declared.fault.FormFault.TheVariants.{Refused}
 use Rattle.stil_form.specs.Lexeme.{Lexeme, word, name, text, sign}
 use Rattle.stil_form.specs.Fronts.{Ref, reference_front}
 use Rattle.stil_form.specs.Setting.{Setting, lexemes_at, line_at, at_statement, inner_of, unskipped}
-use Rattle.stil_ast.specs.Data.Texts.{is_wave_letter, is_name}
+use Rattle.stil_ast.specs.Data.Texts.{is_name}
 use Rattle.stil_ast.specs.Data.Forms.{all_differ, is_line, is_quoted, is_named, is_sig_ref, is_absent_or, is_optional_name}
 use Rattle.stil_ast.specs.Data.BlockForms.{is_event, is_wave_decl, is_signal_waves, is_table_decl, is_timing_block}
 use Rattle.stil_ast.specs.declared.name.SigRef.{SigRef}
@@ -32,7 +31,9 @@ use Rattle.stil_read.specs.declared.timings.TableWord.TheVariants as word_of
 use Rattle.stil_read.specs.Heads.{where_so, only_name, only_text, rest_at, bare_block, named_block, titled_block, is_declared, count_under, under}
 use Rattle.stil_read.specs.Waveforms.{time_of, acts_of, event_at, new_event, judge_event, are_letters, letters_of, in_block, letters_at, judge_wave, lone, lone_ref, ref_at, judge_signal, signals_of}
 use Rattle.stil_read.specs.Timings.{plain_text, plain_name, with_period, with_inherit, with_waveforms, text_at, name_at, table_by, first_word, table_step, empty_table, table_of, is_table, new_name, table_name, table_names, table_said, judge_table, timing_block}
-use Rattle.stil_read.proofs.FormLemmas.{HasLines, both_ok, said_at, said_where, said_so, made_where, stepping-keeps, reading-each, reading-within, list_all-one, first_line, second_line, is_name-only_name, is_name-named_block, is_optional_name-titled_block, behind_keyword, FitsRef, fits_front, is_sig_ref-ref_of}
+use Rattle.pat_read.specs.Accepted.{HasLines}
+use Rattle.pat_read.proofs.AcceptedLemmas.{both_ok, said_at, reading-each, list_all-one, first_line, second_line, FitsRef, fits_front, is_sig_ref-ref_of}
+use Rattle.stil_read.proofs.FormLemmas.{said_where, said_so, made_where, stepping-keeps, reading-within, is_name-only_name, is_name-named_block, is_optional_name-titled_block, behind_keyword}
 
 -- an event begins with a lexeme
 time_head : (head : List Lexeme) (said : List ℕ × List Lexeme) → time_of head ≡ Ok said → 0 < length head
@@ -67,17 +68,6 @@ event_parts s lines letters before e x is =
           (and_from (is_line (line_at s.tokens e.first)) (length event.acts == 1 || length event.acts == letters) line fits.0.0),
       fits.0.1,
     )
-
--- a letter or digit is a waveform character
-is_wave_letter-character : (c : ℕ) → is_character c ≡ true → is_wave_letter c ≡ true
-unfolding is_character
-is_wave_letter-character c h = grind (arith, nat_tests)
-
-all_wave_letters : (bytes : List ℕ) → list_all is_character bytes ≡ true → list_all is_wave_letter bytes ≡ true
-all_wave_letters [] h = refl
-all_wave_letters (c ∷ cs) h =
-    let parts = and_parts (is_character c) (list_all is_character cs) h in
-    and_from (is_wave_letter c) (list_all is_wave_letter cs) (is_wave_letter-character c parts.0) (all_wave_letters cs parts.1)
 
 -- what is said in a block is said
 said_in : {X : Type 0} (b : Bool) (r : Result X FormKind) (x : X) → in_block b r ≡ Ok x → r ≡ Ok x
@@ -117,7 +107,7 @@ is_wave_decl-judge_wave s lines before e x is =
     (and_from _ (list_all (is_event (length letters)) events)
     (and_from _ (nat_le (length events) 16)
     (and_from _ (all_differ nat_eq letters)
-    (and_from (nat_le 1 (length letters)) (list_all is_wave_letter letters) one (all_wave_letters letters some.1))
+    (and_from (nat_le 1 (length letters)) (list_all is_character letters) one some.1)
     both.1)
     (reading-within judge most_events (λ front one event judged. (event_parts s lines (length letters) front one event judged).1)
     es events inner.met))

@@ -17,3 +17,4 @@ pub mod Selectors
 pub mod Top
 pub mod Reads
 pub mod Text
+pub mod Accepted
