@@ -77,7 +77,7 @@ static READ: [&[u8]; 18] = [
     b"MacroDefs { m { W w; V { a=\\r2 #; } } } MacroDefs n { m { } }",
     b"Procedures { m { Shift { V { a=#; } } } } MacroDefs { m { } }",
     b"PatternBurst b { SignalGroups g; SignalGroups h; MacroDefs m; Procedures \"\"; ScanStructures s; PatList { p; q { } } PatList { r; } }",
-    b"",
+    b"PatternExec { PatternBurst b; }",
     b"Pattern p { l: W w; V { 'a+b'=01; c[1..0]=%; } Loop 2 { C { } } Stop; }",
     b"Pattern p { Macro m; Call q { a=0; } BreakPoint; IddqTestPoint; }",
     b"Pattern p { } PatternBurst p { } Selector p { }",
