@@ -39,7 +39,7 @@ fn read_events(
 ) -> Result<Items<ReadEvent>, AllocError>
     ensures { IfOk result (λ list. list ≡ map (read_event (timed scope.now)) events.now) }
 {
-    let mut read = Vec::new(alloc);
+    let mut read = Vec::with_capacity(alloc, events.len())?;
     for event in events {
         let time = scope.time(alloc, &event.time)?;
         let acts = Items::from_slice(alloc, event.acts.as_slice())?;

@@ -66,7 +66,7 @@ fn push_found(list: &mut Vec<Event>, found: Option<Event>) -> Result<(), AllocEr
 fn events_for(alloc: Global, letter: u8, wave: &ReadWave) -> Result<EventList, AllocError>
     ensures { IfOk result (λ list. list ≡ filter_map (event_read wave.now.letters letter) wave.now.events) }
 {
-    let mut list = Vec::new(alloc);
+    let mut list = Vec::with_capacity(alloc, wave.events.len())?;
     for event in wave.events.as_slice() {
         push_found(
             &mut list,
