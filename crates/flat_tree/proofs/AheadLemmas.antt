@@ -1,0 +1,62 @@
+-- What is assigned again before it is used makes no difference.
+use Rattle.std.proofs.Common.{◌≡◌, ◌≢◌, ℕ, ◌==◌, ◌||◌, Bool, true, false, List, Option, Some, None, refl, ap, sym, ◌∙◌, subst, eq-eqb, eqb-true, slice_index_or}
+use Rattle.std.proofs.lemmas.List.{set-set, set_comm}
+use Rattle.stil_ast.specs.Meaning.State.{State}
+use Rattle.stil_ast.specs.Meaning.Dealing.{with_letter}
+use Rattle.stil_ast.specs.Meaning.Flat.{Flat, done, table, character, back, cycle, repeat, save, flat_run}
+use Rattle.flat_tree.specs.Lean.{sets_table, sets_signal}
+
+-- a state with other characters
+abbrev with_letters : State → List (Option ℕ) → State
+with_letters s letters = record { table = s.table; letters = letters }
+
+-- a second character of a signal takes the place of the first
+set_again : (signal other : ℕ) (x y : Option ℕ) (s : State) → other ≡ signal
+    → with_letter other y (with_letter signal x s) ≡ with_letter other y s
+set_again signal other x y s e =
+    subst (λ (n : ℕ). with_letter other y (with_letter n x s) ≡ with_letter other y s) e
+    (ap (with_letters s) (set-set s.letters other x y))
+
+-- two signals may get theirs in any order
+set_apart : (signal other : ℕ) (x y : Option ℕ) (s : State) → signal ≢ other
+    → with_letter other y (with_letter signal x s) ≡ with_letter signal x (with_letter other y s)
+set_apart signal other x y s ne = ap (with_letters s) (set_comm s.letters signal other x y ne)
+
+-- a character makes no difference in front of an assignment, where it is this signal's or makes none behind it
+set_ahead : (b : Bool) (signal other : ℕ) (x y : Option ℕ) (rest : Flat) (base s : State) → (other == signal) ≡ b
+    → (b || sets_signal signal rest) ≡ true
+    → (sets_signal signal rest ≡ true →
+    flat_run rest base (with_letter signal x (with_letter other y s)) ≡ flat_run rest base (with_letter other y s))
+    → flat_run rest base (with_letter other y (with_letter signal x s)) ≡ flat_run rest base (with_letter other y s)
+set_ahead true signal other x y rest base s e h later =
+    ap (flat_run rest base) (set_again signal other x y s (eqb-true other signal e))
+set_ahead false signal other x y rest base s e h later =
+    let ne : signal ≢ other = λ same. let h : (other == signal) ≡ true = eq-eqb other signal (sym same) in cc in
+    ap (flat_run rest base) (set_apart signal other x y s ne) ∙ later h
+
+pub overwritten : (signal : ℕ) (x : Option ℕ) (f : Flat) (base s : State) → sets_signal signal f ≡ true
+    → flat_run f base (with_letter signal x s) ≡ flat_run f base s
+overwritten signal x done base s e = cc
+overwritten signal x (table t rest) base s e =
+    overwritten signal x rest base (record { table = Some t; letters = s.letters }) e
+overwritten signal x (character other c rest) base s e =
+    set_ahead (other == signal) signal other x (Some c) rest base s refl e
+    (overwritten signal x rest base (with_letter other (Some c) s))
+overwritten signal x (back other rest) base s e =
+    let c = slice_index_or base.letters other None in
+    set_ahead (other == signal) signal other x c rest base s refl e
+    (overwritten signal x rest base (with_letter other c s))
+overwritten signal x (cycle mark spot rest) base s e = cc
+overwritten signal x (repeat count body rest) base s e = cc
+overwritten signal x (save putting body rest) base s e = cc
+
+pub overwritten_table : (t : Option ℕ) (f : Flat) (base s : State) → sets_table f ≡ true
+    → flat_run f base (record { table = t; letters = s.letters }) ≡ flat_run f base s
+overwritten_table t done base s e = cc
+overwritten_table t (table u rest) base s e = refl
+overwritten_table t (character signal c rest) base s e = overwritten_table t rest base (with_letter signal (Some c) s) e
+overwritten_table t (back signal rest) base s e =
+    overwritten_table t rest base (with_letter signal (slice_index_or base.letters signal None) s) e
+overwritten_table t (cycle mark spot rest) base s e = cc
+overwritten_table t (repeat count body rest) base s e = cc
+overwritten_table t (save putting body rest) base s e = cc

@@ -1,0 +1,6 @@
+pub mod StandardFacts
+pub mod FlatLemmas
+pub mod SameLemmas
+pub mod AheadLemmas
+pub mod MarkLemmas
+pub mod LeanLemmas

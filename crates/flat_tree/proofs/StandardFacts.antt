@@ -1,0 +1,57 @@
+-- Known trees, and what the definitions must say of them.
+use Rattle.std.proofs.Common.{◌≡◌, true, false, [], ◌∷◌, refl, arith}
+use Rattle.stil_ast.specs.Data.Places.{of_pattern, Origin}
+use Rattle.stil_ast.specs.Meaning.Flat.{Flat, done, table, character, back, cycle, repeat, save, measure}
+use Rattle.flat_tree.specs.Lean.{sets_table, sets_signal, IsLean}
+use Rattle.flat_tree.specs.Items.{items_flat, item_count}
+use Rattle.flat_tree.specs.FlatCode.{marks, open_trees, innermost}
+use Rattle.flat_tree.specs.declared.flat.FlatItem.TheVariants.{Table, Character, Back}
+
+-- the first line of a pattern
+abbrev first_line : Origin
+first_line = record { body = of_pattern; line = 1 }
+
+-- a vector at the end
+abbrev vector_last : Flat
+vector_last = cycle 0 first_line done
+
+-- items in running order
+in_order : items_flat (Table 2 ∷ Character 0 49 ∷ Back 1 ∷ []) ≡ table 2 (character 0 49 (back 1 done))
+in_order = refl
+
+-- a signal is set ahead up to a vector, a loop or a save, and not behind it
+set_up_to_vector : sets_signal 1 (table 0 (character 0 49 (back 1 vector_last))) ≡ true
+set_up_to_vector = refl
+
+-- behind a vector
+not_behind_vector : sets_signal 1 (cycle 0 first_line (character 1 49 done)) ≡ false
+not_behind_vector = refl
+
+-- in or behind a loop
+not_behind_loop : sets_signal 1 (repeat 3 (character 1 49 done) (character 1 49 done)) ≡ false
+not_behind_loop = refl
+
+-- in or behind a save
+table_not_behind_save : sets_table (save true (table 0 done) (table 0 done)) ≡ false
+table_not_behind_save = refl
+
+-- a signal twice with a vector in between
+twice_with_vector : IsLean 1 (character 0 49 (cycle 0 first_line (character 0 48 vector_last)))
+twice_with_vector = (λ h. refl, (λ h. refl, tt))
+
+-- a signal twice without one
+twice_without_vector : IsLean 1 (character 0 49 (back 0 vector_last)) → true ≡ false
+twice_without_vector lean = lean.0 (omega arith)
+
+-- a tree is told apart by its marks
+by_marks : innermost (open_trees (marks (save false (repeat 2 vector_last done) (table 0 done))))
+    ≡ save false (repeat 2 vector_last done) (table 0 done)
+by_marks = refl
+
+-- a loop of a vector measures 4
+loop_measure : measure (repeat 1000 vector_last done) ≡ 4
+loop_measure = refl
+
+-- bodies count as one item
+two_items : item_count (save true (table 0 (table 1 done)) vector_last) ≡ 2
+two_items = refl

@@ -1,0 +1,10 @@
+use Rattle.std.proofs.Common.{◌∙◌, sym}
+use Rattle.flat_tree.specs.Leaning.{reversed_flat}
+use Rattle.flat_tree.proofs.LeanLemmas.{character_dropped}
+use Rattle.flat_tree.proofs.only_last.keep_character.Goals as goal
+
+pub returns-then-has : goal.returns-then-has
+returns-then-has c signals wanted m =
+    character_dropped signals c.args.ahead.now c.args.signal c.args.character (reversed_flat c.args.kept.now.items)
+    wanted m
+    (sym c.has.ensures ∙ c.if-has.true)

@@ -1,0 +1,8 @@
+-- Read Items first (a list as a flat tree), then Lean (what nothing is set twice means), then Laws.
+pub mod Origins
+pub mod FlatCode
+pub mod Items
+pub mod ItemsFall
+pub mod Lean
+pub mod Leaning
+pub mod Laws
