@@ -1,0 +1,71 @@
+//! Reads known texts by the readers of the whole language, and prints each whose first fault isn't the one that is wanted,
+//! and how many texts there are. The words of the command line name the files of texts; docs/formats.md says how these are
+//! written.
+#![tactic(auto)]
+
+mod front;
+mod known;
+
+use crate::front::judge;
+use crate::known::{Known, known_of};
+use std::alloc::Global;
+use std::rt::{Env, Files};
+use std::{env, fs, io};
+
+/// How many texts there were, and how many of them were answered otherwise.
+#[derive(Clone, Copy, Debug, Default)]
+struct Tally {
+    texts: u64,
+    differ: u64,
+}
+
+/// What is told of a text's first fault, or `fine`.
+fn answer_of(alloc: Global, text: &str) -> String {
+    match judge(alloc, text.as_bytes()) {
+        Ok(answer) => answer,
+        Err(_) => String::new(alloc),
+    }
+}
+
+impl Tally {
+    /// Judges one text, and prints what differs.
+    fn take<R: Print + AllocGlobal>(&mut self, rt: &R, file: &str, known: Known) -> io::Result<()> {
+        self.texts = self.texts.saturating_add(1);
+        let answer = answer_of(rt.alloc(), known.text);
+        if answer.as_str() == known.wanted {
+            return Ok(());
+        }
+        self.differ = self.differ.saturating_add(1);
+        let (title, wanted) = (known.title, known.wanted);
+        println!(rt; "{file}: {title}: `{answer}`, and `{wanted}` is wanted")
+    }
+
+    /// Judges the texts of a file.
+    fn take_all<R: Print + AllocGlobal>(
+        &mut self,
+        rt: &R,
+        file: &str,
+        content: &str,
+    ) -> io::Result<()> {
+        let known = known_of(rt.alloc(), content)?;
+        for one in known {
+            self.take(rt, file, one)?;
+        }
+        Ok(())
+    }
+}
+
+/// Judges the texts of all files that the command line names.
+fn judge_files<R: Files + Env + Print + AllocGlobal>(rt: &R) -> io::Result<()> {
+    let mut tally = Tally::default();
+    for file in env::args(rt)?.skip(1) {
+        let content = fs::read_to_string(rt, file.as_str())?;
+        tally.take_all(rt, file.as_str(), content.as_str())?;
+    }
+    let Tally { texts, differ } = tally;
+    println!(rt; "{texts} texts, {differ} answered otherwise")
+}
+
+fn main(rt: HostRuntime) -> io::Result<()> {
+    judge_files(&rt)
+}
