@@ -1,0 +1,5 @@
+pub mod EveryLemmas
+pub mod EntryLemmas
+pub mod RunLemmas
+pub mod LaneLemmas
+pub mod StandardFacts
