@@ -17,7 +17,9 @@ use Rattle.stil_ast.specs.declared.executive.BurstWord.{BurstWord}
 use Rattle.stil_ast.specs.declared.executive.BurstWord.TheVariants as word
 use Rattle.stil_read.specs.Heads.{where_so, only_name, name_or_empty, rest_at, bare_block, named_block}
 use Rattle.stil_read.specs.Bursts.{word_of, item_on, stands_already, with_item, burst_name, named_step, left_out, entry_step, list_step, by_word, burst_step, items_in, burst_called, burst_block}
-use Rattle.stil_read.proofs.AcceptedLemmas.{both_taken, said_at, said_so, kept, only_name-is, name_or_empty-is, IsLined, HasLine, inner_lined, all_more}
+use Rattle.pat_read.proofs.AcceptedLemmas.{said_at, list_all-one}
+use Rattle.stil_read.proofs.AcceptedLemmas.{both_taken, kept, IsLined, HasLine, inner_lined}
+use Rattle.stil_read.proofs.FormLemmas.{said_so, is_name-only_name, is_optional_name-name_or_empty}
 
 -- nothing before
 none_plus : (n : ℕ) → 0 + n ≡ n
@@ -60,7 +62,7 @@ more_fit : (before : List BurstItem) (item : BurstItem) → Fit before → is_bu
     → (is_scans_word item.word ≡ true → list_any (λ (i : BurstItem). is_scans_word i.word) before ≡ false)
     → Fit (before ++ item ∷ [])
 more_fit before item fit one macros procedures scans = (
-  all_more is_burst_item before item fit.0 one,
+  list_all-one is_burst_item before item fit.0 one,
   counted_once (λ (i : BurstItem). is_macros_word i.word) before item (is_macros_word item.word) refl fit.1 macros,
   counted_once (λ (i : BurstItem). is_procedures_word i.word) before item (is_procedures_word item.word) refl fit.2 procedures,
   counted_once (λ (i : BurstItem). is_scans_word i.word) before item (is_scans_word item.word) refl fit.3 scans,
@@ -100,7 +102,7 @@ named_fits : (s : Setting) (before next : List BurstItem) (e : Entry) (w : Burst
     → HasLine s e → Fit before → named_step s before e w ≡ Ok next → Fit next
 named_fits s before next e w plain lined fit is =
     let parts = both_taken (at_statement e.first (burst_name s e)) (λ called. at_statement e.first (with_item before (item_on s e w called))) next is in
-    let called = name_or_empty-is (rest_at s e) parts.0
+    let called = is_optional_name-name_or_empty (rest_at s e) parts.0
     (said_so (not (is_some e.body)) (name_or_empty (rest_at s e)) parts.0 (said_at e.first (burst_name s e) parts.0 parts.1)) in
     item_fits before next w parts.0 (line_at s.tokens e.first) (stands_already w before) refl fit
     (both_true (plain parts.0 called) lined)
@@ -118,7 +120,7 @@ entry_fits : (s : Setting) (before next : List BurstItem) (e : Entry) → IsLine
 entry_fits s before next e lined fit is =
     let parts = both_taken (at_statement e.first (only_name (lexemes_at s e)))
     (λ called. stepping left_out (before ++ item_on s e word.Entry called ∷ []) (unskipped s (inner_of e.body))) next is in
-    let called = only_name-is (lexemes_at s e) parts.0 (said_at e.first (only_name (lexemes_at s e)) parts.0 parts.1) in
+    let called = is_name-only_name (lexemes_at s e) parts.0 (said_at e.first (only_name (lexemes_at s e)) parts.0 parts.1) in
     subst Fit (nothing_inside (before ++ item_on s e word.Entry parts.0 ∷ []) next (unskipped s (inner_of e.body)) parts.2)
     (word_fits before word.Entry parts.0 (line_at s.tokens e.first) fit (both_true called lined.0) refl)
 
@@ -153,7 +155,7 @@ pub burst_block-is : (s : Setting) (e : Entry) (b : Burst) → IsLined s e → b
     → is_burst b ≡ true
 burst_block-is s e b lined is =
     let outer = both_taken (named_block s e) (λ called. and_then (items_in s (inner_of e.body)) (λ items. Ok (burst_called called items))) b is in
-    let called = only_name-is (rest_at s e) outer.0 (said_so (is_some e.body) (only_name (rest_at s e)) outer.0
+    let called = is_name-only_name (rest_at s e) outer.0 (said_so (is_some e.body) (only_name (rest_at s e)) outer.0
     (said_at e.first (where_so (is_some e.body) (only_name (rest_at s e))) outer.0 outer.1)) in
     let inner = both_taken (items_in s (inner_of e.body)) (λ items. Ok (burst_called outer.0 items)) b outer.2 in
     let fit = kept (burst_step s) Fit (IsLined s) (step_fits s) [] inner.0 (unskipped s (inner_of e.body)) (inner_lined s e lined)

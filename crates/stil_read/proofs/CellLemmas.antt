@@ -22,7 +22,8 @@ use Rattle.stil_read.specs.declared.cells.Awaited.TheVariants as awaited
 use Rattle.stil_read.specs.declared.cells.CellsLeft.{CellsLeft}
 use Rattle.stil_read.specs.declared.cells.CellsRead.{CellsRead}
 use Rattle.stil_read.specs.Cells.{with_cell, with_indices, going_on, named_cell, cell_begins, behind_name, first_index, indexed, behind_index, second_dot, last_index, closed, part_said, within_limits, ended, cells_step, cells_start, cells_said}
-use Rattle.stil_read.proofs.AcceptedLemmas.{both_taken, said_at, kept, named_is_name, all_more}
+use Rattle.pat_read.proofs.AcceptedLemmas.{said_at, is_name-named_by, list_all-one}
+use Rattle.stil_read.proofs.AcceptedLemmas.{both_taken, kept}
 
 -- the cells so far have their form, and with those that are left they are as many as may be
 abbrev FitCells : Option CellsLeft → Type 0
@@ -58,7 +59,7 @@ cell_fits before called range true room fit named ranged =
     let few = leb-true (cell_size range) before.left room in
     let more : cell_count (before.cells ++ one ∷ []) ≡ cell_count before.cells + cell_size range =
     sum_by_push (λ (c : NameRef). cell_size c.range) before.cells one in
-    (all_more is_name_ref before.cells one fit.0 (both_true named ranged), omega (arith, few, more, fit.1))
+    (list_all-one is_name_ref before.cells one fit.0 (both_true named ranged), omega (arith, few, more, fit.1))
 
 with_cell_fits : (before : Option CellsLeft) (called : List ℕ) (range : Option IndexRange) → FitCells before
     → is_name called ≡ true → is_absent_or is_range range ≡ true → FitCells (with_cell before called range)
@@ -102,8 +103,8 @@ begins_fits_by cells (Some called) read fit named is = on_fits cells (awaited.In
 
 begins_fits : (cells : Option CellsLeft) (one : Lexeme) (read : CellsRead) → FitCells cells
     → cell_begins cells one ≡ Ok read → FitRead read
-begins_fits cells (word bytes) read fit is = begins_fits_by cells (named_by (word bytes)) read fit (named_is_name (word bytes)) is
-begins_fits cells (name bytes) read fit is = begins_fits_by cells (named_by (name bytes)) read fit (named_is_name (name bytes)) is
+begins_fits cells (word bytes) read fit is = begins_fits_by cells (named_by (word bytes)) read fit (is_name-named_by (word bytes)) is
+begins_fits cells (name bytes) read fit is = begins_fits_by cells (named_by (name bytes)) read fit (is_name-named_by (name bytes)) is
 begins_fits cells (text bytes) read fit is = cc
 begins_fits cells (sign mark.Bang) read fit is = on_fits cells awaited.Cell read fit tt is
 begins_fits cells (sign mark.Open) read fit is = cc

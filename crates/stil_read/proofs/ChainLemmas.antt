@@ -30,7 +30,9 @@ use Rattle.stil_read.specs.Heads.{where_so, only_name, title_of, rest_at, titled
 use Rattle.stil_read.specs.Named.{Names, named_on}
 use Rattle.stil_read.specs.Cells.{cells_said}
 use Rattle.stil_read.specs.Chains.{names_of, word_of, word_number, same_word, only_number, length_by, end_by, inversion_by, cells_on, stmt_said, plain_said, with_said, with_stmt, by_word, chain_step, no_parts, is_chain, chain_name, one_more, new_chain, chain_on, parts_in, chain_said, judge_chain, chains_in, scans_called, scan_block}
-use Rattle.stil_read.proofs.AcceptedLemmas.{both_taken, said_at, said_so, kept, kept_each, kept_read, only_name-is, title_of-is, IsLined, HasLine, inner_lined, all_more}
+use Rattle.pat_read.proofs.AcceptedLemmas.{said_at, list_all-one}
+use Rattle.stil_read.proofs.AcceptedLemmas.{both_taken, kept, kept_each, kept_read, IsLined, HasLine, inner_lined}
+use Rattle.stil_read.proofs.FormLemmas.{said_so, is_name-only_name, is_optional_name-title_of}
 use Rattle.stil_read.proofs.DeclaredForms.{all_differ-push}
 use Rattle.stil_read.proofs.CellLemmas.{cells_said-are}
 
@@ -87,10 +89,10 @@ stmt_fits : (s : Setting) (e : Entry) (w : ChainWord) (said : Option ChainStmt) 
 stmt_fits s e word.Length said lined is =
     length_fits (only_number (rest_at s e)) said (said_at e.first (length_by (only_number (rest_at s e))) said is)
 stmt_fits s e word.In said lined is =
-    in_fits s e (only_name (rest_at s e)) said (only_name-is (rest_at s e)) lined
+    in_fits s e (only_name (rest_at s e)) said (is_name-only_name (rest_at s e)) lined
     (said_at e.first (end_by (λ called. In (named_on s e called)) (only_name (rest_at s e))) said is)
 stmt_fits s e word.Out said lined is =
-    out_fits s e (only_name (rest_at s e)) said (only_name-is (rest_at s e)) lined
+    out_fits s e (only_name (rest_at s e)) said (is_name-only_name (rest_at s e)) lined
     (said_at e.first (end_by (λ called. Out (named_on s e called)) (only_name (rest_at s e))) said is)
 stmt_fits s e word.Cells said lined is = cells_fit s e said lined is
 stmt_fits s e word.Inversion said lined is =
@@ -149,7 +151,7 @@ said_fits words stmts w None fit one new = (fit.0, fit.1, λ n none_of. fit.2 n 
 said_fits words stmts w (Some stmt) fit one new =
     let away : list_any (nat_eq (word_number w)) (map chain_kind stmts) ≡ false =
     fit.2 (word_number w) (list_any-map word_number (nat_eq (word_number w)) words ∙ new) in (
-      all_more is_chain_stmt stmts stmt fit.0 one.0,
+      list_all-one is_chain_stmt stmts stmt fit.0 one.0,
       ap (all_differ nat_eq) (map-append chain_kind stmts (stmt ∷ []))
           ∙ all_differ-push nat_eq (map chain_kind stmts) (chain_kind stmt) fit.1
           (any_back (chain_kind stmt) (map chain_kind stmts) (ap (λ k. list_any (nat_eq k) (map chain_kind stmts)) one.1 ∙ away)),
@@ -184,7 +186,7 @@ step_fits s before next e lined fit is = by_word_fits s before next e (word_of (
 -- the name of a chain
 name_fits : (s : Setting) (e : Entry) (b : Bool) (c : List ℕ) → chain_name s e b ≡ Ok c → is_name c ≡ true
 name_fits s e true c is =
-    only_name-is (rest_at s e) c (said_so (is_some e.body) (only_name (rest_at s e)) c (said_at e.first (where_so (is_some e.body) (only_name (rest_at s e))) c is))
+    is_name-only_name (rest_at s e) c (said_so (is_some e.body) (only_name (rest_at s e)) c (said_at e.first (where_so (is_some e.body) (only_name (rest_at s e))) c is))
 name_fits s e false c is = cc
 
 -- the same name
@@ -213,7 +215,7 @@ pub scan_block-is : (s : Setting) (declared : Names) (e : Entry) (b : ScanBlock)
     → scan_block s declared e ≡ Ok b → is_scan_block b ≡ true
 scan_block-is s declared e b lined is =
     let outer = both_taken (titled_block s e) (λ title. and_then (chains_in s title declared (inner_of e.body)) (λ chains. Ok (scans_called title chains))) b is in
-    let titled = title_of-is (rest_at s e) outer.0 (said_so (is_some e.body) (title_of (rest_at s e)) outer.0
+    let titled = is_optional_name-title_of (rest_at s e) outer.0 (said_so (is_some e.body) (title_of (rest_at s e)) outer.0
     (said_at e.first (where_so (is_some e.body) (title_of (rest_at s e))) outer.0 outer.1)) in
     let inner = both_taken (chains_in s outer.0 declared (inner_of e.body)) (λ chains. Ok (scans_called outer.0 chains)) b outer.2 in
     let each = kept_each (judge_chain s outer.0 declared) is_chain_decl (IsLined s)

@@ -1,5 +1,5 @@
 -- What was declared after one more name.
-use Rattle.std.proofs.Common.{◌≡◌, ℕ, ◌+◌, Bool, true, false, cond, ◌&&◌, ◌||◌, List, [], ◌∷◌, ◌++◌, Option, Some, unwrap_or, refl, sym, ap, ◌∙◌, inl, inr, arith}
+use Rattle.std.proofs.Common.{◌≡◌, ℕ, ◌+◌, cond, ◌&&◌, ◌||◌, List, [], ◌∷◌, ◌++◌, Option, Some, unwrap_or, sym, ap, ◌∙◌, inl, inr, arith}
 use Rattle.std.specs.Borrow.{Bor}
 use Rattle.std.specs.Str.{bytes_eq}
 use Rattle.std.proofs.lemmas.Bool.{cases_Bool}
@@ -9,13 +9,9 @@ use Rattle.std.proofs.lemmas.List.Sums.{sum_by_push}
 use Rattle.std.proofs.lemmas.Slice.Eq.{bytes_eq-Decides}
 use Rattle.indexmap.specs.IndexMap.{IndexMap}
 use Rattle.indexmap.specs.IndexSet.{IndexSet}
+use Rattle.text_bytes.proofs.BoolLemmas.{or_false}
 use Rattle.stil_read.specs.Heads.{is_declared, count_under}
 use Rattle.stil_read.specs.Indices.{pairs_of, has_pair, count_in, IsIndexed}
-
--- nothing more is there
-or_none : (b : Bool) → (b || false) ≡ b
-or_none true = refl
-or_none false = refl
 
 -- nothing is added
 plus_none : (n : ℕ) → n + 0 ≡ n
@@ -27,7 +23,7 @@ is_declared-push : (declared : List (List ℕ × List ℕ)) (title called other 
     ≡ (is_declared declared other name || (bytes_eq title other && bytes_eq called name))
 is_declared-push declared title called other name =
     list_any-append (λ (d : List ℕ × List ℕ). bytes_eq d.0 other && bytes_eq d.1 name) declared ((title, called) ∷ [])
-    ∙ ap (λ b. is_declared declared other name || b) (or_none (bytes_eq title other && bytes_eq called name))
+    ∙ ap (λ b. is_declared declared other name || b) (or_false (bytes_eq title other && bytes_eq called name))
 
 -- one more is counted under its title
 count_under-push : (declared : List (List ℕ × List ℕ)) (title called other : List ℕ)

@@ -19,7 +19,9 @@ use Rattle.pat_read.specs.declared.reader.BodyPlace.TheVariants as place
 use Rattle.stil_read.specs.Heads.{where_so, only_name, title_of, rest_at, named_block, titled_block, is_declared, under}
 use Rattle.stil_read.specs.Named.{Names}
 use Rattle.stil_read.specs.Defs.{body_in, pattern_called, pattern_block, def_called, names_of, def_name, new_name, new_def, def_said, judge_def, defs_in, defs_called, defs_block}
-use Rattle.stil_read.proofs.AcceptedLemmas.{both_taken, said_at, said_so, kept_each, kept_read, only_name-is, title_of-is, IsLined, inner_lined}
+use Rattle.pat_read.proofs.AcceptedLemmas.{said_at}
+use Rattle.stil_read.proofs.AcceptedLemmas.{both_taken, kept_each, kept_read, IsLined, inner_lined}
+use Rattle.stil_read.proofs.FormLemmas.{said_so, is_name-only_name, is_optional_name-title_of}
 use Rattle.stil_read.proofs.DeclaredForms.{Differ, Differ-push}
 
 -- a pattern that is read has its form
@@ -28,7 +30,7 @@ pub pattern_block-is : (s : Setting) (e : Entry) (p : Pattern)
     → is_pattern p ≡ true
 pattern_block-is s e p bodies is =
     let outer = both_taken (named_block s e) (λ called. and_then (body_in s place.Pattern e) (λ body. Ok (pattern_called called body))) p is in
-    let called = only_name-is (rest_at s e) outer.0 (said_so (is_some e.body) (only_name (rest_at s e)) outer.0
+    let called = is_name-only_name (rest_at s e) outer.0 (said_so (is_some e.body) (only_name (rest_at s e)) outer.0
     (said_at e.first (where_so (is_some e.body) (only_name (rest_at s e))) outer.0 outer.1)) in
     let inner = both_taken (body_in s place.Pattern e) (λ body. Ok (pattern_called outer.0 body)) p outer.2 in
     let same_one : pattern_called outer.0 inner.0 ≡ p = cc in
@@ -48,7 +50,7 @@ new_def-is : (s : Setting) (title : List ℕ) (declared : Names) (e : Entry) (c 
     → new_def s title declared e ≡ Ok c → IsNew declared title c
 new_def-is s title declared e c is =
     let parts = both_taken (at_statement e.first (def_name s e)) (λ called. at_statement e.first (new_name declared title called)) c is in
-    let called = only_name-is (lexemes_at s e) parts.0 (said_so (is_some e.body) (only_name (lexemes_at s e)) parts.0
+    let called = is_name-only_name (lexemes_at s e) parts.0 (said_so (is_some e.body) (only_name (lexemes_at s e)) parts.0
     (said_at e.first (def_name s e) parts.0 parts.1)) in
     let new = new_by (is_declared declared title parts.0) parts.0 c (said_at e.first (new_name declared title parts.0) c parts.2) in
     subst (IsNew declared title) new.1 (called, new.0)
@@ -76,7 +78,7 @@ pub defs_block-is : (s : Setting) (here : BodyPlace) (declared : Names) (e : Ent
     → BodiesFit s here → IsLined s e → defs_block s here declared e ≡ Ok b → is_def_block b ≡ true
 defs_block-is s here declared e b bodies lined is =
     let outer = both_taken (titled_block s e) (λ title. and_then (defs_in s here title declared (inner_of e.body)) (λ read. Ok (defs_called title read))) b is in
-    let titled = title_of-is (rest_at s e) outer.0 (said_so (is_some e.body) (title_of (rest_at s e)) outer.0
+    let titled = is_optional_name-title_of (rest_at s e) outer.0 (said_so (is_some e.body) (title_of (rest_at s e)) outer.0
     (said_at e.first (where_so (is_some e.body) (title_of (rest_at s e))) outer.0 outer.1)) in
     let inner = both_taken (defs_in s here outer.0 declared (inner_of e.body)) (λ read. Ok (defs_called outer.0 read)) b outer.2 in
     let each = kept_each (judge_def s here outer.0 declared) is_body_def (IsLined s)

@@ -18,7 +18,9 @@ use Rattle.first_fault.specs.Reading.{stepping}
 use Rattle.stil_read.specs.Heads.{where_so, title_of, rest_at, titled_block}
 use Rattle.stil_read.specs.Named.{named_on}
 use Rattle.stil_read.specs.Executives.{exec_word, name_behind, with_name, by_word, exec_said, first_named, with_named, with_category, with_selector, with_timing, with_burst, exec_step, no_parts, exec_by, exec_in, exec_block}
-use Rattle.stil_read.proofs.AcceptedLemmas.{both_taken, said_at, said_so, kept, only_name-is, name_or_empty-is, title_of-is, IsLined, inner_lined, all_more}
+use Rattle.pat_read.proofs.AcceptedLemmas.{said_at, list_all-one}
+use Rattle.stil_read.proofs.AcceptedLemmas.{both_taken, kept, IsLined, inner_lined}
+use Rattle.stil_read.proofs.FormLemmas.{said_so, is_name-only_name, is_optional_name-name_or_empty, is_optional_name-title_of}
 
 -- what a name behind a keyword is
 abbrev fits_word : ExecWord → List ℕ → Bool
@@ -30,10 +32,10 @@ fits_word word.Burst called = is_name called
 -- the name behind a keyword is one
 behind_is : (found : ExecWord) (rest : List Lexeme) (c : List ℕ) → name_behind found rest ≡ Ok c
     → fits_word found c ≡ true
-behind_is word.Category rest c is = only_name-is rest c is
-behind_is word.Selector rest c is = only_name-is rest c is
-behind_is word.Timing rest c is = name_or_empty-is rest c is
-behind_is word.Burst rest c is = only_name-is rest c is
+behind_is word.Category rest c is = is_name-only_name rest c is
+behind_is word.Selector rest c is = is_name-only_name rest c is
+behind_is word.Timing rest c is = is_optional_name-name_or_empty rest c is
+behind_is word.Burst rest c is = is_name-only_name rest c is
 
 -- a keyword with its name
 with_name-is : (found : ExecWord) (r : Result (List ℕ) FormKind) (said : ExecWord × List ℕ)
@@ -101,7 +103,7 @@ named_fits : (before next : ExecParts) (found : ExecWord) (named : Named) → Fi
     → Fit next
 named_fits before next word.Category named fit called line is =
     let same : with_category before named ≡ next = cc in
-    subst Fit same (all_more is_named before.categories named fit.0 (both_true called line), fit.1, fit.2, fit.3)
+    subst Fit same (list_all-one is_named before.categories named fit.0 (both_true called line), fit.1, fit.2, fit.3)
 named_fits before next word.Selector named fit called line is =
     selector_fits before next (first_named before.selector named) fit
     (λ after. first_is is_named before.selector named after (both_true called line)) is
@@ -137,7 +139,7 @@ pub exec_block-is : (s : Setting) (e : Entry) (d : ExecDecl) → IsLined s e →
     → is_exec_decl d ≡ true
 exec_block-is s e d lined is =
     let outer = both_taken (titled_block s e) (exec_in s e) d is in
-    let titled = title_of-is (rest_at s e) outer.0 (said_so (is_some e.body) (title_of (rest_at s e)) outer.0
+    let titled = is_optional_name-title_of (rest_at s e) outer.0 (said_so (is_some e.body) (title_of (rest_at s e)) outer.0
     (said_at e.first (where_so (is_some e.body) (title_of (rest_at s e))) outer.0 outer.1)) in
     let inner = both_taken (stepping (exec_step s) no_parts (unskipped s (inner_of e.body)))
     (λ parts. at_statement e.first (exec_by (line_at s.tokens e.first) outer.0 parts parts.burst)) d outer.2 in

@@ -57,7 +57,7 @@ reading-within judge most one es read is =
     omega (arith, room, length-append before (x ∷ [])))) [] es read is (le-leb 0 most (omega arith))
 
 -- what is there
-there : {X : Type 0} (o : Option X) (x : X) → is_there o ≡ Ok x → o ≡ Some x
+pub there : {X : Type 0} (o : Option X) (x : X) → is_there o ≡ Ok x → o ≡ Some x
 there None x is = cc
 there (Some y) x is = cc
 

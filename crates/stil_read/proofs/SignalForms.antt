@@ -24,16 +24,11 @@ use Rattle.stil_read.specs.Signals.{only_direction, span_front, signal_with, sig
 use Rattle.stil_read.specs.Groups.{group_of, judge_group, groups_of, group_block, groups_block}
 use Rattle.pat_read.specs.Accepted.{HasLines}
 use Rattle.pat_read.proofs.AcceptedLemmas.{both_ok, said_at, reading-each, within_tokens, first_line, is_name-named_by, is_range-range_of}
-use Rattle.stil_read.proofs.FormLemmas.{is_optional_name-titled_block}
+use Rattle.stil_read.proofs.FormLemmas.{there, is_optional_name-titled_block}
 
 -- what is answered is the same
 pub same_ok : {X F : Type 0} (x y : X) → ◌≡◌ {A = Result X F} (Ok x) (Ok y) → x ≡ y
 same_ok x y is = cc
-
--- what is there
-there : {X : Type 0} (o : Option X) (x : X) → is_there o ≡ Ok x → o ≡ Some x
-there None x is = cc
-there (Some other) x is = cc
 
 -- a name that is there
 pub is_name-there : (one : Lexeme) (called : List ℕ) → is_there (named_by one) ≡ Ok called → is_name called ≡ true
