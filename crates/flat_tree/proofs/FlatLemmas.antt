@@ -17,6 +17,15 @@ joined-assoc (cycle mark spot rest) b c = ap (cycle mark spot) (joined-assoc res
 joined-assoc (repeat count body rest) b c = ap (repeat count body) (joined-assoc rest b c)
 joined-assoc (save putting body rest) b c = ap (save putting body) (joined-assoc rest b c)
 
+pub joined-done : (a : Flat) → joined a done ≡ a
+joined-done done = refl
+joined-done (table t rest) = ap (table t) (joined-done rest)
+joined-done (character signal x rest) = ap (character signal x) (joined-done rest)
+joined-done (back signal rest) = ap (back signal) (joined-done rest)
+joined-done (cycle mark spot rest) = ap (cycle mark spot) (joined-done rest)
+joined-done (repeat count body rest) = ap (repeat count body) (joined-done rest)
+joined-done (save putting body rest) = ap (save putting body) (joined-done rest)
+
 pub measure-joined : (a b : Flat) → measure (joined a b) ≡ measure a + measure b
 measure-joined done b = omega arith
 measure-joined (table t rest) b = measure-joined rest b

@@ -1,12 +1,16 @@
 -- Laws of flat trees.
 use Rattle.std.specs.Prelude.{◌≡◌, ℕ, Bool}
-use Rattle.stil_ast.specs.Meaning.Flat.{Flat, repeat, save}
+use Rattle.stil_ast.specs.Meaning.Flat.{Flat, done, repeat, save}
 use Rattle.stil_ast.specs.Meaning.Flattening.{joined}
 use Rattle.stil_ast.specs.Meaning.ExecutiveData.{IsSameFlat}
 
 -- trees are joined in any grouping
 abbrev pub JoinedAssociates : Type 0
 JoinedAssociates = (a b c : Flat) → joined (joined a b) c ≡ joined a (joined b c)
+
+-- a tree with nothing behind it is itself
+abbrev pub JoinedWithNothing : Type 0
+JoinedWithNothing = (a : Flat) → joined a done ≡ a
 
 -- trees that are as good stay so with as good ones behind them
 abbrev pub SameIsJoined : Type 0

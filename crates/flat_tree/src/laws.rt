@@ -1,10 +1,15 @@
 //! Laws of flat trees.
 
-ghost use Rattle.flat_tree.specs.Laws.{JoinedAssociates, SameIsJoined, SameIsRepeated, SameIsSaved, SameIsReflexive, SameIsTransitive};
+ghost use Rattle.flat_tree.specs.Laws.{JoinedAssociates, JoinedWithNothing, SameIsJoined, SameIsRepeated, SameIsSaved, SameIsReflexive, SameIsTransitive};
 
 /// Trees are joined in any grouping.
 pub fn joined_associates()
     ensures { JoinedAssociates }
+{}
+
+/// A tree with nothing behind it is itself.
+pub fn joined_with_nothing()
+    ensures { JoinedWithNothing }
 {}
 
 /// Trees that are as good as others stay so with such trees behind them.

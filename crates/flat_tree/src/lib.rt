@@ -10,8 +10,8 @@ mod place;
 
 pub use flat::{FlatItem, FlatList};
 pub use laws::{
-    joined_associates, same_is_joined, same_is_reflexive, same_is_repeated, same_is_saved,
-    same_is_transitive,
+    joined_associates, joined_with_nothing, same_is_joined, same_is_reflexive, same_is_repeated,
+    same_is_saved, same_is_transitive,
 };
 pub use place::{BodyKind, Origin};
 
