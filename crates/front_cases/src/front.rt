@@ -6,6 +6,7 @@ ghost use Rattle.stil_ast.specs.Data.OneText.{AreOfOneText};
 ghost use Rattle.stil_ast.specs.Meaning.Signals.{names_of};
 ghost use Rattle.signal_groups.specs.Table.{table_of};
 
+use pattern_order::play_order;
 use signal_groups::SignalTable;
 use std::alloc::{AllocError, AllocFailed, Global};
 use stil_ast::{Blocks, StilFault, StilRefusal};
@@ -76,7 +77,8 @@ fn waves_in(set: &WaveSet) -> u32 {
     count
 }
 
-/// Judges the variables, tables and chains of an executive, behind so many waves, and answers how many there are then.
+/// Judges the names, variables, tables and chains of an executive, behind so many waves, and answers how many there are
+/// then.
 fn judge_exec(
     alloc: Global,
     blocks: &Blocks,
@@ -88,6 +90,7 @@ fn judge_exec(
     requires executive { exec < length blocks.now.executives }
     requires signals { signals.now ≡ table_of (names_of blocks.now) }
 {
+    let _order = play_order(alloc, blocks, exec)?;
     let vars = choose(alloc, blocks, exec)?;
     let set = wave_tables::build(alloc, blocks, exec, signals, &vars, before)?;
     let _chains = scan_chain::build(alloc, blocks, exec, signals)?;
