@@ -82,6 +82,7 @@ fn period(alloc: Global, mended: usize) -> Result<Option<Quoted>, AllocError> {
 }
 
 /// The table that inherits, from line 10.
+#[tactic(auto, unfolding(text_bytes::specs::Bytes::is_character))]
 fn heir(alloc: Global, mended: usize) -> Result<TableDecl, AllocError>
     ensures { IfOk result (λ t. signals_lettered t.waveforms ≡ true) }
 {
@@ -102,6 +103,7 @@ fn heir(alloc: Global, mended: usize) -> Result<TableDecl, AllocError>
 }
 
 /// What the inherited table says of its signal, at line 22.
+#[tactic(auto, unfolding(text_bytes::specs::Bytes::is_character))]
 fn base_waves(alloc: Global, mended: usize) -> Result<SignalWaves, AllocError>
     ensures { IfOk result (λ s. waves_lettered s.waves ≡ true) }
 {
