@@ -11,3 +11,6 @@ mod walk;
 
 pub use order::play_order;
 pub use playing::{PlayOrder, PlayedPattern};
+
+#[cfg(test)]
+mod tests;
