@@ -1,5 +1,5 @@
 -- Bodies that are read have their form.
-use Rattle.std.proofs.Common.{◌≡◌, ℕ, zero, suc, ◌-◌, ◌<◌, Bool, true, false, ◌&&◌, cond, List, [], ◌∷◌, ◌++◌, length, take, drop, is_some, Option, Some, None, Result, Ok, Err, refl, ap, subst, arith, nat_le}
+use Rattle.std.proofs.Common.{◌≡◌, ℕ, zero, suc, ◌-◌, ◌<◌, Bool, true, false, ◌&&◌, cond, List, [], ◌∷◌, ◌++◌, length, take, drop, is_some, Option, Some, None, Result, Ok, Err, refl, subst, arith, nat_le}
 use Rattle.std.specs.List.{list_all}
 use Rattle.std.proofs.lemmas.Bool.{and_parts, and_from}
 use Rattle.text_bytes.specs.Numbers.{number_by}
@@ -166,22 +166,23 @@ says_alone : (top : Bool) (one : Plain) (rest : List Lexeme) → FitsPlain top o
 says_alone top one [] fits = says_one top (outline.Step one) fits
 says_alone top one (next ∷ rest) fits = says_nothing top Shape
 
--- the one name behind a keyword
-there : (o : Option (List ℕ)) (called : List ℕ) → is_there o ≡ Ok called → o ≡ Some called
-there None called is = cc
-there (Some other) called is = let same : other ≡ called = cc in ap Some same
+-- what is there
+pub there : {X : Type 0} (o : Option X) (x : X) → is_there o ≡ Ok x → o ≡ Some x
+there None x is = cc
+there (Some y) x is = cc
 
-lone_name : (rest : List Lexeme) (called : List ℕ) → only_name rest ≡ Ok called → is_name called ≡ true
-lone_name [] called is = cc
-lone_name (one ∷ []) called is = is_name-named_by one called (there (named_by one) called is)
-lone_name (one ∷ two ∷ rest) called is = cc
+-- the one name behind a keyword
+pub is_name-only_name : (rest : List Lexeme) (called : List ℕ) → only_name rest ≡ Ok called → is_name called ≡ true
+is_name-only_name [] called is = cc
+is_name-only_name (one ∷ []) called is = is_name-named_by one called (there (named_by one) called is)
+is_name-only_name (one ∷ two ∷ rest) called is = cc
 
 says_named : (top : Bool) (make : List ℕ → Plain) (rest : List Lexeme)
     → ((called : List ℕ) → is_name called ≡ true → FitsPlain top (make called)) → Says top (named make rest)
 says_named top make rest fits found is =
     let both = both_ok (only_name rest) (λ called. Ok (outline.Step (make called))) found is in
     let same : outline.Step (make both.given) ≡ found = cc in
-    subst (FitsOutline top) same (fits both.given (lone_name rest both.given both.met))
+    subst (FitsOutline top) same (fits both.given (is_name-only_name rest both.given both.met))
 
 -- a Loop
 in_range : (top : Bool) (times : ℕ) (b : Bool) → (nat_le 1 times && nat_le times most_passes) ≡ b
@@ -288,7 +289,7 @@ abbrev is_stmt : Bool → PatStmt → Bool
 is_stmt top stmt = is_line stmt.line && is_action top stmt.action
 
 -- three tests that pass
-all_three : (a b c : Bool) → a ≡ true → b ≡ true → c ≡ true → (a && b && c) ≡ true
+pub all_three : (a b c : Bool) → a ≡ true → b ≡ true → c ≡ true → (a && b && c) ≡ true
 all_three a b c p q r = and_from (a && b) c (and_from a b p q) r
 
 all_four : (a b c d : Bool) → a ≡ true → (b && c) ≡ true → d ≡ true → (a && b && c && d) ≡ true

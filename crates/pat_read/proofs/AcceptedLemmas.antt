@@ -177,7 +177,8 @@ in_range : (b : Bool) (first last : ℕ) (range : Option IndexRange)
 in_range true first last range is = (refl, cc)
 in_range false first last range is = cc
 
-small : (n : ℕ) → nat_lt n (2 ^ 32) ≡ true → nat_le n 4294967295 ≡ true
+-- an index of 32 bits
+pub small : (n : ℕ) → nat_lt n (2 ^ 32) ≡ true → nat_le n 4294967295 ≡ true
 small n h = le-leb n 4294967295 (omega (arith, ltb-true n (2 ^ 32) h))
 
 -- the indices of a name

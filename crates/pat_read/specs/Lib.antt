@@ -1,6 +1,7 @@
 -- Read Fault first (what a reader answers), then Data, References (assignments), Statements (each by its own tokens),
 -- Body (statements with their blocks), and Refusal (what is told of a fault).
 pub mod Fault
+pub mod FaultText
 pub mod Data
 pub mod References
 pub mod Statements

@@ -46,10 +46,10 @@ abbrev pub alone : Plain → List Lexeme → Result Outline FormKind
 alone said [] = Ok (outline.Step said)
 alone said (one ∷ rest) = Err Shape
 
--- a name that is there
-abbrev pub is_there : Option (List ℕ) → Result (List ℕ) FormKind
+-- what is there, or else the statement has no form
+abbrev pub is_there : {X : Type 0} → Option X → Result X FormKind
 is_there None = Err Shape
-is_there (Some called) = Ok called
+is_there (Some x) = Ok x
 
 -- the one name that stands behind a keyword
 abbrev pub only_name : List Lexeme → Result (List ℕ) FormKind

@@ -37,6 +37,11 @@ impl<T: Drop> From<AllocFailed<T>> for DataFault {
 }
 
 impl fmt::Display for DataFault {
+    ghost use Rattle.std.specs.Prelude.{Some};
+    ghost use Rattle.pat_read.specs.FaultText.{fault_text};
+
+    ghost output = { λ fault. Some (fault_text fault) };
+
     fn fmt<W: fmt::Write>(&self, f: &mut fmt::Formatter<W>) -> fmt::Result {
         match self {
             DataFault::NoMemory => write!(f, "out of memory"),

@@ -17,7 +17,8 @@ use crate::outline::{Outline, Plain, statement_said};
 use crate::refusal::refused;
 use std::alloc::Global;
 use stil_ast::{
-    AssignmentList, PatAction, PatBody, PatStmt, RefKind, Step, StilRefusal, VecText, WordList,
+    ArgumentList, AssignmentList, PatAction, PatBody, PatStmt, RefKind, Step, StilRefusal, VecText,
+    WordList,
 };
 use stil_form::{
     FormFault, Reader, Source, Words, first_of, has_block, head_at, inner_of, line_at, skips,
@@ -93,6 +94,15 @@ fn read_assignments(
     Ok(read)
 }
 
+/// The assignments of a block of arguments.
+fn read_arguments(alloc: Global, form: &Reader, stmts: &[Stmt]) -> Result<ArgumentList, FormFault>
+    ensures { Answers result (assignments_of (setting_of form.now) (map entry_of stmts.now)) }
+{
+    let given = read_assignments(alloc, form, stmts)?;
+    let given = ArgumentList::new(alloc, given)?;
+    Ok(given)
+}
+
 /// What a statement says without its block, or the kind of its fault.
 fn outline_at(alloc: Global, form: &Reader, top: bool, stmt: &Stmt) -> Result<Outline, DataFault>
     ensures { DataAnswers (λ read. read) result (outline_at (setting_of form.now) top (entry_of stmt.now)) }
@@ -126,11 +136,11 @@ fn read_step(alloc: Global, form: &Reader, plain: Plain, stmts: &[Stmt]) -> Resu
             Ok(Step::Condition(given))
         }
         Plain::Macro(name) => {
-            let given = read_assignments(alloc, form, stmts)?;
+            let given = read_arguments(alloc, form, stmts)?;
             Ok(Step::Macro(name, given))
         }
         Plain::Call(name) => {
-            let given = read_assignments(alloc, form, stmts)?;
+            let given = read_arguments(alloc, form, stmts)?;
             Ok(Step::Call(name, given))
         }
         Plain::Stop => Ok(Step::Stop),

@@ -8,6 +8,7 @@ use Rattle.stil_ast.specs.declared.executive.ExecDecl.{ExecDecl}
 use Rattle.stil_ast.specs.declared.fault.StilFault.{StilFault}
 use Rattle.stil_ast.specs.declared.fault.StilRefusal.{StilRefusal}
 use Rattle.stil_ast.specs.declared.fault.StilRefusal.TheVariants as refusal
+use Rattle.stil_ast.proofs.FoundLemmas.{not_both, one_fault}
 use Rattle.scan_chain.specs.Fault.{chain_list_fault, IsChainFault, Scans}
 
 -- what is said of the executive at an index is said of the one that is found there
@@ -26,12 +27,6 @@ scans-of blocks exec e here r at is h = subst (λ x. Scans blocks x r) (is ∙ f
         same : (x e : ExecDecl) → ◌≡◌ {A = Option ExecDecl} (Some x) (Some e) → x ≡ e
         same x e at = cc
     found (x ∷ xs) (suc i) e d at = found xs i e d at
-
-not_both : (o : Option StilFault) (f : StilFault) → o ≡ None → o ≡ Some f → ⊥
-not_both o f e g = cc
-
-one : (f g : StilFault) → ◌≡◌ {A = Option StilFault} (Some f) (Some g) → f ≡ g
-one f g e = cc
 
 module _ (blocks : Blocks) (e : ExecDecl) where
   pub is_found : (r : Result (List Chain) StilRefusal) → Scans blocks e r
@@ -56,4 +51,4 @@ module _ (blocks : Blocks) (e : ExecDecl) where
       → MatchResult r (λ _. ⊥) (λ r. (r ≡ refusal.NoMemory) ⊎ (r ≡ refusal.Fault f))
   is_refused (Ok chains) h f first = not_both (chain_list_fault blocks e) f h.0 first
   is_refused (Err refusal.NoMemory) h f first = inl refl
-  is_refused (Err (refusal.Fault g)) h f first = inr (ap (λ x. refusal.Fault x) (one g f (sym h ∙ first)))
+  is_refused (Err (refusal.Fault g)) h f first = inr (ap (λ x. refusal.Fault x) (one_fault g f (sym h ∙ first)))

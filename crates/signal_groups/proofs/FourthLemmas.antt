@@ -8,6 +8,7 @@ use Rattle.stil_ast.specs.declared.blocks.Blocks.{Blocks}
 use Rattle.stil_ast.specs.declared.fault.StilFault.{StilFault}
 use Rattle.stil_ast.specs.declared.fault.StilRefusal.{StilRefusal}
 use Rattle.stil_ast.specs.declared.fault.StilRefusal.TheVariants as refusal
+use Rattle.stil_ast.proofs.FoundLemmas.{not_both, one_fault}
 use Rattle.signal_groups.specs.Table.{Table, table_of}
 use Rattle.signal_groups.specs.Fault.{IsFourth, Fourth}
 use Rattle.signal_groups.specs.Begun.{RefusesFor}
@@ -53,9 +54,6 @@ module _ (blocks : Blocks) where
   only_table (Ok t) h none = h.1
   only_table (Err refusal.NoMemory) h none = refl
   only_table (Err (refusal.Fault f)) h none = absurd (not_both (fourth_fault blocks) f none h)
-    where
-      not_both : (o : Option StilFault) (f : StilFault) → o ≡ None → o ≡ Some f → ⊥
-      not_both o f e g = cc
 
   pub is_fault : (r : Result Table StilRefusal) → Fourth blocks r → IfErr r (λ e. (e ≡ refusal.NoMemory) ⊎ IsFourth blocks e)
   is_fault (Ok t) h = tt
@@ -65,11 +63,5 @@ module _ (blocks : Blocks) where
   pub is_refused : (r : Result Table StilRefusal) → Fourth blocks r → (fault : StilFault) → fourth_fault blocks ≡ Some fault
       → MatchResult r (λ _. ⊥) (λ e. (e ≡ refusal.NoMemory) ⊎ (e ≡ refusal.Fault fault))
   is_refused (Ok t) h fault first = not_both (fourth_fault blocks) fault h.0 first
-    where
-      not_both : (o : Option StilFault) (f : StilFault) → o ≡ None → o ≡ Some f → ⊥
-      not_both o f e g = cc
   is_refused (Err refusal.NoMemory) h fault first = inl refl
-  is_refused (Err (refusal.Fault f)) h fault first = inr (ap (λ x. refusal.Fault x) (one f fault (sym h ∙ first)))
-    where
-      one : (f g : StilFault) → ◌≡◌ {A = Option StilFault} (Some f) (Some g) → f ≡ g
-      one f g e = cc
+  is_refused (Err (refusal.Fault f)) h fault first = inr (ap (λ x. refusal.Fault x) (one_fault f fault (sym h ∙ first)))

@@ -1,10 +1,10 @@
 -- The indices of a range, by their places.
-use Rattle.std.proofs.Common.{◌≡◌, ℕ, zero, suc, ◌<◌, ◌≤◌, ◌+◌, ◌-◌, cond, List, length, get_or, reverse, sym, ap, ◌∙◌, arith}
+use Rattle.std.proofs.Common.{◌≡◌, ℕ, suc, ◌<◌, ◌≤◌, ◌+◌, ◌-◌, cond, List, length, get_or, reverse, sym, ap, ◌∙◌, arith}
 use Rattle.std.proofs.lemmas.Bool.{le-leb, lt-leb}
 use Rattle.std.proofs.lemmas.List.{get_or-reverse, length-reverse}
 use Rattle.stil_ast.specs.Data.Texts.{upwards, indices}
 use Rattle.stil_ast.specs.declared.name.IndexRange.{IndexRange}
-use Rattle.stil_ast.proofs.FormLemmas.{length-upwards}
+use Rattle.stil_ast.proofs.FormLemmas.{get_or-upwards, length-upwards}
 
 abbrev up : IndexRange → List ℕ
 up r = upwards r.first (suc (r.last - r.first))
@@ -17,11 +17,6 @@ indices_up r le = ap (λ b. cond b (up r) (reverse (down r))) (le-leb r.first r.
 
 indices_down : (r : IndexRange) → r.last < r.first → indices r ≡ reverse (down r)
 indices_down r lt = ap (λ b. cond b (up r) (reverse (down r))) (lt-leb r.first r.last lt)
-
-get_or-upwards : (from count k : ℕ) → k < count → get_or (upwards from count) k 0 ≡ from + k
-get_or-upwards from zero k lt = absurd (omega arith)
-get_or-upwards from (suc count) zero lt = omega arith
-get_or-upwards from (suc count) (suc k) lt = omega (arith, get_or-upwards (suc from) count k (omega arith))
 
 pub length-indices_up : (r : IndexRange) → r.first ≤ r.last → length (indices r) ≡ r.last - r.first + 1
 length-indices_up r le = ap length (indices_up r le) ∙ length-upwards r.first (suc (r.last - r.first)) ∙ omega arith

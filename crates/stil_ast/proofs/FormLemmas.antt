@@ -1,6 +1,6 @@
 -- What forms say of lists: names that differ are distinct, cells are counted without spreading them, and signals are
 -- named without where they were declared.
-use Rattle.std.proofs.Common.{◌≡◌, ℕ, zero, suc, ◌+◌, ◌-◌, Bool, true, false, not, List, [], ◌∷◌, Option, Some, None, refl, sym, ap, ◌∙◌, length, reverse, nat_le, if◌then◌else◌, ◌++◌, map, flat_map}
+use Rattle.std.proofs.Common.{◌≡◌, ℕ, zero, suc, ◌+◌, ◌-◌, ◌<◌, Bool, true, false, not, get_or, arith, List, [], ◌∷◌, Option, Some, None, refl, sym, ap, ◌∙◌, length, reverse, nat_le, if◌then◌else◌, ◌++◌, map, flat_map}
 use Rattle.std.specs.Prelude.{sum_by}
 use Rattle.std.specs.List.{list_any, AllByRecursion, IsDistinct}
 use Rattle.std.proofs.lemmas.List.{length-map, length-reverse, map-append}
@@ -36,6 +36,12 @@ IsDistinct-from_all_differ equal (x ∷ xs) h =
 pub length-upwards : (from count : ℕ) → length (upwards from count) ≡ count
 length-upwards from zero = refl
 length-upwards from (suc count) = ap suc (length-upwards (suc from) count)
+
+-- the number at a place
+pub get_or-upwards : (from count i : ℕ) → i < count → get_or (upwards from count) i 0 ≡ from + i
+get_or-upwards from zero i h = absurd (omega arith)
+get_or-upwards from (suc count) zero h = omega arith
+get_or-upwards from (suc count) (suc i) h = omega (arith, get_or-upwards (suc from) count i (omega arith))
 
 either_way : (up : Bool) (r : IndexRange)
     → length (if up then upwards r.first (suc (r.last - r.first)) else reverse (upwards r.last (suc (r.first - r.last))))

@@ -15,6 +15,7 @@ pub mod ItemLemmas
 pub mod InheritLemmas
 pub mod CheckedLemmas
 pub mod SteadyLemmas
+pub mod FoundLemmas
 pub mod TreeLemmas
 pub mod ArgumentLemmas
 pub mod ConsumedLemmas

@@ -1,5 +1,5 @@
 -- The flat trees of an executive have its run one after another; trees that are as good give the same.
-use Rattle.std.proofs.Common.{◌≡◌, ℕ, ◌+◌, ◌<◌, Bool, true, false, List, [], ◌∷◌, ◌++◌, Option, Some, None, refl, ap, sym, ◌∙◌, length, map, sum_by, get_or, slice_index_or}
+use Rattle.std.proofs.Common.{◌≡◌, ℕ, ◌+◌, ◌<◌, Bool, true, false, List, [], ◌∷◌, ◌++◌, None, refl, ap, sym, ◌∙◌, length, map, sum_by, get_or, slice_index_or}
 use Rattle.std.proofs.lemmas.List.{get_or-append-add}
 use Rattle.std.proofs.Math.ListN.{get_or-append}
 use Rattle.std.proofs.lemmas.List.Sums.{sum_by-cons}
@@ -15,7 +15,6 @@ use Rattle.stil_ast.specs.Meaning.Times.{Times}
 use Rattle.stil_ast.specs.Meaning.Variables.{picked, variables_fault}
 use Rattle.stil_ast.specs.Faults.BurstFaults.{exec_names_fault}
 use Rattle.stil_ast.specs.Faults.TableFaults.{tables_fault}
-use Rattle.stil_ast.specs.declared.fault.StilFault.{StilFault}
 use Rattle.stil_ast.specs.Meaning.Signals.{names_of}
 use Rattle.stil_ast.specs.Meaning.Resolved.{resolved}
 use Rattle.stil_ast.specs.Meaning.ExecutiveData.{Tree, Executive, tree_run, trees_run, vectors_of, cycles_of, vector_period, measure_in, tables_of, code_table, AreSameTrees}
@@ -30,6 +29,7 @@ use Rattle.stil_ast.specs.Faults.CheckedLaws.{parts_of}
 use Rattle.stil_ast.specs.declared.executive.ExecDecl.{ExecDecl}
 use Rattle.stil_ast.specs.declared.blocks.Blocks.{Blocks}
 use Rattle.tester_types.specs.declared.wave.Table.{Table}
+use Rattle.stil_ast.proofs.FoundLemmas.{or_else-none}
 use Rattle.stil_ast.proofs.SteadyLemmas.{checked_tree_agrees}
 
 -- parts of which each one's tree has its run
@@ -77,10 +77,6 @@ vectors_agree blocks e count w x checked trees =
     let vectors = λ (r : Ran State). map (λ (m : Made). m.vector) r.made in
     ap (λ (all : List Tree). vectors (trees_run all begin)) trees
     ∙ ap vectors (trees_agree blocks e (played blocks e) count w (outside begin) checked)
-
-or_else-none : (a b : Option StilFault) → or_else a b ≡ None → (a ≡ None) × (b ≡ None)
-or_else-none None b e = (refl, e)
-or_else-none (Some fault) b e = cc
 
 checked-none : (c : Checked) → checked_fault c ≡ None → (w : Walked) × (c ≡ fine w)
 checked-none (fine w) e = (w, refl)

@@ -1,5 +1,6 @@
 //! Bodies of patterns, macros and procedures (IEEE 1450-1999, clauses 22 to 24).
 
+use crate::arguments::ArgumentList;
 use crate::assignment_list::AssignmentList;
 use crate::data::VecText;
 use crate::name::SigRef;
@@ -25,9 +26,9 @@ pub enum Step {
     /// `C`: assigns.
     Condition(AssignmentList),
     /// Runs the body of this macro with these arguments.
-    Macro(Text, AssignmentList),
+    Macro(Text, ArgumentList),
     /// Runs the body of this procedure with these arguments.
-    Call(Text, AssignmentList),
+    Call(Text, ArgumentList),
     BreakPoint,
     IddqTestPoint,
     /// Ends the executive; only at a pattern's top level.

@@ -1,6 +1,7 @@
 //! The typed data of STIL blocks, and what patterns mean (IEEE 1450-1999).
 #![tactic(auto)]
 
+mod arguments;
 mod assignment_list;
 mod blocks;
 mod body;
@@ -14,6 +15,7 @@ mod signal;
 mod timing;
 mod variable;
 
+pub use arguments::ArgumentList;
 pub use assignment_list::{AssignmentCursor, AssignmentList, AssignmentParts, RefKind};
 pub use blocks::{Blocks, BodyDef, BodyDefList, DefBlock, DefBlockList, Pattern, PatternList};
 pub use body::{Assignment, PatAction, PatBody, PatStmt, Step};

@@ -15,11 +15,13 @@ use Rattle.stil_ast.specs.declared.executive.Burst.{Burst}
 use Rattle.stil_ast.specs.declared.executive.BurstItem.{BurstItem}
 use Rattle.stil_ast.specs.declared.executive.BurstWord.{BurstWord}
 use Rattle.stil_ast.specs.declared.executive.BurstWord.TheVariants as word
-use Rattle.stil_read.specs.Heads.{where_so, only_name, name_or_empty, rest_at, bare_block, named_block}
+use Rattle.pat_read.specs.Statements.{only_name}
+use Rattle.stil_read.specs.Heads.{where_so, name_or_empty, rest_at, bare_block, named_block}
 use Rattle.stil_read.specs.Bursts.{word_of, item_on, stands_already, with_item, burst_name, named_step, left_out, entry_step, list_step, by_word, burst_step, items_in, burst_called, burst_block}
 use Rattle.pat_read.proofs.AcceptedLemmas.{said_at, list_all-one}
+use Rattle.pat_read.proofs.AcceptedBodies.{is_name-only_name}
 use Rattle.stil_read.proofs.AcceptedLemmas.{both_taken, kept, IsLined, HasLine, inner_lined}
-use Rattle.stil_read.proofs.FormLemmas.{said_so, is_name-only_name, is_optional_name-name_or_empty}
+use Rattle.stil_read.proofs.FormLemmas.{said_so, is_optional_name-name_or_empty}
 
 -- nothing before
 none_plus : (n : ℕ) → 0 + n ≡ n

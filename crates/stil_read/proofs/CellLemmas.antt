@@ -2,7 +2,7 @@
 use Rattle.std.proofs.Common.{◌≡◌, ◌^◌, ℕ, ◌+◌, ◌-◌, Bool, true, false, cond, nat_le, nat_lt, ◌&&◌, List, [], ◌∷◌, ◌++◌, Option, Some, None, Ok, refl, subst, arith}
 use Rattle.std.specs.List.{AllByRecursion, list_all}
 use Rattle.std.specs.Cmp.Derive.{both_true}
-use Rattle.std.proofs.lemmas.Bool.{and_parts, leb-true, le-leb, ltb-true}
+use Rattle.std.proofs.lemmas.Bool.{and_parts, leb-true, le-leb}
 use Rattle.std.proofs.lemmas.List.Sums.{sum_by_push}
 use Rattle.first_fault.specs.Reading.{stepping}
 use Rattle.stil_form.specs.declared.front.Span.{Span}
@@ -22,7 +22,7 @@ use Rattle.stil_read.specs.declared.cells.Awaited.TheVariants as awaited
 use Rattle.stil_read.specs.declared.cells.CellsLeft.{CellsLeft}
 use Rattle.stil_read.specs.declared.cells.CellsRead.{CellsRead}
 use Rattle.stil_read.specs.Cells.{with_cell, with_indices, going_on, named_cell, cell_begins, behind_name, first_index, indexed, behind_index, second_dot, last_index, closed, part_said, within_limits, ended, cells_step, cells_start, cells_said}
-use Rattle.pat_read.proofs.AcceptedLemmas.{said_at, is_name-named_by, list_all-one}
+use Rattle.pat_read.proofs.AcceptedLemmas.{said_at, small, is_name-named_by, list_all-one}
 use Rattle.stil_read.proofs.AcceptedLemmas.{both_taken, kept}
 
 -- the cells so far have their form, and with those that are left they are as many as may be
@@ -67,10 +67,6 @@ with_cell_fits None called range fit named ranged = tt
 with_cell_fits (Some before) called range fit named ranged =
     cell_fits before called range (nat_le (cell_size range) before.left) refl fit named ranged
 
--- an index of 32 bits
-index_fits : (n : ℕ) → nat_lt n (2 ^ 32) ≡ true → nat_le n 4294967295 ≡ true
-index_fits n is = let less = ltb-true n (2 ^ 32) is in le-leb n 4294967295 (omega (arith, less))
-
 -- indices of 32 bits
 indices_fit : (span : Span) (b : Bool) (before : Option CellsLeft) (called : List ℕ)
     → (nat_lt span.first (2 ^ 32) && nat_lt span.last (2 ^ 32)) ≡ b → FitCells before → is_name called ≡ true
@@ -79,7 +75,7 @@ indices_fit span false before called within fit named = tt
 indices_fit span true before called within fit named =
     let parts = and_parts (nat_lt span.first (2 ^ 32)) (nat_lt span.last (2 ^ 32)) within in
     with_cell_fits before called (Some (record { first = span.first; last = span.last })) fit named
-    (both_true (index_fits span.first parts.0) (index_fits span.last parts.1))
+    (both_true (small span.first parts.0) (small span.last parts.1))
 
 -- more tokens are to be read
 on_fits : (cells : Option CellsLeft) (next : Awaited) (read : CellsRead) → FitCells cells → FitAwaited next

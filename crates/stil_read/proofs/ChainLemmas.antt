@@ -26,13 +26,15 @@ use Rattle.stil_ast.specs.declared.scan.ScanBlock.{ScanBlock}
 use Rattle.stil_read.specs.declared.chain.ChainWord.{ChainWord}
 use Rattle.stil_read.specs.declared.chain.ChainWord.TheVariants as word
 use Rattle.stil_read.specs.declared.chain.ChainParts.{ChainParts}
-use Rattle.stil_read.specs.Heads.{where_so, only_name, title_of, rest_at, titled_block, count_under, under}
+use Rattle.pat_read.specs.Statements.{only_name}
+use Rattle.stil_read.specs.Heads.{where_so, title_of, rest_at, titled_block, count_under, under}
 use Rattle.stil_read.specs.Named.{Names, named_on}
 use Rattle.stil_read.specs.Cells.{cells_said}
 use Rattle.stil_read.specs.Chains.{names_of, word_of, word_number, same_word, only_number, length_by, end_by, inversion_by, cells_on, stmt_said, plain_said, with_said, with_stmt, by_word, chain_step, no_parts, is_chain, chain_name, one_more, new_chain, chain_on, parts_in, chain_said, judge_chain, chains_in, scans_called, scan_block}
 use Rattle.pat_read.proofs.AcceptedLemmas.{said_at, list_all-one}
+use Rattle.pat_read.proofs.AcceptedBodies.{is_name-only_name}
 use Rattle.stil_read.proofs.AcceptedLemmas.{both_taken, kept, kept_each, kept_read, IsLined, HasLine, inner_lined}
-use Rattle.stil_read.proofs.FormLemmas.{said_so, is_name-only_name, is_optional_name-title_of}
+use Rattle.stil_read.proofs.FormLemmas.{said_so, is_optional_name-title_of}
 use Rattle.stil_read.proofs.DeclaredForms.{all_differ-push}
 use Rattle.stil_read.proofs.CellLemmas.{cells_said-are}
 

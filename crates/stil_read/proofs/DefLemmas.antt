@@ -1,12 +1,10 @@
 -- Patterns, macros and procedures that are read have their form, where the bodies that are read have theirs; no name
 -- stands twice under a title.
-use Rattle.std.proofs.Common.{◌≡◌, ℕ, Bool, true, false, cond, List, [], ◌∷◌, ◌++◌, map, is_some, Result, Ok, Err, refl, sym, ap, subst, ◌∙◌}
+use Rattle.std.proofs.Common.{◌≡◌, ℕ, true, false, List, [], ◌∷◌, ◌++◌, map, is_some, Ok, refl, sym, ap, subst, ◌∙◌}
 use Rattle.std.specs.Cmp.Derive.{both_true}
 use Rattle.std.proofs.lemmas.List.{map-append, append_assoc, append-nil}
 use Rattle.stil_tree.specs.Trees.{Entry}
 use Rattle.first_fault.specs.Reading.{and_then}
-use Rattle.stil_form.specs.declared.fault.FormKind.{FormKind}
-use Rattle.stil_form.specs.declared.fault.FormKind.TheVariants.{Twice}
 use Rattle.stil_form.specs.Setting.{Setting, lexemes_at, at_statement, inner_of, unskipped}
 use Rattle.stil_ast.specs.Data.Texts.{is_name}
 use Rattle.stil_ast.specs.Data.Written.{Written}
@@ -16,13 +14,16 @@ use Rattle.stil_ast.specs.declared.blocks.DefBlock.{DefBlock}
 use Rattle.stil_ast.specs.declared.blocks.Pattern.{Pattern}
 use Rattle.pat_read.specs.declared.reader.BodyPlace.{BodyPlace}
 use Rattle.pat_read.specs.declared.reader.BodyPlace.TheVariants as place
-use Rattle.stil_read.specs.Heads.{where_so, only_name, title_of, rest_at, named_block, titled_block, is_declared, under}
+use Rattle.pat_read.specs.Statements.{only_name}
+use Rattle.stil_read.specs.Heads.{where_so, title_of, rest_at, named_block, titled_block, is_declared, under}
 use Rattle.stil_read.specs.Named.{Names}
 use Rattle.stil_read.specs.Defs.{body_in, pattern_called, pattern_block, def_called, names_of, def_name, new_name, new_def, def_said, judge_def, defs_in, defs_called, defs_block}
 use Rattle.pat_read.proofs.AcceptedLemmas.{said_at}
+use Rattle.pat_read.proofs.AcceptedBodies.{is_name-only_name}
 use Rattle.stil_read.proofs.AcceptedLemmas.{both_taken, kept_each, kept_read, IsLined, inner_lined}
-use Rattle.stil_read.proofs.FormLemmas.{said_so, is_name-only_name, is_optional_name-title_of}
+use Rattle.stil_read.proofs.FormLemmas.{said_so, is_optional_name-title_of}
 use Rattle.stil_read.proofs.DeclaredForms.{Differ, Differ-push}
+use Rattle.stil_read.proofs.TimingForms.{fresh}
 
 -- a pattern that is read has its form
 pub pattern_block-is : (s : Setting) (e : Entry) (p : Pattern)
@@ -36,12 +37,6 @@ pattern_block-is s e p bodies is =
     let same_one : pattern_called outer.0 inner.0 ≡ p = cc in
     subst (λ (x : Pattern). is_pattern x ≡ true) same_one (both_true called (bodies inner.0 inner.1))
 
--- a name that is not declared
-new_by : (b : Bool) (called c : List ℕ) → cond {A = Result (List ℕ) FormKind} b (Err Twice)
-    (Ok called) ≡ Ok c → (b ≡ false) × (called ≡ c)
-new_by true called c is = cc
-new_by false called c is = (refl, cc)
-
 -- the name of a body is one, and is not declared
 abbrev IsNew : Names → List ℕ → List ℕ → Type 0
 IsNew declared title called = (is_name called ≡ true) × (is_declared declared title called ≡ false)
@@ -52,7 +47,7 @@ new_def-is s title declared e c is =
     let parts = both_taken (at_statement e.first (def_name s e)) (λ called. at_statement e.first (new_name declared title called)) c is in
     let called = is_name-only_name (lexemes_at s e) parts.0 (said_so (is_some e.body) (only_name (lexemes_at s e)) parts.0
     (said_at e.first (def_name s e) parts.0 parts.1)) in
-    let new = new_by (is_declared declared title parts.0) parts.0 c (said_at e.first (new_name declared title parts.0) c parts.2) in
+    let new = fresh (is_declared declared title parts.0) parts.0 c (said_at e.first (new_name declared title parts.0) c parts.2) in
     subst (IsNew declared title) new.1 (called, new.0)
 
 -- a body that is read has its form, and its name is not declared

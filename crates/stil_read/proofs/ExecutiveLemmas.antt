@@ -19,8 +19,9 @@ use Rattle.stil_read.specs.Heads.{where_so, title_of, rest_at, titled_block}
 use Rattle.stil_read.specs.Named.{named_on}
 use Rattle.stil_read.specs.Executives.{exec_word, name_behind, with_name, by_word, exec_said, first_named, with_named, with_category, with_selector, with_timing, with_burst, exec_step, no_parts, exec_by, exec_in, exec_block}
 use Rattle.pat_read.proofs.AcceptedLemmas.{said_at, list_all-one}
+use Rattle.pat_read.proofs.AcceptedBodies.{is_name-only_name}
 use Rattle.stil_read.proofs.AcceptedLemmas.{both_taken, kept, IsLined, inner_lined}
-use Rattle.stil_read.proofs.FormLemmas.{said_so, is_name-only_name, is_optional_name-name_or_empty, is_optional_name-title_of}
+use Rattle.stil_read.proofs.FormLemmas.{said_so, is_optional_name-name_or_empty, is_optional_name-title_of}
 
 -- what a name behind a keyword is
 abbrev fits_word : ExecWord → List ℕ → Bool

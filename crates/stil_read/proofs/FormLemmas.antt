@@ -1,16 +1,17 @@
 -- What readers accept has its form: names, lines and references; and what each statement keeps, all keep.
-use Rattle.std.proofs.Common.{◌≡◌, ℕ, ◌+◌, ◌<◌, List, [], ◌∷◌, ◌++◌, length, Result, Ok, Err, Option, Some, None, Bool, true, false, cond, nat_lt, nat_le, is_some, refl, subst, arith, length-append}
+use Rattle.std.proofs.Common.{◌≡◌, ℕ, ◌<◌, List, [], ◌∷◌, ◌++◌, length, Result, Ok, Err, Bool, true, false, cond, nat_lt, nat_le, is_some, refl, subst, arith, length-append}
 use Rattle.std.proofs.lemmas.Bool.{ltb-true, le-leb}
 use Rattle.first_fault.specs.Reading.{and_then, reading, stepping}
 use Rattle.stil_tree.specs.Trees.{Entry}
 use Rattle.stil_form.specs.declared.fault.FormKind.{FormKind}
 use Rattle.stil_form.specs.Lexeme.{Lexeme, word, name, text, sign}
-use Rattle.stil_form.specs.Words.{named_by}
 use Rattle.stil_form.specs.Setting.{Setting}
 use Rattle.stil_ast.specs.Data.Texts.{is_name}
 use Rattle.stil_ast.specs.Data.Forms.{is_optional_name}
-use Rattle.pat_read.proofs.AcceptedLemmas.{said_at, reading-keeps, is_name-named_by}
-use Rattle.stil_read.specs.Heads.{is_there, where_so, only_name, name_or_empty, title_of, behind_first, rest_at, named_block, titled_block}
+use Rattle.pat_read.proofs.AcceptedLemmas.{said_at, reading-keeps}
+use Rattle.pat_read.proofs.AcceptedBodies.{is_name-only_name}
+use Rattle.pat_read.specs.Statements.{only_name}
+use Rattle.stil_read.specs.Heads.{where_so, name_or_empty, title_of, behind_first, rest_at, named_block, titled_block}
 
 -- what is said where a test passes
 pub said_where : {X F : Type 0} (b : Bool) (r : Result X F) (fault : F) (x : X)
@@ -55,17 +56,6 @@ reading-within judge most one es read is =
     (λ before e x judged held. le-leb (length (before ++ x ∷ [])) most
     (let room = ltb-true (length before) most (one before e x judged) in
     omega (arith, room, length-append before (x ∷ [])))) [] es read is (le-leb 0 most (omega arith))
-
--- what is there
-pub there : {X : Type 0} (o : Option X) (x : X) → is_there o ≡ Ok x → o ≡ Some x
-there None x is = cc
-there (Some y) x is = cc
-
--- the one name behind a keyword
-pub is_name-only_name : (rest : List Lexeme) (called : List ℕ) → only_name rest ≡ Ok called → is_name called ≡ true
-is_name-only_name [] called is = cc
-is_name-only_name (one ∷ []) called is = is_name-named_by one called (there (named_by one) called is)
-is_name-only_name (one ∷ two ∷ rest) called is = cc
 
 -- a name is one that may be left away
 pub is_optional_name-name : (called : List ℕ) → is_name called ≡ true → is_optional_name called ≡ true

@@ -1,5 +1,5 @@
 -- Signals and groups that are read have their forms.
-use Rattle.std.proofs.Common.{◌≡◌, ℕ, ◌+◌, ◌<◌, Bool, true, ◌&&◌, List, [], ◌∷◌, length, Option, Some, None, Result, Ok, subst, ◌∙◌, arith}
+use Rattle.std.proofs.Common.{◌≡◌, ℕ, ◌+◌, ◌<◌, true, List, [], ◌∷◌, length, Option, Some, None, Result, Ok, subst, ◌∙◌, arith}
 use Rattle.std.specs.List.{list_all}
 use Rattle.std.proofs.lemmas.Bool.{and_from}
 use Rattle.first_fault.specs.Reading.{and_then}
@@ -18,13 +18,15 @@ use Rattle.stil_ast.specs.Data.BlockForms.{is_signal_decl, is_group_decl, is_gro
 use Rattle.stil_ast.specs.declared.signal.SignalDecl.{SignalDecl}
 use Rattle.stil_ast.specs.declared.signal.GroupDecl.{GroupDecl}
 use Rattle.stil_ast.specs.declared.signal.GroupBlock.{GroupBlock}
-use Rattle.stil_read.specs.Heads.{is_there, bare_block, titled_block}
+use Rattle.pat_read.specs.Statements.{is_there}
+use Rattle.stil_read.specs.Heads.{bare_block, titled_block}
 use Rattle.stil_read.specs.Quotes.{text_behind, texted, equal_text, equal_text_at, quoted_at, attributes}
 use Rattle.stil_read.specs.Signals.{only_direction, span_front, signal_with, signal_named, signal_said, signal_at, judge_signal, signals_of, signals_block}
 use Rattle.stil_read.specs.Groups.{group_of, judge_group, groups_of, group_block, groups_block}
 use Rattle.pat_read.specs.Accepted.{HasLines}
 use Rattle.pat_read.proofs.AcceptedLemmas.{both_ok, said_at, reading-each, within_tokens, first_line, is_name-named_by, is_range-range_of}
-use Rattle.stil_read.proofs.FormLemmas.{there, is_optional_name-titled_block}
+use Rattle.pat_read.proofs.AcceptedBodies.{all_three, there}
+use Rattle.stil_read.proofs.FormLemmas.{is_optional_name-titled_block}
 
 -- what is answered is the same
 pub same_ok : {X F : Type 0} (x y : X) → ◌≡◌ {A = Result X F} (Ok x) (Ok y) → x ≡ y
@@ -38,10 +40,6 @@ is_name-there one called is = is_name-named_by one called (there (named_by one) 
 pub line_in_head : (s : Setting) → HasLines s → (e : Entry) (n : ℕ) → n < length (lexemes_at s e)
     → is_line (line_at s.tokens (e.first + n)) ≡ true
 line_in_head s lines e n there = lines (e.first + n) (within_tokens s e n there)
-
--- three tests that pass
-pub all_three : (a b c : Bool) → a ≡ true → b ≡ true → c ≡ true → (a && b && c) ≡ true
-all_three a b c p q r = and_from (a && b) c (and_from a b p q) r
 
 -- a signal of judged indices
 signal_with-is : (line : ℕ) (called : List ℕ) (span : Option Span) (found : Direction) (d : SignalDecl)

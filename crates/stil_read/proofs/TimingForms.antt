@@ -28,12 +28,14 @@ use Rattle.stil_ast.specs.declared.timing.TimingBlock.{TimingBlock}
 use Rattle.pat_read.specs.References.{ref_of}
 use Rattle.stil_read.specs.declared.timings.TableWord.{TableWord}
 use Rattle.stil_read.specs.declared.timings.TableWord.TheVariants as word_of
-use Rattle.stil_read.specs.Heads.{where_so, only_name, only_text, rest_at, bare_block, named_block, titled_block, is_declared, count_under, under}
+use Rattle.pat_read.specs.Statements.{only_name}
+use Rattle.stil_read.specs.Heads.{where_so, only_text, rest_at, bare_block, named_block, titled_block, is_declared, count_under, under}
 use Rattle.stil_read.specs.Waveforms.{time_of, acts_of, event_at, new_event, judge_event, are_letters, letters_of, in_block, letters_at, judge_wave, lone, lone_ref, ref_at, judge_signal, signals_of}
 use Rattle.stil_read.specs.Timings.{plain_text, plain_name, with_period, with_inherit, with_waveforms, text_at, name_at, table_by, first_word, table_step, empty_table, table_of, is_table, new_name, table_name, table_names, table_said, judge_table, timing_block}
 use Rattle.pat_read.specs.Accepted.{HasLines}
 use Rattle.pat_read.proofs.AcceptedLemmas.{both_ok, said_at, reading-each, list_all-one, first_line, second_line, FitsRef, fits_front, is_sig_ref-ref_of}
-use Rattle.stil_read.proofs.FormLemmas.{said_where, said_so, made_where, stepping-keeps, reading-within, is_name-only_name, is_name-named_block, is_optional_name-titled_block, behind_keyword}
+use Rattle.pat_read.proofs.AcceptedBodies.{is_name-only_name}
+use Rattle.stil_read.proofs.FormLemmas.{said_where, said_so, made_where, stepping-keeps, reading-within, is_name-named_block, is_optional_name-titled_block, behind_keyword}
 
 -- an event begins with a lexeme
 time_head : (head : List Lexeme) (said : List ℕ × List Lexeme) → time_of head ≡ Ok said → 0 < length head
@@ -239,7 +241,8 @@ pub record IsNewName (declared : List (List ℕ × List ℕ)) (title called : Li
   pub room : nat_lt (count_under declared title) most_tables ≡ true
   pub new : is_declared declared title called ≡ false
 
-fresh : (b : Bool) (called x : List ℕ) → cond {A = Result (List ℕ) FormKind} b (Err Twice) (Ok called) ≡ Ok x
+-- a name that is not declared
+pub fresh : (b : Bool) (called x : List ℕ) → cond {A = Result (List ℕ) FormKind} b (Err Twice) (Ok called) ≡ Ok x
     → (b ≡ false) × (called ≡ x)
 fresh true called x is = cc
 fresh false called x is = (refl, cc)

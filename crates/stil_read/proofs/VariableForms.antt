@@ -27,15 +27,17 @@ use Rattle.stil_ast.specs.declared.variable.Category.{Category}
 use Rattle.stil_ast.specs.declared.variable.SpecBlock.{SpecBlock}
 use Rattle.stil_ast.specs.declared.variable.Selection.{Selection}
 use Rattle.stil_ast.specs.declared.variable.Selector.{Selector}
-use Rattle.stil_read.specs.Heads.{is_there, where_so, only_name, only_text, named_block, titled_block}
+use Rattle.pat_read.specs.Statements.{is_there, only_name}
+use Rattle.stil_read.specs.Heads.{where_so, only_text, named_block, titled_block}
 use Rattle.stil_read.specs.Quotes.{equal_text_at, quoted_at}
 use Rattle.stil_read.specs.Variables.{choice_of, chosen_text, choice_by, choice_said, choice_at, given_for, given, none_given, give_once, choice_step, choices_of, variable_of, variable_name_at, chosen_variable, same_variable, judge_variable, variables_of, is_first, category_at, category_of, judge_category, categories_of, spec_of, spec_block}
 use Rattle.stil_read.specs.Selectors.{only_choice, selected, selection_said, selection_at, is_selected, select_once, selection_step, selections_of, selector_of, selector_block}
+use Rattle.pat_read.proofs.AcceptedBodies.{all_three, is_name-only_name}
 use Rattle.stil_read.proofs.DeclaredForms.{all_differ-push}
 use Rattle.pat_read.specs.Accepted.{HasLines}
 use Rattle.pat_read.proofs.AcceptedLemmas.{both_ok, said_at, reading-each, list_all-one, first_line}
-use Rattle.stil_read.proofs.FormLemmas.{said_so, stepping-keeps, is_name-only_name, is_name-named_block, is_optional_name-titled_block}
-use Rattle.stil_read.proofs.SignalForms.{same_ok, is_name-there, line_in_head, all_three, equal_text_at-is}
+use Rattle.stil_read.proofs.FormLemmas.{said_so, stepping-keeps, is_name-named_block, is_optional_name-titled_block}
+use Rattle.stil_read.proofs.SignalForms.{same_ok, is_name-there, line_in_head, equal_text_at-is}
 
 -- a text is the first token
 only_text-length : (rest : List Lexeme) (bytes : List ℕ) → only_text rest ≡ Ok bytes → 0 < length rest

@@ -15,7 +15,8 @@ use Rattle.stil_ast.specs.declared.executive.Burst.{Burst}
 use Rattle.stil_ast.specs.declared.executive.BurstItem.{BurstItem}
 use Rattle.stil_ast.specs.declared.executive.BurstWord.{BurstWord}
 use Rattle.stil_ast.specs.declared.executive.BurstWord.TheVariants as word
-use Rattle.stil_read.specs.Heads.{only_name, name_or_empty, bare_block, named_block, rest_at}
+use Rattle.pat_read.specs.Statements.{only_name}
+use Rattle.stil_read.specs.Heads.{name_or_empty, bare_block, named_block, rest_at}
 use Rattle.stil_read.specs.Named.{without_block}
 
 -- what the names behind a keyword are the names of; those of a PatList are its entries

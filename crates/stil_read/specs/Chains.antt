@@ -20,7 +20,8 @@ use Rattle.stil_ast.specs.declared.name.NameRef.{NameRef}
 use Rattle.stil_read.specs.declared.chain.ChainWord.{ChainWord}
 use Rattle.stil_read.specs.declared.chain.ChainWord.TheVariants as word
 use Rattle.stil_read.specs.declared.chain.ChainParts.{ChainParts}
-use Rattle.stil_read.specs.Heads.{is_there, only_name, named_block, titled_block, rest_at, count_under, under}
+use Rattle.pat_read.specs.Statements.{is_there, only_name}
+use Rattle.stil_read.specs.Heads.{named_block, titled_block, rest_at, count_under, under}
 use Rattle.stil_read.specs.Named.{Names, named_on}
 use Rattle.stil_read.specs.Cells.{cells_said}
 

@@ -14,7 +14,8 @@ use Rattle.pat_read.specs.declared.reader.BodyPlace.{BodyPlace}
 use Rattle.pat_read.specs.declared.reader.BodyPlace.TheVariants as place
 use Rattle.pat_read.specs.Body.{body_of}
 use Rattle.stil_read.specs.Named.{Names}
-use Rattle.stil_read.specs.Heads.{where_so, only_name, named_block, titled_block, is_declared, under}
+use Rattle.pat_read.specs.Statements.{only_name}
+use Rattle.stil_read.specs.Heads.{where_so, named_block, titled_block, is_declared, under}
 
 -- the block of a statement, empty where it has none
 abbrev pub trees_in : Option Trees → Trees

@@ -13,7 +13,8 @@ use Rattle.stil_ast.specs.declared.executive.ExecDecl.{ExecDecl}
 use Rattle.stil_read.specs.declared.executive.ExecWord.{ExecWord}
 use Rattle.stil_read.specs.declared.executive.ExecWord.TheVariants as word
 use Rattle.stil_read.specs.declared.executive.ExecParts.{ExecParts}
-use Rattle.stil_read.specs.Heads.{only_name, name_or_empty, titled_block}
+use Rattle.pat_read.specs.Statements.{only_name}
+use Rattle.stil_read.specs.Heads.{name_or_empty, titled_block}
 use Rattle.stil_read.specs.Named.{without_block, named_on}
 
 -- the keyword that a token is

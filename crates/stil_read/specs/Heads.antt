@@ -7,19 +7,14 @@ use Rattle.stil_form.specs.declared.fault.FormFault.{FormFault}
 use Rattle.stil_form.specs.declared.fault.FormKind.{FormKind}
 use Rattle.stil_form.specs.declared.fault.FormKind.TheVariants.{Shape}
 use Rattle.stil_form.specs.Lexeme.{Lexeme, name, text}
-use Rattle.stil_form.specs.Words.{named_by}
 use Rattle.stil_form.specs.Setting.{Setting, lexemes_at, at_statement}
 use Rattle.stil_ast.specs.Data.Texts.{same}
+use Rattle.pat_read.specs.Statements.{only_name}
 
 -- what a reader of a head says, where it is to say this
 abbrev pub Says : {X Y : Type 0} → (X → Y) → Result X FormKind → Result Y FormKind → Type 0
 Says view (Ok x) wanted = wanted ≡ Ok (view x)
 Says view (Err kind) wanted = wanted ≡ Err kind
-
--- what is there, or else the statement has no form
-abbrev pub is_there : {X : Type 0} → Option X → Result X FormKind
-is_there None = Err Shape
-is_there (Some x) = Ok x
 
 -- a statement that must have a block, or must have none
 abbrev pub where_so : {X : Type 0} → Bool → Result X FormKind → Result X FormKind
@@ -30,11 +25,6 @@ where_so false said = Err Shape
 abbrev pub only_of : List Lexeme → Option Lexeme
 only_of (one ∷ []) = Some one
 only_of _ = None
-
--- one name, and nothing behind it
-abbrev pub only_name : List Lexeme → Result (List ℕ) FormKind
-only_name (called ∷ []) = is_there (named_by called)
-only_name _ = Err Shape
 
 -- one name, or `""` for the unnamed block
 abbrev pub name_or_empty : List Lexeme → Result (List ℕ) FormKind

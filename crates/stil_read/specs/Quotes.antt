@@ -11,7 +11,8 @@ use Rattle.stil_form.specs.Lexeme.{Lexeme, sign}
 use Rattle.stil_form.specs.Words.{is_keyword, named_by}
 use Rattle.stil_form.specs.Setting.{Setting, lexemes_at, line_at, at_statement, unskipped}
 use Rattle.stil_ast.specs.declared.name.Quoted.{Quoted}
-use Rattle.stil_read.specs.Heads.{is_there, only_text}
+use Rattle.pat_read.specs.Statements.{is_there}
+use Rattle.stil_read.specs.Heads.{only_text}
 
 -- the text behind an `=`, and nothing behind it
 abbrev pub text_behind : List Lexeme → Result (List ℕ) FormKind

@@ -15,7 +15,8 @@ use Rattle.stil_ast.specs.declared.variable.Choice.{Choice}
 use Rattle.stil_ast.specs.declared.variable.Selection.{Selection}
 use Rattle.stil_ast.specs.declared.variable.Selector.{Selector}
 use Rattle.stil_read.specs.declared.selectors.Selected.{Selected}
-use Rattle.stil_read.specs.Heads.{is_there, where_so, named_block, under}
+use Rattle.pat_read.specs.Statements.{is_there}
+use Rattle.stil_read.specs.Heads.{where_so, named_block, under}
 use Rattle.stil_read.specs.Variables.{choice_of}
 
 -- the one choice that stands behind a name

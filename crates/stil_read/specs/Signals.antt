@@ -16,7 +16,8 @@ use Rattle.stil_form.specs.Setting.{Setting, lexemes_at, line_at, at_statement, 
 use Rattle.pat_read.specs.References.{range_of}
 use Rattle.stil_ast.specs.declared.signal.SignalDecl.{SignalDecl}
 use Rattle.stil_read.specs.declared.signals.SignalHead.{SignalHead}
-use Rattle.stil_read.specs.Heads.{is_there, bare_block}
+use Rattle.pat_read.specs.Statements.{is_there}
+use Rattle.stil_read.specs.Heads.{bare_block}
 use Rattle.stil_read.specs.Quotes.{attributes}
 
 -- what a signal is for

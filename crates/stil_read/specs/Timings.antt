@@ -17,7 +17,8 @@ use Rattle.stil_ast.specs.declared.timing.TableDecl.{TableDecl}
 use Rattle.stil_ast.specs.declared.timing.TimingBlock.{TimingBlock}
 use Rattle.stil_read.specs.declared.timings.TableWord.{TableWord}
 use Rattle.stil_read.specs.declared.timings.TableWord.TheVariants as word
-use Rattle.stil_read.specs.Heads.{where_so, only_name, only_text, rest_at, bare_block, named_block, titled_block, is_declared, count_under, under}
+use Rattle.pat_read.specs.Statements.{only_name}
+use Rattle.stil_read.specs.Heads.{where_so, only_text, rest_at, bare_block, named_block, titled_block, is_declared, count_under, under}
 use Rattle.stil_read.specs.Waveforms.{signals_of}
 
 -- the keyword that a token is in a waveform table

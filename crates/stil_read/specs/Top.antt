@@ -39,7 +39,8 @@ use Rattle.stil_read.specs.Chains.{scan_block}
 use Rattle.stil_read.specs.Defs.{defs_block, pattern_block}
 use Rattle.stil_read.specs.Bursts.{burst_block}
 use Rattle.stil_read.specs.Executives.{exec_block}
-use Rattle.stil_read.specs.Heads.{is_there, rest_at, bare_block, named_block, titled_block, is_declared, under}
+use Rattle.pat_read.specs.Statements.{is_there}
+use Rattle.stil_read.specs.Heads.{rest_at, bare_block, named_block, titled_block, is_declared, under}
 
 -- the keyword that begins a statement at the top level
 abbrev pub keyword_of : Lexeme → Option Keyword

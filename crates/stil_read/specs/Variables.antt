@@ -18,7 +18,8 @@ use Rattle.stil_ast.specs.declared.variable.VariableValue.TheVariants.{Same, Cho
 use Rattle.stil_ast.specs.declared.variable.VariableDecl.{VariableDecl}
 use Rattle.stil_ast.specs.declared.variable.Category.{Category}
 use Rattle.stil_ast.specs.declared.variable.SpecBlock.{SpecBlock}
-use Rattle.stil_read.specs.Heads.{where_so, only_name, only_text, named_block, titled_block}
+use Rattle.pat_read.specs.Statements.{only_name}
+use Rattle.stil_read.specs.Heads.{where_so, only_text, named_block, titled_block}
 use Rattle.stil_read.specs.Quotes.{equal_text_at, quoted_at}
 
 -- the choice that a keyword names

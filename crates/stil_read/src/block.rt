@@ -1,6 +1,6 @@
 //! Blocks by their keywords, each behind those of its kind.
 
-ghost use Rattle.std.specs.Prelude.{◌≡◌, ◌∷◌, ◌++◌, [], IfOk, IfErr, OnOk};
+ghost use Rattle.std.specs.Prelude.{◌≡◌, ◌∷◌, ◌++◌, [], IfErr, OnOk};
 ghost use Rattle.stil_tree.specs.Trees.{entry_of};
 ghost use Rattle.stil_form.specs.declared.fault.FormFault.TheVariants.{NoMemory};
 ghost use Rattle.stil_form.specs.Reading.{AnswersBy};
@@ -20,6 +20,7 @@ use crate::timings::read_timing_block;
 use crate::variables::read_spec_block;
 use pat_read::BodyPlace;
 use std::alloc::Global;
+use std::mem;
 use stil_ast::{
     Burst, DefBlock, ExecDecl, GroupBlock, Pattern, ScanBlock, Selector, SignalDecl, SpecBlock,
     TimingBlock,
@@ -44,6 +45,30 @@ fn add_all<T: Drop>(list: &mut Vec<T>, more: Vec<T>) -> Result<(), FormFault>
 {
     let mut more = more;
     list.append(&mut more)?;
+    Ok(())
+}
+
+/// Takes names out, and leaves none.
+fn taken<'a>(alloc: Global, names: &mut Declared<'a>) -> Declared<'a>
+    ensures { result ≡ names.old }
+{
+    mem::replace(names, Declared::new(alloc))
+}
+
+/// Puts names in the place of others.
+fn put_back<'a>(names: &mut Declared<'a>, known: Declared<'a>)
+    ensures { names.new ≡ known.entry }
+{
+    let _others = mem::replace(names, known);
+}
+
+/// Adds a name without a title.
+fn add_name<'a>(alloc: Global, names: &mut Declared<'a>, called: &'a [u8]) -> Result<(), FormFault>
+    ensures added { OnOk result (names.new ≡ names.old ++ ([], called.now) ∷ []) }
+    ensures want { IfErr result (λ e. e ≡ NoMemory) }
+{
+    let known = taken(alloc, names).with(b"", called)?;
+    put_back(names, known);
     Ok(())
 }
 
@@ -98,22 +123,22 @@ pub(crate) fn put_selector<'a>(
     alloc: Global,
     reader: &Reader<'_, 'a>,
     before: &mut Vec<Selector>,
-    names: Declared<'a>,
+    names: &mut Declared<'a>,
     stmt: &Stmt,
-) -> Result<Declared<'a>, FormFault>
-    requires { names ≡ selector_names before.old.items }
+) -> Result<(), FormFault>
+    requires { names.old ≡ selector_names before.old.items }
     ensures list { AnswersBy (λ _. before.new.items) result
         (more_selectors (setting_of reader.now) before.old.items (entry_of stmt.now)) }
-    ensures names { IfOk result (λ names. names ≡ selector_names before.new.items) }
+    ensures names { OnOk result (names.new ≡ selector_names before.new.items) }
 {
     let called = named_block(reader, stmt)?;
     if names.has(b"", called) {
         return Err(FormFault::Refused(FormKind::Twice, first_of(stmt)));
     }
     let one = read_selector_block(alloc, reader, stmt)?;
-    let names = names.with(b"", called)?;
+    add_name(alloc, names, called)?;
     add(before, one)?;
-    Ok(names)
+    Ok(())
 }
 
 /// A Timing behind others.
@@ -122,17 +147,18 @@ pub(crate) fn put_timing<'a>(
     alloc: Global,
     reader: &Reader<'_, 'a>,
     before: &mut Vec<TimingBlock>,
-    names: Declared<'a>,
+    names: &mut Declared<'a>,
     stmt: &Stmt,
-) -> Result<Declared<'a>, FormFault>
-    requires { names ≡ tables_in before.old.items }
+) -> Result<(), FormFault>
+    requires { names.old ≡ tables_in before.old.items }
     ensures list { AnswersBy (λ _. before.new.items) result
         (more_timings (setting_of reader.now) before.old.items (entry_of stmt.now)) }
-    ensures names { IfOk result (λ names. names ≡ tables_in before.new.items) }
+    ensures names { OnOk result (names.new ≡ tables_in before.new.items) }
 {
-    let (one, names) = read_timing_block(alloc, reader, names, stmt)?;
+    let (one, known) = read_timing_block(alloc, reader, taken(alloc, names), stmt)?;
+    put_back(names, known);
     add(before, one)?;
-    Ok(names)
+    Ok(())
 }
 
 /// A ScanStructures block behind others.
@@ -141,17 +167,18 @@ pub(crate) fn put_scans<'a>(
     alloc: Global,
     reader: &Reader<'_, 'a>,
     before: &mut Vec<ScanBlock>,
-    names: Declared<'a>,
+    names: &mut Declared<'a>,
     stmt: &Stmt,
-) -> Result<Declared<'a>, FormFault>
-    requires { names ≡ chains_in before.old.items }
+) -> Result<(), FormFault>
+    requires { names.old ≡ chains_in before.old.items }
     ensures list { AnswersBy (λ _. before.new.items) result
         (more_scans (setting_of reader.now) before.old.items (entry_of stmt.now)) }
-    ensures names { IfOk result (λ names. names ≡ chains_in before.new.items) }
+    ensures names { OnOk result (names.new ≡ chains_in before.new.items) }
 {
-    let (one, names) = read_scan_block(alloc, reader, names, stmt)?;
+    let (one, known) = read_scan_block(alloc, reader, taken(alloc, names), stmt)?;
+    put_back(names, known);
     add(before, one)?;
-    Ok(names)
+    Ok(())
 }
 
 /// A MacroDefs or Procedures block behind others.
@@ -161,17 +188,18 @@ pub(crate) fn put_defs<'a>(
     reader: &Reader<'_, 'a>,
     place: BodyPlace,
     before: &mut Vec<DefBlock>,
-    names: Declared<'a>,
+    names: &mut Declared<'a>,
     stmt: &Stmt,
-) -> Result<Declared<'a>, FormFault>
-    requires { names ≡ bodies_in before.old.items }
+) -> Result<(), FormFault>
+    requires { names.old ≡ bodies_in before.old.items }
     ensures list { AnswersBy (λ _. before.new.items) result
         (more_defs (setting_of reader.now) place before.old.items (entry_of stmt.now)) }
-    ensures names { IfOk result (λ names. names ≡ bodies_in before.new.items) }
+    ensures names { OnOk result (names.new ≡ bodies_in before.new.items) }
 {
-    let (one, names) = read_defs_block(alloc, reader, place, names, stmt)?;
+    let (one, known) = read_defs_block(alloc, reader, place, taken(alloc, names), stmt)?;
+    put_back(names, known);
     add(before, one)?;
-    Ok(names)
+    Ok(())
 }
 
 /// A PatternBurst behind others.
@@ -180,22 +208,22 @@ pub(crate) fn put_burst<'a>(
     alloc: Global,
     reader: &Reader<'_, 'a>,
     before: &mut Vec<Burst>,
-    names: Declared<'a>,
+    names: &mut Declared<'a>,
     stmt: &Stmt,
-) -> Result<Declared<'a>, FormFault>
-    requires { names ≡ burst_names before.old.items }
+) -> Result<(), FormFault>
+    requires { names.old ≡ burst_names before.old.items }
     ensures list { AnswersBy (λ _. before.new.items) result
         (more_bursts (setting_of reader.now) before.old.items (entry_of stmt.now)) }
-    ensures names { IfOk result (λ names. names ≡ burst_names before.new.items) }
+    ensures names { OnOk result (names.new ≡ burst_names before.new.items) }
 {
     let called = named_block(reader, stmt)?;
     if names.has(b"", called) {
         return Err(FormFault::Refused(FormKind::Twice, first_of(stmt)));
     }
     let one = read_burst_block(alloc, reader, stmt)?;
-    let names = names.with(b"", called)?;
+    add_name(alloc, names, called)?;
     add(before, one)?;
-    Ok(names)
+    Ok(())
 }
 
 /// A Pattern behind others.
@@ -204,22 +232,22 @@ pub(crate) fn put_pattern<'a>(
     alloc: Global,
     reader: &Reader<'_, 'a>,
     before: &mut Vec<Pattern>,
-    names: Declared<'a>,
+    names: &mut Declared<'a>,
     stmt: &Stmt,
-) -> Result<Declared<'a>, FormFault>
-    requires { names ≡ pattern_names before.old.items }
+) -> Result<(), FormFault>
+    requires { names.old ≡ pattern_names before.old.items }
     ensures list { AnswersBy (λ _. before.new.items) result
         (more_patterns (setting_of reader.now) before.old.items (entry_of stmt.now)) }
-    ensures names { IfOk result (λ names. names ≡ pattern_names before.new.items) }
+    ensures names { OnOk result (names.new ≡ pattern_names before.new.items) }
 {
     let called = named_block(reader, stmt)?;
     if names.has(b"", called) {
         return Err(FormFault::Refused(FormKind::Twice, first_of(stmt)));
     }
     let one = read_pattern_block(alloc, reader, stmt)?;
-    let names = names.with(b"", called)?;
+    add_name(alloc, names, called)?;
     add(before, one)?;
-    Ok(names)
+    Ok(())
 }
 
 /// A PatternExec behind others.

@@ -8,6 +8,7 @@ ghost use Rattle.stil_form.specs.Setting.{setting_of, lexemes_at, at_statement};
 ghost use Rattle.stil_form.specs.Lexeme.{lexeme_of, lexemes};
 ghost use Rattle.stil_ast.specs.Data.BlockForms.{is_macros_word, is_procedures_word, is_scans_word};
 ghost use Rattle.stil_ast.specs.declared.executive.BurstItem.{BurstItem};
+ghost use Rattle.pat_read.specs.Statements as statements;
 ghost use Rattle.stil_read.specs.Heads as heads;
 ghost use Rattle.stil_read.specs.Bursts as bursts;
 ghost use Rattle.stil_read.specs.Bursts.{word_of, item_on, stands_already, with_item, burst_name, named_step, left_out, entry_step, list_step, by_word, burst_step, items_in};
@@ -187,7 +188,7 @@ impl StepForm for LeftOutForm {
 /// The one name of an entry.
 fn entry_name<'a>(reader: &Reader<'_, 'a>, stmt: &Stmt) -> Result<&'a [u8], FormFault>
     ensures { AnswersBy (λ called. called.now) result (at_statement (entry_of stmt.now).first
-        (heads.only_name (lexemes_at (setting_of reader.now) (entry_of stmt.now)))) }
+        (statements.only_name (lexemes_at (setting_of reader.now) (entry_of stmt.now)))) }
 {
     match only_name(head_at(reader.source, stmt)) {
         Ok(called) => Ok(called),

@@ -7,6 +7,7 @@ ghost use Rattle.stil_form.specs.declared.fault.FormKind.{FormKind};
 ghost use Rattle.stil_form.specs.Reading.{AnswersBy};
 ghost use Rattle.stil_form.specs.Setting.{setting_of, at_statement};
 ghost use Rattle.stil_form.specs.Lexeme.{lexeme_of, lexemes};
+ghost use Rattle.pat_read.specs.Statements as statements;
 ghost use Rattle.stil_read.specs.Heads as heads;
 ghost use Rattle.stil_read.specs.Heads.{Says, only_of, where_so};
 
@@ -29,7 +30,7 @@ pub(crate) fn only_part<'a>(rest: Source<'a>) -> Option<Part<'a>>
 
 /// The one name behind a keyword.
 pub(crate) fn only_name<'a>(rest: Source<'a>) -> Result<&'a [u8], FormKind>
-    ensures { Says (λ called. called.now) result (heads.only_name (lexemes rest.entry)) }
+    ensures { Says (λ called. called.now) result (statements.only_name (lexemes rest.entry)) }
 {
     match only_part(rest) {
         Some(part) => name_of(&part).ok_or(FormKind::Shape),

@@ -7,7 +7,7 @@ ghost use Rattle.stil_form.specs.declared.fault.FormFault.TheVariants.{Refused};
 ghost use Rattle.stil_form.specs.Lexeme.{lexeme_at, lexemes};
 ghost use Rattle.stil_form.specs.Reading.{Answers, AnswersBy};
 ghost use Rattle.stil_form.specs.Setting.{setting, setting_of, at_statement};
-ghost use Rattle.stil_read.specs.Heads.{is_there};
+ghost use Rattle.pat_read.specs.Statements.{is_there};
 ghost use Rattle.stil_read.specs.Reads.{blocks_by, top_by, AreNames};
 ghost use Rattle.stil_read.specs.Top.{no_blocks, word_in, words_in, more_words, words_said, keyword_at, keyword_step, top_step, is_stil_1_0, start};
 

@@ -10,12 +10,10 @@ use Rattle.stil_ast.specs.declared.executive.ExecDecl.{ExecDecl}
 use Rattle.stil_ast.specs.declared.fault.StilFault.{StilFault}
 use Rattle.stil_ast.specs.declared.fault.StilRefusal.{StilRefusal}
 use Rattle.stil_ast.specs.declared.fault.StilRefusal.TheVariants as refusal
+use Rattle.stil_ast.proofs.FoundLemmas.{not_both, one_fault}
 use Rattle.tester_types.specs.declared.wave.Table.{Table}
 use Rattle.time_expr.specs.TimesOf.{times_of}
 use Rattle.wave_tables.specs.Built.{IsBuilt}
-
-not_both : {o : Option StilFault} {f : StilFault} → o ≡ None → o ≡ Some f → ⊥
-not_both e g = cc
 
 module _ (fault : Option StilFault) (tables : List Table) where
   -- tables are only given where there is no fault
@@ -29,7 +27,7 @@ module _ (fault : Option StilFault) (tables : List Table) where
       → MatchResult r (λ set. set ≡ tables) (λ e. e ≡ refusal.NoMemory)
   only_tables (Ok set) h none = h.1
   only_tables (Err refusal.NoMemory) h none = refl
-  only_tables (Err (refusal.Fault f)) h none = absurd (not_both none h)
+  only_tables (Err (refusal.Fault f)) h none = absurd (not_both fault f none h)
 
   -- a refusal is by the fault
   pub is_fault : (r : Result (List Table) StilRefusal) → IsBuilt fault tables r
@@ -41,12 +39,9 @@ module _ (fault : Option StilFault) (tables : List Table) where
   -- where there is one it refuses
   pub is_refused : (r : Result (List Table) StilRefusal) → IsBuilt fault tables r → (f : StilFault) → fault ≡ Some f
       → MatchResult r (λ _. ⊥) (λ e. (e ≡ refusal.NoMemory) ⊎ (e ≡ refusal.Fault f))
-  is_refused (Ok set) h f some = absurd (not_both h.0 some)
+  is_refused (Ok set) h f some = absurd (not_both fault f h.0 some)
   is_refused (Err refusal.NoMemory) h f some = inl refl
-  is_refused (Err (refusal.Fault g)) h f some = inr (same h some)
-    where
-      same : {o : Option StilFault} {f g : StilFault} → o ≡ Some g → o ≡ Some f → refusal.Fault g ≡ refusal.Fault f
-      same e k = cc
+  is_refused (Err (refusal.Fault g)) h f some = inr (ap (λ x. refusal.Fault x) (one_fault g f (sym h ∙ some)))
 
 -- the answer for the executive at a place is that for what is found there
 pub built_at : (blocks : Blocks) (before : ℕ) (r : Result (List Table) StilRefusal) (exec : ℕ) (d e : ExecDecl)

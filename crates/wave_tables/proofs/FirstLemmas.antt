@@ -37,27 +37,6 @@ at_second place a b e none h = rw none h
 pub none_both : (a b : Option StilFault) → a ≡ None → b ≡ None → or_else a b ≡ None
 none_both a b first second = ap (λ (o : Option StilFault). or_else o b) first ∙ second
 
--- none of two tells that the first has none
-pub none_first : (a b : Option StilFault) → or_else a b ≡ None → a ≡ None
-none_first None b e = refl
-none_first (Some f) b e = cc
-
--- and the second neither
-pub none_second : (a b : Option StilFault) → or_else a b ≡ None → b ≡ None
-none_second None b e = e
-none_second (Some f) b e = cc
-
-or_else-both : (a b c : Option StilFault) → or_else a (or_else b c) ≡ or_else (or_else a b) c
-or_else-both None b c = refl
-or_else-both (Some f) b c = refl
-
--- the first of items behind others
-pub first_in-append : {X : Type 0} (f : X → Option StilFault) (xs ys : List X)
-    → first_in f (xs ++ ys) ≡ or_else (first_in f xs) (first_in f ys)
-first_in-append f [] ys = refl
-first_in-append f (x ∷ xs) ys =
-    ap (or_else (f x)) (first_in-append f xs ys) ∙ or_else-both (f x) (first_in f xs) (first_in f ys)
-
 -- none of those before has a fault: the first is that of those from here on
 pub first_step : {X : Type 0} (f : X → Option StilFault) (xs : List X) (i : ℕ) (x : X) → i < length xs
     → x ≡ get_or xs i x

@@ -27,7 +27,7 @@ use Rattle.wave_tables.specs.ReadWaves.{kind_met, read_event, read_wave}
 use Rattle.wave_tables.specs.Sources.{at_slot, source_of, Maps}
 use Rattle.wave_tables.specs.Standing.{source_for, is_source, counts_for, counts_in, waveform_at, MapsTable, StandAt}
 use Rattle.wave_tables.specs.Check.{late_time, late_read, late_one, late_in}
-use Rattle.wave_tables.proofs.FirstLemmas.{first_in-append}
+use Rattle.stil_ast.proofs.FoundLemmas.{first_in-append}
 use Rattle.wave_tables.proofs.OwnLemmas.{numbered_from-append}
 use Rattle.wave_tables.proofs.TakenLemmas.{item_passes, found_drop, drop_behind}
 

@@ -16,7 +16,7 @@ use Rattle.time_expr.specs.Ratio.{Ratio}
 use Rattle.wave_tables.specs.declared.lineage.Whole.{Whole}
 use Rattle.wave_tables.specs.Lineage.{AreWhole}
 use Rattle.wave_tables.specs.Check.{count_fault, behind_names}
-use Rattle.wave_tables.proofs.FirstLemmas.{none_first, none_second}
+use Rattle.stil_ast.proofs.FoundLemmas.{or_else-none}
 use Rattle.wave_tables.proofs.RowLemmas.{sum_more}
 
 -- a name without a fault leads into no cycle
@@ -47,8 +47,8 @@ names_free : (p : Place) (tables : List TableDecl) (names : List Named) → firs
 names_free p tables [] e = refl
 names_free p tables (i ∷ names) e =
     name_free p tables i names (table_of tables i.name) refl
-    (none_first (inherit_fault p tables i) (first_in (inherit_fault p tables) names) e)
-    (names_free p tables names (none_second (inherit_fault p tables i) (first_in (inherit_fault p tables) names) e))
+    (or_else-none (inherit_fault p tables i) (first_in (inherit_fault p tables) names) e).0
+    (names_free p tables names (or_else-none (inherit_fault p tables i) (first_in (inherit_fault p tables) names) e).1)
 
 -- a table whose names have no fault leads into no cycle
 pub free_at : (t : Timed Ratio) (wholes : List (Option Whole)) (k : ℕ) (d : TableDecl) → AreWhole t wholes
@@ -80,11 +80,11 @@ none_at f n (y ∷ ys) zero x e at =
     let same : y ≡ x = cc in
     let here : n + 0 ≡ n = omega arith in
     ap (λ (m : ℕ). f (m, x)) here ∙ ap (λ z. f (n, z)) (sym same)
-    ∙ none_first (f (n, y)) (first_in f (enumerate_from (n + 1) ys)) e
+    ∙ (or_else-none (f (n, y)) (first_in f (enumerate_from (n + 1) ys)) e).0
 none_at f n (y ∷ ys) (suc i) x e at =
     let moved : n + suc i ≡ n + 1 + i = omega arith in
     ap (λ (m : ℕ). f (m, x)) moved
-    ∙ none_at f (n + 1) ys i x (none_second (f (n, y)) (first_in f (enumerate_from (n + 1) ys)) e) at
+    ∙ none_at f (n + 1) ys i x (or_else-none (f (n, y)) (first_in f (enumerate_from (n + 1) ys)) e).1 at
 
 -- where no table has a fault none leads into a cycle
 pub all_free : (t : Timed Ratio) (before : ℕ) (wholes : List (Option Whole)) → AreWhole t wholes
@@ -97,7 +97,7 @@ all_free t before wholes whole none k within =
     ap (λ (n : ℕ). table_fault t before (n, d.0)) (sym at_zero)
     ∙ none_at (table_fault t before) 0 t.tables k d.0 none d.1 in
     free_at t wholes k d.0 whole within d.1
-    (none_first (first_in (inherit_fault t.place t.tables) d.0.inherits) (behind_names t before (k, d.0)) here)
+    (or_else-none (first_in (inherit_fault t.place t.tables) d.0.inherits) (behind_names t before (k, d.0)) here).0
 
 -- the waves of so many tables, and one more
 pub waves_more : (names : Names) (tables : List TableDecl) (k : ℕ)

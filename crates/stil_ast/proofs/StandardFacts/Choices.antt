@@ -143,17 +143,22 @@ abbrev names_of : List Played → List (List ℕ × List ℕ)
 names_of all = map (λ (p : Played). (p.pattern.name, p.macros)) all
 
 -- a burst in a burst runs in place, with the MacroDefs from round it unless it names its own
-pub in_place : names_of (played (chosen_text [] (record { name = codes "b"; items = item 12 MacroDefs (codes "m") ∷ item 12 Entry (codes "d") ∷ item 12 Entry (codes "q") ∷ [] }
+pub in_place : names_of (played (chosen_text []
+    (record { name = codes "b"; items = item 12 MacroDefs (codes "m") ∷ item 12 Entry (codes "d") ∷ item 12 Entry (codes "q") ∷ [] }
     ∷ record { name = codes "d"; items = item 13 Entry (codes "p") ∷ item 13 Entry (codes "e") ∷ [] }
     ∷ record { name = codes "e"; items = item 14 MacroDefs (codes "n") ∷ item 14 Entry (codes "q") ∷ [] } ∷ [])) (exec_of None))
     ≡ (codes "p", codes "m") ∷ (codes "q", codes "n") ∷ (codes "q", codes "m") ∷ []
 in_place = refl
 
 -- a burst in itself, and an entry that names nothing, which comes first
-pub burst_in_itself : exec_names_fault (chosen_text [] (record { name = codes "b"; items = item 12 Entry (codes "d") ∷ [] } ∷ record { name = codes "d"; items = item 13 Entry (codes "b") ∷ [] } ∷ [])) (exec_of None)
+pub burst_in_itself : exec_names_fault (chosen_text []
+    (record { name = codes "b"; items = item 12 Entry (codes "d") ∷ [] } ∷ record { name = codes "d"; items = item 13 Entry (codes "b") ∷ [] } ∷ []))
+    (exec_of None)
     ≡ refused Cyclic (codes "PatternBurst") (codes "d") 13
 burst_in_itself = refl
 
-pub unknown_before_cyclic : exec_names_fault (chosen_text [] (record { name = codes "b"; items = item 12 Entry (codes "d") ∷ item 12 Entry (codes "x") ∷ [] } ∷ record { name = codes "d"; items = item 13 Entry (codes "b") ∷ [] } ∷ [])) (exec_of None)
+pub unknown_before_cyclic : exec_names_fault (chosen_text []
+    (record { name = codes "b"; items = item 12 Entry (codes "d") ∷ item 12 Entry (codes "x") ∷ [] }
+    ∷ record { name = codes "d"; items = item 13 Entry (codes "b") ∷ [] } ∷ [])) (exec_of None)
     ≡ refused UnknownName (codes "PatternBurst") (codes "b") 12
 unknown_before_cyclic = refl

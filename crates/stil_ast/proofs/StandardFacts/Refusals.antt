@@ -59,7 +59,8 @@ unknown_member = refl
 -- a second pass runs in a table that has no character 1
 pub no_wave_in_second_pass : fault (text_of (signal (codes "a") In ∷ []) []
     (table (codes "t1") (codes "100ns") (driven (by_name (codes "a")) ∷ []) ∷ table (codes "t2") (codes "50ns") [] ∷ []) [] []
-    (use_table (codes "t1") (looped 10 3 (single 11 (Vector (assign 11 (codes "a") (items (codes "1")) ∷ [])) (single 12 (Wave (codes "t2")) no_more)) no_more)))
+    (use_table (codes "t1") (looped 10 3 (single 11 (Vector (assign 11 (codes "a") (items (codes "1")) ∷ [])) (single 12 (Wave (codes "t2")) no_more))
+    no_more)))
     ≡ refused NoWave (codes "Pattern") (codes "p") 11
 unfolding is_digit
 no_wave_in_second_pass = refl
@@ -107,7 +108,8 @@ pub shift_in_pattern : fault (with_macros [] (shifted 10 no_more no_more))
 unfolding is_digit
 shift_in_pattern = refl
 
-pub two_hashes : fault (with_macros (macro (codes "m") (shifted 20 (single 21 (Vector (assign 21 (codes "a") (hash ∷ []) ∷ assign 22 (codes "a") (hash ∷ []) ∷ [])) no_more) no_more))
+pub two_hashes : fault (with_macros (macro (codes "m")
+    (shifted 20 (single 21 (Vector (assign 21 (codes "a") (hash ∷ []) ∷ assign 22 (codes "a") (hash ∷ []) ∷ [])) no_more) no_more))
     (single 11 (Macro (codes "m") (assign 11 (codes "a") (items (codes "10")) ∷ [])) no_more))
     ≡ refused ShiftForm (codes "MacroDefs") [] 22
 unfolding check_calls is_digit

@@ -105,7 +105,8 @@ two_unloads = scanned lu (held
 -- short scan data are padded with what was held, in front for In and at the end for Out; data left out are padded whole
 pub padded : lines two_unloads
     ≡ cycle 0 0 0 (codes "01LH") ∷ cycle 1 100 0 (codes "01HH") ∷ cycle 2 200 0 (codes "10LL") ∷ cycle 3 300 0 (codes "00XL") ∷ cycle 4 400 0 (codes "11XH")
-    ∷ cycle 5 500 0 (codes "01XX") ∷ cycle 6 600 0 (codes "01XX") ∷ cycle 7 700 0 (codes "10XX") ∷ cycle 8 800 0 (codes "00XX") ∷ cycle 9 900 0 (codes "11XX") ∷ []
+    ∷ cycle 5 500 0 (codes "01XX") ∷ cycle 6 600 0 (codes "01XX") ∷ cycle 7 700 0 (codes "10XX") ∷ cycle 8 800 0 (codes "00XX")
+    ∷ cycle 9 900 0 (codes "11XX") ∷ []
 unfolding calls is_digit
 padded = refl
 

@@ -71,7 +71,8 @@ scan_start rest =
     wave 0 (condition (to 0 (items (codes "0")) ∷ to 1 (items (codes "0")) ∷ to 2 (items (codes "X")) ∷ to 3 (items (codes "X")) ∷ []) rest)
 
 -- short scan data are padded with what was held, in front for an In signal and at the end for an Out signal
-pub padded : vectors with_unload 4 (scan_start (call 0 (to 0 (items (codes "101")) ∷ to 1 (items (codes "11001")) ∷ to 2 (items (codes "LHL")) ∷ to 3 (items (codes "HHLLH")) ∷ []) finish))
+pub padded : vectors with_unload 4 (scan_start (call 0
+    (to 0 (items (codes "101")) ∷ to 1 (items (codes "11001")) ∷ to 2 (items (codes "LHL")) ∷ to 3 (items (codes "HHLLH")) ∷ []) finish))
     ≡ in_table 0 (codes "01LH") 1 ∷ in_table 0 (codes "01HH") 2 ∷ in_table 0 (codes "10LL") 3 ∷ in_table 0 (codes "00XL") 4 ∷ in_table 0 (codes "11XH") 5 ∷ []
 unfolding calls
 padded = refl
@@ -83,7 +84,13 @@ unfolding calls
 left_out = refl
 
 -- `%` looks at the character that `#` then takes
-pub looks_and_takes : vectors (record { outs = false ∷ []; scan_outs = []; macros = vector (to 0 (percent ∷ []) ∷ []) (vector (to 0 (hash ∷ []) ∷ []) (vector (to 0 (hash ∷ []) ∷ []) finish)) ∷ []; procedures = [] }) 1
+pub looks_and_takes : vectors (record {
+  outs = false ∷ [];
+  scan_outs = [];
+  macros = vector (to 0 (percent ∷ []) ∷ [])
+      (vector (to 0 (hash ∷ []) ∷ []) (vector (to 0 (hash ∷ []) ∷ []) finish)) ∷ [];
+  procedures = [];
+}) 1
     (wave 0 (expand 0 (to 0 (items (codes "10")) ∷ []) finish))
     ≡ in_table 0 (codes "1") 0 ∷ in_table 0 (codes "1") 0 ∷ in_table 0 (codes "0") 0 ∷ []
 unfolding calls

@@ -9,7 +9,11 @@ use Rattle.stil_ast.specs.declared.body.Assignment.{Assignment}
 -- the assignment that parts say
 abbrev pub assignment_said : AssignmentParts → Assignment
 assignment_said parts =
-    record { reference = reference_of parts.reference parts.bytes.now; items = items_of parts.runs.now; line = parts.line }
+    record {
+      reference = reference_of parts.reference parts.bytes.now;
+      items = items_of parts.runs.now;
+      line = parts.line;
+    }
 
 -- the first assignment that was left is given, or none was left; no run of it is too long
 pub record TakesAssignment (before : List Assignment) (given : Option AssignmentParts) (after : List Assignment)

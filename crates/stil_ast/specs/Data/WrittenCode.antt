@@ -77,7 +77,8 @@ open_bodies-marks no_more after more e = e
 open_bodies-marks (single line plain rest) after more e =
     ap (behind_one line plain) (open_bodies-marks rest after more e)
 open_bodies-marks (looped line times body rest) after more e =
-    ap (λ (ms : List Mark). behind_loop line times (open_bodies ms)) (append_assoc (marks body) (ends ∷ marks rest) after)
+    ap (λ (ms : List Mark). behind_loop line times (open_bodies ms))
+    (append_assoc (marks body) (ends ∷ marks rest) after)
     ∙ ap (behind_loop line times)
     (open_bodies-marks body (ends ∷ (marks rest ++ after)) (rest ∷ more)
     (ap (λ (ws : List Written). no_more ∷ ws) (open_bodies-marks rest after more e)))
@@ -90,10 +91,13 @@ open_bodies-marks (shifted line body rest) after more e =
 -- marks are read as the statements that they came from
 pub innermost-marks : (w : Written) → innermost (open_bodies (marks w)) ≡ w
 innermost-marks w =
-    ap (λ (ms : List Mark). innermost (open_bodies ms)) (sym (append-nil (marks w))) ∙ ap innermost (open_bodies-marks w [] [] refl)
+    ap (λ (ms : List Mark). innermost (open_bodies ms)) (sym (append-nil (marks w)))
+    ∙ ap innermost (open_bodies-marks w [] [] refl)
 
 -- statements are stored as their marks
 abbrev pub written_code : Coded Step → Coded Written
 written_code plain =
-    code_by (List Mark) (coded_list (code_by ((ℕ × Step) ⊎ ((ℕ × ℕ) ⊎ (ℕ ⊎ ℕ))) (coded⊎ (coded× coded_ℕ plain) (coded⊎ (coded× coded_ℕ coded_ℕ) (coded⊎ coded_ℕ coded_ℕ))) mark_to mark_from mark_from-mark_to))
+    code_by (List Mark) (coded_list (code_by ((ℕ × Step) ⊎ ((ℕ × ℕ) ⊎ (ℕ ⊎ ℕ)))
+    (coded⊎ (coded× coded_ℕ plain) (coded⊎ (coded× coded_ℕ coded_ℕ) (coded⊎ coded_ℕ coded_ℕ))) mark_to mark_from
+    mark_from-mark_to))
     marks (λ ms. innermost (open_bodies ms)) innermost-marks

@@ -73,7 +73,8 @@ picked_category selector names spec c =
 abbrev pub picked : Blocks → ExecDecl → List Variable
 picked blocks e =
     flat_map (λ (s : SpecBlock).
-    flat_map (picked_category (selector_of blocks e.selector) (map (λ (n : Named). n.name) e.categories) s.name) s.categories)
+    flat_map (picked_category (selector_of blocks e.selector) (map (λ (n : Named). n.name) e.categories) s.name)
+    s.categories)
     blocks.specs
 
 -- the value of a text that may be missing; what is met stands in it
