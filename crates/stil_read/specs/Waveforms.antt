@@ -87,9 +87,14 @@ acts_from slash_next before [] = if slash_next then Ok before else Err Shape
 acts_from slash_next before (one ∷ rest) =
     and_then (with_token slash_next before one) (λ read. acts_from (not slash_next) read rest)
 
--- `act` or `act/act/..`
+-- whether a token at an act's place is no act; such a place is the first one, and each behind a `/`
+abbrev pub lacks_act : Bool → List Lexeme → Bool
+lacks_act at_act [] = false
+lacks_act at_act (one ∷ rest) = (at_act && not (is_some (act_of one))) || lacks_act (is_slash one) rest
+
+-- `act` or `act/act/..`; a token at an act's place that is none is left out, whatever else stands there
 abbrev pub acts_of : List Lexeme → Result (List Act) FormKind
-acts_of parts = acts_from false [] parts
+acts_of parts = if lacks_act true parts then Err LeftOut else acts_from false [] parts
 
 -- the text with which an event begins, and what stands behind it
 abbrev pub time_of : List Lexeme → Result (List ℕ × List Lexeme) FormKind

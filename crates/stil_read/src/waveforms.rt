@@ -1,6 +1,6 @@
 //! Waveforms (IEEE 1450-1999, clause 18).
 
-ghost use Rattle.std.specs.Prelude.{◌≡◌, ◌==◌, ◌||◌, length, map, is_some, nat_eq};
+ghost use Rattle.std.specs.Prelude.{◌≡◌, ◌==◌, ◌&&◌, ◌||◌, not, true, false, [], length, map, is_some, nat_eq};
 ghost use Rattle.std.specs.List.{list_all};
 ghost use Rattle.text_bytes.specs.Bytes.{is_character};
 ghost use Rattle.stil_tree.specs.Trees.{entry_of};
@@ -125,9 +125,41 @@ fn take_part(
     }
 }
 
+/// Whether a part at an act's place is no act.
+fn is_no_act(at_act: bool, part: &Part) -> bool
+    ensures { result ≡ (at_act && not (is_some (waveforms.act_of (lexeme_of part.now)))) }
+{
+    at_act && act_of(part).is_none()
+}
+
+/// Whether a part at an act's place is no act. Such a place is the first one, and each behind a `/`.
+fn lacks_act(rest: Source) -> bool
+    ensures { result ≡ waveforms.lacks_act true (lexemes rest.entry) }
+{
+    let mut at_act = true;
+    for token in rest.tokens {
+        let part = part_of(rest.bytes, token);
+        if is_no_act(at_act, &part) {
+            return true;
+        }
+        at_act = is_slash(&part);
+    }
+    false
+}
+
 /// One act, or acts with `/` between them, of the statement with this first token.
 fn acts_of(alloc: Global, rest: Source, first: u32) -> Result<Items<Act>, FormFault>
     ensures { Answers result (at_statement first (waveforms.acts_of (lexemes rest.entry))) }
+{
+    if lacks_act(rest) {
+        return Err(FormFault::Refused(FormKind::LeftOut, first));
+    }
+    acts_between(alloc, rest, first)
+}
+
+/// The same where each part at an act's place is an act.
+fn acts_between(alloc: Global, rest: Source, first: u32) -> Result<Items<Act>, FormFault>
+    ensures { Answers result (at_statement first (waveforms.acts_from false [] (lexemes rest.entry))) }
 {
     let mut acts = Vec::new(alloc);
     let mut slash_next = false;

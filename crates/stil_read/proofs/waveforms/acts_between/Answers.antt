@@ -2,7 +2,7 @@ use Rattle.std.proofs.Common.{List}
 use Rattle.std.proofs.lemmas.Result.{err_from_is_err_and}
 use Rattle.tester_types.specs.declared.wave.Act.{Act}
 use Rattle.stil_read.proofs.WaveformLemmas.{acts_stop}
-use Rattle.stil_read.proofs.waveforms.acts_of.Goals as goal
+use Rattle.stil_read.proofs.waveforms.acts_between.Goals as goal
 
 pub returns-in_err-take_part : goal.returns-in_err-take_part
 returns-in_err-take_part c =
