@@ -6,7 +6,7 @@ ghost use Rattle.stil_ast.specs.Data.OneText.{AreOfOneText};
 ghost use Rattle.stil_ast.specs.Meaning.Signals.{names_of};
 ghost use Rattle.signal_groups.specs.Table.{table_of};
 
-use pattern_order::play_order;
+use pattern_order::{BurstNames, play_order};
 use signal_groups::SignalTable;
 use std::alloc::{AllocError, AllocFailed, Global};
 use stil_ast::{Blocks, StilFault, StilRefusal};
@@ -83,14 +83,16 @@ fn judge_exec(
     alloc: Global,
     blocks: &Blocks,
     exec: usize,
+    names: &BurstNames,
     signals: &SignalTable,
     before: u32,
 ) -> Result<u32, Stop>
     requires text { AreOfOneText blocks.now }
     requires executive { exec < length blocks.now.executives }
+    requires names { names.now ≡ blocks.now }
     requires signals { signals.now ≡ table_of (names_of blocks.now) }
 {
-    let _order = play_order(alloc, blocks, exec)?;
+    let _order = play_order(alloc, names, exec)?;
     let vars = choose(alloc, blocks, exec)?;
     let set = wave_tables::build(alloc, blocks, exec, signals, &vars, before)?;
     let _chains = scan_chain::build(alloc, blocks, exec, signals)?;
@@ -102,9 +104,10 @@ fn judge_execs(alloc: Global, blocks: &Blocks, signals: &SignalTable) -> Result<
     requires text { AreOfOneText blocks.now }
     requires signals { signals.now ≡ table_of (names_of blocks.now) }
 {
+    let names = BurstNames::new(alloc, blocks)?;
     let mut waves = 0;
     for exec in 0..blocks.executives.len() {
-        waves = judge_exec(alloc, blocks, exec, signals, waves)?;
+        waves = judge_exec(alloc, blocks, exec, &names, signals, waves)?;
     }
     Ok(())
 }

@@ -1,3 +1,12 @@
-pub mod WalkLemmas
+pub mod PlaceLemmas
+pub mod MeaningLemmas
 pub mod MeetLemmas
+pub mod StandLemmas
+pub mod AheadLemmas
+pub mod SkipLemmas
+pub mod GoLemmas
+pub mod KnownLemmas
+pub mod ForwardLemmas
+pub mod BeginLemmas
+pub mod PlayLemmas
 pub mod OrderLemmas

@@ -17,7 +17,7 @@ use Rattle.stil_ast.specs.declared.fault.StilFault.{StilFault}
 use Rattle.pattern_order.specs.Walk.{Met, met_inside, met_at, met_within, mention_of, pattern_played, played_at}
 
 -- neither of two has a fault where there is no first
-neither : (a b : Option StilFault) → or_else a b ≡ None → (a ≡ None) × (b ≡ None)
+pub neither : (a b : Option StilFault) → or_else a b ≡ None → (a ≡ None) × (b ≡ None)
 neither None b h = (refl, h)
 neither (Some f) b h = absurd (some f h)
   where
@@ -73,7 +73,7 @@ module _ (blocks : Blocks) where
   abbrev pub NoneBack : List Met → Type 0
   NoneBack ms = first_in cyclic_fault (map (mention_of blocks) ms) ≡ None
 
-  none-parts : (xs ys : List Met) → NoneBack (xs ++ ys) → NoneBack xs × NoneBack ys
+  pub none-parts : (xs ys : List Met) → NoneBack (xs ++ ys) → NoneBack xs × NoneBack ys
   none-parts xs ys h =
       neither (first_in cyclic_fault (map (mention_of blocks) xs)) (first_in cyclic_fault (map (mention_of blocks) ys))
       (sym (ap (first_in cyclic_fault) (map-append (mention_of blocks) xs ys)

@@ -1,35 +1,36 @@
 -- What is answered of a burst, and the four clauses of an answer on an executive, from one fact.
-use Rattle.std.proofs.Common.{◌≡◌, ℕ, zero, suc, List, [], ◌∷◌, get_or, Option, Some, None, Vec, length, map, refl, sym, ap, subst, ◌∙◌, inl, inr, ◌⊎◌}
+use Rattle.std.proofs.Common.{◌≡◌, ℕ, zero, suc, List, [], ◌∷◌, get_or, Option, Some, None, Vec, length, refl, sym, ap, subst, ◌∙◌, inl, inr, ◌⊎◌}
 use Rattle.std.specs.Prelude.{Result, Ok, Err, IfOk, IfErr, MatchResult, slice_get}
 use Rattle.std.specs.List.{flat_map}
 use Rattle.std.specs.declared.alloc.Global.{Global}
-use Rattle.stil_ast.specs.Meaning.Bursts.{Played, played_of, played}
-use Rattle.stil_ast.specs.Faults.Found.{fault_at, first_in}
-use Rattle.stil_ast.specs.Faults.BurstFaults.{exec_place, mentions, unknown_fault, cyclic_fault, exec_names_fault}
+use Rattle.stil_ast.specs.Data.Texts.{same}
+use Rattle.stil_ast.specs.Meaning.Bursts.{Played, burst_named, played_of, played}
+use Rattle.stil_ast.specs.Faults.Found.{fault_at, or_else, first_in}
+use Rattle.stil_ast.specs.Faults.BurstFaults.{exec_place, is_category, is_selector, is_timing, is_burst, named_fault, maybe_fault, mentions, unknown_fault, cyclic_fault, exec_names_fault}
 use Rattle.stil_ast.specs.declared.blocks.Blocks.{Blocks}
 use Rattle.stil_ast.specs.declared.executive.Burst.{Burst}
 use Rattle.stil_ast.specs.declared.executive.ExecDecl.{ExecDecl}
 use Rattle.stil_ast.specs.declared.fault.StilFault.{StilFault}
-use Rattle.stil_ast.specs.declared.fault.StilKind.TheVariants.{TooLarge}
+use Rattle.stil_ast.specs.declared.fault.StilKind.TheVariants.{TooLarge, UnknownName}
 use Rattle.stil_ast.specs.declared.fault.StilRefusal.{StilRefusal}
 use Rattle.stil_ast.specs.declared.fault.StilRefusal.TheVariants as refusal
-use Rattle.signal_groups.specs.Begun.{Refuses}
-use Rattle.pattern_order.specs.Walk.{mention_of, met, played_at}
+use Rattle.signal_groups.specs.Begun.{Refuses, FirstTells}
+use Rattle.pattern_order.specs.Numbers.{burst_number}
+use Rattle.pattern_order.specs.Walk.{met, played_at}
 use Rattle.pattern_order.specs.Held.{played_in}
-use Rattle.pattern_order.specs.Answer.{is_few, AllPlayed, inner_fault, Orders, IsNamesFault}
+use Rattle.pattern_order.specs.Answer.{is_few, AllPlayed, own_fault, inner_fault, Orders, IsNamesFault}
 use Rattle.pattern_order.specs.declared.playing.PlayedPattern.{PlayedPattern}
-use Rattle.pattern_order.proofs.MeetLemmas.{mentions-met, played-met}
+use Rattle.pattern_order.proofs.BeginLemmas.{mentions-all}
+use Rattle.pattern_order.proofs.MeaningLemmas.{numbered-named}
+use Rattle.pattern_order.proofs.MeetLemmas.{played-met}
+use Rattle.pattern_order.proofs.PlaceLemmas.{find-no_position}
 
 module _ (blocks : Blocks) (b : Burst) where
-  -- what is mentioned is met
-  pub mentions-all : mentions blocks (Some b) ≡ map (mention_of blocks) (met blocks b)
-  mentions-all = mentions-met blocks (length blocks.bursts) [] [] [] b
-
   -- the patterns that are played are those that are met
   all-played : first_in cyclic_fault (mentions blocks (Some b)) ≡ None
       → played_of blocks (Some b) ≡ flat_map (played_at blocks) (met blocks b)
   all-played none =
-      played-met blocks (length blocks.bursts) [] [] [] b (sym (ap (first_in cyclic_fault) mentions-all) ∙ none)
+      played-met blocks (length blocks.bursts) [] [] [] b (sym (ap (first_in cyclic_fault) (mentions-all blocks b)) ∙ none)
 
   module _ (e : ExecDecl) (known : first_in unknown_fault (mentions blocks (Some b)) ≡ None)
       (forward : first_in cyclic_fault (mentions blocks (Some b)) ≡ None) where
@@ -101,3 +102,51 @@ module _ (blocks : Blocks) (e : ExecDecl) where
   is_refused (Ok order) h f first = not_both (exec_names_fault blocks e) f h.0 first
   is_refused (Err refusal.NoMemory) h f first = inl refl
   is_refused (Err (refusal.Fault g)) h f first = inr (ap (λ x. refusal.Fault x) (one g f (sym h ∙ first)))
+
+  -- the first fault, of the names but for the burst and of what the burst leads to
+  own-split : exec_names_fault blocks e
+      ≡ or_else (own_fault blocks e)
+      (or_else (named_fault e (is_burst blocks) e.burst) (inner_fault blocks e (burst_named blocks e.burst.name)))
+  own-split =
+      or_else-assoc (first_in (named_fault e (is_category blocks)) e.categories) (maybe_fault e (is_selector blocks) e.selector)
+      (maybe_fault e (is_timing blocks) e.timing)
+      (or_else (named_fault e (is_burst blocks) e.burst) (inner_fault blocks e (burst_named blocks e.burst.name)))
+    where
+      or_else-assoc : (a b c d : Option StilFault) → or_else a (or_else b (or_else c d)) ≡ or_else (or_else a (or_else b c)) d
+      or_else-assoc (Some f) b c d = refl
+      or_else-assoc None (Some f) c d = refl
+      or_else-assoc None None c d = refl
+
+  -- where the names but for the burst have no fault
+  own-none : own_fault blocks e ≡ None
+      → exec_names_fault blocks e
+      ≡ or_else (named_fault e (is_burst blocks) e.burst) (inner_fault blocks e (burst_named blocks e.burst.name))
+  own-none none =
+      own-split
+      ∙ ap (λ o. or_else o (or_else (named_fault e (is_burst blocks) e.burst) (inner_fault blocks e (burst_named blocks e.burst.name)))) none
+
+  -- their fault is the first
+  pub own-refused : (r : StilRefusal) → FirstTells (Err r) (own_fault blocks e)
+      → Orders (exec_names_fault blocks e) (played blocks e) (Err r)
+  own-refused refusal.NoMemory h = tt
+  own-refused (refusal.Fault f) h =
+      own-split
+      ∙ ap (λ o. or_else o (or_else (named_fault e (is_burst blocks) e.burst) (inner_fault blocks e (burst_named blocks e.burst.name)))) h
+
+  -- an answer on the burst is an answer on the executive
+  pub order-known : (k : ℕ) (r : Result (List Played) StilRefusal) → own_fault blocks e ≡ None
+      → burst_number blocks e.burst.name ≡ Some k
+      → ((b : Burst) → slice_get blocks.bursts k ≡ Some b → Orders (inner_fault blocks e (Some b)) (played_of blocks (Some b)) r)
+      → Orders (exec_names_fault blocks e) (played blocks e) r
+  order-known k r none is h =
+      let named = numbered-named blocks e.burst.name k is in
+      subst (λ (o : Option StilFault). Orders o (played blocks e) r) (sym (own-none none))
+      (rw named.2 (h named.0 named.1))
+
+  -- a burst of no name is the fault
+  pub order-unknown : (r : StilRefusal) → own_fault blocks e ≡ None → burst_number blocks e.burst.name ≡ None
+      → Refuses r (fault_at (exec_place e.name e.burst.line) UnknownName)
+      → Orders (exec_names_fault blocks e) (played blocks e) (Err r)
+  order-unknown r none is h =
+      refused_for (exec_names_fault blocks e) (played blocks e) (fault_at (exec_place e.name e.burst.line) UnknownName) r h
+      (own-none none ∙ rw (find-no_position (λ (b : Burst). same b.name e.burst.name) blocks.bursts is) refl)

@@ -1,7 +1,6 @@
 -- The walk through a burst: each name in it in text order, and behind the name of a burst the names in that burst
 -- (IEEE 1450-1999, clauses 16 and 17).
-use Rattle.std.specs.Prelude.{◌≡◌, ℕ, zero, suc, ◌-◌, Bool, true, false, List, [], ◌∷◌, ◌++◌, Option, Some, None, length, map, drop, reverse, flat_map, if◌then◌else◌}
-use Rattle.std.specs.Option.{option_copied}
+use Rattle.std.specs.Prelude.{ℕ, zero, suc, ◌-◌, Bool, true, false, List, [], ◌∷◌, ◌++◌, Option, Some, None, length, map, drop, reverse, flat_map, if◌then◌else◌}
 use Rattle.stil_ast.specs.Meaning.Bursts.{Played, pattern_named, is_entry, macros_name, procedures_name}
 use Rattle.stil_ast.specs.Faults.BurstFaults.{Mention, burst_place, has_block, burst_for, is_round}
 use Rattle.stil_ast.specs.declared.executive.BurstItem.{BurstItem}
@@ -93,21 +92,3 @@ met_by s = record {
   procedures = s.procedures.now;
   leads_back = s.leads_back;
 }
-
--- what is met inside the burst that a name names, where these bursts are open, the innermost first
-abbrev pub inside_in : Blocks → Step → List Frame → List Met
-inside_in blocks s frames =
-    met_inside
-    (met_within blocks (length blocks.bursts - length frames) (names_of frames) s.macros.now s.procedures.now)
-    s.leads_back (option_copied s.inner)
-
--- a step of the walk, of what was to be met: the name, what is inside it, and what is behind it
-abbrev pub Meets : Blocks → List Met → Step → List Frame → Type 0
-Meets blocks before s frames =
-    (before ≡ met_by s ∷ (inside_in blocks s (reverse frames) ++ ahead blocks frames))
-    × (option_copied s.inner ≡ burst_for blocks s.item.now)
-
--- the same where nothing may be left to be met
-abbrev pub MeetsAny : Blocks → List Met → Option Step → List Frame → Type 0
-MeetsAny blocks before None frames = before ≡ []
-MeetsAny blocks before (Some s) frames = Meets blocks before s frames

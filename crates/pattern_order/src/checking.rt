@@ -1,16 +1,18 @@
 //! The first fault of the names to which a burst leads (IEEE 1450-1999, clause 16).
 
-ghost use Rattle.std.specs.Prelude.{◌≡◌, Some, IfOk};
-ghost use Rattle.std.specs.Option.{option_copied};
-ghost use Rattle.stil_ast.specs.Faults.Found.{fault_at, first_in};
-ghost use Rattle.stil_ast.specs.Faults.BurstFaults.{burst_place, burst_for, unknown_fault, cyclic_fault, mentions};
+ghost use Rattle.std.specs.Prelude.{◌≡◌, ◌<◌, ◌∷◌, Some, None, length, reverse, slice_get, IfOk};
+ghost use Rattle.stil_ast.specs.Faults.Found.{fault_at, unless, refuse_if, first_in};
+ghost use Rattle.stil_ast.specs.Faults.BurstFaults.{burst_place, unknown_fault, cyclic_fault, mentions};
+ghost use Rattle.stil_ast.specs.declared.fault.StilKind.TheVariants as kind;
 ghost use Rattle.signal_groups.specs.Begun.{Refuses, FirstTells};
-ghost use Rattle.pattern_order.specs.Walk.{mention_of, met_by};
+ghost use Rattle.pattern_order.specs.Numbers.{IsFirst};
+ghost use Rattle.pattern_order.specs.Walks.{is_known, Knows, Forwards, GoesOn};
 
-use crate::found::has_block;
-use crate::walk::{Step, Walk};
+use crate::bursts::BurstNames;
+use crate::meaning::Meaning;
+use crate::walk::{Frame, Mark, Step, Walk};
 use std::alloc::{AllocError, Global};
-use stil_ast::{Blocks, Burst, StilFault, StilKind, StilRefusal};
+use stil_ast::{Burst, StilFault, StilKind, StilRefusal};
 use tester_types::Items;
 
 /// The fault of a line in a PatternBurst block.
@@ -40,22 +42,29 @@ fn refused(alloc: Global, burst: &Burst, line: u32, kind: StilKind) -> StilRefus
     }
 }
 
-/// Checks that a name is one of a block, a pattern or a burst.
-fn check_known(alloc: Global, blocks: &Blocks, step: &Step) -> Result<(), StilRefusal>
-    requires { option_copied step.now.inner ≡ burst_for blocks.now step.now.item.now }
-    ensures { FirstTells result (unknown_fault (mention_of blocks.now (met_by step.now))) }
+/// Whether a name is one of a block, a pattern or a burst.
+fn is_known(meaning: Meaning) -> bool
+    ensures { result ≡ is_known meaning }
 {
-    let item = step.item;
-    if step.inner.is_some() || has_block(blocks, item.word, item.name.as_slice()) {
+    !matches!(meaning, Meaning::Unknown)
+}
+
+/// Checks that a name is one of a block, a pattern or a burst.
+fn check_known(alloc: Global, step: &Step) -> Result<(), StilRefusal>
+    ensures { FirstTells result (unless (is_known step.now.meaning)
+        (fault_at (burst_place step.now.burst.now step.now.item.now.line) kind.UnknownName) None) }
+{
+    if is_known(step.meaning) {
         Ok(())
     } else {
-        Err(refused(alloc, step.burst, item.line, StilKind::UnknownName))
+        Err(refused(alloc, step.burst, step.item.line, StilKind::UnknownName))
     }
 }
 
 /// Checks that a name doesn't lead back to a burst in which it stands.
-fn check_forward(alloc: Global, blocks: &Blocks, step: &Step) -> Result<(), StilRefusal>
-    ensures { FirstTells result (cyclic_fault (mention_of blocks.now (met_by step.now))) }
+fn check_forward(alloc: Global, step: &Step) -> Result<(), StilRefusal>
+    ensures { FirstTells result (refuse_if step.now.leads_back
+        (fault_at (burst_place step.now.burst.now step.now.item.now.line) kind.Cyclic) None) }
 {
     if step.leads_back {
         Err(refused(alloc, step.burst, step.item.line, StilKind::Cyclic))
@@ -64,18 +73,69 @@ fn check_forward(alloc: Global, blocks: &Blocks, step: &Step) -> Result<(), Stil
     }
 }
 
+/// Checks that the next name of an open burst is known, and goes into the burst that it names; or closes the burst
+/// behind its last name.
+fn know_next<'a>(
+    alloc: Global,
+    walk: &mut Walk<'_, 'a>,
+    frame: Frame<'a>,
+) -> Result<(), StilRefusal>
+    requires { Knows walk.old.names.now walk.old.marks.items (frame ∷ reverse walk.old.frames.items) }
+    ensures names { walk.new.names.now ≡ walk.old.names.now }
+    ensures goes { GoesOn unknown_fault (Knows walk.old.names.now) walk.old.names.now
+        (frame.entry ∷ reverse walk.old.frames.items) result walk.new.marks.items (reverse walk.new.frames.items) }
+{
+    if frame.next >= frame.burst.items.len() {
+        walk.close(frame.number, Mark::Closed);
+        return Ok(());
+    }
+    let step = walk.next_in(&frame);
+    if let Err(refusal) = check_known(alloc, &step) {
+        return Err(refusal);
+    }
+    walk.pass(frame, &step, 0)?;
+    Ok(())
+}
+
+/// Checks that the next name of an open burst doesn't lead back, and goes into the burst that it names; or closes the
+/// burst behind its last name.
+fn forward_next<'a>(
+    alloc: Global,
+    walk: &mut Walk<'_, 'a>,
+    frame: Frame<'a>,
+) -> Result<(), StilRefusal>
+    requires { Forwards walk.old.names.now walk.old.marks.items (frame ∷ reverse walk.old.frames.items) }
+    ensures names { walk.new.names.now ≡ walk.old.names.now }
+    ensures goes { GoesOn cyclic_fault (Forwards walk.old.names.now) walk.old.names.now
+        (frame.entry ∷ reverse walk.old.frames.items) result walk.new.marks.items (reverse walk.new.frames.items) }
+{
+    if frame.next >= frame.burst.items.len() {
+        walk.close(frame.number, Mark::Closed);
+        return Ok(());
+    }
+    let step = walk.next_in(&frame);
+    if let Err(refusal) = check_forward(alloc, &step) {
+        return Err(refusal);
+    }
+    walk.pass(frame, &step, 0)?;
+    Ok(())
+}
+
 /// Checks that all names to which a burst leads are known.
 pub(crate) fn check_all_known(
     alloc: Global,
-    blocks: &Blocks,
-    burst: &Burst,
+    names: &BurstNames,
+    number: usize,
 ) -> Result<(), StilRefusal>
-    ensures { FirstTells result (first_in unknown_fault (mentions blocks.now (Some burst.now))) }
+    requires { IsFirst names.now number }
+    ensures { (b : Burst) → slice_get names.now.bursts number ≡ Some b
+        → FirstTells result (first_in unknown_fault (mentions names.now (Some b))) }
 {
-    let mut walk = Walk::new(alloc, blocks, burst)?;
-    while let Some(step) = walk.step()? {
-        check_known(alloc, blocks, &step)?;
-        walk.enter_inner(&step)?;
+    let mut walk = Walk::new(alloc, names, number)?;
+    while let Some(frame) = walk.frames.pop() {
+        if let Err(refusal) = know_next(alloc, &mut walk, frame) {
+            return Err(refusal);
+        }
     }
     Ok(())
 }
@@ -83,15 +143,18 @@ pub(crate) fn check_all_known(
 /// Checks that no name to which a burst leads leads back.
 pub(crate) fn check_all_forward(
     alloc: Global,
-    blocks: &Blocks,
-    burst: &Burst,
+    names: &BurstNames,
+    number: usize,
 ) -> Result<(), StilRefusal>
-    ensures { FirstTells result (first_in cyclic_fault (mentions blocks.now (Some burst.now))) }
+    requires { IsFirst names.now number }
+    ensures { (b : Burst) → slice_get names.now.bursts number ≡ Some b
+        → FirstTells result (first_in cyclic_fault (mentions names.now (Some b))) }
 {
-    let mut walk = Walk::new(alloc, blocks, burst)?;
-    while let Some(step) = walk.step()? {
-        check_forward(alloc, blocks, &step)?;
-        walk.enter_inner(&step)?;
+    let mut walk = Walk::new(alloc, names, number)?;
+    while let Some(frame) = walk.frames.pop() {
+        if let Err(refusal) = forward_next(alloc, &mut walk, frame) {
+            return Err(refusal);
+        }
     }
     Ok(())
 }

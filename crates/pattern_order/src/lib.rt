@@ -2,14 +2,19 @@
 //! 17).
 #![tactic(auto)]
 
+mod bursts;
 mod checking;
 mod found;
+mod meaning;
 mod names;
 mod order;
+mod places;
 mod playing;
 mod walk;
 
+pub use bursts::BurstNames;
 pub use order::play_order;
+pub use places::{Places, add_place, place_of};
 pub use playing::{PlayOrder, PlayedPattern};
 
 #[cfg(test)]

@@ -1,15 +1,23 @@
 //! Patterns in running order (IEEE 1450-1999, clause 16).
 
-ghost use Rattle.std.specs.Prelude.{◌≡◌, ◌++◌, flat_map, IfOk, OnOk};
-ghost use Rattle.pattern_order.specs.Walk.{met_by, met, played_at};
+ghost use Rattle.std.specs.Prelude.{◌≡◌, ◌<◌, ◌==◌, ◌++◌, ◌∷◌, ℕ, Some, None, length, reverse, slice_get, flat_map, IfOk, OnOk, if◌then◌else◌};
+ghost use Rattle.stil_ast.specs.Faults.Found.{first_in};
+ghost use Rattle.stil_ast.specs.Faults.BurstFaults.{cyclic_fault, mentions};
+ghost use Rattle.stil_ast.specs.declared.executive.Burst.{Burst};
+ghost use Rattle.pattern_order.specs.Walk.{met, played_at};
+ghost use Rattle.pattern_order.specs.Numbers.{IsFirst, played_as};
+ghost use Rattle.pattern_order.specs.Walks.{Plays, HasPlayed};
 ghost use Rattle.pattern_order.specs.Held.{played_in};
 ghost use Rattle.pattern_order.specs.Answer.{AllPlayed};
+ghost use Rattle.pattern_order.specs.declared.meaning.Meaning.TheVariants as meaning;
+ghost use Rattle.pattern_order.specs.declared.walk.Mark.TheVariants as mark;
 
-use crate::found::{is_entry, pattern_named};
-use crate::walk::{Step, Walk};
+use crate::bursts::BurstNames;
+use crate::meaning::Meaning;
+use crate::walk::{Frame, Mark, Step, Walk};
 use std::alloc::{AllocError, Global};
 use std::marker::Model;
-use stil_ast::{Blocks, Burst, Pattern};
+use stil_ast::Pattern;
 
 /// The most patterns that an executive may run, each counted as often as it runs.
 const MOST_PATTERNS: usize = 4_096;
@@ -57,18 +65,17 @@ impl<'a> PlayOrder<'a> {
 /// Puts the pattern that a name names behind the others.
 fn play<'a>(
     patterns: &mut Vec<PlayedPattern<'a>>,
-    blocks: &'a Blocks,
+    names: &BurstNames<'a>,
     step: &Step<'a>,
 ) -> Result<(), AllocError>
+    requires { (number : ℕ) → step.now.meaning ≡ meaning.Pattern number → number < length names.now.patterns }
     ensures { OnOk result (played_in patterns.new.items
-        ≡ played_in patterns.old.items ++ played_at blocks.now (met_by step.now)) }
+        ≡ played_in patterns.old.items
+        ++ played_as names.now step.now.macros.now step.now.procedures.now step.now.meaning) }
 {
-    if !is_entry(step.item.word) {
-        return Ok(());
-    }
-    if let Some(pattern) = pattern_named(blocks, step.item.name.as_slice()) {
+    if let Meaning::Pattern(number) = step.meaning {
         patterns.push(PlayedPattern {
-            pattern,
+            pattern: names.pattern(number),
             macros: step.macros,
             procedures: step.procedures,
         })?;
@@ -76,22 +83,60 @@ fn play<'a>(
     Ok(())
 }
 
+/// The mark of a burst that was walked through: it is passed over from now on if no pattern ran in it.
+fn mark_behind(begun: usize, count: usize) -> Mark
+    ensures { result ≡ if begun == count then mark.Closed else mark.Fresh }
+{
+    if begun == count {
+        Mark::Closed
+    } else {
+        Mark::Fresh
+    }
+}
+
+/// Runs the pattern that the next name of an open burst names, or goes into the burst that it names; or closes the
+/// burst behind its last name.
+fn play_next<'a>(
+    patterns: &mut Vec<PlayedPattern<'a>>,
+    walk: &mut Walk<'_, 'a>,
+    frame: Frame<'a>,
+) -> Result<(), AllocError>
+    requires { Plays walk.old.names.now (length patterns.old.items) walk.old.marks.items
+        (frame ∷ reverse walk.old.frames.items) }
+    ensures names { walk.new.names.now ≡ walk.old.names.now }
+    ensures plays { OnOk result (HasPlayed walk.old.names.now (played_in patterns.old.items)
+        (frame.entry ∷ reverse walk.old.frames.items) (played_in patterns.new.items) walk.new.marks.items
+        (reverse walk.new.frames.items)) }
+{
+    if frame.next >= frame.burst.items.len() {
+        walk.close(frame.number, mark_behind(frame.begun, patterns.len()));
+        return Ok(());
+    }
+    let step = walk.next_in(&frame);
+    play(patterns, walk.names, &step)?;
+    walk.pass(frame, &step, patterns.len())?;
+    Ok(())
+}
+
 /// The patterns of a burst in running order; none where they are too many.
 pub(crate) fn all_played<'a>(
     alloc: Global,
-    blocks: &'a Blocks,
-    burst: &'a Burst,
+    names: &BurstNames<'a>,
+    number: usize,
 ) -> Result<Option<Vec<PlayedPattern<'a>>>, AllocError>
-    ensures { IfOk result (λ found. AllPlayed found (flat_map (played_at blocks.now) (met blocks.now burst.now))) }
+    requires first { IsFirst names.now number }
+    requires forward { (b : Burst) → slice_get names.now.bursts number ≡ Some b
+        → first_in cyclic_fault (mentions names.now (Some b)) ≡ None }
+    ensures { (b : Burst) → slice_get names.now.bursts number ≡ Some b
+        → IfOk result (λ found. AllPlayed found (flat_map (played_at names.now) (met names.now b))) }
 {
-    let mut walk = Walk::new(alloc, blocks, burst)?;
+    let mut walk = Walk::new(alloc, names, number)?;
     let mut patterns = Vec::new(alloc);
-    while let Some(step) = walk.step()? {
-        play(&mut patterns, blocks, &step)?;
+    while let Some(frame) = walk.frames.pop() {
+        play_next(&mut patterns, &mut walk, frame)?;
         if patterns.len() > MOST_PATTERNS {
             return Ok(None);
         }
-        walk.enter_inner(&step)?;
     }
     Ok(Some(patterns))
 }

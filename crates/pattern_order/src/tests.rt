@@ -1,10 +1,12 @@
 //! What no contract says, and the public call once.
 
+ghost use Rattle.std.specs.Prelude.{◌<◌, length};
+
 use super::*;
 use std::alloc::{AllocError, Global};
 use std::test::Fail;
 use stil_ast::{
-    Blocks, Burst, BurstItem, BurstWord, DefBlock, ExecDecl, Named, PatBody, Pattern, StilKind,
+    Blocks, Burst, BurstItem, BurstWord, DefBlock, ExecDecl, Named, PatBody, Pattern, StilFault,
     StilRefusal,
 };
 use tester_types::{Items, Text};
@@ -117,29 +119,50 @@ fn blocks(alloc: Global, words: &[&[u8]]) -> Result<Blocks, AllocError> {
     })
 }
 
-/// The patterns of the executive in words of pattern and MacroDefs, or the kind and the line of its fault.
-fn told(alloc: Global, words: &[&[u8]]) -> Result<Vec<u8>, Fail> {
-    let blocks = blocks(alloc, words)?;
+/// Patterns in words of pattern and MacroDefs.
+fn told_order(alloc: Global, order: &PlayOrder) -> Result<Vec<u8>, AllocError> {
     let mut told = Vec::new(alloc);
-    if blocks.executives.is_empty() {
-        return Err(Fail::from("executives"));
-    }
-    match play_order(alloc, &blocks, 0) {
-        Ok(order) => {
-            for played in order.as_slice() {
-                told.extend_from_slice(played.pattern.name.as_slice())?;
-                told.extend_from_slice(played.macros)?;
-                told.push(b' ')?;
-            }
-        }
-        Err(StilRefusal::NoMemory) => return Err(Fail::from("memory")),
-        Err(StilRefusal::Fault(fault)) => {
-            told.extend_from_slice(fault.kind.name().as_bytes())?;
-            told.extend_from_slice(fault.name.as_slice())?;
-            told.push(b'0'.saturating_add(u8::try_from(fault.line).unwrap_or(0)))?;
-        }
+    for played in order.as_slice() {
+        told.extend_from_slice(played.pattern.name.as_slice())?;
+        told.extend_from_slice(played.macros)?;
+        told.push(b' ')?;
     }
     Ok(told)
+}
+
+/// A fault by its kind, the name of its block and its line.
+fn told_fault(alloc: Global, fault: &StilFault) -> Result<Vec<u8>, AllocError> {
+    let mut told = Vec::new(alloc);
+    told.extend_from_slice(fault.kind.name().as_bytes())?;
+    told.extend_from_slice(fault.name.as_slice())?;
+    told.push(b'0'.saturating_add(u8::try_from(fault.line).unwrap_or(0)))?;
+    Ok(told)
+}
+
+/// The patterns of the first executive, or its fault.
+fn told_of(alloc: Global, names: &BurstNames) -> Result<Vec<u8>, AllocError>
+    requires { 0 < length names.now.executives }
+{
+    match play_order(alloc, names, 0) {
+        Ok(order) => told_order(alloc, &order),
+        Err(StilRefusal::NoMemory) => Ok(Vec::new(alloc)),
+        Err(StilRefusal::Fault(fault)) => told_fault(alloc, &fault),
+    }
+}
+
+/// The same of blocks; nothing where there is no executive.
+fn told_in(alloc: Global, blocks: &Blocks) -> Result<Vec<u8>, AllocError> {
+    if blocks.executives.is_empty() {
+        return Ok(Vec::new(alloc));
+    }
+    let names = BurstNames::new(alloc, blocks)?;
+    told_of(alloc, &names)
+}
+
+/// The same of bursts.
+fn told(alloc: Global, words: &[&[u8]]) -> Result<Vec<u8>, AllocError> {
+    let blocks = blocks(alloc, words)?;
+    told_in(alloc, &blocks)
 }
 
 #[test]
@@ -165,8 +188,8 @@ fn bursts_run_in_place(rt: HostRuntime) -> Result<(), Fail> {
     Ok(())
 }
 
-/// How many patterns run where each of twelve bursts names the one below it twice, and the highest these more.
-fn count_with(alloc: Global, more: &[u8]) -> Result<Option<usize>, Fail> {
+/// Twelve bursts that each name the one below them twice, and the highest these more.
+fn twelve(alloc: Global, more: &[u8]) -> Result<Vec<u8>, AllocError> {
     let mut highest = Vec::new(alloc);
     highest.extend_from_slice(b"aAA")?;
     highest.extend_from_slice(more)?;
@@ -184,20 +207,26 @@ fn count_with(alloc: Global, more: &[u8]) -> Result<Option<usize>, Fail> {
         b"JKK",
         b"Kpq",
     ];
-    let blocks = blocks(alloc, &words)?;
-    if blocks.executives.is_empty() {
-        return Err(Fail::from("executives"));
-    }
-    match play_order(alloc, &blocks, 0) {
-        Ok(order) => Ok(Some(order.as_slice().len())),
-        Err(StilRefusal::Fault(fault)) if fault.kind == StilKind::TooLarge => Ok(None),
-        Err(_) => Err(Fail::from("refused")),
-    }
+    told(alloc, &words)
 }
 
 #[test]
 fn patterns_are_counted(rt: HostRuntime) -> Result<(), Fail> {
-    assert!(rt; count_with(rt.alloc(), b"")? == Some(4_096));
-    assert!(rt; count_with(rt.alloc(), b"r")?.is_none());
+    assert!(rt; twelve(rt.alloc(), b"")?.len() == 8_192);
+    assert!(rt; twelve(rt.alloc(), b"r")?.as_slice() == b"TooLargeeD".as_slice());
+    Ok(())
+}
+
+/// A ladder of 47 bursts that each name the next one twice, the last of which names nothing.
+#[test]
+fn ladders_are_climbed_once(rt: HostRuntime) -> Result<(), Fail> {
+    let words: [&[u8]; 47] = [
+        b"aAA", b"ABB", b"BCC", b"CDD", b"DEE", b"EFF", b"FGG", b"GHH", b"HII", b"IJJ", b"JKK",
+        b"KLL", b"LMM", b"MNN", b"NOO", b"OPP", b"PQQ", b"QRR", b"RSS", b"STT", b"TUU", b"UVV",
+        b"VWW", b"WXX", b"XYY", b"YZZ", b"Zbb", b"bcc", b"cdd", b"dee", b"eff", b"fgg", b"ghh",
+        b"hii", b"ijj", b"jkk", b"kll", b"loo", b"oss", b"stt", b"tuu", b"uvv", b"vww", b"wxx",
+        b"xyy", b"yzz", b"z",
+    ];
+    assert!(rt; told(rt.alloc(), &words)?.is_empty());
     Ok(())
 }

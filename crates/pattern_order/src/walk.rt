@@ -1,26 +1,41 @@
-//! The walk through a burst, with open bursts on a stack.
+//! The walk through a burst, with open bursts on a stack, and a mark for each burst.
 
-ghost use Rattle.std.specs.Prelude.{◌≡◌, ◌<◌, ◌-◌, [], ◌∷◌, ◌++◌, Some, None, length, reverse, IfOk, OnOk};
-ghost use Rattle.std.specs.Option.{option_copied};
-ghost use Rattle.std.specs.List.{list_any};
-ghost use Rattle.stil_ast.specs.Data.Texts.{same};
-ghost use Rattle.stil_ast.specs.Meaning.Bursts.{macros_name, procedures_name};
-ghost use Rattle.stil_ast.specs.Faults.BurstFaults.{is_round};
-ghost use Rattle.pattern_order.specs.Walk.{names_of, ahead_in, ahead, met, met_within, inside_in, Meets, MeetsAny};
-ghost use Rattle.pattern_order.specs.declared.walk.Frame.{Frame};
+ghost use Rattle.std.specs.Prelude.{◌≡◌, ◌<◌, ℕ, [], ◌∷◌, ◌++◌, Some, length, replicate, slice_get, slice_set, IfOk, OnOk};
+ghost use Rattle.std.specs.List.{AllByRecursion};
+ghost use Rattle.stil_ast.specs.declared.executive.Burst.{Burst};
+ghost use Rattle.pattern_order.specs.Marks.{mark_at, is_fresh, is_open, is_back, fresh_of, moved_on, IsNext, IsOpened, Enters, Begins, Passes};
+ghost use Rattle.pattern_order.specs.Numbers.{IsNumbered};
+ghost use Rattle.pattern_order.specs.declared.meaning.Meaning.TheVariants as meaning;
+ghost use Rattle.pattern_order.specs.declared.walk.Mark.TheVariants as mark;
 
-use crate::found::{burst_for, macros_name, procedures_name};
+use crate::bursts::BurstNames;
+use crate::found::{macros_name, procedures_name};
+use crate::meaning::Meaning;
 use std::alloc::{AllocError, Global};
-use stil_ast::{Blocks, Burst, BurstItem};
+use stil_ast::{Burst, BurstItem};
+
+/// What a walk knows of a burst.
+#[derive(Clone, Copy, PartialEq, Eq)]
+pub(crate) enum Mark {
+    /// It is walked through where it is met.
+    Fresh,
+    /// The walk is inside it.
+    Open,
+    /// It is passed over where it is met.
+    Closed,
+}
 
 /// A burst that is open, with the MacroDefs and Procedures that hold in it.
 #[derive(Drop)]
 pub(crate) struct Frame<'a> {
+    pub(crate) number: usize,
     pub(crate) burst: &'a Burst,
     /// The index of the item that is met next.
     pub(crate) next: usize,
     pub(crate) macros: &'a [u8],
     pub(crate) procedures: &'a [u8],
+    /// How many patterns ran before it was opened, where that is counted.
+    pub(crate) begun: usize,
 }
 
 /// A name that is met.
@@ -30,145 +45,182 @@ pub(crate) struct Step<'a> {
     pub(crate) item: &'a BurstItem,
     pub(crate) macros: &'a [u8],
     pub(crate) procedures: &'a [u8],
-    /// The burst that it names.
-    pub(crate) inner: Option<&'a Burst>,
-    /// Whether it stands inside that burst.
+    pub(crate) meaning: Meaning,
+    /// Whether it stands inside the burst that it names.
     pub(crate) leads_back: bool,
 }
 
 /// A walk, with the open bursts from the outermost.
 #[derive(Drop)]
-pub(crate) struct Walk<'a> {
-    pub(crate) blocks: &'a Blocks,
+pub(crate) struct Walk<'n, 'a> {
+    pub(crate) names: &'n BurstNames<'a>,
     pub(crate) frames: Vec<Frame<'a>>,
+    pub(crate) marks: Vec<Mark>,
 }
 
-/// Whether one of these bursts has this name.
-fn is_open(frames: &[Frame], name: &[u8]) -> bool
-    ensures { result ≡ list_any (λ (f : Frame). same name.now f.burst.now.name) frames.now }
+/// The mark of a burst.
+fn mark_at(marks: &[Mark], number: usize) -> Mark
+    ensures { result ≡ mark_at marks.now number }
 {
-    frames
-        .iter()
-        .any(|frame| name == frame.burst.name.as_slice())
+    marks.get(number).copied().unwrap_or(Mark::Fresh)
 }
 
-/// Whether a burst is one of those that are open.
-fn is_round(frames: &[Frame], burst: Option<&Burst>) -> bool
-    ensures { result ≡ is_round (names_of (reverse frames.now)) (option_copied burst.entry) }
+/// Whether a name leads back to an open burst.
+fn is_back(marks: &[Mark], meaning: Meaning) -> bool
+    ensures { result ≡ is_back marks.now meaning }
 {
-    match burst {
-        Some(burst) => is_open(frames, burst.name.as_slice()),
-        None => false,
+    match meaning {
+        Meaning::Burst(number) => matches!(mark_at(marks, number), Mark::Open),
+        _ => false,
     }
 }
 
-/// A burst at its first item, inside others.
-fn opened<'a>(burst: &'a Burst, macros: &'a [u8], procedures: &'a [u8]) -> Frame<'a>
-    ensures burst { result.burst.now ≡ burst.now }
-    ensures next { result.next ≡ 0 }
-    ensures macros { result.macros.now ≡ macros_name burst.now.items macros.now }
-    ensures procedures { result.procedures.now ≡ procedures_name burst.now.items procedures.now }
+/// The burst to which a name leads where that was never begun.
+fn fresh_of(marks: &[Mark], meaning: Meaning) -> Option<usize>
+    ensures { result ≡ fresh_of marks.now meaning }
 {
+    match meaning {
+        Meaning::Burst(number) if matches!(mark_at(marks, number), Mark::Fresh) => Some(number),
+        _ => None,
+    }
+}
+
+/// A mark for each of so many bursts.
+fn no_marks(alloc: Global, count: usize) -> Result<Vec<Mark>, AllocError>
+    ensures count { IfOk result (λ marks. length marks.items ≡ count) }
+    ensures fresh { IfOk result (λ marks. AllByRecursion (λ m. m ≡ mark.Fresh) marks.items) }
+{
+    let mut marks = Vec::new(alloc);
+    for _ in 0..count {
+        marks.push(Mark::Fresh)?;
+    }
+    Ok(marks)
+}
+
+/// A burst at its first item, inside others.
+fn opened<'a>(
+    names: &BurstNames<'a>,
+    number: usize,
+    macros: &'a [u8],
+    procedures: &'a [u8],
+    begun: usize,
+) -> Frame<'a>
+    requires { number < length names.now.bursts }
+    ensures { IsOpened names.now number begun macros.now procedures.now result }
+{
+    let burst = names.burst(number);
     let items = burst.items.as_slice();
     Frame {
+        number,
         burst,
         next: 0,
         macros: macros_name(items, macros),
         procedures: procedures_name(items, procedures),
+        begun,
     }
 }
 
-impl<'a> Walk<'a> {
+/// An open burst behind its next name.
+fn moved_on(frame: Frame<'_>) -> Frame<'_>
+    requires { frame.next < length frame.burst.now.items }
+    ensures { result ≡ moved_on frame.entry }
+{
+    let _count = frame.burst.items.len();
+    Frame {
+        next: frame.next + 1,
+        ..frame
+    }
+}
+
+impl<'n, 'a> Walk<'n, 'a> {
     /// A walk that is to begin at a burst.
     pub(crate) fn new(
         alloc: Global,
-        blocks: &'a Blocks,
-        burst: &'a Burst,
-    ) -> Result<Walk<'a>, AllocError>
-        ensures blocks { IfOk result (λ w. w.blocks.now ≡ blocks.now) }
-        ensures whole { IfOk result (λ w. ahead blocks.now w.frames.items ≡ met blocks.now burst.now) }
+        names: &'n BurstNames<'a>,
+        number: usize,
+    ) -> Result<Walk<'n, 'a>, AllocError>
+        requires { number < length names.now.bursts }
+        ensures names { IfOk result (λ w. w.names.now ≡ names.now) }
+        ensures begins { IfOk result (λ w. Begins names.now number w.marks.items w.frames.items) }
     {
         let mut walk = Walk {
-            blocks,
+            names,
             frames: Vec::new(alloc),
+            marks: no_marks(alloc, names.count())?,
         };
-        walk.enter(burst, &[], &[])?;
+        walk.enter(number, &[], &[], 0)?;
         Ok(walk)
     }
 
-    /// Opens a burst inside the open ones; no burst stands deeper than there are bursts.
+    /// Opens a burst inside the open ones.
     fn enter(
         &mut self,
-        burst: &'a Burst,
+        number: usize,
         macros: &'a [u8],
         procedures: &'a [u8],
+        begun: usize,
     ) -> Result<(), AllocError>
-        ensures blocks { self.new.blocks.now ≡ self.old.blocks.now }
-        ensures inside { OnOk result (ahead self.old.blocks.now self.new.frames.items
-            ≡ met_within self.old.blocks.now
-            (length self.old.blocks.now.bursts - length (reverse self.old.frames.items))
-            (names_of (reverse self.old.frames.items)) macros.now procedures.now burst.now
-            ++ ahead self.old.blocks.now self.old.frames.items) }
+        requires within { number < length self.old.names.now.bursts }
+        requires marked { number < length self.old.marks.items }
+        ensures names { self.new.names.now ≡ self.old.names.now }
+        ensures enters { OnOk result (Enters self.old.names.now number begun macros.now procedures.now
+            self.old.marks.items self.old.frames.items self.new.marks.items self.new.frames.items) }
     {
-        if self.frames.len() < self.blocks.bursts.len() {
-            self.frames.push(opened(burst, macros, procedures))?;
-        }
+        let frame = opened(self.names, number, macros, procedures, begun);
+        self.frames.push(frame)?;
+        self.marks[number] = Mark::Open;
         Ok(())
     }
 
-    /// Opens the burst that a name names, unless it is open.
-    pub(crate) fn enter_inner(&mut self, step: &Step<'a>) -> Result<(), AllocError>
-        ensures blocks { self.new.blocks.now ≡ self.old.blocks.now }
-        ensures inside { OnOk result (ahead self.old.blocks.now self.new.frames.items
-            ≡ inside_in self.old.blocks.now step.now (reverse self.old.frames.items)
-            ++ ahead self.old.blocks.now self.old.frames.items) }
+    /// Marks a burst that is not open any more.
+    pub(crate) fn close(&mut self, number: usize, mark: Mark)
+        requires { number < length self.old.marks.items }
+        ensures names { self.new.names.now ≡ self.old.names.now }
+        ensures frames { self.new.frames.items ≡ self.old.frames.items }
+        ensures marks { self.new.marks.items ≡ slice_set self.old.marks.items number mark }
     {
-        match step.inner {
-            Some(burst) if !step.leads_back => self.enter(burst, step.macros, step.procedures),
-            _ => Ok(()),
+        self.marks[number] = mark;
+    }
+
+    /// The next name of a burst inside the open ones.
+    pub(crate) fn next_in(&self, frame: &Frame<'a>) -> Step<'a>
+        requires numbered { IsNumbered self.now.names.now frame.now.number frame.now.burst.now }
+        requires within { frame.now.next < length frame.now.burst.now.items }
+        ensures { IsNext self.now.names.now self.now.marks.items frame.now result }
+    {
+        let meaning = self.names.meaning(frame.number, frame.next);
+        Step {
+            burst: frame.burst,
+            item: &frame.burst.items.as_slice()[frame.next],
+            macros: frame.macros,
+            procedures: frame.procedures,
+            meaning,
+            leads_back: is_back(self.marks.as_slice(), meaning),
         }
     }
 
-    /// Meets the next name of a burst inside the open ones.
-    fn meet(&mut self, frame: Frame<'a>) -> Result<Step<'a>, AllocError>
-        requires { frame.next < length frame.burst.now.items }
-        ensures blocks { self.new.blocks.now ≡ self.old.blocks.now }
-        ensures meets { IfOk result (λ s. Meets self.old.blocks.now
-            (ahead_in self.old.blocks.now (frame.entry ∷ reverse self.old.frames.items)) s self.new.frames.items) }
+    /// Goes on behind the next name of a burst inside the open ones: into the burst that it names, unless that was
+    /// begun before.
+    pub(crate) fn pass(
+        &mut self,
+        frame: Frame<'a>,
+        step: &Step<'a>,
+        begun: usize,
+    ) -> Result<(), AllocError>
+        requires within { (number : ℕ) → step.now.meaning ≡ meaning.Burst number
+            → number < length self.old.names.now.bursts }
+        requires marked { length self.old.marks.items ≡ length self.old.names.now.bursts }
+        requires next { frame.next < length frame.burst.now.items }
+        ensures names { self.new.names.now ≡ self.old.names.now }
+        ensures passes { OnOk result (Passes self.old.names.now (fresh_of self.old.marks.items step.now.meaning)
+            frame.entry step.now begun self.old.marks.items self.old.frames.items self.new.marks.items
+            self.new.frames.items) }
     {
-        let burst = frame.burst;
-        let macros = frame.macros;
-        let procedures = frame.procedures;
-        let item = &burst.items.as_slice()[frame.next];
-        let inner = burst_for(self.blocks, item);
-        self.frames.push(Frame {
-            burst,
-            next: frame.next + 1,
-            macros,
-            procedures,
-        })?;
-        Ok(Step {
-            burst,
-            item,
-            macros,
-            procedures,
-            inner,
-            leads_back: is_round(self.frames.as_slice(), inner),
-        })
-    }
-
-    /// Meets the next name. What is inside it is met next only if it is entered.
-    pub(crate) fn step(&mut self) -> Result<Option<Step<'a>>, AllocError>
-        ensures blocks { self.new.blocks.now ≡ self.old.blocks.now }
-        ensures meets { IfOk result (λ s. MeetsAny self.old.blocks.now
-            (ahead self.old.blocks.now self.old.frames.items) s self.new.frames.items) }
-    {
-        while let Some(frame) = self.frames.pop() {
-            if frame.next < frame.burst.items.len() {
-                let step = self.meet(frame)?;
-                return Ok(Some(step));
-            }
+        let fresh = fresh_of(self.marks.as_slice(), step.meaning);
+        self.frames.push(moved_on(frame))?;
+        match fresh {
+            Some(number) => self.enter(number, step.macros, step.procedures, begun),
+            None => Ok(()),
         }
-        Ok(None)
     }
 }
