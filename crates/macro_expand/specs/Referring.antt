@@ -1,0 +1,15 @@
+-- The signals of an assignment's reference.
+use Rattle.std.specs.Prelude.{◌≡◌, ℕ, List, Result, Ok, Err, None, Some}
+use Rattle.stil_ast.specs.Meaning.Members.{members, reference_kind}
+use Rattle.stil_ast.specs.Meaning.Signals.{Names}
+use Rattle.stil_ast.specs.declared.name.SigRef.{SigRef}
+use Rattle.flat_tree.specs.declared.place.BodyKind.{BodyKind}
+use Rattle.macro_expand.specs.declared.trouble.Trouble.{Trouble}
+use Rattle.macro_expand.specs.declared.trouble.Trouble.TheVariants.{NoMemory, At}
+
+-- the signals of a reference, or its fault on a line of a body
+abbrev pub IsResolved : Names → SigRef → BodyKind → ℕ → Result (List ℕ) Trouble → Type 0
+IsResolved names r body line (Ok found) = (reference_kind names r ≡ None) × (found ≡ members names r)
+IsResolved names r body line (Err NoMemory) = Unit {0}
+IsResolved names r body line (Err (At kind place on)) =
+    (reference_kind names r ≡ Some kind) × (place ≡ body) × (on ≡ line)

@@ -1,0 +1,14 @@
+-- How the code names a fault of a pattern.
+use Rattle.std.specs.Prelude.{◌≡◌}
+use Rattle.stil_ast.specs.Data.Places.{Titles}
+use Rattle.stil_ast.specs.Faults.Found.{fault_in}
+use Rattle.stil_ast.specs.Faults.AssignmentFaults.{Checked, refused}
+use Rattle.stil_ast.specs.Meaning.Resolved.{origin}
+use Rattle.flat_tree.specs.Origins.{body_of}
+use Rattle.macro_expand.specs.declared.trouble.Trouble.{Trouble}
+use Rattle.macro_expand.specs.declared.trouble.Trouble.TheVariants.{NoMemory, At}
+
+-- a check has the fault that is named, unless memory ran out
+abbrev pub IsAt : Titles → Checked → Trouble → Type 0
+IsAt titles checked NoMemory = Unit {0}
+IsAt titles checked (At kind body line) = checked ≡ refused (fault_in titles (origin (body_of body) line) kind)

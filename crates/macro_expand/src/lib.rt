@@ -1,0 +1,30 @@
+//! The flat tree of a pattern: macros, procedures, arguments and shifts resolved, or the first fault (IEEE 1450-1999,
+//! clauses 21 to 24).
+#![tactic(auto)]
+
+mod assigning;
+mod bodies;
+mod dealing;
+mod expanding;
+mod giving;
+mod naming;
+mod pairing;
+mod placing;
+mod reference;
+mod refusing;
+mod rules;
+mod scope;
+mod shifting;
+mod signal_set;
+mod standing;
+mod taking;
+mod trouble;
+mod walk;
+mod walking;
+
+pub use bodies::Bodies;
+pub use expanding::expand;
+pub use scope::{BlockTitles, PatternScope};
+
+#[cfg(test)]
+mod tests;

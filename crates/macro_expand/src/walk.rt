@@ -1,0 +1,16 @@
+//! How far a walk over statements has come.
+
+use crate::signal_set::SignalSet;
+use flat_tree::FlatList;
+use pattern_args::Arguments;
+
+/// What is left of the arguments, the signals that got a `#` in this pass of a Shift and in this statement, how many
+/// statements were walked and signals assigned, and the tree that was written.
+#[derive(Drop)]
+pub(crate) struct Walk {
+    pub(crate) args: Arguments,
+    pub(crate) hashes: SignalSet,
+    pub(crate) taken: SignalSet,
+    pub(crate) count: u32,
+    pub(crate) out: FlatList,
+}
