@@ -6,6 +6,7 @@ ghost use Rattle.stil_ast.specs.Data.OneText.{AreOfOneText};
 ghost use Rattle.stil_ast.specs.Meaning.Signals.{names_of};
 ghost use Rattle.signal_groups.specs.Table.{table_of};
 
+use crate::patterns::{Standing, walk_patterns};
 use pattern_order::{BurstNames, play_order};
 use signal_groups::SignalTable;
 use std::alloc::{AllocError, AllocFailed, Global};
@@ -77,26 +78,39 @@ fn waves_in(set: &WaveSet) -> u32 {
     count
 }
 
-/// Judges the names, variables, tables and chains of an executive, behind so many waves, and answers how many there are
-/// then.
+/// How many waves the executives so far have, and how many statements they walk and signals they assign.
+#[derive(Clone, Copy)]
+struct Counts {
+    waves: u32,
+    walked: u32,
+}
+
+/// Judges the names, variables, tables, chains and patterns of an executive, behind others.
 fn judge_exec(
     alloc: Global,
     blocks: &Blocks,
     exec: usize,
     names: &BurstNames,
     signals: &SignalTable,
-    before: u32,
-) -> Result<u32, Stop>
+    counts: &mut Counts,
+) -> Result<(), Stop>
     requires text { AreOfOneText blocks.now }
     requires executive { exec < length blocks.now.executives }
     requires names { names.now ≡ blocks.now }
     requires signals { signals.now ≡ table_of (names_of blocks.now) }
 {
-    let _order = play_order(alloc, names, exec)?;
+    let order = play_order(alloc, names, exec)?;
     let vars = choose(alloc, blocks, exec)?;
-    let set = wave_tables::build(alloc, blocks, exec, signals, &vars, before)?;
-    let _chains = scan_chain::build(alloc, blocks, exec, signals)?;
-    Ok(before.saturating_add(waves_in(&set)))
+    let tables = wave_tables::build(alloc, blocks, exec, signals, &vars, counts.waves)?;
+    let chains = scan_chain::build(alloc, blocks, exec, signals)?;
+    counts.waves = counts.waves.saturating_add(waves_in(&tables));
+    let standing = Standing {
+        blocks,
+        signals,
+        tables: &tables,
+        chains: &chains,
+    };
+    walk_patterns(alloc, &standing, order.as_slice(), &mut counts.walked)
 }
 
 /// Judges all executives.
@@ -105,9 +119,12 @@ fn judge_execs(alloc: Global, blocks: &Blocks, signals: &SignalTable) -> Result<
     requires signals { signals.now ≡ table_of (names_of blocks.now) }
 {
     let names = BurstNames::new(alloc, blocks)?;
-    let mut waves = 0;
+    let mut counts = Counts {
+        waves: 0,
+        walked: 0,
+    };
     for exec in 0..blocks.executives.len() {
-        waves = judge_exec(alloc, blocks, exec, &names, signals, waves)?;
+        judge_exec(alloc, blocks, exec, &names, signals, &mut counts)?;
     }
     Ok(())
 }

@@ -5,6 +5,7 @@
 
 mod front;
 mod known;
+mod patterns;
 
 use crate::front::judge;
 use crate::known::{Known, known_of};
