@@ -25,7 +25,7 @@ use Rattle.pattern_order.specs.declared.walk.Mark.{Mark}
 use Rattle.pattern_order.specs.declared.walk.Mark.TheVariants.{Fresh, Open, Closed}
 use Rattle.pattern_order.specs.declared.walk.Step.{Step}
 use Rattle.pattern_order.proofs.MeaningLemmas.{Means, means}
-use Rattle.pattern_order.proofs.MeetLemmas.{first_in-append}
+use Rattle.stil_ast.proofs.FoundLemmas.{first_in-append}
 use Rattle.pattern_order.proofs.StandLemmas.{round-open, room, stands-move}
 
 -- a burst that was never begun is not open

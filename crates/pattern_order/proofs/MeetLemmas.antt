@@ -5,7 +5,7 @@ use Rattle.std.specs.List.{flat_map}
 use Rattle.std.proofs.lemmas.List.{map-append}
 use Rattle.std.proofs.lemmas.List.Concat.{flat_map-append}
 use Rattle.stil_ast.specs.Meaning.Bursts.{Played, pattern_named, burst_named, entry_played, item_played, macros_name, procedures_name, played_within}
-use Rattle.stil_ast.specs.Faults.Found.{or_else, first_in}
+use Rattle.stil_ast.specs.Faults.Found.{first_in}
 use Rattle.stil_ast.specs.Faults.BurstFaults.{Mention, burst_for, is_round, walked_through, mentions_at, mentions_within, cyclic_fault}
 use Rattle.stil_ast.specs.declared.blocks.Blocks.{Blocks}
 use Rattle.stil_ast.specs.declared.blocks.Pattern.{Pattern}
@@ -14,26 +14,8 @@ use Rattle.stil_ast.specs.declared.executive.BurstItem.{BurstItem}
 use Rattle.stil_ast.specs.declared.executive.BurstWord.{BurstWord}
 use Rattle.stil_ast.specs.declared.executive.BurstWord.TheVariants.{SignalGroups, MacroDefs, Procedures, ScanStructures, Entry}
 use Rattle.stil_ast.specs.declared.fault.StilFault.{StilFault}
+use Rattle.stil_ast.proofs.FoundLemmas.{or_else-none, first_in-append}
 use Rattle.pattern_order.specs.Walk.{Met, met_inside, met_at, met_within, mention_of, pattern_played, played_at}
-
--- neither of two has a fault where there is no first
-pub neither : (a b : Option StilFault) → or_else a b ≡ None → (a ≡ None) × (b ≡ None)
-neither None b h = (refl, h)
-neither (Some f) b h = absurd (some f h)
-  where
-    some : (f : StilFault) → ◌≡◌ {A = Option StilFault} (Some f) None → ⊥
-    some f h = cc
-
--- the first fault in two lists
-pub first_in-append : {X : Type 0} (rule : X → Option StilFault) (xs ys : List X)
-    → first_in rule (xs ++ ys) ≡ or_else (first_in rule xs) (first_in rule ys)
-first_in-append rule [] ys = refl
-first_in-append rule (x ∷ xs) ys =
-    ap (or_else (rule x)) (first_in-append rule xs ys) ∙ join (rule x) (first_in rule xs) (first_in rule ys)
-  where
-    join : (a b c : Option StilFault) → or_else a (or_else b c) ≡ or_else (or_else a b) c
-    join None b c = refl
-    join (Some f) b c = refl
 
 -- lists one after another
 joined : {X : Type 0} (a b c d e : List X) → a ≡ b ++ c → d ≡ e → a ++ d ≡ b ++ (c ++ e)
@@ -75,7 +57,7 @@ module _ (blocks : Blocks) where
 
   pub none-parts : (xs ys : List Met) → NoneBack (xs ++ ys) → NoneBack xs × NoneBack ys
   none-parts xs ys h =
-      neither (first_in cyclic_fault (map (mention_of blocks) xs)) (first_in cyclic_fault (map (mention_of blocks) ys))
+      or_else-none (first_in cyclic_fault (map (mention_of blocks) xs)) (first_in cyclic_fault (map (mention_of blocks) ys))
       (sym (ap (first_in cyclic_fault) (map-append (mention_of blocks) xs ys)
       ∙ first_in-append cyclic_fault (map (mention_of blocks) xs) (map (mention_of blocks) ys)) ∙ h)
 
@@ -120,7 +102,7 @@ module _ (blocks : Blocks) where
         let back = is_round round o in
         let rest = flat_map (met_at blocks inside round macros procedures b) items in
         let m : Met = record { burst = b; item = i; macros = macros; procedures = procedures; leads_back = back } in
-        let parts = neither (cyclic_fault (mention_of blocks m))
+        let parts = or_else-none (cyclic_fault (mention_of blocks m))
         (first_in cyclic_fault (map (mention_of blocks) (met_inside inside back o ++ rest))) h in
         let rests = none-parts (met_inside inside back o) rest parts.1 in
         joined (item_played blocks macros procedures inner i) (played_at blocks m)

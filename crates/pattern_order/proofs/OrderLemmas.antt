@@ -1,5 +1,6 @@
 -- What is answered of a burst, and the four clauses of an answer on an executive, from one fact.
-use Rattle.std.proofs.Common.{◌≡◌, ℕ, zero, suc, List, [], ◌∷◌, get_or, Option, Some, None, Vec, length, refl, sym, ap, subst, ◌∙◌, inl, inr, ◌⊎◌}
+use Rattle.std.proofs.Common.{◌≡◌, ℕ, List, [], get_or, Option, Some, None, Vec, length, refl, sym, ap, subst, ◌∙◌, inl, inr, ◌⊎◌}
+use Rattle.std.proofs.lemmas.Option.{get_or_from_slice_get}
 use Rattle.std.specs.Prelude.{Result, Ok, Err, IfOk, IfErr, MatchResult, slice_get}
 use Rattle.std.specs.List.{flat_map}
 use Rattle.std.specs.declared.alloc.Global.{Global}
@@ -15,6 +16,7 @@ use Rattle.stil_ast.specs.declared.fault.StilKind.TheVariants.{TooLarge, Unknown
 use Rattle.stil_ast.specs.declared.fault.StilRefusal.{StilRefusal}
 use Rattle.stil_ast.specs.declared.fault.StilRefusal.TheVariants as refusal
 use Rattle.signal_groups.specs.Begun.{Refuses, FirstTells}
+use Rattle.stil_ast.proofs.FoundLemmas.{not_both, one_fault}
 use Rattle.pattern_order.specs.Numbers.{burst_number}
 use Rattle.pattern_order.specs.Walk.{met, played_at}
 use Rattle.pattern_order.specs.Held.{played_in}
@@ -59,24 +61,7 @@ pub orders-of : (blocks : Blocks) (exec : ℕ) (e here : ExecDecl) (r : Result (
     → Orders (exec_names_fault blocks e) (played blocks e) r
 orders-of blocks exec e here r at is h =
     subst (λ (x : ExecDecl). Orders (exec_names_fault blocks x) (played blocks x) r)
-    (is ∙ found blocks.executives exec e here at) h
-  where
-    found : (xs : List ExecDecl) (i : ℕ) (e d : ExecDecl) → slice_get xs i ≡ Some e → get_or xs i d ≡ e
-    found [] i e d at = absurd (none e at)
-      where
-        none : (e : ExecDecl) → ◌≡◌ {A = Option ExecDecl} None (Some e) → ⊥
-        none e at = cc
-    found (x ∷ xs) zero e d at = same x e at
-      where
-        same : (x e : ExecDecl) → ◌≡◌ {A = Option ExecDecl} (Some x) (Some e) → x ≡ e
-        same x e at = cc
-    found (x ∷ xs) (suc i) e d at = found xs i e d at
-
-not_both : (o : Option StilFault) (f : StilFault) → o ≡ None → o ≡ Some f → ⊥
-not_both o f e g = cc
-
-one : (f g : StilFault) → ◌≡◌ {A = Option StilFault} (Some f) (Some g) → f ≡ g
-one f g e = cc
+    (is ∙ get_or_from_slice_get blocks.executives exec e here at) h
 
 module _ (blocks : Blocks) (e : ExecDecl) where
   pub is_found : (r : Result (List Played) StilRefusal) → Orders (exec_names_fault blocks e) (played blocks e) r
@@ -101,7 +86,7 @@ module _ (blocks : Blocks) (e : ExecDecl) where
       → MatchResult r (λ _. ⊥) (λ r. (r ≡ refusal.NoMemory) ⊎ (r ≡ refusal.Fault f))
   is_refused (Ok order) h f first = not_both (exec_names_fault blocks e) f h.0 first
   is_refused (Err refusal.NoMemory) h f first = inl refl
-  is_refused (Err (refusal.Fault g)) h f first = inr (ap (λ x. refusal.Fault x) (one g f (sym h ∙ first)))
+  is_refused (Err (refusal.Fault g)) h f first = inr (ap (λ x. refusal.Fault x) (one_fault g f (sym h ∙ first)))
 
   -- the first fault, of the names but for the burst and of what the burst leads to
   own-split : exec_names_fault blocks e

@@ -15,6 +15,7 @@ use Rattle.stil_ast.specs.declared.blocks.Pattern.{Pattern}
 use Rattle.stil_ast.specs.declared.fault.StilKind.TheVariants.{Cyclic}
 use Rattle.stil_ast.specs.declared.executive.Burst.{Burst}
 use Rattle.stil_ast.specs.declared.executive.BurstItem.{BurstItem}
+use Rattle.stil_ast.proofs.FoundLemmas.{or_else-none}
 use Rattle.pattern_order.specs.Walk.{Met, met_within, mention_of, pattern_played, played_at, names_of, ahead_in, met_by}
 use Rattle.pattern_order.specs.Numbers.{IsNumbered, meaning_of, played_as}
 use Rattle.pattern_order.specs.Marks.{mark_at, is_fresh, is_closed, fresh_of, moved_on, IsNext, IsOpened, Passes, Stands}
@@ -30,7 +31,7 @@ use Rattle.pattern_order.specs.declared.walk.Mark.TheVariants.{Fresh, Open, Clos
 use Rattle.pattern_order.specs.declared.walk.Step.{Step}
 use Rattle.pattern_order.proofs.MeaningLemmas.{Means, means, played-as}
 use Rattle.pattern_order.proofs.PlaceLemmas.{at_place}
-use Rattle.pattern_order.proofs.MeetLemmas.{NoneBack, neither, none-parts}
+use Rattle.pattern_order.proofs.MeetLemmas.{NoneBack, none-parts}
 use Rattle.pattern_order.proofs.StandLemmas.{within, innermost, stands-close, stands-move, stands-open}
 use Rattle.pattern_order.proofs.AheadLemmas.{inside, ahead-close, ahead-next, into-ahead, fresh-shut, GoesInto, NamesNone, Ways, ways, PassesIn, passes-in, less-close, less-next}
 use Rattle.pattern_order.proofs.ForwardLemmas.{closed-more, closed-same, open-shut, fresh-unclosed, forward-from}
@@ -285,7 +286,7 @@ module _ (blocks : Blocks) where
         → HasPlayed blocks ran (f ∷ fs) ran' marks' fs'
     has_played ms marks' fs' is quiet most plays = record {
       plays = plays (none-parts blocks ms (ahead_in blocks fs')
-          (neither (cyclic_fault (mention_of blocks (met_by s)))
+          (or_else-none (cyclic_fault (mention_of blocks (met_by s)))
           (first_in cyclic_fault (map (mention_of blocks) (ms ++ ahead_in blocks fs')))
           (sym (ap (λ xs. first_in cyclic_fault (map (mention_of blocks) xs)) is) ∙ h.forward)).1).1;
       same = ap (λ xs. ran ++ flat_map (played_at blocks) xs) is
@@ -346,7 +347,7 @@ module _ (blocks : Blocks) where
     forward-here : s.leads_back ≡ false
     forward-here =
         forward-from s.leads_back (fault_at (burst_place s.burst.now s.item.now.line) Cyclic)
-        (neither (cyclic_fault (mention_of blocks (met_by s)))
+        (or_else-none (cyclic_fault (mention_of blocks (met_by s)))
         (first_in cyclic_fault (map (mention_of blocks) (inside blocks f fs s ++ ahead_in blocks (moved_on f ∷ fs))))
         (sym (ap (λ xs. first_in cyclic_fault (map (mention_of blocks) xs)) (ahead-next blocks marks f fs s h.stands n)) ∙ h.forward)).0
 

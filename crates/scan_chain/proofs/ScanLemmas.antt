@@ -1,5 +1,6 @@
 -- The four clauses of an answer on the chains of an executive, from one fact.
-use Rattle.std.proofs.Common.{◌≡◌, ℕ, zero, suc, List, [], ◌∷◌, get_or, Option, Some, None, refl, sym, ap, subst, ◌∙◌, inl, inr, ◌⊎◌}
+use Rattle.std.proofs.Common.{◌≡◌, ℕ, List, get_or, Some, None, refl, sym, ap, subst, ◌∙◌, inl, inr, ◌⊎◌}
+use Rattle.std.proofs.lemmas.Option.{get_or_from_slice_get}
 use Rattle.std.specs.Prelude.{Result, Ok, Err, IfOk, IfErr, MatchResult, slice_get}
 use Rattle.stil_ast.specs.Meaning.Chains.{Chain}
 use Rattle.stil_ast.specs.Meaning.Executive.{chain_list}
@@ -15,18 +16,7 @@ use Rattle.scan_chain.specs.Fault.{chain_list_fault, IsChainFault, Scans}
 pub scans-of : (blocks : Blocks) (exec : ℕ) (e here : ExecDecl) (r : Result (List Chain) StilRefusal)
     → slice_get blocks.executives exec ≡ Some e
     → here ≡ get_or blocks.executives exec here → Scans blocks here r → Scans blocks e r
-scans-of blocks exec e here r at is h = subst (λ x. Scans blocks x r) (is ∙ found blocks.executives exec e here at) h
-  where
-    found : (xs : List ExecDecl) (i : ℕ) (e d : ExecDecl) → slice_get xs i ≡ Some e → get_or xs i d ≡ e
-    found [] i e d at = absurd (none e at)
-      where
-        none : (e : ExecDecl) → ◌≡◌ {A = Option ExecDecl} None (Some e) → ⊥
-        none e at = cc
-    found (x ∷ xs) zero e d at = same x e at
-      where
-        same : (x e : ExecDecl) → ◌≡◌ {A = Option ExecDecl} (Some x) (Some e) → x ≡ e
-        same x e at = cc
-    found (x ∷ xs) (suc i) e d at = found xs i e d at
+scans-of blocks exec e here r at is h = subst (λ x. Scans blocks x r) (is ∙ get_or_from_slice_get blocks.executives exec e here at) h
 
 module _ (blocks : Blocks) (e : ExecDecl) where
   pub is_found : (r : Result (List Chain) StilRefusal) → Scans blocks e r
