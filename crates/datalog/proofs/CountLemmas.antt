@@ -7,6 +7,7 @@ use Rattle.std.proofs.lemmas.List.Sums.{count_by-le-length, sum_by-append, sum_b
 use Rattle.std.proofs.lemmas.List.FromFn.{fill_by_all}
 use Rattle.std.specs.List.{flat_map, range_with_len}
 use Rattle.tester_types.specs.declared.record.Record.{Record}
+use Rattle.tester_types.specs.Records.{SiteRecords, records_of}
 use Rattle.lot_plan.specs.Bound.{Bound}
 use Rattle.datalog.specs.Counts.{AreCounts, HaveGrown}
 use Rattle.datalog.specs.DatalogText.{die_bin, bins_of, dies_in, numbered, total_line, totals_text}
@@ -62,26 +63,27 @@ grown_small plan entries before counts b most fits grown small =
     )
 
 -- the bins of the dies of one more site
-bins_of-more : (plan : Bound) (sites : List (List Record)) (i : ℕ) (entries : List Record) → i < length sites →
-    entries ≡ get_or sites i entries →
-    bins_of plan (take (i + 1) sites) ≡ bins_of plan (take i sites) ++ map (die_bin plan) entries
-bins_of-more plan sites i entries within is =
-    ap (bins_of plan) (take_more sites i entries within ∙ ap (λ x. take i sites ++ x ∷ []) (sym is))
-    ∙ flat_map-append (map (die_bin plan)) (take i sites) (entries ∷ [])
-    ∙ ap (λ t. bins_of plan (take i sites) ++ t) (append-nil (map (die_bin plan) entries))
+bins_of-more : (plan : Bound) (sites : List SiteRecords) (i : ℕ) (site : SiteRecords) → i < length sites →
+    site ≡ get_or sites i site → bins_of plan (records_of (take (i + 1) sites)) ≡
+    bins_of plan (records_of (take i sites)) ++ map (die_bin plan) site.records
+bins_of-more plan sites i site within is =
+    ap (bins_of plan) (map_more (λ (s : SiteRecords). s.records) sites i site within
+    ∙ ap (λ (s : SiteRecords). records_of (take i sites) ++ s.records ∷ []) (sym is))
+    ∙ flat_map-append (map (die_bin plan)) (records_of (take i sites)) (site.records ∷ [])
+    ∙ ap (λ t. bins_of plan (records_of (take i sites)) ++ t) (append-nil (map (die_bin plan) site.records))
 
 -- one more site is counted
-pub counts_more : (plan : Bound) (sites : List (List Record)) (counts counts' : List ℕ) (i : ℕ) (entries : List Record) →
-    i < length sites → entries ≡ get_or sites i entries → length counts' ≡ 100 →
-    AreCounts (bins_of plan (take i sites)) counts → HaveGrown counts (map (die_bin plan) entries) counts' →
-    get_or counts' 0 0 ≡ get_or counts 0 0 →
-    AreCounts (bins_of plan (take (i + 1) sites)) counts'
-counts_more plan sites counts counts' i entries within is size was grown same = record {
+pub counts_more : (plan : Bound) (sites : List SiteRecords) (counts counts' : List ℕ) (i : ℕ) (site : SiteRecords) →
+    i < length sites → site ≡ get_or sites i site → length counts' ≡ 100 →
+    AreCounts (bins_of plan (records_of (take i sites))) counts →
+    HaveGrown counts (map (die_bin plan) site.records) counts' → get_or counts' 0 0 ≡ get_or counts 0 0 →
+    AreCounts (bins_of plan (records_of (take (i + 1) sites))) counts'
+counts_more plan sites counts counts' i site within is size was grown same = record {
   size = size;
   none = same ∙ was.none;
-  each = λ bin fits. grown bin fits ∙ ap (λ n. n + dies_in bin (map (die_bin plan) entries)) (was.each bin fits)
-      ∙ sym (dies_in-append bin (bins_of plan (take i sites)) (map (die_bin plan) entries))
-      ∙ ap (dies_in bin) (sym (bins_of-more plan sites i entries within is));
+  each = λ bin fits. grown bin fits ∙ ap (λ n. n + dies_in bin (map (die_bin plan) site.records)) (was.each bin fits)
+      ∙ sym (dies_in-append bin (bins_of plan (records_of (take i sites))) (map (die_bin plan) site.records))
+      ∙ ap (dies_in bin) (sym (bins_of-more plan sites i site within is));
 }
 
 -- nothing is counted at first

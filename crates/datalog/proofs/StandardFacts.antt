@@ -42,8 +42,7 @@ plan = record {
   rows =
       row.Lot (record { batch = 256; tries = 2; keep = 8 }) ∷ die 0 (codes "d0") ∷ die 2 (codes "e 1")
       ∷ row.Bin (record { ending = ending.Contact; bin = 7 }) ∷ [];
-  signals = [];
-  execs = 1;
+  program = program;
   circuits = [];
 }
 

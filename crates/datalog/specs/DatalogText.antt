@@ -9,6 +9,7 @@ use Rattle.tester_types.specs.declared.level.Level.TheVariants as level
 use Rattle.tester_types.specs.declared.record.By.{By}
 use Rattle.tester_types.specs.declared.record.By.TheVariants as by
 use Rattle.tester_types.specs.declared.record.Fail.{Fail}
+use Rattle.tester_types.specs.Records.{SiteRecords}
 use Rattle.tester_types.specs.declared.record.Record.{Record}
 use Rattle.tester_types.specs.declared.record.Trial.{Trial}
 use Rattle.tester_types.specs.declared.record.Verdict.{Verdict}
@@ -129,6 +130,10 @@ site_line number = codes "site " ++ decimal number ++ codes "\n"
 abbrev pub site_text : Program → Bound → ℕ → List Record → List ℕ
 site_text code plan number [] = []
 site_text code plan number (entry ∷ entries) = site_line number ++ flat_map (record_text code plan) (entry ∷ entries)
+
+-- the same of a site as its records were filed
+abbrev pub filed_text : Program → Bound → ℕ → SiteRecords → List ℕ
+filed_text code plan number site = site_text code plan number site.records
 
 -- the texts of items that are numbered from here on
 abbrev pub numbered : {X : Type 0} → (ℕ → X → List ℕ) → ℕ → List X → List ℕ

@@ -3,7 +3,8 @@
 ghost use Rattle.std.specs.Prelude.{◌≡◌, ◌<◌, ◌≤◌, All, OnErr, length};
 ghost use Rattle.std.specs.List.{flat_map};
 ghost use Rattle.tester_types.specs.Outside.{HasRisen, Puts};
-ghost use Rattle.datalog.specs.DatalogText.{record_text, site_text, numbered, lot_text};
+ghost use Rattle.tester_types.specs.Records.{records_of};
+ghost use Rattle.datalog.specs.DatalogText.{record_text, site_text, filed_text, numbered, lot_text};
 ghost use Rattle.datalog.specs.Printable.{IsPrintable, IsPrintableAt, ArePrintable};
 
 use crate::records::print_record;
@@ -20,8 +21,9 @@ pub fn print_lot<K: Sink>(
     sites: &[RecordList],
     sink: &mut K,
 ) -> Result<(), SinkFault>
-    requires { ArePrintable code.now plan.now sites.now }
-    ensures puts { Puts (K.told sink.old) (lot_text code.now plan.now sites.now) result (K.told sink.new) }
+    requires { ArePrintable code.now plan.now (records_of sites.now) }
+    ensures puts { Puts (K.told sink.old) (lot_text code.now plan.now (records_of sites.now)) result
+        (K.told sink.new) }
     ensures count { K.faults sink.old ≤ K.faults sink.new }
     ensures cause { OnErr result (HasRisen (K.faults sink.old) (K.faults sink.new)) }
 {
@@ -36,8 +38,8 @@ fn put_sites<K: Sink>(
     plan: &BoundPlan,
     sites: &[RecordList],
 ) -> Result<(), SinkFault>
-    requires { ArePrintable code.now plan.now sites.now }
-    ensures puts { Puts (K.told sink.old) (numbered (site_text code.now plan.now) 0 sites.now) result
+    requires { ArePrintable code.now plan.now (records_of sites.now) }
+    ensures puts { Puts (K.told sink.old) (numbered (filed_text code.now plan.now) 0 sites.now) result
         (K.told sink.new) }
     ensures count { K.faults sink.old ≤ K.faults sink.new }
     ensures cause { OnErr result (HasRisen (K.faults sink.old) (K.faults sink.new)) }

@@ -2,6 +2,7 @@
 
 ghost use Rattle.std.specs.Prelude.{◌≡◌, ℕ, ◌^◌, ◌<◌, ◌≤◌, All, OnErr, [], length, map, slice_index};
 ghost use Rattle.tester_types.specs.Outside.{HasRisen, Puts};
+ghost use Rattle.tester_types.specs.Records.{records_of};
 ghost use Rattle.datalog.specs.Counts.{AreCounts, HaveGrown};
 ghost use Rattle.datalog.specs.DatalogText.{die_bin, bins_of, numbered, total_line};
 
@@ -46,8 +47,8 @@ fn put_total<K: Sink>(sink: &mut K, bin: usize, dies: u128) -> Result<(), SinkFa
 /// How many dies fell into each bin.
 pub(crate) fn counts_of(plan: &BoundPlan, sites: &[RecordList]) -> [u128; BINS]
     requires few { length sites.now ≤ 64 }
-    requires tried { All (All (λ entry. 0 < length entry.trials)) sites.now }
-    ensures { AreCounts (bins_of plan.now sites.now) result }
+    requires tried { All (All (λ entry. 0 < length entry.trials)) (records_of sites.now) }
+    ensures { AreCounts (bins_of plan.now (records_of sites.now)) result }
 {
     let mut counts = no_counts();
     for entries in sites {

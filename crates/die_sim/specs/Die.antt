@@ -1,4 +1,5 @@
--- A die: a circuit, how signals are bound to its nets, the nets that faults fix, and the levels that all nets settle to.
+-- A die: a circuit, how signals are bound to its nets, the nets that faults fix, and the levels that all nets settle
+-- to.
 use Rattle.std.specs.Prelude.{◌≡◌, ◌==◌, ℕ, ◌<◌, ◌≤◌, Bool, true, false, Option, Some, None, List, length, fold, replicate, slice_index_or, slice_set, unwrap_or}
 use Rattle.tester_types.specs.declared.level.Level.{Level}
 use Rattle.tester_types.specs.declared.level.Level.TheVariants.{Zero, One, X}
@@ -11,7 +12,8 @@ use Rattle.die_sim.specs.declared.image.Bind.TheVariants as bind
 use Rattle.die_sim.specs.declared.image.StuckAt.{StuckAt}
 use Rattle.die_sim.specs.Gates.{level_at, gate_of}
 
--- what is loaded into a socket: a circuit, its binding, with the number of the clock's signal if there is one, and its faults
+-- what is loaded into a socket: a circuit, its binding, with the number of the clock's signal if there is one, and
+-- its faults
 pub record Image : Type 0 where
   pub circuit : Circuit
   pub clock : Option ℕ
@@ -25,7 +27,8 @@ pub record Device : Type 0 where
   pub binds : List Bind
   pub fixed : List (Option Level)
 
--- what changes of a die: the clock's level, the levels that its inputs are driven to and its flip-flops keep, and the levels of all nets
+-- what changes of a die: the clock's level, the levels that its inputs are driven to and its flip-flops keep, and the
+-- levels of all nets
 pub record State : Type 0 where
   pub clock : Level
   pub held : List Level
@@ -60,7 +63,8 @@ device_of i =
           (length i.circuit.net.names) i.faults;
     }
 
--- what a net's own driver gives it: an input or a flip-flop its own level, a gate its function of the nets that it reads
+-- what a net's own driver gives it: an input or a flip-flop its own level, a gate its function of the nets that it
+-- reads
 abbrev pub driven : Driver → Level → List Level → Level
 driven Input own v = own
 driven (Dff d) own v = own

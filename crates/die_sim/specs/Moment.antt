@@ -1,4 +1,5 @@
--- One moment of a die: the clock's change is judged, the flip-flops capture, the inputs take their levels, and all settles.
+-- One moment of a die: the clock's change is judged, the flip-flops capture, the inputs take their levels, and all
+-- settles.
 use Rattle.std.specs.Prelude.{◌≡◌, ℕ, ◌<◌, ◌+◌, true, if◌then◌else◌, List, length, fold, slice_index_or, slice_set, Option, ◌⊎◌}
 use Rattle.tester_types.specs.declared.level.Level.{Level}
 use Rattle.tester_types.specs.declared.level.Level.TheVariants.{Zero, One, X, Z}

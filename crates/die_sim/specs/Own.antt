@@ -1,4 +1,5 @@
--- The binding that the tests use: each net is the signal of its own number, which drives it where it is an input, else shows it.
+-- The binding that the tests use: each net is the signal of its own number, which drives it where it is an input,
+-- else shows it.
 use Rattle.std.specs.Prelude.{◌≡◌, ℕ, ◌+◌, ◌<◌, Bool, true, false, if◌then◌else◌, Some, List, length, slice_index_or, ◌⊎◌}
 use Rattle.tester_types.specs.declared.level.Drive.{Drive}
 use Rattle.bench_net.specs.declared.gate.Driver.{Driver}

@@ -1,4 +1,5 @@
--- Gates that are pending, by the places at which the gates stand in an order, in words of 64; no public clause cites it.
+-- Gates that are pending, by the places at which the gates stand in an order, in words of 64; no public clause cites
+-- it.
 use Rattle.std.specs.Prelude.{◌≡◌, ◌≢◌, ◌==◌, ℕ, ◌<◌, ◌≤◌, ◌*◌, ◌/◌, ◌%◌, ◌⊎◌, Bool, true, false, List, length, map, count_by, slice_index, slice_index_or}
 use Rattle.std.specs.List.{range_with_len}
 use Rattle.std.specs.Int.{bit_at}

@@ -1,4 +1,5 @@
--- What a socket tells of itself: what is loaded, the die's state, the tape of its drives if it keeps one, and the count of its faults.
+-- What a socket tells of itself: what is loaded, the die's state, the tape of its drives if it keeps one, and the
+-- count of its faults.
 use Rattle.std.specs.Prelude.{◌≡◌, ◌≢◌, ◌+◌, ◌-◌, ◌^◌, ◌≤◌, min, ℕ, true, Option, Some, None, List, [], ◌∷◌, ◌++◌, ◌⊎◌, length}
 use Rattle.tester_types.specs.declared.level.Level.{Level}
 use Rattle.tester_types.specs.declared.level.Level.TheVariants.{X}

@@ -9,8 +9,8 @@ use Rattle.die_sim.specs.Gates.{level_at}
 abbrev pub Reads : List Driver → ℕ → ℕ → Type 0
 Reads drivers g n = 0 < count_by (λ p. p == n) (pins_at drivers g)
 
--- a set of nets, as a test, that holds each gate which reads an input or a flip-flop whose level changed, and with a gate each
--- gate that reads it; the gates reachable from what changed are the least such set
+-- a set of nets, as a test, that holds each gate which reads an input or a flip-flop whose level changed, and with a
+-- gate each gate that reads it; the gates reachable from what changed are the least such set
 pub record IsSpread (drivers : List Driver) (old new : List Level) (set : ℕ → Bool) : Type 0 where
   pub sources : (g n : ℕ) → Reads drivers g n → gate_at drivers n ≡ false → level_at old n ≢ level_at new n
       → set g ≡ true

@@ -32,7 +32,8 @@ impl Model for Tape {
 
     ghost view = { λ t. record { calls = map (call_of t.drives.items) t.calls.items; left = t.left } };
 
-    ghost invariant = { λ t. (vec_len t.calls + t.left ≤ vec_capacity t.calls) × (vec_len t.drives + t.left ≤ vec_capacity t.drives)
+    ghost invariant = { λ t. (vec_len t.calls + t.left ≤ vec_capacity t.calls)
+        × (vec_len t.drives + t.left ≤ vec_capacity t.drives)
         × AreWithin (vec_len t.drives) t.calls.items };
 }
 

@@ -6,3 +6,5 @@ pub mod DriveLemmas
 pub mod GroupLemmas
 pub mod SignalLemmas
 pub mod MomentLemmas
+pub mod HeldLemmas
+pub mod InsideLemmas

@@ -1,5 +1,5 @@
 -- The moment that the events of one time make is the one that the definition puts there.
-use Rattle.std.proofs.Common.{◌≡◌, ℕ, ◌+◌, Bool, true, false, cond, eqb, List, [], ◌∷◌, ◌++◌, map, filter, Option, Some, None, refl, sym, ap, subst, ◌∙◌, arith}
+use Rattle.std.proofs.Common.{◌≡◌, ℕ, ◌+◌, ℤ, Bool, true, false, cond, eqb, List, [], ◌∷◌, ◌++◌, map, filter, Option, Some, None, refl, sym, ap, subst, ◌∙◌, arith, zero-add}
 use Rattle.std.proofs.lemmas.List.{append-nil, append_assoc, map-append}
 use Rattle.std.proofs.lemmas.Simd.{map-map}
 use Rattle.std.proofs.lemmas.List.Sorted.{IsPermutation-map}
@@ -15,11 +15,11 @@ use Rattle.tester_types.specs.declared.wave.Event.{Event}
 use Rattle.tester_types.specs.declared.wave.Table.{Table}
 use Rattle.tester_types.specs.declared.cycle.Moment.{Moment}
 use Rattle.edge_gen.specs.declared.dated.Dated.{Dated}
-use Rattle.edge_gen.specs.Moments.{push_of, look_of, acts_at, drives_of, moment_at, times_of, instants, moments_of}
-use Rattle.edge_gen.specs.Signals.{events_of, signals_of}
-use Rattle.edge_gen.specs.Step.{ArePlaces, dated, dated_at, at_time, with_drive, look_of_event, moment_of, grouped}
+use Rattle.edge_gen.specs.Moments.{push_of, look_of, acts_at, drives_of, looks_of, moment_at, times_of, instants, moments_of, later}
+use Rattle.edge_gen.specs.Signals.{events_of, moved, skew_of, signals_of}
+use Rattle.edge_gen.specs.Step.{ArePlaces, dated_in, at_time, with_drive, look_of_event, moment_of, grouped}
 use Rattle.edge_gen.proofs.DriveLemmas.{AreBelow, drive_if, drives-of_signal}
-use Rattle.edge_gen.proofs.SignalLemmas.{dated_of, flat_map-places}
+use Rattle.edge_gen.proofs.SignalLemmas.{tied, dated_of, dated_in-places}
 use Rattle.edge_gen.proofs.InstantLemmas.{instants-IsPermutation}
 
 -- ---- the events of one signal
@@ -39,10 +39,10 @@ shown-one signal (Some x) xs = refl
 
 shown-more : {X : Type 0} (h : Act → Option X) (signal : ℕ) (event : Event) (rest : List Dated) (acts : List Act) (b : Bool)
     → filter_map (shown h) rest ≡ tagged signal (filter_map h acts)
-    → filter_map (shown h) (cond b (dated signal event ∷ rest) rest)
+    → filter_map (shown h) (cond b (tied signal event ∷ rest) rest)
     ≡ tagged signal (filter_map h (cond b (event.act ∷ acts) acts))
 shown-more h signal event rest acts true later =
-    ap (cons_option (shown h (dated signal event))) later
+    ap (cons_option (shown h (tied signal event))) later
     ∙ shown-one signal (h event.act) (filter_map h acts)
 shown-more h signal event rest acts false later = later
 
@@ -57,7 +57,7 @@ acts_at-more time event events = by (eqb event.time time)
     by false = refl
 
 shown-signal : {X : Type 0} (h : Act → Option X) (time signal : ℕ) (events : List Event)
-    → filter_map (shown h) (at_time time (map (dated signal) events)) ≡ tagged signal (filter_map h (acts_at time events))
+    → filter_map (shown h) (at_time time (map (tied signal) events)) ≡ tagged signal (filter_map h (acts_at time events))
 shown-signal h time signal [] = refl
 shown-signal h time signal (event ∷ events) =
     shown-more h signal event _ (acts_at time events) (eqb event.time time) (shown-signal h time signal events)
@@ -132,7 +132,7 @@ times-signals [] = refl
 times-signals (signal ∷ signals) =
     let time_of = λ (event : Dated). event.time in
     map-append time_of (dated_of signal) (flat_map dated_of signals)
-    ∙ ap (λ l. l ++ map time_of (flat_map dated_of signals)) (map-map time_of (dated signal.0) signal.1)
+    ∙ ap (λ l. l ++ map time_of (flat_map dated_of signals)) (map-map time_of (tied signal.0) signal.1)
     ∙ ap (λ l. map (λ event. event.time) signal.1 ++ l) (times-signals signals)
 
 map-same : {X Y : Type 0} (f g : X → Y) → ((x : X) → f x ≡ g x) → (xs : List X)
@@ -141,20 +141,20 @@ map-same f g same [] = refl
 map-same f g same (x ∷ xs) =
     ap (λ y. y ∷ map f xs) (same x) ∙ ap (λ l. g x ∷ l) (map-same f g same xs)
 
--- the events of a row's waves, sorted by time and gathered, are the moments of the cycle
-pub grouped-moments_of : (table : Table) (row places : List ℕ) (start : ℕ) (events sorted : List Dated)
-    → ArePlaces table.waves table.waves row places → events ≡ flat_map (dated_at table.waves) places
+-- the events of a row's waves, moved, sorted by time and gathered, are the moments of the cycle
+pub grouped-moments_of : (table : Table) (row places : List ℕ) (skews : List ℤ) (start : ℕ) (events sorted : List Dated)
+    → ArePlaces table.waves table.waves row places → events ≡ dated_in table.waves skews (enumerate_from 0 places)
     → IsPermutation events sorted → ((time : ℕ) → at_time time sorted ≡ at_time time events)
-    → grouped start sorted ≡ moments_of table row start
+    → grouped start sorted ≡ moments_of table row skews start
 unfolding moments_of
-grouped-moments_of table row places start events sorted are gathered moved stable =
-    let signals = signals_of table row in
+grouped-moments_of table row places skews start events sorted are gathered moved_on stable =
+    let signals = signals_of table row skews in
     let time_of = λ (event : Dated). event.time in
     let all : events ≡ flat_map dated_of signals = gathered
-    ∙ flat_map-places table row places are in
-    let numbered = AreNumbered-row (λ place. events_of table.waves place.0 place.1) 0 row in
+    ∙ dated_in-places table row places skews are in
+    let numbered = AreNumbered-row (λ place. map (moved (skew_of skews place.0)) (events_of table.waves place.0 place.1)) 0 row in
     let times : instants (map time_of sorted) ≡ instants (times_of signals) =
-    sym (instants-IsPermutation _ _ (IsPermutation-map time_of events sorted moved))
+    sym (instants-IsPermutation _ _ (IsPermutation-map time_of events sorted moved_on))
     ∙ ap (λ l. instants (map time_of l)) all
     ∙ ap instants (times-signals signals) in
     let stands : (time : ℕ) → moment_of (start + time) (at_time time sorted) ≡ moment_at start signals time =
@@ -162,3 +162,18 @@ grouped-moments_of table row places start events sorted are gathered moved stabl
     ∙ moment-at_time start time signals numbered in
     ap (map (λ time. moment_of (start + time) (at_time time sorted))) times
     ∙ map-same _ (moment_at start signals) stands (instants (times_of signals))
+
+-- a cycle's moments are those of the same cycle dated from 0, each as much later as it begins
+pub moments_of-later : (table : Table) (row : List ℕ) (skews : List ℤ) (start : ℕ)
+    → moments_of table row skews start ≡ map (later start) (moments_of table row skews 0)
+unfolding moments_of
+moments_of-later table row skews start =
+    let signals = signals_of table row skews in
+    map-same (moment_at start signals) (λ time. later start (moment_at 0 signals time)) (λ time. dates signals time) (instants (times_of signals))
+    ∙ sym (map-map (later start) (moment_at 0 signals) (instants (times_of signals)))
+  where
+    dates : (signals : List (ℕ × List Event)) (time : ℕ)
+        → moment_at start signals time ≡ later start (moment_at 0 signals time)
+    dates signals time =
+        ap (λ (at : ℕ). later start (record { at = at; drives = flat_map (drives_of time) signals; looks = flat_map (looks_of time) signals }))
+        (sym (zero-add time))

@@ -1,3 +1,5 @@
 pub mod Signals
 pub mod Moments
 pub mod Step
+pub mod Held
+pub mod Lending

@@ -1,6 +1,6 @@
 -- The moments of a cycle: the instants at which some signal has an event, in rising order, each with the drives and
 -- looks of that instant.
-use Rattle.std.specs.Prelude.{◌≡◌, ℕ, ◌+◌, ◌<◌, ◌==◌, Bool, nat_lt, if◌then◌else◌, List, [], ◌∷◌, map, filter, Option, Some, None}
+use Rattle.std.specs.Prelude.{◌≡◌, ℕ, ◌+◌, ◌<◌, ◌==◌, ℤ, Bool, nat_lt, if◌then◌else◌, List, [], ◌∷◌, map, filter, Option, Some, None}
 use Rattle.std.specs.List.{AllByRecursion, flat_map, filter_map, fold, last_or, list_any}
 use Rattle.std.specs.Option.{option_to_list}
 use Rattle.tester_types.specs.declared.wave.Push.{Push}
@@ -72,8 +72,13 @@ with_instant (first ∷ later) time =
 abbrev pub instants : List ℕ → List ℕ
 instants times = fold with_instant [] times
 
--- the moments of the cycle of a table and a row of characters, one a signal, that begins at this start
-unfoldable pub moments_of : Table → List ℕ → ℕ → List Moment
-moments_of table row start =
-    let signals = signals_of table row in
+-- the moments of the cycle of a table and a row of characters, one a signal, that begins at this start, where each
+-- signal's events are moved by its skew
+unfoldable pub moments_of : Table → List ℕ → List ℤ → ℕ → List Moment
+moments_of table row skews start =
+    let signals = signals_of table row skews in
     map (moment_at start signals) (instants (times_of signals))
+
+-- a moment that is so much later
+abbrev pub later : ℕ → Moment → Moment
+later start moment = record { at = start + moment.at; drives = moment.drives; looks = moment.looks }

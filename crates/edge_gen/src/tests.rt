@@ -62,7 +62,24 @@ fn is_as(moments: &[Moment], expected: &[Seen]) -> bool {
         })
 }
 
-/// Whether a table of 100 ns, a row and a start give these moments.
+/// Whether a table of 100 ns, a row, skews and a start give these moments.
+fn gives_moved(
+    alloc: Global,
+    waves: &[Plain],
+    row: &[u8],
+    skews: &[i64],
+    start: u64,
+    expected: &[Seen],
+) -> Result<bool, NoMemory> {
+    let table = table(alloc, 100_000_000, waves)?;
+    if skews.len() != row.len() || !keep_inside(&table, skews) {
+        return Ok(false);
+    }
+    let moments = schedule(alloc, &table, row, u128::from(start), skews)?;
+    Ok(is_as(moments.as_slice(), expected))
+}
+
+/// The same without skews.
 fn gives(
     alloc: Global,
     waves: &[Plain],
@@ -70,9 +87,8 @@ fn gives(
     start: u64,
     expected: &[Seen],
 ) -> Result<bool, NoMemory> {
-    let table = table(alloc, 100_000_000, waves)?;
-    let moments = schedule(alloc, &table, row, u128::from(start))?;
-    Ok(is_as(moments.as_slice(), expected))
+    let skews = vec![in alloc; 0; row.len()]?;
+    gives_moved(alloc, waves, row, &skews, start, expected)
 }
 
 /// `a { 01 { '0ns' D/U; } } y { LHX { '9ns/3' L/H/X; } }`
@@ -136,6 +152,44 @@ fn gathers_an_instant_of_several_signals(rt: HostRuntime) -> Result<(), Fail> {
             ],
         )?
     );
+    Ok(())
+}
+
+#[test]
+fn moves_each_signal_by_its_skew(rt: HostRuntime) -> Result<(), Fail> {
+    assert!(rt;
+        gives_moved(
+            rt.alloc(),
+            STROBED,
+            b"1L",
+            &[1_000_000, -2_999_999],
+            200_000_000,
+            &[
+                (200_000_001, &[], &[(1, Look::Low)]),
+                (201_000_000, &[(0, Push::Up)], &[]),
+            ],
+        )?
+    );
+    assert!(rt;
+        gives_moved(
+            rt.alloc(),
+            STROBED,
+            b"1L",
+            &[3_000_000, 0],
+            0,
+            &[(3_000_000, &[(0, Push::Up)], &[(1, Look::Low)])],
+        )?
+    );
+    Ok(())
+}
+
+#[test]
+fn tells_which_skews_keep_events_inside(rt: HostRuntime) -> Result<(), Fail> {
+    let table = table(rt.alloc(), 100_000_000, STROBED)?;
+    assert!(rt; keep_inside(&table, &[99_999_999, -3_000_000]));
+    assert!(rt; !keep_inside(&table, &[100_000_000, 0]));
+    assert!(rt; !keep_inside(&table, &[-1, 0]));
+    assert!(rt; !keep_inside(&table, &[0, i64::MAX]));
     Ok(())
 }
 
@@ -226,7 +280,11 @@ fn slow_signal(
 /// Whether the schedule has a moment exactly at the times at which the slow program has one, and that one.
 fn agrees(alloc: Global, waves: &[Plain], row: &[u8], start: u64) -> Result<bool, NoMemory> {
     let table = table(alloc, 20, waves)?;
-    let moments = schedule(alloc, &table, row, u128::from(start))?;
+    let skews = vec![in alloc; 0; row.len()]?;
+    if !keep_inside(&table, &skews) {
+        return Ok(false);
+    }
+    let moments = schedule(alloc, &table, row, u128::from(start), &skews)?;
     let mut left = moments.as_slice();
     for time in 0..table.period {
         if let Some(slow) = slow_moment(alloc, &table, row, start, time)? {
@@ -272,5 +330,40 @@ fn agrees_with_the_slow_program(rt: HostRuntime) -> Result<(), Fail> {
     assert!(rt; agrees(rt.alloc(), MIXED, b"abba", 1_000)?);
     assert!(rt; agrees(rt.alloc(), MIXED, &[b'b', b'b', 0, 0], 77)?);
     assert!(rt; agrees(rt.alloc(), MIXED, &[b'a', 0, b'b', b'a', b'a'], 123_456)?);
+    Ok(())
+}
+
+/// Whether the moments of two rows, of which the first is asked for again, are lent as they are.
+fn lends(alloc: Global, first: &[Seen], other: &[Seen]) -> Result<bool, NoMemory> {
+    let table = table(alloc, 100_000_000, STROBED)?;
+    let skews = [1, -1];
+    if !keep_inside(&table, &skews) {
+        return Ok(false);
+    }
+    let mut held = Schedules::new(alloc, 2)?;
+    if !is_as(held.of(0, 0, &table, b"0H", &skews)?.as_slice(), first) {
+        return Ok(false);
+    }
+    if !is_as(held.of(0, 1, &table, b"1L", &skews)?.as_slice(), other) {
+        return Ok(false);
+    }
+    Ok(is_as(held.of(0, 0, &table, b"0H", &skews)?.as_slice(), first))
+}
+
+#[test]
+fn lends_the_moments_that_are_held(rt: HostRuntime) -> Result<(), Fail> {
+    assert!(rt;
+        lends(
+            rt.alloc(),
+            &[
+                (1, &[(0, Push::Down)], &[]),
+                (2_999_999, &[], &[(1, Look::High)]),
+            ],
+            &[
+                (1, &[(0, Push::Up)], &[]),
+                (2_999_999, &[], &[(1, Look::Low)]),
+            ],
+        )?
+    );
     Ok(())
 }

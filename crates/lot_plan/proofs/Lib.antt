@@ -13,3 +13,4 @@ pub mod ReadyLemmas
 pub mod SampleLemmas
 pub mod StandardFacts
 pub mod BinLemmas
+pub mod SkewLemmas

@@ -1,5 +1,5 @@
 -- A plan that nothing refuses has sound images, and what is built of its rows is what it stores.
-use Rattle.std.proofs.Common.{◌≡◌, ℕ, suc, ◌==◌, ◌+◌, ◌<◌, Bool, true, false, ◌&&◌, not, ◌||◌, cond, List, [], ◌∷◌, length, map, get_or, Option, Some, None, slice_get, refl, sym, ap, ◌∙◌, subst, arith, inl, inr}
+use Rattle.std.proofs.Common.{◌≡◌, ℕ, suc, ◌==◌, ◌+◌, ◌<◌, Bool, true, ◌&&◌, not, ◌||◌, cond, List, [], ◌∷◌, length, map, get_or, Option, Some, None, slice_get, refl, sym, ap, ◌∙◌, subst, arith, inl, inr}
 use Rattle.std.specs.Prelude.{All, fold, filter, nat_lt}
 use Rattle.std.specs.List.{list_any, position_or_len}
 use Rattle.std.specs.Option.{option_or, option_map, option_map_or, option_and_then}
@@ -16,15 +16,18 @@ use Rattle.plan_rows.specs.declared.row.Row.{Row}
 use Rattle.plan_rows.specs.declared.row.DieRow.{DieRow}
 use Rattle.plan_rows.specs.declared.row.FaultRow.{FaultRow}
 use Rattle.plan_rows.specs.Rows.{AreKept, each_of, as_fault, dies_of, dies_at, faults_at, files_of, with_file, lot_of}
+use Rattle.plan_rows.specs.declared.row.SkewRow.{SkewRow}
+use Rattle.plan_rows.specs.declared.fault.PlanFault.{PlanFault}
 use Rattle.lot_plan.specs.declared.bound_die.BoundDie.{BoundDie}
 use Rattle.lot_plan.specs.declared.bound_die.DieFault.{DieFault}
 use Rattle.text_bytes.proofs.BoolLemmas.{or_left, or_right}
 use Rattle.lot_plan.specs.Needs.{PinNeed, needs_of, clock_of}
 use Rattle.lot_plan.specs.Binds.{binds_of, list_of, unbound_in}
-use Rattle.lot_plan.specs.Bound.{Bound, no_circuit, die_at, file_of, circuit_of, binding_to, binding_of, numbered, is_active, active_at, faults_of, loaded}
+use Rattle.lot_plan.specs.Bound.{Bound, signals_of, no_circuit, die_at, file_of, circuit_of, binding_to, binding_of, numbered, is_active, active_at, faults_of, loaded}
 use Rattle.lot_plan.specs.Building.{circuit_no, binding_no, no_binding, IsBuilt, AreBuilt, IsReady, AreReady}
 use Rattle.lot_plan.specs.Groups.{DieRows, no_rows, group_at, rows_at, circuit_in, IsGroup, AreGroups}
-use Rattle.lot_plan.specs.Refusal.{is_signal, is_net, rows_refusal, first_unbound, refusal, IsBound}
+use Rattle.lot_plan.specs.Skews.{skew_refusal}
+use Rattle.lot_plan.specs.Refusal.{refused_row, is_signal, is_net, rows_refusal, first_unbound, refusal, IsBound}
 use Rattle.lot_plan.specs.Stored.{stored_at, IsStored, AreStored}
 use Rattle.lot_plan.proofs.ApartLemmas.{Apart, ApartAt, apart-from, apart-at, apart-filter, apart-map, All-passing, All-filter, All-map}
 use Rattle.std.proofs.lemmas.List.Elements.{All-cons}
@@ -59,13 +62,13 @@ less-true : (m n : ℕ) → nat_lt m n ≡ true → m < n
 less-true m n is = ltb-true m n is
 
 -- the faults of a die, where its rows are accepted
-faults-have : (known : List ℕ → Bool) (execs : ℕ) (circuit : ℕ → ℕ → Circuit) (rows : List Row) (s d : ℕ) →
-    rows_refusal known execs circuit 1 rows ≡ None →
+faults-have : (known : List ℕ → Bool) (skewed : ℕ → SkewRow → Option PlanFault) (execs : ℕ) (circuit : ℕ → ℕ → Circuit) (rows : List Row) (s d : ℕ) →
+    rows_refusal known skewed execs circuit 1 rows ≡ None →
     All (HasNet (circuit s d)) (faults_at s d rows)
-faults-have known execs circuit rows s d accepted k f within =
+faults-have known skewed execs circuit rows s d accepted k f within =
     let both = All-passing (λ (f : FaultRow). is_net (circuit f.site f.die) f.net ≡ true) (λ f. (f.site == s) && (f.die == d))
     (each_of as_fault rows)
-    (faults-accepted known execs circuit rows 1 accepted) k f within in
+    (faults-accepted known skewed execs circuit rows 1 accepted) k f within in
     let g : FaultRow = get_or (faults_at s d rows) k f in
     let parts = and_parts (g.site == s) (g.die == d) both.1 in
     less-true (number (circuit s d).net.names g.net) (length (circuit s d).net.names)
@@ -141,26 +144,26 @@ circuit-whole : (b : Bound) (s d : ℕ) → IsBound b → d < length (dies_at s 
 circuit-whole b s d bound within = bound.whole (file_of b.rows s d) no_circuit
     (omega (arith, bound.files, file-below b.rows s d within))
 
-refusals : (b : Bound) → refusal b ≡ None → (rows_refusal (is_signal b.signals) b.execs (circuit_of b) 1 b.rows ≡ None)
-    × (first_unbound (needs_of b.rows b.signals) b.circuits ≡ None)
+refusals : (b : Bound) → refusal b ≡ None → (refused_row b ≡ None)
+    × (first_unbound (needs_of b.rows (signals_of b)) b.circuits ≡ None)
 refusals b accepted =
-    let both = none_both (rows_refusal (is_signal b.signals) b.execs (circuit_of b) 1 b.rows) _ accepted in
-    (both.0, none-mapped _ (first_unbound (needs_of b.rows b.signals) b.circuits) both.1)
+    let both = none_both (refused_row b) _ accepted in
+    (both.0, none-mapped _ (first_unbound (needs_of b.rows (signals_of b)) b.circuits) both.1)
 
 circuit-bound : (b : Bound) (s d : ℕ) → IsBound b → d < length (dies_at s b.rows) →
-    unbound_in (binds_of (circuit_of b s d) (needs_of b.rows b.signals)) ≡ None
+    unbound_in (binds_of (circuit_of b s d) (needs_of b.rows (signals_of b))) ≡ None
 circuit-bound b s d bound within =
-    each-bound (needs_of b.rows b.signals) b.circuits (refusals b bound.accepted).1 (file_of b.rows s d) no_circuit
+    each-bound (needs_of b.rows (signals_of b)) b.circuits (refusals b bound.accepted).1 (file_of b.rows s d) no_circuit
     (omega (arith, bound.files, file-below b.rows s d within))
 
 -- what a try of a die loads is sound
 pub image-sound : (b : Bound) (s d n : ℕ) → IsBound b → d < length (dies_at s b.rows) →
     IsSound (loaded (circuit_of b s d) (binding_of b s d) n (faults_of b s d))
 image-sound b s d n bound within =
-    loaded-sound (circuit_of b s d) (clock_of b.rows b.signals) (needs_of b.rows b.signals) (faults_at s d b.rows) n
+    loaded-sound (circuit_of b s d) (clock_of b.rows (signals_of b)) (needs_of b.rows (signals_of b)) (faults_at s d b.rows) n
     (circuit-whole b s d bound within)
     (circuit-bound b s d bound within)
-    (faults-have (is_signal b.signals) b.execs (circuit_of b) b.rows s d (refusals b bound.accepted).0)
+    (faults-have (is_signal (signals_of b)) (skew_refusal (signals_of b) b.program.tables) (length b.program.execs) (circuit_of b) b.rows s d (refusals b bound.accepted).0)
     (λ k l f g. bound.kept.one_fault s d k l f g)
 
 -- the binding of a die's file
@@ -251,23 +254,22 @@ circuit-found b sites s d groups within =
 
 -- rows are refused alike by what the code looks up
 pub rows-same : (b : Bound) (known : List ℕ → Bool) (sites : List (List DieRows)) → AreKept b.rows → AreGroups b.rows sites →
-    ((name : List ℕ) → known name ≡ is_signal b.signals name) →
-    rows_refusal known b.execs (circuit_in sites b.circuits) 1 b.rows ≡ rows_refusal (is_signal b.signals) b.execs
-    (circuit_of b) 1 b.rows
+    ((name : List ℕ) → known name ≡ is_signal (signals_of b) name) →
+    rows_refusal known (skew_refusal (signals_of b) b.program.tables) (length b.program.execs) (circuit_in sites b.circuits) 1 b.rows ≡ refused_row b
 rows-same b known sites kept groups names =
-    same_refusal known (is_signal b.signals) b.execs (circuit_in sites b.circuits) (circuit_of b) b.rows 1 names
+    same_refusal known (is_signal (signals_of b)) (skew_refusal (signals_of b) b.program.tables) (length b.program.execs) (circuit_in sites b.circuits) (circuit_of b) b.rows 1 names
     (λ k f within. circuit-found b sites _ _ groups (kept.faults k f within))
 
 -- a plan that nothing refuses is bound
 pub is-bound : (b : Bound) → AreKept b.rows → length b.circuits ≡ length (files_of b.rows) → All IsWhole b.circuits →
-    rows_refusal (is_signal b.signals) b.execs (circuit_of b) 1 b.rows ≡ None →
-    first_unbound (needs_of b.rows b.signals) b.circuits ≡ None → IsBound b
+    refused_row b ≡ None →
+    first_unbound (needs_of b.rows (signals_of b)) b.circuits ≡ None → IsBound b
 is-bound b kept files whole rows bound = record {
   kept = kept;
   files = files;
   whole = whole;
   accepted = ap (λ o. option_or o
-      (option_map (λ name. refused.Unbound name) (first_unbound (needs_of b.rows b.signals) b.circuits))) rows
+      (option_map (λ name. refused.Unbound name) (first_unbound (needs_of b.rows (signals_of b)) b.circuits))) rows
       ∙ ap (option_map (λ name. refused.Unbound name)) bound;
 }
 

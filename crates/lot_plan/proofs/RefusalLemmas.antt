@@ -9,6 +9,7 @@ use Rattle.plan_rows.specs.declared.fault.PlanFault.TheVariants as refused
 use Rattle.plan_rows.specs.declared.row.Row.{Row}
 use Rattle.plan_rows.specs.declared.row.Row.TheVariants as row
 use Rattle.plan_rows.specs.declared.row.FaultRow.{FaultRow}
+use Rattle.plan_rows.specs.declared.row.SkewRow.{SkewRow}
 use Rattle.plan_rows.specs.Rows.{each_of, as_fault}
 use Rattle.lot_plan.specs.Needs.{PinNeed}
 use Rattle.lot_plan.specs.Binds.{binds_of, unbound_in}
@@ -30,62 +31,69 @@ holds true e is = refl
 holds false e is = cc
 
 -- each fault of rows that nothing refuses has a net
-pub faults-accepted : (known : List ℕ → Bool) (execs : ℕ) (circuit : ℕ → ℕ → Circuit) (rows : List Row) (n : ℕ) →
-    rows_refusal known execs circuit n rows ≡ None →
+pub faults-accepted : (known : List ℕ → Bool) (skewed : ℕ → SkewRow → Option PlanFault) (execs : ℕ) (circuit : ℕ → ℕ → Circuit) (rows : List Row) (n : ℕ) →
+    rows_refusal known skewed execs circuit n rows ≡ None →
     All (λ f. is_net (circuit f.site f.die) f.net ≡ true) (each_of as_fault rows)
-faults-accepted known execs circuit [] n is = All-nil (λ (f : FaultRow). is_net (circuit f.site f.die) f.net ≡ true)
-faults-accepted known execs circuit (row.Fault f ∷ rows) n is =
+faults-accepted known skewed execs circuit [] n is = All-nil (λ (f : FaultRow). is_net (circuit f.site f.die) f.net ≡ true)
+faults-accepted known skewed execs circuit (row.Fault f ∷ rows) n is =
     All-cons (λ (f : FaultRow). is_net (circuit f.site f.die) f.net ≡ true) f (each_of as_fault rows)
     (holds (is_net (circuit f.site f.die) f.net) (refused.UnknownName n)
-    (none_first _ (rows_refusal known execs circuit (n + 1) rows) is))
-    (faults-accepted known execs circuit rows (n + 1) (none_second (row_refusal known execs circuit n (row.Fault f)) _ is))
-faults-accepted known execs circuit (row.Lot x ∷ rows) n is = faults-accepted known execs circuit rows (n + 1) is
-faults-accepted known execs circuit (row.Clock x ∷ rows) n is =
-    faults-accepted known execs circuit rows (n + 1) (none_second (row_refusal known execs circuit n (row.Clock x)) _ is)
-faults-accepted known execs circuit (row.Bind x ∷ rows) n is =
-    faults-accepted known execs circuit rows (n + 1) (none_second (row_refusal known execs circuit n (row.Bind x)) _ is)
-faults-accepted known execs circuit (row.Die x ∷ rows) n is = faults-accepted known execs circuit rows (n + 1) is
-faults-accepted known execs circuit (row.Stop x ∷ rows) n is = faults-accepted known execs circuit rows (n + 1) is
-faults-accepted known execs circuit (row.Bin x ∷ rows) n is =
-    faults-accepted known execs circuit rows (n + 1) (none_second (row_refusal known execs circuit n (row.Bin x)) _ is)
+    (none_first _ (rows_refusal known skewed execs circuit (n + 1) rows) is))
+    (faults-accepted known skewed execs circuit rows (n + 1) (none_second (row_refusal known skewed execs circuit n (row.Fault f)) _ is))
+faults-accepted known skewed execs circuit (row.Lot x ∷ rows) n is = faults-accepted known skewed execs circuit rows (n + 1) is
+faults-accepted known skewed execs circuit (row.Clock x ∷ rows) n is =
+    faults-accepted known skewed execs circuit rows (n + 1) (none_second (row_refusal known skewed execs circuit n (row.Clock x)) _ is)
+faults-accepted known skewed execs circuit (row.Bind x ∷ rows) n is =
+    faults-accepted known skewed execs circuit rows (n + 1) (none_second (row_refusal known skewed execs circuit n (row.Bind x)) _ is)
+faults-accepted known skewed execs circuit (row.Die x ∷ rows) n is = faults-accepted known skewed execs circuit rows (n + 1) is
+faults-accepted known skewed execs circuit (row.Stop x ∷ rows) n is = faults-accepted known skewed execs circuit rows (n + 1) is
+faults-accepted known skewed execs circuit (row.Bin x ∷ rows) n is =
+    faults-accepted known skewed execs circuit rows (n + 1) (none_second (row_refusal known skewed execs circuit n (row.Bin x)) _ is)
+faults-accepted known skewed execs circuit (row.Skew x ∷ rows) n is =
+    faults-accepted known skewed execs circuit rows (n + 1) (none_second (row_refusal known skewed execs circuit n (row.Skew x)) _ is)
 
 -- rows are judged alike by tests that agree, and circuits that agree where there are faults
 abbrev Agree : (ℕ → ℕ → Circuit) → (ℕ → ℕ → Circuit) → FaultRow → Type 0
 Agree circuit other f = circuit f.site f.die ≡ other f.site f.die
 
-same_front : (known test : List ℕ → Bool) (execs : ℕ) (circuit other : ℕ → ℕ → Circuit) (n : ℕ) (r : Row) (rows : List Row) →
-    row_refusal known execs circuit n r ≡ row_refusal test execs other n r →
-    rows_refusal known execs circuit (n + 1) rows ≡ rows_refusal test execs other (n + 1) rows →
-    rows_refusal known execs circuit n (r ∷ rows) ≡ rows_refusal test execs other n (r ∷ rows)
-same_front known test execs circuit other n r rows here rest =
-    ap (λ o. option_or o (rows_refusal known execs circuit (n + 1) rows)) here
-    ∙ ap (option_or (row_refusal test execs other n r)) rest
+same_front : (known test : List ℕ → Bool) (skewed : ℕ → SkewRow → Option PlanFault) (execs : ℕ)
+    (circuit other : ℕ → ℕ → Circuit) (n : ℕ) (r : Row) (rows : List Row) →
+    row_refusal known skewed execs circuit n r ≡ row_refusal test skewed execs other n r →
+    rows_refusal known skewed execs circuit (n + 1) rows ≡ rows_refusal test skewed execs other (n + 1) rows →
+    rows_refusal known skewed execs circuit n (r ∷ rows) ≡ rows_refusal test skewed execs other n (r ∷ rows)
+same_front known test skewed execs circuit other n r rows here rest =
+    ap (λ o. option_or o (rows_refusal known skewed execs circuit (n + 1) rows)) here
+    ∙ ap (option_or (row_refusal test skewed execs other n r)) rest
 
-pub same_refusal : (known test : List ℕ → Bool) (execs : ℕ) (circuit other : ℕ → ℕ → Circuit) (rows : List Row) (n : ℕ) →
+pub same_refusal : (known test : List ℕ → Bool) (skewed : ℕ → SkewRow → Option PlanFault) (execs : ℕ)
+    (circuit other : ℕ → ℕ → Circuit) (rows : List Row) (n : ℕ) →
     ((name : List ℕ) → known name ≡ test name) →
     All (Agree circuit other) (each_of as_fault rows) →
-    rows_refusal known execs circuit n rows ≡ rows_refusal test execs other n rows
-same_refusal known test execs circuit other [] n names all = refl
-same_refusal known test execs circuit other (row.Fault f ∷ rows) n names all =
-    same_front known test execs circuit other n (row.Fault f) rows
+    rows_refusal known skewed execs circuit n rows ≡ rows_refusal test skewed execs other n rows
+same_refusal known test skewed execs circuit other [] n names all = refl
+same_refusal known test skewed execs circuit other (row.Fault f ∷ rows) n names all =
+    same_front known test skewed execs circuit other n (row.Fault f) rows
     (ap (λ c. unless (is_net c f.net) (refused.UnknownName n)) (All-head (Agree circuit other) f (each_of as_fault rows) all))
-    (same_refusal known test execs circuit other rows (n + 1) names
+    (same_refusal known test skewed execs circuit other rows (n + 1) names
     (All-tail (Agree circuit other) f (each_of as_fault rows) all))
-same_refusal known test execs circuit other (row.Clock x ∷ rows) n names all =
-    same_front known test execs circuit other n (row.Clock x) rows (ap (λ b. unless b (refused.UnknownName n)) (names x))
-    (same_refusal known test execs circuit other rows (n + 1) names all)
-same_refusal known test execs circuit other (row.Bind x ∷ rows) n names all =
-    same_front known test execs circuit other n (row.Bind x) rows (ap (λ b. unless b (refused.UnknownName n)) (names x.signal))
-    (same_refusal known test execs circuit other rows (n + 1) names all)
-same_refusal known test execs circuit other (row.Lot x ∷ rows) n names all = same_refusal known test execs circuit other rows
+same_refusal known test skewed execs circuit other (row.Clock x ∷ rows) n names all =
+    same_front known test skewed execs circuit other n (row.Clock x) rows (ap (λ b. unless b (refused.UnknownName n)) (names x))
+    (same_refusal known test skewed execs circuit other rows (n + 1) names all)
+same_refusal known test skewed execs circuit other (row.Bind x ∷ rows) n names all =
+    same_front known test skewed execs circuit other n (row.Bind x) rows (ap (λ b. unless b (refused.UnknownName n)) (names x.signal))
+    (same_refusal known test skewed execs circuit other rows (n + 1) names all)
+same_refusal known test skewed execs circuit other (row.Lot x ∷ rows) n names all = same_refusal known test skewed execs circuit other rows
     (n + 1) names all
-same_refusal known test execs circuit other (row.Die x ∷ rows) n names all = same_refusal known test execs circuit other rows
+same_refusal known test skewed execs circuit other (row.Die x ∷ rows) n names all = same_refusal known test skewed execs circuit other rows
     (n + 1) names all
-same_refusal known test execs circuit other (row.Stop x ∷ rows) n names all = same_refusal known test execs circuit other rows
+same_refusal known test skewed execs circuit other (row.Stop x ∷ rows) n names all = same_refusal known test skewed execs circuit other rows
     (n + 1) names all
-same_refusal known test execs circuit other (row.Bin x ∷ rows) n names all =
-    same_front known test execs circuit other n (row.Bin x) rows refl
-    (same_refusal known test execs circuit other rows (n + 1) names all)
+same_refusal known test skewed execs circuit other (row.Bin x ∷ rows) n names all =
+    same_front known test skewed execs circuit other n (row.Bin x) rows refl
+    (same_refusal known test skewed execs circuit other rows (n + 1) names all)
+same_refusal known test skewed execs circuit other (row.Skew x ∷ rows) n names all =
+    same_front known test skewed execs circuit other n (row.Skew x) rows refl
+    (same_refusal known test skewed execs circuit other rows (n + 1) names all)
 
 -- where no signal is unbound, none is in any circuit
 pub each-bound : (needs : List PinNeed) (circuits : List Circuit) → first_unbound needs circuits ≡ None →

@@ -1,10 +1,14 @@
 -- Known facts, computed from the definitions: how small plans are bound, and what their tries load.
-use Rattle.std.proofs.Common.{◌≡◌, true, false, List, [], ◌∷◌, Some, None, Ok, Err, refl}
+use Rattle.std.proofs.Common.{◌≡◌, ℕ, ℤ, pos, negsuc, true, false, List, [], ◌∷◌, Some, None, Ok, Err, refl}
 use Rattle.std.specs.Prelude.{codes}
 use Rattle.bench_net.specs.Circuit.{Circuit}
 use Rattle.bench_net.specs.declared.gate.Driver.TheVariants as driver
 use Rattle.bench_net.specs.declared.gate.GateKind.TheVariants as gate
 use Rattle.die_sim.specs.declared.image.Bind.TheVariants as bind
+use Rattle.tester_types.specs.declared.wave.Push.TheVariants as push
+use Rattle.tester_types.specs.declared.wave.Look.TheVariants as look
+use Rattle.tester_types.specs.declared.wave.Act.TheVariants as act
+use Rattle.page_code.specs.Program.{Program}
 use Rattle.page_code.specs.declared.parts.CodeSignal.{CodeSignal}
 use Rattle.tester_types.specs.declared.signal.Direction.TheVariants as direction
 use Rattle.plan_rows.specs.declared.fault.PlanFault.TheVariants as refused
@@ -17,6 +21,7 @@ use Rattle.lot_plan.specs.Needs.{needs_of, clock_of}
 use Rattle.lot_plan.specs.Binds.{binds_of}
 use Rattle.lot_plan.specs.Bound.{Bound, image_of, stop_of}
 use Rattle.lot_plan.specs.Readings.{first_of, bin_of}
+use Rattle.lot_plan.specs.Skews.{site_skews}
 use Rattle.lot_plan.specs.Refusal.{refusal}
 use Rattle.lot_plan.specs.Sample.{lot_alone, one_die}
 
@@ -68,19 +73,62 @@ clock_free = refl
 clock_second : clock_of clocked twice ≡ Some 1
 clock_second = refl
 
+-- a program of these signals and one executive; A has an event at 3 fs of 10, Z one at 0
+abbrev program : Program
+program = record {
+  signals = signals;
+  tables = record {
+    name = codes "t";
+    period = 10;
+    waves = record { signal = 0; letter = 49; events = record { time = 3; act = act.Push push.Up } ∷ [] }
+        ∷ record { signal = 1; letter = 49; events = record { time = 0; act = act.Look look.High } ∷ [] } ∷ [];
+  } ∷ [];
+  rows = [];
+  execs = record { name = []; chains = []; instrs = [] } ∷ [];
+}
+
+-- a lot of one die, whose signal A is moved at its site
+abbrev skewed : List ℕ → ℤ → Bound
+skewed signal skew = record {
+  rows = row.Lot (record { batch = 10; tries = 2; keep = 4 }) ∷ row.Die (record { site = 0; name = codes "d"; file = codes "f" })
+      ∷ row.Skew (record { site = 0; signal = signal; skew = skew }) ∷ [];
+  program = program;
+  circuits = nets ∷ [];
+}
+
+-- as far as the ends of the cycle, and one femtosecond further
+first_instant : refusal (skewed (codes "A") (negsuc 2)) ≡ None
+first_instant = refl
+
+last_instant : refusal (skewed (codes "A") (pos 6)) ≡ None
+last_instant = refl
+
+before_cycle : refusal (skewed (codes "A") (negsuc 3)) ≡ Some (refused.SkewOutside 3)
+before_cycle = refl
+
+behind_cycle : refusal (skewed (codes "A") (pos 7)) ≡ Some (refused.SkewOutside 3)
+behind_cycle = refl
+
+no_such_signal : refusal (skewed (codes "B") (pos 0)) ≡ Some (refused.UnknownName 3)
+no_such_signal = refl
+
+-- the skews of a site, 0 where no row gives one
+its_skews : site_skews (skewed (codes "Z") (pos 9)) 0 ≡ pos 0 ∷ pos 9 ∷ []
+its_skews = refl
+
 -- the plan of one die
 abbrev plan : Bound
-plan = record { rows = one_die (codes "A") (ending.Fail 0); signals = signals; execs = 1; circuits = nets ∷ [] }
+plan = record { rows = one_die (codes "A") (ending.Fail 0); program = program; circuits = nets ∷ [] }
 
 accepted : refusal plan ≡ None
 accepted = refl
 
 -- a fault of no net is refused at its row, a bin of no executive at its own
-unknown : refusal (record { rows = one_die (codes "Q") ending.Pass; signals = signals; execs = 1; circuits = nets ∷ [] })
+unknown : refusal (record { rows = one_die (codes "Q") ending.Pass; program = program; circuits = nets ∷ [] })
     ≡ Some (refused.UnknownName 3)
 unknown = refl
 
-no_exec : refusal (record { rows = one_die (codes "A") (ending.Fail 1); signals = signals; execs = 1; circuits = nets ∷ [] })
+no_exec : refusal (record { rows = one_die (codes "A") (ending.Fail 1); program = program; circuits = nets ∷ [] })
     ≡ Some (refused.OutOfRange 5)
 no_exec = refl
 

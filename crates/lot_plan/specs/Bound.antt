@@ -8,6 +8,7 @@ use Rattle.die_sim.specs.Die.{Image}
 use Rattle.die_sim.specs.declared.image.Binding.{Binding}
 use Rattle.die_sim.specs.declared.image.StuckAt.{StuckAt}
 use Rattle.page_code.specs.declared.parts.CodeSignal.{CodeSignal}
+use Rattle.page_code.specs.Program.{Program}
 use Rattle.plan_rows.specs.declared.row.Row.{Row}
 use Rattle.plan_rows.specs.declared.row.DieRow.{DieRow}
 use Rattle.plan_rows.specs.declared.row.FaultRow.{FaultRow}
@@ -16,13 +17,15 @@ use Rattle.lot_plan.specs.declared.bound_die.DieFault.{DieFault}
 use Rattle.lot_plan.specs.Needs.{needs_of, clock_of}
 use Rattle.lot_plan.specs.Binds.{binds_of, list_of}
 
--- the rows of a plan, what they need of the program that they are bound to (its signals, and how many executives it
--- has), and the circuits of the plan's files, in order
+-- the rows of a plan, the program that they are bound to, and the circuits of the plan's files, in order
 pub record Bound : Type 0 where
   pub rows : List Row
-  pub signals : List CodeSignal
-  pub execs : ℕ
+  pub program : Program
   pub circuits : List Circuit
+
+-- the signals of the program
+abbrev pub signals_of : Bound → List CodeSignal
+signals_of b = b.program.signals
 
 -- no nets
 abbrev pub no_circuit : Circuit
@@ -42,7 +45,10 @@ circuit_of b site die = slice_index_or b.circuits (file_of b.rows site die) no_c
 
 -- how the signals are bound to a circuit
 abbrev pub binding_to : Bound → Circuit → Binding
-binding_to b c = record { clock = clock_of b.rows b.signals; nets = list_of (binds_of c (needs_of b.rows b.signals)) }
+binding_to b c = record {
+  clock = clock_of b.rows (signals_of b);
+  nets = list_of (binds_of c (needs_of b.rows (signals_of b)));
+}
 
 -- how the signals are bound to the circuit of a die
 abbrev pub binding_of : Bound → ℕ → ℕ → Binding

@@ -4,6 +4,7 @@ pub mod Bound
 pub mod Building
 pub mod Groups
 pub mod Readings
+pub mod Skews
 pub mod Refusal
 pub mod Sample
 pub mod Stored

@@ -9,12 +9,14 @@ use Rattle.plan_rows.specs.declared.fault.PlanFault.{PlanFault}
 use Rattle.plan_rows.specs.declared.fault.PlanFault.TheVariants.{NoMemory, UnknownName, OutOfRange, Unbound}
 use Rattle.plan_rows.specs.declared.row.Row.{Row}
 use Rattle.plan_rows.specs.declared.row.Row.TheVariants as row
+use Rattle.plan_rows.specs.declared.row.SkewRow.{SkewRow}
 use Rattle.plan_rows.specs.declared.row.Ending.{Ending}
 use Rattle.plan_rows.specs.declared.row.Ending.TheVariants as ending
 use Rattle.plan_rows.specs.Rows.{AreKept, files_of}
 use Rattle.lot_plan.specs.Needs.{PinNeed, has_name, needs_of}
 use Rattle.lot_plan.specs.Binds.{binds_of, list_of, unbound_in}
-use Rattle.lot_plan.specs.Bound.{Bound, circuit_of}
+use Rattle.lot_plan.specs.Bound.{Bound, signals_of, circuit_of}
+use Rattle.lot_plan.specs.Skews.{skew_refusal}
 
 -- no fault where the test holds, else this
 abbrev pub unless : Bool → PlanFault → Option PlanFault
@@ -36,21 +38,26 @@ ending_refusal execs number ending.Stopped = None
 ending_refusal execs number ending.Contact = None
 
 -- the fault of the row of this number: a clock or a bind row of no signal, a fault of no net of its die, a bin of no
--- executive
-abbrev pub row_refusal : (List ℕ → Bool) → ℕ → (ℕ → ℕ → Circuit) → ℕ → Row → Option PlanFault
-row_refusal known execs circuit number (row.Lot l) = None
-row_refusal known execs circuit number (row.Clock name) = unless (known name) (UnknownName number)
-row_refusal known execs circuit number (row.Bind r) = unless (known r.signal) (UnknownName number)
-row_refusal known execs circuit number (row.Die d) = None
-row_refusal known execs circuit number (row.Fault f) = unless (is_net (circuit f.site f.die) f.net) (UnknownName number)
-row_refusal known execs circuit number (row.Stop s) = None
-row_refusal known execs circuit number (row.Bin r) = ending_refusal execs number r.ending
+-- executive, a skew of no signal or one that moves an event out of its cycle
+abbrev pub row_refusal : (List ℕ → Bool) → (ℕ → SkewRow → Option PlanFault) → ℕ → (ℕ → ℕ → Circuit) → ℕ → Row
+    → Option PlanFault
+row_refusal known skewed execs circuit number (row.Lot l) = None
+row_refusal known skewed execs circuit number (row.Clock name) = unless (known name) (UnknownName number)
+row_refusal known skewed execs circuit number (row.Bind r) = unless (known r.signal) (UnknownName number)
+row_refusal known skewed execs circuit number (row.Die d) = None
+row_refusal known skewed execs circuit number (row.Fault f) =
+    unless (is_net (circuit f.site f.die) f.net) (UnknownName number)
+row_refusal known skewed execs circuit number (row.Stop s) = None
+row_refusal known skewed execs circuit number (row.Bin r) = ending_refusal execs number r.ending
+row_refusal known skewed execs circuit number (row.Skew r) = skewed number r
 
 -- the first fault of rows that are numbered from here on
-abbrev pub rows_refusal : (List ℕ → Bool) → ℕ → (ℕ → ℕ → Circuit) → ℕ → List Row → Option PlanFault
-rows_refusal known execs circuit number [] = None
-rows_refusal known execs circuit number (r ∷ rows) =
-    option_or (row_refusal known execs circuit number r) (rows_refusal known execs circuit (number + 1) rows)
+abbrev pub rows_refusal : (List ℕ → Bool) → (ℕ → SkewRow → Option PlanFault) → ℕ → (ℕ → ℕ → Circuit) → ℕ → List Row
+    → Option PlanFault
+rows_refusal known skewed execs circuit number [] = None
+rows_refusal known skewed execs circuit number (r ∷ rows) =
+    option_or (row_refusal known skewed execs circuit number r)
+    (rows_refusal known skewed execs circuit (number + 1) rows)
 
 -- the first signal without a net, circuit by circuit
 abbrev pub first_unbound : List PinNeed → List Circuit → Option (List ℕ)
@@ -68,10 +75,15 @@ pub record AreBindings (circuits : List Circuit) (needs : List PinNeed) (clock :
   pub bound : first_unbound needs circuits ≡ None
   pub each : bindings ≡ map (binding_by clock needs) circuits
 
--- why a plan isn't bound, with its rows numbered from 1
+-- the fault of the first row that is refused, with the rows numbered from 1
+abbrev pub refused_row : Bound → Option PlanFault
+refused_row b =
+    rows_refusal (is_signal (signals_of b)) (skew_refusal (signals_of b) b.program.tables) (length b.program.execs)
+    (circuit_of b) 1 b.rows
+
+-- why a plan isn't bound
 abbrev pub refusal : Bound → Option PlanFault
-refusal b = option_or (rows_refusal (is_signal b.signals) b.execs (circuit_of b) 1 b.rows)
-    (option_map Unbound (first_unbound (needs_of b.rows b.signals) b.circuits))
+refusal b = option_or (refused_row b) (option_map Unbound (first_unbound (needs_of b.rows (signals_of b)) b.circuits))
 
 -- what a bound plan keeps
 pub record IsBound (b : Bound) : Type 0 where

@@ -1,5 +1,5 @@
 -- What a plan and a bound plan keep in store.
-use Rattle.std.specs.Prelude.{◌≡◌, ℕ, ◌<◌, ◌+◌, ◌^◌, Option, Some, List, [], length, map, slice_get, slice_index_or}
+use Rattle.std.specs.Prelude.{◌≡◌, ℕ, ◌<◌, ◌+◌, ◌^◌, ℤ, Option, Some, List, [], length, map, slice_get, slice_index_or}
 use Rattle.die_sim.specs.declared.image.Binding.{Binding}
 use Rattle.plan_rows.specs.declared.row.Row.{Row}
 use Rattle.plan_rows.specs.declared.row.LotRow.{LotRow}
@@ -8,6 +8,7 @@ use Rattle.plan_rows.specs.Rows.{AreKept, each_of, as_bin, dies_at, stops_at, si
 use Rattle.lot_plan.specs.declared.bound_die.BoundDie.{BoundDie}
 use Rattle.lot_plan.specs.Bound.{Bound, die_at, file_of, image_of, binding_to}
 use Rattle.lot_plan.specs.Readings.{first_of}
+use Rattle.lot_plan.specs.Skews.{site_skews}
 use Rattle.lot_plan.specs.Refusal.{IsBound}
 
 -- what a plan keeps beside its rows
@@ -44,13 +45,19 @@ pub record AreStored (b : Bound) (sites : List (List BoundDie)) : Type 0 where
   pub dies : (s : ℕ) → s < length sites → length (stored_in sites s) ≡ length (dies_at s b.rows)
   pub each : (s d : ℕ) → s < length sites → d < length (stored_in sites s) → IsStored b s d (stored_at sites s d)
 
+-- the skews of the signals at each site
+pub record AreSkews (b : Bound) (skews : List (List ℤ)) : Type 0 where
+  pub count : length skews ≡ sites_of b.rows
+  pub each : (s : ℕ) → s < length skews → slice_index_or skews s [] ≡ site_skews b s
+
 -- what is in store of a bound plan
-pub record IsInStore (b : Bound) (lot : LotRow) (first : Option (ℕ × ℕ)) (bins : List BinRow) (bindings : List Binding)
-    (sites : List (List BoundDie)) : Type 0 where
+pub record IsInStore (b : Bound) (lot : LotRow) (first : Option (ℕ × ℕ)) (bins : List BinRow) (skews : List (List ℤ))
+    (bindings : List Binding) (sites : List (List BoundDie)) : Type 0 where
   pub bound : IsBound b
   pub own : lot ≡ lot_of b.rows
   pub begins : first ≡ first_of b.rows
   pub binned : bins ≡ each_of as_bin b.rows
+  pub skewed : AreSkews b skews
   pub wired : bindings ≡ map (binding_to b) b.circuits
   pub dies : AreStored b sites
 

@@ -9,9 +9,8 @@ ghost use Rattle.bench_net.specs.Circuit.{IsWhole};
 ghost use Rattle.plan_rows.specs.declared.fault.PlanFault.TheVariants as refused;
 ghost use Rattle.plan_rows.specs.Rows.{AreKept, sites_of, files_of};
 ghost use Rattle.lot_plan.specs.Needs.{clock_of, needs_of};
-ghost use Rattle.lot_plan.specs.Bound.{circuit_of};
 ghost use Rattle.lot_plan.specs.Groups.{AreGroups};
-ghost use Rattle.lot_plan.specs.Refusal.{is_signal, rows_refusal, first_unbound, AreBindings, refusal, IsBound};
+ghost use Rattle.lot_plan.specs.Refusal.{is_signal, refused_row, first_unbound, AreBindings, refusal, IsBound};
 ghost use Rattle.lot_plan.specs.Stored.{IsMade};
 
 use crate::bindings::bindings_of;
@@ -24,7 +23,7 @@ use crate::{building, refusal};
 use bench_net::Netlist;
 use die_sim::Binding;
 use indexmap::IndexSet;
-use page_code::CodeSignal;
+use page_code::{Code, CodeSignal};
 use plan_rows::{DieRow, PlanFault, Row};
 use std::alloc::Global;
 use std::sync::Arc;
@@ -53,24 +52,22 @@ fn check_rows(
     alloc: Global,
     rows: &[Row],
     signals: &[CodeSignal],
-    execs: u16,
+    code: &Code,
     groups: &[SiteGroup<'_>],
     nets: &[Arc<Netlist>],
 ) -> Result<(), PlanFault>
     requires kept { AreKept rows.now }
     requires few { length rows.now < 2 ^ 32 }
     requires groups { AreGroups rows.now groups.now }
-    ensures accepted { OnOk result (rows_refusal (is_signal signals.now) execs
-        (circuit_of
-        (record { rows = rows.now; signals = signals.now; execs = execs; circuits = map arc_value nets.now }))
-        1 rows.now ≡ None) }
-    ensures fault { IfErr result (λ e. (e ≡ refused.NoMemory) ⊎ (rows_refusal (is_signal signals.now) execs
-        (circuit_of
-        (record { rows = rows.now; signals = signals.now; execs = execs; circuits = map arc_value nets.now }))
-        1 rows.now ≡ Some e)) }
+    requires signals { signals.now ≡ code.now.signals }
+    requires few_signals { length signals.now ≤ 1024 }
+    ensures accepted { OnOk result
+        (refused_row (record { rows = rows.now; program = code.now; circuits = map arc_value nets.now }) ≡ None) }
+    ensures fault { IfErr result (λ e. (e ≡ refused.NoMemory)
+        ⊎ (refused_row (record { rows = rows.now; program = code.now; circuits = map arc_value nets.now }) ≡ Some e)) }
 {
     let names = names_of(alloc, signals)?;
-    match refusal::rows_refusal(&names, execs, groups, nets, rows) {
+    match refusal::rows_refusal(&names, signals, code, groups, nets, rows) {
         Some(fault) => Err(fault),
         None => Ok(()),
     }
@@ -108,24 +105,23 @@ pub(crate) fn made_of(
     rows: &[Row],
     sites: u8,
     signals: &[CodeSignal],
-    execs: u16,
+    code: &Code,
     nets: &[Arc<Netlist>],
 ) -> Result<Made, PlanFault>
     requires kept { AreKept rows.now }
     requires few { length rows.now < 2 ^ 32 }
     requires sites { sites ≡ sites_of rows.now }
-    requires signals { length signals.now ≤ 1024 }
+    requires signals { signals.now ≡ code.now.signals }
+    requires few_signals { length signals.now ≤ 1024 }
     requires files { length nets.now ≡ length (files_of rows.now) }
     ensures found { IfOk result
-        (λ made. IsMade
-        (record { rows = rows.now; signals = signals.now; execs = execs; circuits = map arc_value nets.now })
+        (λ made. IsMade (record { rows = rows.now; program = code.now; circuits = map arc_value nets.now })
         (map arc_value made.bindings) made.dies) }
     ensures fault { IfErr result (λ e. (e ≡ refused.NoMemory)
-        ⊎ (refusal (record { rows = rows.now; signals = signals.now; execs = execs; circuits = map arc_value nets.now })
-        ≡ Some e)) }
+        ⊎ (refusal (record { rows = rows.now; program = code.now; circuits = map arc_value nets.now }) ≡ Some e)) }
 {
     let groups = groups_by_sites(alloc, rows, sites)?;
-    check_rows(alloc, rows, signals, execs, &groups, nets)?;
+    check_rows(alloc, rows, signals, code, &groups, nets)?;
     let bindings = bind_signals(alloc, rows, signals, nets)?;
     let dies = building::dies_of(alloc, &groups, nets, &bindings, lot_of(rows).tries)?;
     Ok(Made {

@@ -7,16 +7,19 @@ ghost use Rattle.std.specs.Arc.{arc_value};
 ghost use Rattle.plan_rows.specs.Rows.{AreKept, each_of, as_bin, sites_of, files_of, dies_at, lot_of};
 ghost use Rattle.lot_plan.specs.Bound.{die_at, circuit_of, binding_of, image_of, stop_of};
 ghost use Rattle.lot_plan.specs.Readings.{first_of, bin_of, ends_so, usual_bin};
+ghost use Rattle.lot_plan.specs.Skews.{site_skews};
 ghost use Rattle.lot_plan.specs.Refusal.{IsAnswer, IsBound};
 ghost use Rattle.lot_plan.specs.Stored.{IsStored};
 
 use crate::binding::made_of;
 use crate::bound_die::BoundDie;
 use crate::pins::signals_of;
+use crate::program_seen::ProgramSeen;
 use crate::rows::{copies_of, first_of, lot_of};
+use crate::skews::all_skews;
 use bench_net::Netlist;
 use die_sim::{Binding, DieImage};
-use page_code::{Code, CodeSignalList};
+use page_code::Code;
 use plan_rows::{BinRow, Ending, LotRow, PlanFault, PlanRows, Row, StopRow};
 use std::alloc::Global;
 use std::marker::Model;
@@ -27,11 +30,11 @@ use tester_types::{Items, NoMemory, Verdict};
 #[derive(Drop)]
 pub struct BoundPlan {
     rows: PlanRows,
-    signals: CodeSignalList,
-    execs: u16,
+    program: ProgramSeen,
     lot: LotRow,
     first: Option<(u8, u16)>,
     bins: Items<BinRow>,
+    skews: Items<Items<i64>>,
     nets: Items<Arc<Netlist>>,
     bindings: Items<Arc<Binding>>,
     sites: Items<Items<BoundDie>>,
@@ -47,14 +50,13 @@ impl Model for BoundPlan {
 
     ghost view = { λ p. record {
       rows = p.rows;
-      signals = p.signals;
-      execs = p.execs;
+      program = p.program.program;
       circuits = map arc_value p.nets;
     } };
 
     ghost invariant = { λ p. IsInStore
-        (record { rows = p.rows; signals = p.signals; execs = p.execs; circuits = map arc_value p.nets })
-        p.lot p.first p.bins (map arc_value p.bindings) p.sites };
+        (record { rows = p.rows; program = p.program.program; circuits = map arc_value p.nets })
+        p.lot p.first p.bins p.skews (map arc_value p.bindings) p.sites };
 }
 
 impl BoundPlan {
@@ -85,6 +87,14 @@ impl BoundPlan {
         ensures { result ≡ (lot_of self.now.rows).keep }
     {
         self.lot.keep
+    }
+
+    /// The skews of the signals at a site, in declared order and in femtoseconds: 0 where a signal has none.
+    pub fn skews(&self, site: u8) -> &[i64]
+        requires { site < sites_of self.now.rows }
+        ensures { result.now ≡ site_skews self.now site }
+    {
+        self.skews.as_slice()[site as usize].as_slice()
     }
 
     /// How many dies a site has.
@@ -184,29 +194,28 @@ pub(crate) fn bound(
     requires files { length nets.items ≡ length (files_of rows) }
     ensures { IsAnswer (record {
       rows = rows;
-      signals = code.now.signals;
-      execs = length code.now.execs;
+      program = code.now;
       circuits = map arc_value nets.items;
     }) result }
 {
     let signals = signals_of(alloc, code)?;
-    let execs = code.execs();
     let made = made_of(
         alloc,
         rows.as_slice(),
         sites,
         signals.as_slice(),
-        execs,
+        code,
         &nets,
     )?;
     let bins = bin_list(alloc, rows.as_slice())?;
+    let skews = all_skews(alloc, rows.as_slice(), signals.as_slice(), sites)?;
     Ok(BoundPlan {
         lot: lot_of(rows.as_slice()),
         first: first_of(rows.as_slice()),
         rows,
-        signals,
-        execs,
+        program: ProgramSeen::of(code),
         bins,
+        skews,
         nets: Items::from_vec(nets),
         bindings: made.bindings,
         sites: made.dies,

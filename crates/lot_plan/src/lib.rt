@@ -11,8 +11,10 @@ mod names;
 mod pin;
 mod pins;
 mod plan;
+mod program_seen;
 mod refusal;
 mod rows;
+mod skews;
 
 pub use bound_plan::BoundPlan;
 pub use plan::{FileList, Plan};

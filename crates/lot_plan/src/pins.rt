@@ -147,7 +147,7 @@ pub(crate) fn pins_of<'a>(
 }
 
 /// The number of the signal of this name.
-fn place_of(signals: &[CodeSignal], name: &[u8]) -> Option<u16>
+pub(crate) fn place_of(signals: &[CodeSignal], name: &[u8]) -> Option<u16>
     requires { length signals.now ≤ 1024 }
     ensures { result ≡ position (has_name name.now) signals.now }
 {

@@ -102,7 +102,8 @@ impl Plan {
 
     /// The plan bound to a program and to the netlists of its files, in order; or the first refusal. Rows are checked
     /// in order: a clock or a bind row whose signal the program doesn't have, and a fault whose net its die's netlist
-    /// doesn't have, is an unknown name; a bin of an executive that isn't there is out of range. Then each signal is
+    /// doesn't have, is an unknown name; a bin of an executive that isn't there is out of range; a skew whose signal isn't
+    /// there is an unknown name, and one that moves an event of it out of its cycle is outside. Then each signal is
     /// bound to each netlist, in order, and the first that has no net is unbound.
     pub fn bind(
         self,
@@ -113,8 +114,7 @@ impl Plan {
         requires { length nets.items ≡ length (files_of self) }
         ensures { IsAnswer (record {
           rows = self;
-          signals = code.now.signals;
-          execs = length code.now.execs;
+          program = code.now;
           circuits = map arc_value nets.items;
         }) result }
     {

@@ -26,8 +26,14 @@ enum Answer {
     Shape(u32),
     UnknownName(u32),
     OutOfRange(u32),
+    SkewOutside(u32),
     Unbound(u8),
 }
+
+/// A table with a period of 10 fs and one wave, of the first signal, which is driven down at 3 fs.
+const TABLE: &[u8] = &[
+    1, 0, b't', 10, 0, 0, 0, 0, 0, 0, 0, 1, 0, 0, 0, 0, 0, b'1', 1, 3, 0, 0, 0, 0, 0, 0, 0, 1,
+];
 
 /// The saved program of an input A and an output with this letter, with one executive that does nothing.
 fn program(alloc: Global, output: u8) -> Result<Vec<u8>, NoMemory> {
@@ -38,7 +44,9 @@ fn program(alloc: Global, output: u8) -> Result<Vec<u8>, NoMemory> {
         ],
     )?;
     bytes.push(output)?;
-    bytes.extend_from_slice(&[0; 6])?;
+    bytes.extend_from_slice(&[1, 0])?;
+    bytes.extend_from_slice(TABLE)?;
+    bytes.extend_from_slice(&[0; 4])?;
     bytes.extend_from_slice(&[1, 0, 0, 0, 0, 0, 1, 0, 0, 0, 4])?;
     bytes.extend_from_slice(&[0; 15])?;
     Ok(bytes)
@@ -115,6 +123,7 @@ fn kind_of(fault: PlanFault) -> Result<Answer, Fail> {
         PlanFault::Shape(row) => Ok(Answer::Shape(row)),
         PlanFault::UnknownName(row) => Ok(Answer::UnknownName(row)),
         PlanFault::OutOfRange(row) => Ok(Answer::OutOfRange(row)),
+        PlanFault::SkewOutside(row) => Ok(Answer::SkewOutside(row)),
         PlanFault::Unbound(name) => Ok(Answer::Unbound(letter_of(name.as_slice()))),
         PlanFault::Twice(_) | PlanFault::NoMemory => Err(Fail::from("another fault")),
     }
@@ -166,6 +175,12 @@ fn rows_are_refused_by_the_program_and_the_netlists(rt: HostRuntime) -> Result<(
         (b"fault,0,d,B,1,", Answer::UnknownName(3)),
         (b"bin,fail,0,9,,", Answer::Bound),
         (b"bin,fail,1,9,,", Answer::OutOfRange(3)),
+        (b"skew,0,A,6,,", Answer::Bound),
+        (b"skew,0,A,7,,", Answer::SkewOutside(3)),
+        (b"skew,0,A,-3,,", Answer::Bound),
+        (b"skew,0,A,-4,,", Answer::SkewOutside(3)),
+        (b"skew,0,Z,1000000000000,,", Answer::Bound),
+        (b"skew,0,K,0,,", Answer::UnknownName(3)),
     ];
     assert_eq!(rt; first_wrong(rt.alloc(), FRONT, &cases)?, None);
     Ok(())
@@ -338,6 +353,19 @@ fn a_die_has_the_faults_and_stops_of_its_tries(rt: HostRuntime) -> Result<(), Fa
         "[StuckAt { net: 0, value: true }, StuckAt { net: 2, value: false }] None; \
         [StuckAt { net: 2, value: false }] Some(7)"
     );
+    Ok(())
+}
+
+#[test]
+fn a_signal_has_the_skew_of_its_site(rt: HostRuntime) -> Result<(), Fail> {
+    let text =
+        b"lot,1,1,0,,\ndie,1,a,gate,,\nskew,1,Z,-0,,\nskew,1,A,-3,,\ndie,0,b,gate,,\nskew,0,Z,8,,";
+    let plan = bound_text(rt.alloc(), text)?;
+    if plan.sites() != 2 {
+        return Err(Fail::from("two sites"));
+    }
+    assert!(rt; plan.skews(0) == [0, 8].as_slice());
+    assert!(rt; plan.skews(1) == [-3, 0].as_slice());
     Ok(())
 }
 

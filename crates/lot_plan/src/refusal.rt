@@ -1,18 +1,21 @@
 //! The rows of a plan against the program and the netlists that it is bound to.
-ghost use Rattle.std.specs.Prelude.{◌≡◌, ◌<◌, ◌^◌, map, length, slice_index_or};
+ghost use Rattle.std.specs.Prelude.{◌≡◌, ◌<◌, ◌≤◌, ◌^◌, map, length, slice_index_or};
 ghost use Rattle.std.specs.List.{list_any};
 ghost use Rattle.std.specs.Str.{bytes_eq};
 ghost use Rattle.std.specs.Arc.{arc_value};
 ghost use Rattle.bench_net.specs.Views.{texts};
 ghost use Rattle.lot_plan.specs.Bound.{no_circuit};
 ghost use Rattle.lot_plan.specs.Groups.{file_in, circuit_in};
+ghost use Rattle.lot_plan.specs.Skews.{skew_refusal};
 ghost use Rattle.lot_plan.specs.Refusal.{is_net, unless, ending_refusal, row_refusal, rows_refusal};
 
 use crate::bindings::net_number;
 use crate::groups::SiteGroup;
 use crate::names::is_among;
+use crate::skews::skew_refusal;
 use bench_net::Netlist;
 use indexmap::IndexSet;
+use page_code::{Code, CodeSignal};
 use plan_rows::{Ending, FaultRow, PlanFault, Row};
 use std::sync::Arc;
 
@@ -73,13 +76,16 @@ fn ending_refusal(execs: u16, number: u32, ending: Ending) -> Option<PlanFault>
 /// The fault of the row of this number.
 fn row_refusal(
     names: &IndexSet<&[u8]>,
-    execs: u16,
+    signals: &[CodeSignal],
+    code: &Code,
     sites: &[SiteGroup<'_>],
     nets: &[Arc<Netlist>],
     number: u32,
     row: &Row,
 ) -> Option<PlanFault>
-    ensures { result ≡ row_refusal (λ name. list_any (bytes_eq name) (texts names.now.keys)) execs
+    requires { length signals.now ≤ 1024 }
+    ensures { result ≡ row_refusal (λ name. list_any (bytes_eq name) (texts names.now.keys))
+        (skew_refusal signals.now code.now.tables) (length code.now.execs)
         (circuit_in sites.now (map arc_value nets.now)) number row.now }
 {
     match row {
@@ -92,28 +98,31 @@ fn row_refusal(
             PlanFault::UnknownName(number),
         ),
         Row::Fault(fault) => unless(has_net(sites, nets, fault), PlanFault::UnknownName(number)),
-        Row::Bin(bin) => ending_refusal(execs, number, bin.ending),
+        Row::Bin(bin) => ending_refusal(code.execs(), number, bin.ending),
+        Row::Skew(skew) => skew_refusal(signals, code, number, skew),
         _ => None,
     }
 }
 
-/// The fault of the first row that is refused: `names` are those of the signals, and `execs` is the number of
-/// executives.
+/// The fault of the first row that is refused: `names` are those of the signals.
 pub(crate) fn rows_refusal(
     names: &IndexSet<&[u8]>,
-    execs: u16,
+    signals: &[CodeSignal],
+    code: &Code,
     sites: &[SiteGroup<'_>],
     nets: &[Arc<Netlist>],
     rows: &[Row],
 ) -> Option<PlanFault>
-    requires { length rows.now < 2 ^ 32 }
-    ensures { result ≡ rows_refusal (λ name. list_any (bytes_eq name) (texts names.now.keys)) execs
+    requires rows { length rows.now < 2 ^ 32 }
+    requires signals { length signals.now ≤ 1024 }
+    ensures { result ≡ rows_refusal (λ name. list_any (bytes_eq name) (texts names.now.keys))
+        (skew_refusal signals.now code.now.tables) (length code.now.execs)
         (circuit_in sites.now (map arc_value nets.now)) 1 rows.now }
 {
     let mut number = 0;
     for row in rows {
         number += 1;
-        let refusal = row_refusal(names, execs, sites, nets, number, row);
+        let refusal = row_refusal(names, signals, code, sites, nets, number, row);
         if refusal.is_some() {
             return refusal;
         }

@@ -5,7 +5,7 @@ ghost use Rattle.plan_rows.specs.Rows.{as_clock, each_of, lot_of};
 ghost use Rattle.lot_plan.specs.Readings.{first_of};
 ghost use Rattle.lot_plan.specs.Views.{behind};
 
-use plan_rows::{BinRow, BindRow, DieRow, FaultRow, LotRow, Row, StopRow};
+use plan_rows::{BinRow, BindRow, DieRow, FaultRow, LotRow, Row, SkewRow, StopRow};
 use std::alloc::{AllocError, Global};
 use tester_types::Text;
 
@@ -109,6 +109,19 @@ impl Kind for BinRow {
     fn of(row: &Row) -> Option<&BinRow> {
         match row {
             Row::Bin(bin) => Some(bin),
+            _ => None,
+        }
+    }
+}
+
+impl Kind for SkewRow {
+    ghost use Rattle.plan_rows.specs.Rows.{as_skew};
+
+    ghost said = { as_skew };
+
+    fn of(row: &Row) -> Option<&SkewRow> {
+        match row {
+            Row::Skew(skew) => Some(skew),
             _ => None,
         }
     }

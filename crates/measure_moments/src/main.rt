@@ -1,7 +1,13 @@
-//! Makes the moments of a full cycle a number of times and prints how many they are, so that it can be timed.
+//! Makes the moments of a full cycle a number of times, or has them lent so often where they are held, and prints how many they
+//! are, so that it can be timed. The words are a number of times, and `held` before it where they are lent.
 #![tactic(auto)]
 
-use edge_gen::schedule;
+ghost use Rattle.std.specs.Prelude.{◌≡◌, map, OnOk};
+ghost use Rattle.std.specs.List.{All};
+ghost use Rattle.edge_gen.specs.Signals.{FitSkews};
+ghost use Rattle.edge_gen.specs.Moments.{moments_of};
+
+use edge_gen::{Schedules, keep_inside, schedule};
 use std::alloc::Global;
 use std::rt::Env;
 use std::{env, io};
@@ -45,31 +51,104 @@ fn full_table(alloc: Global) -> Result<Table, NoMemory> {
     })
 }
 
-/// The number of moments of the last of so many full cycles.
-fn moments(alloc: Global, cycles: u32) -> Result<usize, NoMemory> {
-    let table = full_table(alloc)?;
-    let row = [b'1'; 1024];
+/// The number of moments of the last of so many cycles of this row.
+fn moments_of(
+    alloc: Global,
+    table: &Table,
+    row: &[u8],
+    skews: &[i64],
+    cycles: u32,
+) -> Result<usize, NoMemory>
+    requires { FitSkews table.now row.now skews.now }
+{
     let mut count = 0;
     for cycle in 0..cycles {
-        count = schedule(alloc, &table, &row, u128::from(cycle) * 100_000_000)?
+        count = schedule(alloc, table, row, u128::from(cycle) * 100_000_000, skews)?
             .as_slice()
             .len();
     }
     Ok(count)
 }
 
-/// The number that the first word is, or 1.
-fn cycles<R: Env + AllocGlobal>(rt: &R) -> io::Result<u32> {
-    let word = env::args(rt)?.nth(1);
-    Ok(
+/// The number of moments that are lent for a row of this number, where all that are held are these.
+#[tactic(auto, using(crate::proofs::HeldLemmas::holds_only, crate::proofs::HeldLemmas::asked_all))]
+fn lent(
+    held: &mut Schedules,
+    number: u32,
+    table: &Table,
+    row: &[u8],
+    skews: &[i64],
+) -> Result<usize, NoMemory>
+    requires skews { FitSkews table.now row.now skews.now }
+    requires held { All (λ m. m ≡ moments_of table.now row.now skews.now 0) (map (λ e. e.1) held.old.entries) }
+    ensures { OnOk result (All (λ m. m ≡ moments_of table.now row.now skews.now 0)
+        (map (λ e. e.1) held.new.entries)) }
+{
+    match held.of(0, number, table, row, skews) {
+        Ok(moments) => Ok(moments.as_slice().len()),
+        Err(fault) => Err(fault),
+    }
+}
+
+/// The number of moments that are lent at the last of so many calls, for 64 rows in turn.
+fn lent_moments(
+    alloc: Global,
+    table: &Table,
+    row: &[u8],
+    skews: &[i64],
+    calls: u32,
+) -> Result<usize, NoMemory>
+    requires { FitSkews table.now row.now skews.now }
+{
+    let mut held = Schedules::new(alloc, 64)?;
+    let mut count = 0;
+    for call in 0..calls {
+        count = lent(&mut held, call % 64, table, row, skews)?;
+    }
+    Ok(count)
+}
+
+/// The number of moments at the last of so many times, made or lent, and none where a skew moves an event out of its cycle.
+fn fitting_moments(
+    alloc: Global,
+    table: &Table,
+    row: &[u8],
+    skews: &[i64],
+    (are_held, times): (bool, u32),
+) -> Result<usize, NoMemory> {
+    if skews.len() != row.len() || !keep_inside(table, skews) {
+        return Ok(0);
+    }
+    if are_held {
+        return lent_moments(alloc, table, row, skews, times);
+    }
+    moments_of(alloc, table, row, skews, times)
+}
+
+/// The number of moments of a full cycle, at the last of so many times.
+fn moments(alloc: Global, times: (bool, u32)) -> Result<usize, NoMemory> {
+    let table = full_table(alloc)?;
+    let row = [b'1'; 1024];
+    let skews = [0; 1024];
+    fitting_moments(alloc, &table, &row, &skews, times)
+}
+
+/// Whether the first word is `held`, and the number that the next is, or 1.
+fn times<R: Env + AllocGlobal>(rt: &R) -> io::Result<(bool, u32)> {
+    let mut words = env::args(rt)?;
+    let first = words.nth(1);
+    let are_held = matches!(&first, Some(word) if word.as_str() == "held");
+    let word = if are_held { words.next() } else { first };
+    Ok((
+        are_held,
         word.and_then(|word| word.as_str().parse().ok())
             .unwrap_or(1),
-    )
+    ))
 }
 
 fn main(rt: HostRuntime) -> io::Result<()> {
-    let cycles = cycles(&rt)?;
-    match moments(rt.alloc(), cycles) {
+    let times = times(&rt)?;
+    match moments(rt.alloc(), times) {
         Ok(count) => println!(rt; "{count} moments"),
         Err(NoMemory) => println!(rt; "no memory"),
     }

@@ -1,5 +1,5 @@
 -- Each fail is of a signal of the binding.
-use Rattle.std.proofs.Common.{◌≡◌, ℕ, zero, suc, ◌<◌, Bool, true, false, cond, not, eqb, List, [], ◌∷◌, length, take, map, filter, Option, Some, None, Result, Ok, Err, refl, sym, subst, arith, zero-add}
+use Rattle.std.proofs.Common.{◌≡◌, ℕ, ℤ, zero, suc, ◌<◌, Bool, true, false, cond, not, eqb, List, [], ◌∷◌, length, take, map, filter, Option, Some, None, Result, Ok, Err, refl, sym, subst, arith, zero-add}
 use Rattle.std.specs.Prelude.{All, IfOk}
 use Rattle.std.specs.List.{AllByRecursion, cons_option, enumerate_from, filter_map, find, flat_map, range_with_len}
 use Rattle.std.specs.Option.{option_map}
@@ -95,27 +95,27 @@ all_fails_known device cycles entries =
     (fails_known (bound_of device) (in_cycle number entries))))
 
 -- and those that are kept
-kept_known : (code : Program) (image : Image) (keep : ℕ) (trial : Trial) → IsTrial code image keep trial
+kept_known : (code : Program) (skews : List ℤ) (image : Image) (keep : ℕ) (trial : Trial) → IsTrial code skews image keep trial
     → AllByRecursion (λ fail. fail.signal < length image.binds) trial.kept
-kept_known code image keep trial (unloaded records) =
+kept_known code skews image keep trial (unloaded records) =
     subst (AllByRecursion (λ fail. fail.signal < length image.binds)) (sym records.kept) (all_front _ keep [] tt)
-kept_known code image keep trial (whole w) =
+kept_known code skews image keep trial (whole w) =
     subst (AllByRecursion (λ fail. fail.signal < length image.binds)) (sym w.records.kept)
     (all_front (λ (fail : Fail). fail.signal < length image.binds) keep _ (all_fails_known (device_of image) _ _))
-kept_known code image keep trial (cut c) =
+kept_known code skews image keep trial (cut c) =
     subst (AllByRecursion (λ fail. fail.signal < length image.binds)) (sym c.records.kept)
     (all_front (λ (fail : Fail). fail.signal < length image.binds) keep _ (all_fails_known (device_of image) _ _))
 
-pub known : (code : Program) (image : Image) (keep signals : ℕ) (trial : Trial) → length image.binds ≡ signals
-    → IsTrial code image keep trial
+pub known : (code : Program) (skews : List ℤ) (image : Image) (keep signals : ℕ) (trial : Trial) → length image.binds ≡ signals
+    → IsTrial code skews image keep trial
     → All (λ fail. fail.signal < signals) trial.kept
-known code image keep signals trial is made =
+known code skews image keep signals trial is made =
     all_at (λ (fail : Fail). fail.signal < signals) trial.kept
-    (subst (λ (n : ℕ). AllByRecursion (λ (fail : Fail). fail.signal < n) trial.kept) is (kept_known code image keep trial made))
+    (subst (λ (n : ℕ). AllByRecursion (λ (fail : Fail). fail.signal < n) trial.kept) is (kept_known code skews image keep trial made))
 
-pub known_if : (code : Program) (image : Image) (keep signals : ℕ) (result : Result Trial NoMemory)
+pub known_if : (code : Program) (skews : List ℤ) (image : Image) (keep signals : ℕ) (result : Result Trial NoMemory)
     → length image.binds ≡ signals
-    → IfOk result (λ trial. IsTrial code image keep trial)
+    → IfOk result (λ trial. IsTrial code skews image keep trial)
     → IfOk result (λ trial. All (λ fail. fail.signal < signals) trial.kept)
-known_if code image keep signals (Ok trial) is made = known code image keep signals trial is made
-known_if code image keep signals (Err e) is made = tt
+known_if code skews image keep signals (Ok trial) is made = known code skews image keep signals trial is made
+known_if code skews image keep signals (Err e) is made = tt

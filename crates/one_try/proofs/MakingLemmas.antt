@@ -1,5 +1,5 @@
 -- The cycles of a try, made one after another.
-use Rattle.std.proofs.Common.{◌≡◌, ℕ, ◌+◌, ◌<◌, List, ◌∷◌, length, get_or, take, drop, sym, ◌∙◌, subst, arith}
+use Rattle.std.proofs.Common.{◌≡◌, ℕ, ℤ, ◌+◌, ◌<◌, List, ◌∷◌, length, get_or, take, drop, sym, ◌∙◌, subst, arith}
 use Rattle.tester_types.specs.declared.cycle.Cycle.{Cycle}
 use Rattle.tester_types.specs.declared.level.Drive.{Drive}
 use Rattle.page_meaning.specs.Meaning.{Means}
@@ -39,29 +39,29 @@ next_cycle code cycles i old left cycle counted below was given =
     record { within = within; is = next.is; rest = next.rest }
 
 -- a try that goes on by one more cycle
-pub cycle_goes_on : (device : Device) (code : Program) (i : ℕ) (cycle : Cycle) (left : List Cycle) (held held' held'' : Held)
+pub cycle_goes_on : (device : Device) (code : Program) (skews : List ℤ) (i : ℕ) (cycle : Cycle) (left : List Cycle) (held held' held'' : Held)
     (last last' last'' : List Drive) (told told' told'' : Told)
     → IsNextCycle code i cycle left
-    → GoesOn device 0 i (places_from code 0 (take i (cycles_of code 0))) held last told held' last' told'
-    → GoesOn device i (i + 1) (places_in code (i, cycle)) held' last' told' held'' last'' told''
-    → GoesOn device 0 (i + 1) (places_from code 0 (take (i + 1) (cycles_of code 0))) held last told held'' last'' told''
-cycle_goes_on device code i cycle left held held' held'' last last' last'' told told' told'' next first then =
+    → GoesOn device 0 i (places_from code skews 0 (take i (cycles_of code 0))) held last told held' last' told'
+    → GoesOn device i (i + 1) (places_in code skews (i, cycle)) held' last' told' held'' last'' told''
+    → GoesOn device 0 (i + 1) (places_from code skews 0 (take (i + 1) (cycles_of code 0))) held last told held'' last'' told''
+cycle_goes_on device code skews i cycle left held held' held'' last last' last'' told told' told'' next first then =
     let cs = cycles_of code 0 in
     subst (λ (l : List Place). GoesOn device 0 (i + 1) l held last told held'' last'' told'')
-    (sym (places-more code cs i cycle next.within next.is))
-    (goes_on-append device 0 i (i + 1) (places_from code 0 (take i cs)) (places_in code (i, cycle)) held held' held''
+    (sym (places-more code skews cs i cycle next.within next.is))
+    (goes_on-append device 0 i (i + 1) (places_from code skews 0 (take i cs)) (places_in code skews (i, cycle)) held held' held''
     last last' last'' told told' told'' first then)
 
 -- a try that stops in a cycle stops at one of all places
-pub cycle_stops : (device : Device) (code : Program) (i : ℕ) (cycle : Cycle) (left : List Cycle) (held held' held'' : Held)
+pub cycle_stops : (device : Device) (code : Program) (skews : List ℤ) (i : ℕ) (cycle : Cycle) (left : List Cycle) (held held' held'' : Held)
     (last last' : List Drive) (told told' : Told) (why : Stop)
     → IsNextCycle code i cycle left
-    → GoesOn device 0 i (places_from code 0 (take i (cycles_of code 0))) held last told held' last' told'
-    → StopsAmong device i (places_in code (i, cycle)) held' last' told' held'' why
-    → StopsAmong device 0 (places code) held last told held'' why
-cycle_stops device code i cycle left held held' held'' last last' told told' why next first stops =
+    → GoesOn device 0 i (places_from code skews 0 (take i (cycles_of code 0))) held last told held' last' told'
+    → StopsAmong device i (places_in code skews (i, cycle)) held' last' told' held'' why
+    → StopsAmong device 0 (places code skews) held last told held'' why
+cycle_stops device code skews i cycle left held held' held'' last last' told told' why next first stops =
     let cs = cycles_of code 0 in
     subst (λ (l : List Place). StopsAmong device 0 l held last told held'' why)
-    (sym (places_all code ∙ places-split code cs i cycle next.within next.is))
-    (stops-behind device 0 i (places_from code 0 (take i cs)) (places_in code (i, cycle)) (places_from code (i + 1) (drop (i + 1) cs))
+    (sym (places_all code skews ∙ places-split code skews cs i cycle next.within next.is))
+    (stops-behind device 0 i (places_from code skews 0 (take i cs)) (places_in code skews (i, cycle)) (places_from code skews (i + 1) (drop (i + 1) cs))
     held held' held'' last last' told told' why first stops)

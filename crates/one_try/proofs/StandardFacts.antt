@@ -1,5 +1,5 @@
 -- A known try, which the definitions must give: an inverter from a to y, driven down and then up.
-use Rattle.std.proofs.Common.{◌≡◌, ℕ, List, [], ◌∷◌, Option, Some, refl}
+use Rattle.std.proofs.Common.{◌≡◌, ℕ, pos, negsuc, List, [], ◌∷◌, Option, Some, refl}
 use Rattle.tester_types.specs.declared.level.Level.{Level}
 use Rattle.tester_types.specs.declared.level.Level.TheVariants.{Zero, One, X}
 use Rattle.tester_types.specs.declared.level.Drive.TheVariants as drive
@@ -52,9 +52,16 @@ four =
     ∷ place 1 100000000 ((0, push.Up) ∷ []) [] ∷ place 1 140000000 [] ((1, look.Low) ∷ []) ∷ []
 
 -- two cycles of two moments each
-pub its_places : places inverter ≡ four
+pub its_places : places inverter (pos 0 ∷ pos 0 ∷ []) ≡ four
 unfolding places moments_of bodies
 its_places = refl
+
+-- the same where the drives come 3 femtoseconds later, and the looks 5 earlier
+pub its_moved_places : places inverter (pos 3 ∷ negsuc 4 ∷ [])
+    ≡ place 0 3 ((0, push.Down) ∷ []) [] ∷ place 0 39999995 [] ((1, look.High) ∷ [])
+    ∷ place 1 100000003 ((0, push.Up) ∷ []) [] ∷ place 1 139999995 [] ((1, look.Low) ∷ []) ∷ []
+unfolding places moments_of bodies
+its_moved_places = refl
 
 module _ (circuit : Circuit) (fixed : List (Option Level)) where
   -- signal 0 drives net 0, signal 1 shows net 1, signal 2 is the clock

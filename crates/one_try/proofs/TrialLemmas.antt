@@ -1,5 +1,5 @@
 -- A try from its load on, and what is recorded of it.
-use Rattle.std.proofs.Common.{◌≡◌, ℕ, zero, suc, ◌+◌, ◌<◌, ◌≤◌, Bool, cond, List, [], ◌∷◌, ◌++◌, length, map, replicate, Some, None, refl, sym, ap, ◌∙◌, subst, arith, zero-add}
+use Rattle.std.proofs.Common.{◌≡◌, ℕ, ℤ, zero, suc, ◌+◌, ◌<◌, ◌≤◌, Bool, cond, List, [], ◌∷◌, ◌++◌, length, map, replicate, Some, None, refl, sym, ap, ◌∙◌, subst, arith, zero-add}
 use Rattle.std.specs.List.{AllByRecursion, range_with_len}
 use Rattle.std.proofs.lemmas.Bool.{ne_eqb}
 use Rattle.std.proofs.lemmas.List.{append-nil}
@@ -80,40 +80,40 @@ past_none device n (place ∷ before) (state ∷ states) below =
     (ne_eqb place.cycle n (λ e. omega (arith, below.0, e)))
     ∙ past_none device n before states below.1
 
-all_below : (code : Program) → AllByRecursion (λ place. place.cycle < length (cycles_of code 0)) (places code)
-all_below code =
+all_below : (code : Program) (skews : List ℤ) → AllByRecursion (λ place. place.cycle < length (cycles_of code 0)) (places code skews)
+all_below code skews =
     let cs = cycles_of code 0 in
     subst (λ (l : List Place). AllByRecursion (λ (place : Place). place.cycle < length (cycles_of code 0)) l)
-    (sym (places_all code))
-    (subst (λ (n : ℕ). AllByRecursion (λ (place : Place). place.cycle < n) (places_from code 0 cs)) (zero-add (length cs)) (places_below code 0 cs))
+    (sym (places_all code skews))
+    (subst (λ (n : ℕ). AllByRecursion (λ (place : Place). place.cycle < n) (places_from code skews 0 cs)) (zero-add (length cs)) (places_below code skews 0 cs))
 
 -- a whole try
-pub whole_try : (code : Program) (device : Device) (keep : ℕ) (held : Held) (last : List Drive) (told : Told) (trial : Trial)
-    → IsUnderway device keep (length (cycles_of code 0)) (places code) held last told
+pub whole_try : (code : Program) (skews : List ℤ) (device : Device) (keep : ℕ) (held : Held) (last : List Drive) (told : Told) (trial : Trial)
+    → IsUnderway device keep (length (cycles_of code 0)) (places code skews) held last told
     → IsTrialOf held (length (cycles_of code 0)) None trial
-    → IsWholeTry code device keep trial
-whole_try code device keep held last told trial u is = record {
+    → IsWholeTry code skews device keep trial
+whole_try code skews device keep held last told trial u is = record {
   gone = record { start = u.start; fresh = u.gone.fresh; states = u.states; goes = u.gone.goes };
-  records = subst (λ (l : List Fail). Records keep l n (verdict_of l) trial) same (is (history_of device keep n (places code) u.states) u.gone.seen);
+  records = subst (λ (l : List Fail). Records keep l n (verdict_of l) trial) same (is (history_of device keep n (places code skews) u.states) u.gone.seen);
 }
   where
     n : ℕ
     n = length (cycles_of code 0)
 
-    same : all_fails (bound_of device) (length (cycles_of code 0)) (entries_of device (places code) u.states)
-        ++ fails (bound_of device) (in_cycle (length (cycles_of code 0)) (entries_of device (places code) u.states))
-        ≡ all_fails (bound_of device) (length (cycles_of code 0)) (entries_of device (places code) u.states)
+    same : all_fails (bound_of device) (length (cycles_of code 0)) (entries_of device (places code skews) u.states)
+        ++ fails (bound_of device) (in_cycle (length (cycles_of code 0)) (entries_of device (places code skews) u.states))
+        ≡ all_fails (bound_of device) (length (cycles_of code 0)) (entries_of device (places code skews) u.states)
     same =
-        let all = all_fails (bound_of device) (length (cycles_of code 0)) (entries_of device (places code) u.states) in
+        let all = all_fails (bound_of device) (length (cycles_of code 0)) (entries_of device (places code skews) u.states) in
         ap (λ (l : List Entry). all ++ fails (bound_of device) l)
-        (past_none device (length (cycles_of code 0)) (places code) u.states (all_below code))
+        (past_none device (length (cycles_of code 0)) (places code skews) u.states (all_below code skews))
         ∙ ap (λ (l : List Fail). all ++ l) (fails-none (bound_of device)) ∙ append-nil all
 
 -- a try that was cut
-pub cut_try : (code : Program) (device : Device) (keep : ℕ) (held : Held) (cycle instant : ℕ) (trial : Trial)
-    → IsLostAmong device keep [] (places code) held cycle instant → IsTrialOf held cycle (Some instant) trial
-    → IsCutTry code device keep trial
-cut_try code device keep held cycle instant trial l is = record {
+pub cut_try : (code : Program) (skews : List ℤ) (device : Device) (keep : ℕ) (held : Held) (cycle instant : ℕ) (trial : Trial)
+    → IsLostAmong device keep [] (places code skews) held cycle instant → IsTrialOf held cycle (Some instant) trial
+    → IsCutTry code skews device keep trial
+cut_try code skews device keep held cycle instant trial l is = record {
   before = l.done;
   at = l.at;
   later = l.later;

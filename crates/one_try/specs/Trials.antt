@@ -1,5 +1,5 @@
 -- What is recorded of a try.
-use Rattle.std.specs.Prelude.{◌≡◌, ◌≢◌, ℕ, ◌+◌, ◌-◌, ◌^◌, min, true, List, [], ◌∷◌, ◌++◌, length, take}
+use Rattle.std.specs.Prelude.{◌≡◌, ◌≢◌, ℕ, ℤ, ◌+◌, ◌-◌, ◌^◌, min, true, List, [], ◌∷◌, ◌++◌, length, take}
 use Rattle.tester_types.specs.declared.record.Fail.{Fail}
 use Rattle.tester_types.specs.declared.record.Verdict.{Verdict}
 use Rattle.tester_types.specs.declared.record.Verdict.TheVariants as verdict
@@ -38,14 +38,16 @@ verdict_of [] = verdict.Pass
 verdict_of (fail ∷ fails) = verdict.Fail 0
 
 -- the fails of all cycles
-abbrev pub found_in : (code : Program) (device : Device) → HasGone device (places code) → List Fail
-found_in code device gone = all_fails (bound_of device) (length (cycles_of code 0)) (judged device (places code) gone)
+abbrev pub found_in : (code : Program) (skews : List ℤ) (device : Device) → HasGone device (places code skews)
+    → List Fail
+found_in code skews device gone =
+    all_fails (bound_of device) (length (cycles_of code 0)) (judged device (places code skews) gone)
 
 -- a try that went through all its moments
-pub record IsWholeTry (code : Program) (device : Device) (keep : ℕ) (trial : Trial) : Type 0 where
-  pub gone : HasGone device (places code)
-  pub records : Records keep (found_in code device gone) (length (cycles_of code 0))
-      (verdict_of (found_in code device gone)) trial
+pub record IsWholeTry (code : Program) (skews : List ℤ) (device : Device) (keep : ℕ) (trial : Trial) : Type 0 where
+  pub gone : HasGone device (places code skews)
+  pub records : Records keep (found_in code skews device gone) (length (cycles_of code 0))
+      (verdict_of (found_in code skews device gone)) trial
 
 -- the moment meets the die: it drives it, or some signal is sensed
 pub data Meets (device : Device) (before : List Place) (entries : List Entry) (place : Place) : Type 0 where
@@ -54,21 +56,21 @@ pub data Meets (device : Device) (before : List Place) (entries : List Entry) (p
       → Meets device before entries place
 
 -- a try that lost contact at a moment: the moments before it count, and the cycles before its own
-pub record IsCutTry (code : Program) (device : Device) (keep : ℕ) (trial : Trial) : Type 0 where
+pub record IsCutTry (code : Program) (skews : List ℤ) (device : Device) (keep : ℕ) (trial : Trial) : Type 0 where
   pub before : List Place
   pub at : Place
   pub later : List Place
-  pub split : places code ≡ before ++ at ∷ later
+  pub split : places code skews ≡ before ++ at ∷ later
   pub gone : HasGone device before
   pub meets : Meets device before (in_cycle at.cycle (judged device before gone)) at
   pub records : Records keep (all_fails (bound_of device) (at.cycle + 1) (judged device before gone)) at.cycle
       (verdict.Contact at.moment.at) trial
 
 -- what is recorded of one try of a die: that it wasn't loaded, what its looks found, or that the contact was lost
-pub data IsTrial (code : Program) (image : Image) (keep : ℕ) (trial : Trial) : Type 0 where
-  unloaded : Records keep [] 0 (verdict.Contact 0) trial → IsTrial code image keep trial
-  whole : IsWholeTry code (device_of image) keep trial → IsTrial code image keep trial
-  cut : IsCutTry code (device_of image) keep trial → IsTrial code image keep trial
+pub data IsTrial (code : Program) (skews : List ℤ) (image : Image) (keep : ℕ) (trial : Trial) : Type 0 where
+  unloaded : Records keep [] 0 (verdict.Contact 0) trial → IsTrial code skews image keep trial
+  whole : IsWholeTry code skews (device_of image) keep trial → IsTrial code skews image keep trial
+  cut : IsCutTry code skews (device_of image) keep trial → IsTrial code skews image keep trial
 
 -- the contact was lost
 abbrev pub IsContact : Verdict → Type 0

@@ -5,7 +5,7 @@ ghost use Rattle.page_code.specs.Conditions.{IsProgram};
 ghost use Rattle.page_code.specs.Cycles.{cycles_of};
 ghost use Rattle.page_code.specs.Walk.{IsOf};
 ghost use Rattle.die_sim.specs.Die.{device_of};
-ghost use Rattle.one_try.specs.Places.{place_in, places_in, places};
+ghost use Rattle.one_try.specs.Places.{FitCode, place_in, places_in, places};
 ghost use Rattle.one_try.specs.Step.{AreOfSignals, FitsBench, IsOnTheWay, GoesOn, StopsAmong, HasCause};
 
 use crate::bench::Bench;
@@ -101,21 +101,23 @@ fn make_cycle<K: Socket>(
     bench: &mut Bench,
     code: &Code,
     image: &DieImage,
+    skews: &[i64],
     number: u64,
     cycle: &Cycle,
 ) -> Result<(), Stop>
     requires program { IsProgram code.now }
+    requires skews { FitCode code.now skews.now }
     requires signals { length image.now.binds ≡ length code.now.signals }
     requires of { IsOf code.now cycle.now.table cycle.now.row }
     requires early { cycle.now.start < 2 ^ 88 }
     requires room { FitsBench (length image.now.binds) bench.old.last.items bench.old.levels.items }
     requires way { IsOnTheWay (device_of image.now) number bench.old.checker bench.old.last.items (K.told socket.old) }
     ensures goes_on { OnOk result (GoesOn (device_of image.now) number (number + 1)
-        (places_in code.now (number, cycle.now))
+        (places_in code.now skews.now (number, cycle.now))
         bench.old.checker bench.old.last.items (K.told socket.old) bench.new.checker bench.new.last.items
         (K.told socket.new)) }
     ensures stops { IfErr result (λ stop. StopsAmong (device_of image.now) number
-        (places_in code.now (number, cycle.now))
+        (places_in code.now skews.now (number, cycle.now))
         bench.old.checker bench.old.last.items (K.told socket.old) bench.new.checker stop) }
     ensures room { FitsBench (length image.now.binds) bench.new.last.items bench.new.levels.items }
     ensures count { (K.told socket.old).count ≤ (K.told socket.new).count }
@@ -123,7 +125,7 @@ fn make_cycle<K: Socket>(
 {
     let table = code.table(cycle.table);
     let row = code.row(cycle.row);
-    let moments = schedule(alloc, table, row, cycle.start)?;
+    let moments = schedule(alloc, table, row, cycle.start, skews)?;
     make_moments(socket, bench, image, number, cycle, moments.as_slice())?;
     bench.checker.close_cycle();
     Ok(())
@@ -136,16 +138,19 @@ pub(crate) fn make_cycles<K: Socket>(
     bench: &mut Bench,
     code: &Code,
     image: &DieImage,
+    skews: &[i64],
 ) -> Result<u64, Stop>
     requires program { IsProgram code.now }
+    requires skews { FitCode code.now skews.now }
     requires signals { length image.now.binds ≡ length code.now.signals }
     requires room { FitsBench (length image.now.binds) bench.old.last.items bench.old.levels.items }
     requires way { IsOnTheWay (device_of image.now) 0 bench.old.checker bench.old.last.items (K.told socket.old) }
     ensures all { IfOk result (λ cycles. cycles ≡ length (cycles_of code.now 0)) }
-    ensures goes_on { OnOk result (GoesOn (device_of image.now) 0 (length (cycles_of code.now 0)) (places code.now)
+    ensures goes_on { OnOk result (GoesOn (device_of image.now) 0 (length (cycles_of code.now 0))
+        (places code.now skews.now)
         bench.old.checker bench.old.last.items (K.told socket.old) bench.new.checker bench.new.last.items
         (K.told socket.new)) }
-    ensures stops { IfErr result (λ stop. StopsAmong (device_of image.now) 0 (places code.now)
+    ensures stops { IfErr result (λ stop. StopsAmong (device_of image.now) 0 (places code.now skews.now)
         bench.old.checker bench.old.last.items (K.told socket.old) bench.new.checker stop) }
     ensures count { (K.told socket.old).count ≤ (K.told socket.new).count }
     ensures cause { IfErr result (λ stop. HasCause (K.told socket.old).count (K.told socket.new).count stop) }
@@ -156,7 +161,7 @@ pub(crate) fn make_cycles<K: Socket>(
         let Some(cycle) = place.next(code) else {
             unreachable!()
         };
-        make_cycle(alloc, socket, bench, code, image, number, &cycle)?;
+        make_cycle(alloc, socket, bench, code, image, skews, number, &cycle)?;
     }
     Ok(cycles)
 }

@@ -2,10 +2,12 @@
 
 ghost use Rattle.std.specs.Prelude.{◌≡◌, ◌≤◌, length, IfOk};
 ghost use Rattle.text_bytes.specs.Limits.{most_bytes};
+ghost use Rattle.one_try.specs.Places.{FitCode};
 
 use super::*;
 use bench_net::{NetFault, Netlist, read};
 use die_sim::{Bind, BindList, Binding, FailingSocket, FaultList, StuckAt, is_one_fault};
+use edge_gen::keep_inside;
 use page_code::load;
 use std::alloc::AllocError;
 use std::sync::Arc;
@@ -52,13 +54,23 @@ fn program(alloc: Global, first: u8, second: u8) -> Result<Vec<u8>, AllocError> 
     Ok(bytes)
 }
 
-/// The code of a saved program with three signals.
-fn code_of(alloc: Global, bytes: &[u8]) -> Result<Code, Failure>
-    ensures { IfOk result (λ code. length code.signals ≡ 3) }
+/// The code of a saved program with three signals and a table, which these skews fit.
+fn code_of(alloc: Global, bytes: &[u8], skews: &[i64]) -> Result<Code, Failure>
+    ensures signals { IfOk result (λ code. length code.signals ≡ 3) }
+    ensures fit { IfOk result (λ code. FitCode code skews.now) }
 {
     let code = load(alloc, bytes).ok().ok_or("the bytes are a code")?;
     if code.signals() != 3 {
         return Err("there are three signals".into());
+    }
+    if skews.len() != 3 {
+        return Err("there are three skews".into());
+    }
+    if code.tables() != 1 {
+        return Err("there is a table".into());
+    }
+    if !keep_inside(code.table(0), skews) {
+        return Err("the skews fit".into());
     }
     Ok(code)
 }
@@ -93,15 +105,28 @@ fn die(alloc: Global, net: Netlist, faults: Vec<StuckAt>) -> Result<DieImage, Ne
     })
 }
 
-/// The try of two rows at a die, with the call of its socket that loses contact.
-fn tried(alloc: Global, rows: (u8, u8), image: &DieImage, call: u64) -> Result<Trial, Failure>
+/// The try of two rows at a die, with these skews, and with the call of its socket that loses contact.
+fn moved(
+    alloc: Global,
+    rows: (u8, u8),
+    image: &DieImage,
+    skews: &[i64],
+    call: u64,
+) -> Result<Trial, Failure>
     requires { length image.now.binds ≡ 3 }
 {
     let bytes = program(alloc, rows.0, rows.1)?;
-    let code = code_of(alloc, &bytes)?;
+    let code = code_of(alloc, &bytes, skews)?;
     let mut socket = FailingSocket::new(alloc, call);
-    let trial = run_try(alloc, &code, image, 10, &mut socket)?;
+    let trial = run_try(alloc, &code, image, skews, 10, &mut socket)?;
     Ok(trial)
+}
+
+/// The same without a skew.
+fn tried(alloc: Global, rows: (u8, u8), image: &DieImage, call: u64) -> Result<Trial, Failure>
+    requires { length image.now.binds ≡ 3 }
+{
+    moved(alloc, rows, image, &[0, 0, 0], call)
 }
 
 /// The inverter with these faults.
@@ -144,6 +169,25 @@ fn an_output_stuck_at_0_fails_where_1_is_wanted(rt: HostRuntime) -> Result<(), F
     assert_eq!(rt; trial.fails, 1);
     assert!(rt; trial.kept.as_slice() == [fail].as_slice());
     assert_eq!(rt; trial.verdict, Verdict::Fail(0));
+    Ok(())
+}
+
+#[test]
+fn a_look_is_moved_by_the_skew_of_its_signal(rt: HostRuntime) -> Result<(), Failure> {
+    let stuck = StuckAt {
+        net: 1,
+        value: false,
+    };
+    let image = inverter(rt.alloc(), &[stuck])?;
+    let trial = moved(rt.alloc(), (0, 1), &image, &[0, -5, 0], 0)?;
+    assert_eq!(rt; trial.fails, 1);
+    assert!(rt;
+        trial
+            .kept
+            .as_slice()
+            .first()
+            .is_some_and(|fail| fail.at == 39_999_995)
+    );
     Ok(())
 }
 

@@ -1,27 +1,25 @@
 -- What is read is spelled so, and what is spelled so is read: for instructions, executives and whole codes.
-use Rattle.std.proofs.Common.{◌≡◌, ℕ, ◌+◌, ◌*◌, ◌^◌, ◌<◌, ◌≤◌, Bool, true, false, cond, eqb, ltb, leb, ◌&&◌, List, [], ◌∷◌, ◌++◌, length, get_or, drop, replicate, Some, None, Ok, Err, refl, sym, ap, subst, ◌∙◌, append_assoc, arith, inl, inr, ◌⊎◌}
+use Rattle.std.proofs.Common.{◌≡◌, ℕ, ◌+◌, ◌^◌, ◌<◌, ◌≤◌, Bool, true, false, eqb, ltb, leb, ◌&&◌, List, [], ◌∷◌, ◌++◌, length, get_or, drop, replicate, Some, None, Ok, refl, sym, ap, subst, ◌∙◌, arith, inl, inr}
 use Rattle.std.specs.Int.{w16, w32, w64, from_le_bytes}
 use Rattle.std.specs.List.{flat_map}
-use Rattle.std.proofs.lemmas.Bool.{and_parts, and_from, ltb-true, leb-true, eqb-true, lt-ltb, le-leb, eq-eqb}
+use Rattle.std.proofs.lemmas.Bool.{and_parts, and_from, ltb-true, leb-true, eqb-true, lt-ltb, le-leb}
 use Rattle.std.proofs.lemmas.List.{append-nil, length-take, length-drop, take-append-drop, drop-drop, drop_all}
 use Rattle.std.proofs.lemmas.Nat.{from_le_bytes-to_le_bytes_2, from_le_bytes-to_le_bytes_4, from_le_bytes-to_le_bytes_8}
 use Rattle.tester_types.specs.declared.wave.Table.{Table}
 use Rattle.page_meaning.specs.declared.instr.Instr.{Instr}
 use Rattle.page_meaning.specs.declared.instr.Instr.TheVariants.{Run, Loop, End, Done}
 use Rattle.page_meaning.specs.Whole.{IsRest}
-use Rattle.page_code.specs.declared.fault.Refusal.TheVariants.{BadMagic, BadVersion}
-use Rattle.page_code.specs.declared.parts.CodeSignal.{CodeSignal}
 use Rattle.page_code.specs.declared.parts.CodeChain.{CodeChain}
-use Rattle.page_code.specs.Program.{Exec, Program}
-use Rattle.page_code.specs.Conditions.{IsSignal, IsTable, IsRow, IsChain, IsInstr, IsNarrow, IsExec, IsProgram}
+use Rattle.page_code.specs.Program.{Exec}
+use Rattle.page_code.specs.Conditions.{IsChain, IsInstr, IsNarrow, IsExec}
 use Rattle.page_code.specs.Fields.{◌>>=◌, piece_at, number_at, checked, known, meant, items_at}
-use Rattle.page_code.specs.Spelling.{number, text, signal, table, row, chain, instr, exec, head, later, program}
-use Rattle.page_code.specs.Reading.{text_at, signal_at, table_at, row_at, chain_at, are_zero, part, instr_of, may_follow, instr_with, instr_at, exec_at, magic_at, head_at, program_at}
+use Rattle.page_code.specs.Spelling.{number, text, chain, instr, exec}
+use Rattle.page_code.specs.Reading.{text_at, chain_at, are_zero, part, instr_of, may_follow, instr_with, instr_at, exec_at}
 use Rattle.page_code.proofs.Lists.{all_each, each_all}
 use Rattle.page_code.proofs.NestLemmas.{IsReadInstr, read_whole, whole_read}
-use Rattle.page_code.proofs.ReaderLaws.{IsBytes, IsBytes-take, IsBytes-drop, IsReader, adapted, done_reader, then_reader, checked_reader, wide16, wide32, wide64, number_reader, piece_reader, piece_again, known_takes, items_reader, bind_ok, ok_is}
+use Rattle.page_code.proofs.ReaderLaws.{IsBytes, IsBytes-take, IsBytes-drop, IsReader, adapted, done_reader, then_reader, checked_reader, wide16, wide32, wide64, number_reader, piece_reader, piece_again, known_takes, items_reader}
 use Rattle.text_bytes.proofs.BoolLemmas.{chosen}
-use Rattle.page_code.proofs.PartLaws.{taken, IsBelow, IsNumber, AreItems, IsTextWith, text_reader, signal_reader, table_reader, row_reader, chain_reader}
+use Rattle.page_code.proofs.PartLaws.{IsBelow, IsNumber, AreItems, IsTextWith, text_reader, chain_reader}
 
 -- ---- the 16 bytes of an instruction
 
@@ -62,7 +60,8 @@ abbrev Stands : List ℕ → Instr → Type 0
 Stands raw i = (raw ≡ instr i) × IsNarrow i
 
 run_stands : (raw : List ℕ) → length raw ≡ 16 → IsBytes raw → get_or raw 0 0 ≡ 1 → get_or raw 1 0 ≡ 0
-    → Stands raw (Run (from_le_bytes w16 (part 2 2 raw)) (from_le_bytes w32 (part 4 4 raw)) (from_le_bytes w32 (part 8 4 raw)) (from_le_bytes w32 (part 12 4 raw)))
+    → Stands raw (Run (from_le_bytes w16 (part 2 2 raw)) (from_le_bytes w32 (part 4 4 raw)) (from_le_bytes w32 (part 8 4 raw))
+    (from_le_bytes w32 (part 12 4 raw)))
 run_stands raw size fits first second =
     let t = wide16.back (part 2 2 raw) (length-part 2 2 raw (omega arith)) (IsBytes-part 2 2 raw fits) in
     let r = wide32.back (part 4 4 raw) (length-part 4 4 raw (omega arith)) (IsBytes-part 4 4 raw fits) in
@@ -124,7 +123,7 @@ instr_is raw i size fits e =
     none_some i e = cc
 
 -- what an instruction is spelled as stands for it
-instr_again : (i : Instr) → IsNarrow i → instr_of (instr i) ≡ Some i
+pub instr_again : (i : Instr) → IsNarrow i → instr_of (instr i) ≡ Some i
 unfolding instr_of number
 instr_again (Run t r m n) narrow =
     (let r' : ℕ = from_le_bytes w32 (number w32 r) in
@@ -156,15 +155,22 @@ raw_instr_reader = record {
       ∙ ap (λ o. meant (length (instr i ++ rest)) o rest) (instr_again i narrow);
 }
 
-pub instr_reader : (tables : List Table) (rows : List (List ℕ)) (count : ℕ) (before : List Instr) → IsReader (instr_at tables rows count before) instr (IsReadInstr tables rows count before)
+pub instr_reader : (tables : List Table) (rows : List (List ℕ)) (count : ℕ) (before : List Instr)
+    → IsReader (instr_at tables rows count before) instr (IsReadInstr tables rows count before)
 unfolding instr_with
 instr_reader tables rows count before =
     checked_reader (known (piece_at 16) instr_of) instr IsNarrow (may_follow tables rows (eqb (length before + 1) count) before) raw_instr_reader
 
 -- ---- executives
 
-exec_raw : (signals : ℕ) (tables : List Table) (rows : List (List ℕ)) (few : signals ≤ 1024) → IsReader (exec_at signals tables rows) (λ (b : Exec). text b.name ++ ((number w16) (length b.chains) ++ ((flat_map chain) b.chains ++ ((number w32) (length b.instrs) ++ ((flat_map instr) b.instrs ++ ([]))))))
-    (λ (b : Exec). (IsTextWith (λ text. true)) b.name × ((IsNumber (2 ^ 16) (λ count. leb count 256)) (length b.chains) × ((AreItems (λ (before : List CodeChain) (c : CodeChain). IsChain signals c) (length b.chains)) b.chains × ((IsNumber (2 ^ 32) (λ count. ltb 0 count && leb count 4194305)) (length b.instrs) × ((AreItems (IsReadInstr tables rows (length b.instrs)) (length b.instrs)) b.instrs × (b ≡ record { name = b.name; chains = b.chains; instrs = b.instrs }))))))
+exec_raw : (signals : ℕ) (tables : List Table) (rows : List (List ℕ)) (few : signals ≤ 1024) → IsReader (exec_at signals tables rows)
+    (λ (b : Exec). text b.name ++ ((number w16) (length b.chains) ++ ((flat_map chain) b.chains ++ ((number w32) (length b.instrs)
+    ++ ((flat_map instr) b.instrs ++ ([]))))))
+    (λ (b : Exec). (IsTextWith (λ text. true)) b.name × ((IsNumber (2 ^ 16) (λ count. leb count 256)) (length b.chains) × ((AreItems
+    (λ (before : List CodeChain) (c : CodeChain). IsChain signals c) (length b.chains)) b.chains × ((IsNumber (2 ^ 32)
+    (λ count. ltb 0 count && leb count 4194305)) (length b.instrs)
+    × ((AreItems (IsReadInstr tables rows (length b.instrs)) (length b.instrs)) b.instrs
+    × (b ≡ record { name = b.name; chains = b.chains; instrs = b.instrs }))))))
 unfolding exec_at
 exec_raw signals tables rows few =
     then_reader (text_at (λ text. true)) text (IsTextWith (λ text. true))
@@ -237,167 +243,3 @@ exec_reader signals tables rows few few_tables few_rows =
     some_rest : (depth : ℕ) (begun : Bool) (is : List Instr) → IsRest depth begun is → 0 < length is
     some_rest depth begun [] rest = absurd rest
     some_rest depth begun (i ∷ is) rest = omega arith
-
--- ---- whole codes
-
-magic_takes : (magic bytes : List ℕ) (u : Unit {0}) (rest : List ℕ) → magic_at magic bytes ≡ Ok (u, rest) → bytes ≡ magic ++ rest
-magic_takes [] bytes u rest e = ap (λ p. p.1) (ok_is (tt, bytes) (u, rest) e)
-magic_takes (m ∷ magic) [] u rest e = absurd cc
-magic_takes (m ∷ magic) (b ∷ bytes) u rest e =
-    let c = taken (eqb b m) BadMagic (magic_at magic bytes) (u, rest) e in
-    let first : b ≡ m = eqb-true b m c.0 in
-    ap (λ (x : ℕ). x ∷ bytes) first ∙ ap (λ (x : List ℕ). m ∷ x) (magic_takes magic bytes u rest c.1)
-
-magic_again : (magic rest : List ℕ) → magic_at magic (magic ++ rest) ≡ Ok (tt, rest)
-magic_again [] rest = refl
-magic_again (m ∷ magic) rest = rw (eq-eqb m m refl) (magic_again magic rest)
-
-pub head_reader : IsReader head_at (λ (u : Unit {0}). head) (λ (u : Unit {0}). Unit {0})
-unfolding head_at number
-head_reader = record {
-  takes = λ bytes u rest fits e.
-      let a = bind_ok (magic_at (0xD7 ∷ 0x53 ∷ 0x54 ∷ 0x50 ∷ []) bytes) _ (u, rest) e in
-      let b = bind_ok (number_at w16 a.0.1) _ (u, rest) a.2 in
-      let c = bind_ok (cond (eqb b.0.0 1) (checked (number_at w16) (λ n. eqb n 0) b.0.1) (Err BadVersion)) (λ zeros. Ok (tt, zeros.1)) (u, rest) b.2 in
-      let d = taken (eqb b.0.0 1) BadVersion (checked (number_at w16) (λ n. eqb n 0) b.0.1) c.0 c.1 in
-      let magic : bytes ≡ (0xD7 ∷ 0x53 ∷ 0x54 ∷ 0x50 ∷ []) ++ a.0.1 = magic_takes (0xD7 ∷ 0x53 ∷ 0x54 ∷ 0x50 ∷ []) bytes a.0.0 a.0.1 a.1 in
-      let after : IsBytes a.0.1 = subst (λ (x : List ℕ). IsBytes (drop 4 x)) magic (IsBytes-drop 4 bytes fits) in
-      let version = (number_reader w16 (2 ^ 16) wide16).takes a.0.1 b.0.0 b.0.1 after b.1 in
-      let zeros = (checked_reader (number_at w16) (number w16) (λ n. n < 2 ^ 16) (λ n. eqb n 0) (number_reader w16 (2 ^ 16) wide16)).takes b.0.1 c.0.0 c.0.1 version.1 d.1 in
-      let one : b.0.0 ≡ 1 = eqb-true b.0.0 1 d.0 in
-      let none : c.0.0 ≡ 0 = eqb-true c.0.0 0 zeros.2.1 in
-      let end : c.0.1 ≡ rest = ap (λ p. p.1) (ok_is (tt, c.0.1) (u, rest) c.2) in (
-        magic ∙ ap (λ (x : List ℕ). 0xD7 ∷ 0x53 ∷ 0x54 ∷ 0x50 ∷ x) (version.0 ∙ ap (λ (n : ℕ). number w16 n ++ b.0.1) one
-            ∙ ap (λ (x : List ℕ). number w16 1 ++ x) (zeros.0 ∙ ap (λ (n : ℕ). number w16 n ++ c.0.1) none ∙ ap (λ (x : List ℕ). number w16 0 ++ x) end)),
-        subst IsBytes end zeros.1,
-        tt,
-      );
-  again = λ u rest fits.
-      ap (λ r. r >>= λ version. cond (eqb version.0 1) (checked (number_at w16) (λ n. eqb n 0) version.1) (Err BadVersion) >>= λ zeros. Ok (tt, zeros.1))
-      ((number_reader w16 (2 ^ 16) wide16).again 1 (0 ∷ 0 ∷ rest) (omega arith))
-      ∙ ap (λ r. r >>= λ zeros. Ok (tt, zeros.1))
-      ((checked_reader (number_at w16) (number w16) (λ n. n < 2 ^ 16) (λ n. eqb n 0) (number_reader w16 (2 ^ 16) wide16)).again 0 rest (omega arith, refl));
-}
-
-few_signals : (n : ℕ) (s : List CodeSignal) → IsNumber (2 ^ 16) (λ count. leb count 1024) n → AreItems IsSignal n s → length s ≤ 1024
-few_signals n s f g = let few : n ≤ 1024 = leb-true n 1024 f.1 in omega (arith, g.0)
-
-items_few : (signals n : ℕ) (t : List Table) → IsNumber (2 ^ 16) (λ count. leb count 4096) n → AreItems (IsTable signals) n t → length t ≤ 4096
-items_few signals n t f g = let few : n ≤ 4096 = leb-true n 4096 f.1 in omega (arith, g.0)
-
-rows_few : (signals n : ℕ) (r : List (List ℕ)) → IsNumber (2 ^ 32) (λ count. leb (count * signals) (2 ^ 28)) n → AreItems (IsRow signals) n r → length r < 2 ^ 32
-rows_few signals n r f g = let few : n < 2 ^ 32 = f.0 in omega (arith, g.0)
-
-program_raw : IsReader (program_at) (λ (b : Program). (λ (u : Unit {0}). head) tt ++ ((number w16) (length b.signals) ++ ((flat_map signal) b.signals ++ ((number w16) (length b.tables) ++ ((flat_map table) b.tables ++ ((number w32) (length b.rows) ++ ((flat_map row) b.rows ++ ((number w16) (length b.execs) ++ ((flat_map exec) b.execs ++ ([]))))))))))
-    (λ (b : Program). (λ (u : Unit {0}). Unit {0}) tt × ((IsNumber (2 ^ 16) (λ count. leb count 1024)) (length b.signals) × ((AreItems IsSignal (length b.signals)) b.signals × ((IsNumber (2 ^ 16) (λ count. leb count 4096)) (length b.tables) × ((AreItems (IsTable (length b.signals)) (length b.tables)) b.tables × ((IsNumber (2 ^ 32) (λ count. leb (count * length b.signals) (2 ^ 28))) (length b.rows) × ((AreItems (IsRow (length b.signals)) (length b.rows)) b.rows × ((IsNumber (2 ^ 16) (λ count. ltb 0 count && leb count 64)) (length b.execs) × ((AreItems (λ (before : List Exec) (e : Exec). IsExec (length b.signals) b.tables b.rows e) (length b.execs)) b.execs × (b ≡ record { signals = b.signals; tables = b.tables; rows = b.rows; execs = b.execs }))))))))))
-unfolding program_at
-program_raw =
-    then_reader (head_at) (λ (u : Unit {0}). head) (λ (u : Unit {0}). Unit {0})
-    (λ x0. checked (number_at w16) (λ count. leb count 1024) x0.1 >>= λ x1. items_at signal_at x1.0 [] x1.1 >>= λ x2. checked (number_at w16) (λ count. leb count 4096) x2.1 >>= λ x3. items_at (table_at (length x2.0)) x3.0 [] x3.1 >>= λ x4. checked (number_at w32) (λ count. leb (count * length x2.0) (2 ^ 28)) x4.1 >>= λ x5. items_at (row_at (length x2.0)) x5.0 [] x5.1 >>= λ x6. checked (number_at w16) (λ count. ltb 0 count && leb count 64) x6.1 >>= λ x7. items_at (λ before. exec_at (length x2.0) x4.0 x6.0) x7.0 [] x7.1 >>= λ x8. Ok (record { signals = x2.0; tables = x4.0; rows = x6.0; execs = x8.0 }, x8.1))
-    (λ (b : Program). (number w16) (length b.signals) ++ ((flat_map signal) b.signals ++ ((number w16) (length b.tables) ++ ((flat_map table) b.tables ++ ((number w32) (length b.rows) ++ ((flat_map row) b.rows ++ ((number w16) (length b.execs) ++ ((flat_map exec) b.execs ++ ([])))))))))
-    (λ (u : (Unit {0})) (b : Program). (IsNumber (2 ^ 16) (λ count. leb count 1024)) (length b.signals) × ((AreItems IsSignal (length b.signals)) b.signals × ((IsNumber (2 ^ 16) (λ count. leb count 4096)) (length b.tables) × ((AreItems (IsTable (length b.signals)) (length b.tables)) b.tables × ((IsNumber (2 ^ 32) (λ count. leb (count * length b.signals) (2 ^ 28))) (length b.rows) × ((AreItems (IsRow (length b.signals)) (length b.rows)) b.rows × ((IsNumber (2 ^ 16) (λ count. ltb 0 count && leb count 64)) (length b.execs) × ((AreItems (λ (before : List Exec) (e : Exec). IsExec (length b.signals) b.tables b.rows e) (length b.execs)) b.execs × (b ≡ record { signals = b.signals; tables = b.tables; rows = b.rows; execs = b.execs })))))))))
-    (λ (b : Program). tt) (head_reader)
-    (λ u h0. then_reader (checked (number_at w16) (λ count. leb count 1024)) (number w16) (IsNumber (2 ^ 16) (λ count. leb count 1024))
-    (λ x1. items_at signal_at x1.0 [] x1.1 >>= λ x2. checked (number_at w16) (λ count. leb count 4096) x2.1 >>= λ x3. items_at (table_at (length x2.0)) x3.0 [] x3.1 >>= λ x4. checked (number_at w32) (λ count. leb (count * length x2.0) (2 ^ 28)) x4.1 >>= λ x5. items_at (row_at (length x2.0)) x5.0 [] x5.1 >>= λ x6. checked (number_at w16) (λ count. ltb 0 count && leb count 64) x6.1 >>= λ x7. items_at (λ before. exec_at (length x2.0) x4.0 x6.0) x7.0 [] x7.1 >>= λ x8. Ok (record { signals = x2.0; tables = x4.0; rows = x6.0; execs = x8.0 }, x8.1))
-    (λ (b : Program). (flat_map signal) b.signals ++ ((number w16) (length b.tables) ++ ((flat_map table) b.tables ++ ((number w32) (length b.rows) ++ ((flat_map row) b.rows ++ ((number w16) (length b.execs) ++ ((flat_map exec) b.execs ++ ([]))))))))
-    (λ (sc : ℕ) (b : Program). (AreItems IsSignal (sc)) b.signals × ((IsNumber (2 ^ 16) (λ count. leb count 4096)) (length b.tables) × ((AreItems (IsTable (length b.signals)) (length b.tables)) b.tables × ((IsNumber (2 ^ 32) (λ count. leb (count * length b.signals) (2 ^ 28))) (length b.rows) × ((AreItems (IsRow (length b.signals)) (length b.rows)) b.rows × ((IsNumber (2 ^ 16) (λ count. ltb 0 count && leb count 64)) (length b.execs) × ((AreItems (λ (before : List Exec) (e : Exec). IsExec (length b.signals) b.tables b.rows e) (length b.execs)) b.execs × (b ≡ record { signals = b.signals; tables = b.tables; rows = b.rows; execs = b.execs }))))))))
-    (λ (b : Program). length b.signals) (checked_reader (number_at w16) (number w16) (IsBelow (2 ^ 16)) (λ count. leb count 1024) (number_reader w16 (2 ^ 16) wide16))
-    (λ sc h1. then_reader (items_at signal_at sc []) (flat_map signal) (AreItems IsSignal (sc))
-    (λ x2. checked (number_at w16) (λ count. leb count 4096) x2.1 >>= λ x3. items_at (table_at (length x2.0)) x3.0 [] x3.1 >>= λ x4. checked (number_at w32) (λ count. leb (count * length x2.0) (2 ^ 28)) x4.1 >>= λ x5. items_at (row_at (length x2.0)) x5.0 [] x5.1 >>= λ x6. checked (number_at w16) (λ count. ltb 0 count && leb count 64) x6.1 >>= λ x7. items_at (λ before. exec_at (length x2.0) x4.0 x6.0) x7.0 [] x7.1 >>= λ x8. Ok (record { signals = x2.0; tables = x4.0; rows = x6.0; execs = x8.0 }, x8.1))
-    (λ (b : Program). (number w16) (length b.tables) ++ ((flat_map table) b.tables ++ ((number w32) (length b.rows) ++ ((flat_map row) b.rows ++ ((number w16) (length b.execs) ++ ((flat_map exec) b.execs ++ ([])))))))
-    (λ (s : List CodeSignal) (b : Program). (IsNumber (2 ^ 16) (λ count. leb count 4096)) (length b.tables) × ((AreItems (IsTable (length s)) (length b.tables)) b.tables × ((IsNumber (2 ^ 32) (λ count. leb (count * length s) (2 ^ 28))) (length b.rows) × ((AreItems (IsRow (length s)) (length b.rows)) b.rows × ((IsNumber (2 ^ 16) (λ count. ltb 0 count && leb count 64)) (length b.execs) × ((AreItems (λ (before : List Exec) (e : Exec). IsExec (length s) b.tables b.rows e) (length b.execs)) b.execs × (b ≡ record { signals = s; tables = b.tables; rows = b.rows; execs = b.execs })))))))
-    (λ (b : Program). b.signals) (items_reader signal_at signal IsSignal signal_reader (sc))
-    (λ s h2. then_reader (checked (number_at w16) (λ count. leb count 4096)) (number w16) (IsNumber (2 ^ 16) (λ count. leb count 4096))
-    (λ x3. items_at (table_at (length s)) x3.0 [] x3.1 >>= λ x4. checked (number_at w32) (λ count. leb (count * length s) (2 ^ 28)) x4.1 >>= λ x5. items_at (row_at (length s)) x5.0 [] x5.1 >>= λ x6. checked (number_at w16) (λ count. ltb 0 count && leb count 64) x6.1 >>= λ x7. items_at (λ before. exec_at (length s) x4.0 x6.0) x7.0 [] x7.1 >>= λ x8. Ok (record { signals = s; tables = x4.0; rows = x6.0; execs = x8.0 }, x8.1))
-    (λ (b : Program). (flat_map table) b.tables ++ ((number w32) (length b.rows) ++ ((flat_map row) b.rows ++ ((number w16) (length b.execs) ++ ((flat_map exec) b.execs ++ ([]))))))
-    (λ (tc : ℕ) (b : Program). (AreItems (IsTable (length s)) (tc)) b.tables × ((IsNumber (2 ^ 32) (λ count. leb (count * length s) (2 ^ 28))) (length b.rows) × ((AreItems (IsRow (length s)) (length b.rows)) b.rows × ((IsNumber (2 ^ 16) (λ count. ltb 0 count && leb count 64)) (length b.execs) × ((AreItems (λ (before : List Exec) (e : Exec). IsExec (length s) b.tables b.rows e) (length b.execs)) b.execs × (b ≡ record { signals = s; tables = b.tables; rows = b.rows; execs = b.execs }))))))
-    (λ (b : Program). length b.tables) (checked_reader (number_at w16) (number w16) (IsBelow (2 ^ 16)) (λ count. leb count 4096) (number_reader w16 (2 ^ 16) wide16))
-    (λ tc h3. then_reader (items_at (table_at (length s)) tc []) (flat_map table) (AreItems (IsTable (length s)) (tc))
-    (λ x4. checked (number_at w32) (λ count. leb (count * length s) (2 ^ 28)) x4.1 >>= λ x5. items_at (row_at (length s)) x5.0 [] x5.1 >>= λ x6. checked (number_at w16) (λ count. ltb 0 count && leb count 64) x6.1 >>= λ x7. items_at (λ before. exec_at (length s) x4.0 x6.0) x7.0 [] x7.1 >>= λ x8. Ok (record { signals = s; tables = x4.0; rows = x6.0; execs = x8.0 }, x8.1))
-    (λ (b : Program). (number w32) (length b.rows) ++ ((flat_map row) b.rows ++ ((number w16) (length b.execs) ++ ((flat_map exec) b.execs ++ ([])))))
-    (λ (t : List Table) (b : Program). (IsNumber (2 ^ 32) (λ count. leb (count * length s) (2 ^ 28))) (length b.rows) × ((AreItems (IsRow (length s)) (length b.rows)) b.rows × ((IsNumber (2 ^ 16) (λ count. ltb 0 count && leb count 64)) (length b.execs) × ((AreItems (λ (before : List Exec) (e : Exec). IsExec (length s) t b.rows e) (length b.execs)) b.execs × (b ≡ record { signals = s; tables = t; rows = b.rows; execs = b.execs })))))
-    (λ (b : Program). b.tables) (items_reader (table_at (length s)) table (IsTable (length s)) (table_reader (length s) (few_signals sc s h1 h2)) (tc))
-    (λ t h4. then_reader (checked (number_at w32) (λ count. leb (count * length s) (2 ^ 28))) (number w32) (IsNumber (2 ^ 32) (λ count. leb (count * length s) (2 ^ 28)))
-    (λ x5. items_at (row_at (length s)) x5.0 [] x5.1 >>= λ x6. checked (number_at w16) (λ count. ltb 0 count && leb count 64) x6.1 >>= λ x7. items_at (λ before. exec_at (length s) t x6.0) x7.0 [] x7.1 >>= λ x8. Ok (record { signals = s; tables = t; rows = x6.0; execs = x8.0 }, x8.1))
-    (λ (b : Program). (flat_map row) b.rows ++ ((number w16) (length b.execs) ++ ((flat_map exec) b.execs ++ ([]))))
-    (λ (rc : ℕ) (b : Program). (AreItems (IsRow (length s)) (rc)) b.rows × ((IsNumber (2 ^ 16) (λ count. ltb 0 count && leb count 64)) (length b.execs) × ((AreItems (λ (before : List Exec) (e : Exec). IsExec (length s) t b.rows e) (length b.execs)) b.execs × (b ≡ record { signals = s; tables = t; rows = b.rows; execs = b.execs }))))
-    (λ (b : Program). length b.rows) (checked_reader (number_at w32) (number w32) (IsBelow (2 ^ 32)) (λ count. leb (count * length s) (2 ^ 28)) (number_reader w32 (2 ^ 32) wide32))
-    (λ rc h5. then_reader (items_at (row_at (length s)) rc []) (flat_map row) (AreItems (IsRow (length s)) (rc))
-    (λ x6. checked (number_at w16) (λ count. ltb 0 count && leb count 64) x6.1 >>= λ x7. items_at (λ before. exec_at (length s) t x6.0) x7.0 [] x7.1 >>= λ x8. Ok (record { signals = s; tables = t; rows = x6.0; execs = x8.0 }, x8.1))
-    (λ (b : Program). (number w16) (length b.execs) ++ ((flat_map exec) b.execs ++ ([])))
-    (λ (r : List (List ℕ)) (b : Program). (IsNumber (2 ^ 16) (λ count. ltb 0 count && leb count 64)) (length b.execs) × ((AreItems (λ (before : List Exec) (e : Exec). IsExec (length s) t r e) (length b.execs)) b.execs × (b ≡ record { signals = s; tables = t; rows = r; execs = b.execs })))
-    (λ (b : Program). b.rows) (items_reader (row_at (length s)) row (IsRow (length s)) (row_reader (length s)) (rc))
-    (λ r h6. then_reader (checked (number_at w16) (λ count. ltb 0 count && leb count 64)) (number w16) (IsNumber (2 ^ 16) (λ count. ltb 0 count && leb count 64))
-    (λ x7. items_at (λ before. exec_at (length s) t r) x7.0 [] x7.1 >>= λ x8. Ok (record { signals = s; tables = t; rows = r; execs = x8.0 }, x8.1))
-    (λ (b : Program). (flat_map exec) b.execs ++ ([]))
-    (λ (ec : ℕ) (b : Program). (AreItems (λ (before : List Exec) (e : Exec). IsExec (length s) t r e) (ec)) b.execs × (b ≡ record { signals = s; tables = t; rows = r; execs = b.execs }))
-    (λ (b : Program). length b.execs) (checked_reader (number_at w16) (number w16) (IsBelow (2 ^ 16)) (λ count. ltb 0 count && leb count 64) (number_reader w16 (2 ^ 16) wide16))
-    (λ ec h7. then_reader (items_at (λ before. exec_at (length s) t r) ec []) (flat_map exec) (AreItems (λ (before : List Exec) (e : Exec). IsExec (length s) t r e) (ec))
-    (λ x8. Ok (record { signals = s; tables = t; rows = r; execs = x8.0 }, x8.1))
-    (λ (b : Program). [])
-    (λ (e : List Exec) (b : Program). b ≡ record { signals = s; tables = t; rows = r; execs = e })
-    (λ (b : Program). b.execs) (items_reader (λ before. exec_at (length s) t r) exec (λ (before : List Exec) (e : Exec). IsExec (length s) t r e) (λ before. exec_reader (length s) t r (few_signals sc s h1 h2) (items_few (length s) tc t h3 h4) (rows_few (length s) rc r h5 h6)) (ec))
-    (λ e h8. done_reader (record { signals = s; tables = t; rows = r; execs = e }))
-    (λ (e : List Exec) (b : Program) g. ap (λ (m : Program). m.execs) g))
-    (λ ec b g. g.0.0))
-    (λ (r : List (List ℕ)) (b : Program) g. ap (λ (m : Program). m.rows) g.1.1))
-    (λ rc b g. g.0.0))
-    (λ (t : List Table) (b : Program) g. ap (λ (m : Program). m.tables) g.1.1.1.1))
-    (λ tc b g. g.0.0))
-    (λ (s : List CodeSignal) (b : Program) g. ap (λ (m : Program). m.signals) g.1.1.1.1.1.1))
-    (λ sc b g. g.0.0))
-    (λ u b g. refl)
-
-pub program_reader : IsReader program_at program IsProgram
-program_reader =
-    adapted program_at _ program _ IsProgram program_raw
-    (λ p f.
-    let ec = f.1.1.1.1.1.1.1.0.1 in
-    let some = and_parts (ltb 0 (length p.execs)) (leb (length p.execs) 64) ec in
-    record {
-      few_signals = leb-true (length p.signals) 1024 f.1.0.1;
-      signals = f.1.1.0.1;
-      few_tables = leb-true (length p.tables) 4096 f.1.1.1.0.1;
-      tables = f.1.1.1.1.0.1;
-      count_rows = f.1.1.1.1.1.0.0;
-      few_rows = leb-true (length p.rows * length p.signals) (2 ^ 28) f.1.1.1.1.1.0.1;
-      rows = f.1.1.1.1.1.1.0.1;
-      some_execs = ltb-true 0 (length p.execs) some.0;
-      few_execs = leb-true (length p.execs) 64 some.1;
-      execs = f.1.1.1.1.1.1.1.1.0.1;
-    })
-    (λ p f.
-    let few_signals : length p.signals ≤ 1024 = f.few_signals in
-    let few_tables : length p.tables ≤ 4096 = f.few_tables in
-    let few_execs : length p.execs ≤ 64 = f.few_execs in (
-      tt,
-      (
-        (omega arith, le-leb (length p.signals) 1024 few_signals),
-        (
-          (refl, f.signals),
-          (
-            (omega arith, le-leb (length p.tables) 4096 few_tables),
-            (
-              (refl, f.tables),
-              (
-                (f.count_rows, le-leb (length p.rows * length p.signals) (2 ^ 28) f.few_rows),
-                (
-                  (refl, f.rows),
-                  (
-                    (omega arith, and_from (ltb 0 (length p.execs)) (leb (length p.execs) 64) (lt-ltb 0 (length p.execs) f.some_execs) (le-leb (length p.execs) 64 few_execs)),
-                    ((refl, f.execs), refl),
-                  ),
-                ),
-              ),
-            ),
-          ),
-        ),
-      ),
-    ))
-    (λ p f.
-    ap (λ (x : List ℕ). head ++ (number w16 (length p.signals) ++ (flat_map signal p.signals ++ (number w16 (length p.tables) ++ (flat_map table p.tables
-    ++ (number w32 (length p.rows) ++ (flat_map row p.rows ++ (number w16 (length p.execs) ++ x)))))))) (append-nil (flat_map exec p.execs))
-    ∙ ap (λ (x : List ℕ). head ++ x) (sym (append_assoc (number w16 (length p.signals)) (flat_map signal p.signals ++ (number w16 (length p.tables) ++ flat_map table p.tables)) (later p)
-    ∙ ap (λ (x : List ℕ). number w16 (length p.signals) ++ x) (append_assoc (flat_map signal p.signals) (number w16 (length p.tables) ++ flat_map table p.tables) (later p)
-    ∙ ap (λ (x : List ℕ). flat_map signal p.signals ++ x) (append_assoc (number w16 (length p.tables)) (flat_map table p.tables) (later p)))))
-    )

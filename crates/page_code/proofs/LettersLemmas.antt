@@ -28,18 +28,41 @@ all_take p (suc n) (b ∷ bs) =
     step p n b bs (p b) (all_take p n bs)
     ∙ ap (λ (xs : List ℕ). leb (min (suc n) (suc (length bs))) (length xs)) (sym (take_while-cons p b bs))
 
+while_step : (p : ℕ → Bool) (n b : ℕ) (bs : List ℕ) (first : Bool)
+    → length (take_while p (take n bs)) ≡ min n (length (take_while p bs))
+    → length (cond first (b ∷ take_while p (take n bs)) []) ≡ min (suc n) (length (cond first (b ∷ take_while p bs) []))
+while_step p n b bs true more = ap suc more ∙ grind arith
+while_step p n b bs false more = omega arith
+
+-- the front that passes of the first n
+pub length_while : (p : ℕ → Bool) (n : ℕ) (bs : List ℕ)
+    → length (take_while p (take n bs)) ≡ min n (length (take_while p bs))
+length_while p zero bs = omega arith
+length_while p (suc n) [] = omega arith
+length_while p (suc n) (b ∷ bs) =
+    ap (λ (xs : List ℕ). length xs) (take_while-cons p b (take n bs))
+    ∙ while_step p n b bs (p b) (length_while p n bs)
+    ∙ ap (λ (xs : List ℕ). min (suc n) (length xs)) (sym (take_while-cons p b bs))
+
 -- a character that is refused
-pub letters_refused : (signals front : ℕ) (bytes : List ℕ) → front ≡ length (take_while is_place bytes) → front < min signals (length bytes)
+pub letters_refused : (signals most front : ℕ) (bytes : List ℕ) → most ≡ min signals (length bytes)
+    → front ≡ length (take_while is_place (take most bytes)) → front < most
     → letters_at signals bytes ≡ Err (BadCode (length bytes - front))
 unfolding letters_at
-letters_refused signals front bytes is short =
-    let no : list_all is_place (take signals bytes) ≡ false = all_take is_place signals bytes ∙ lt-leb _ _ (omega (arith, is)) in
-    rw (no, ← is) refl
+letters_refused signals most front bytes few is short =
+    let of_most = is ∙ length_while is_place most bytes in
+    let whole : front ≡ length (take_while is_place bytes) = omega (arith, of_most, short) in
+    let no : list_all is_place (take signals bytes) ≡ false =
+    all_take is_place signals bytes ∙ lt-leb _ _ (omega (arith, whole, few, short)) in
+    rw (no, ← whole) refl
 
 -- characters that are all taken
-pub letters_taken : (signals front : ℕ) (bytes : List ℕ) → front ≡ length (take_while is_place bytes) → min signals (length bytes) ≤ front
+pub letters_taken : (signals most front : ℕ) (bytes : List ℕ) → most ≡ min signals (length bytes)
+    → front ≡ length (take_while is_place (take most bytes)) → most ≤ front
     → letters_at signals bytes ≡ piece_at signals bytes
 unfolding letters_at
-letters_taken signals front bytes is long =
-    let yes : list_all is_place (take signals bytes) ≡ true = all_take is_place signals bytes ∙ le-leb _ _ (omega (arith, is)) in
+letters_taken signals most front bytes few is long =
+    let of_most = is ∙ length_while is_place most bytes in
+    let yes : list_all is_place (take signals bytes) ≡ true =
+    all_take is_place signals bytes ∙ le-leb _ _ (omega (arith, of_most, few, long)) in
     rw yes refl

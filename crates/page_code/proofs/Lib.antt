@@ -1,12 +1,17 @@
 pub mod AcceptedLemmas
+pub mod ChangesLemmas
 pub mod ExecLaws
 pub mod ItemsLemmas
 pub mod LettersLemmas
 pub mod Lists
 pub mod LoadLemmas
 pub mod NestLemmas
+pub mod PageLemmas
 pub mod PartLaws
+pub mod ProgramLaws
 pub mod ReaderLaws
+pub mod RowLaws
+pub mod SavingLemmas
 pub mod SizeLemmas
 pub mod StandardFacts
 pub mod WalkLemmas

@@ -1,8 +1,9 @@
 -- Lists whose items are each as they should be.
-use Rattle.std.proofs.Common.{◌≡◌, ℕ, zero, suc, ◌<◌, List, [], ◌∷◌, ◌++◌, length, get_or, take, replicate, append_assoc, sym, subst, arith}
-use Rattle.std.proofs.lemmas.List.{append-nil}
+use Rattle.std.proofs.Common.{◌≡◌, ℕ, zero, suc, ◌+◌, ◌-◌, ◌<◌, List, [], ◌∷◌, ◌++◌, length, get_or, take, replicate, append_assoc, Some, refl, ap, ◌∙◌, sym, subst, arith}
+use Rattle.std.proofs.lemmas.List.{append-nil, get_or_push, length-append}
+use Rattle.std.proofs.lemmas.Option.{slice_get-get_or}
 use Rattle.std.specs.List.{AllByRecursion}
-use Rattle.page_code.specs.Conditions.{EachBehind, Each}
+use Rattle.page_code.specs.Conditions.{EachBehind, Each, last_of}
 
 -- an item is as it should be behind those before it
 pub behind_at : {A : Type 0} (Fits : List A → A → Type 0) (before items : List A) (i : ℕ) (d : A) → EachBehind Fits before items → i < length items
@@ -32,3 +33,11 @@ each_at Fits items i d each lt = all_at Fits items i d (each_all Fits [] items e
 pub all_replicate : {A : Type 0} (Fits : A → Type 0) (n : ℕ) (x : A) → Fits x → AllByRecursion Fits (replicate n x)
 all_replicate Fits zero x h = tt
 all_replicate Fits (suc n) x h = (h, all_replicate Fits n x h)
+
+-- the last of items that were put one behind another
+pub last_of_push : {A : Type 0} (before : List A) (x : A) → last_of (before ++ x ∷ []) ≡ Some x
+last_of_push before x =
+    let size : length (before ++ x ∷ []) ≡ length before + 1 = length-append before (x ∷ []) in
+    let place : length (before ++ x ∷ []) - 1 ≡ length before = omega arith in
+    slice_get-get_or (before ++ x ∷ []) (length (before ++ x ∷ []) - 1) x (omega arith)
+    ∙ ap Some (ap (λ (i : ℕ). get_or (before ++ x ∷ []) i x) place ∙ get_or_push before x x (length before) refl)

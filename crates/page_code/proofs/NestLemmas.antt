@@ -158,7 +158,8 @@ pub record AreWhole (tables : List Table) (rows : List (List ℕ)) (all : List I
 last_is : (before : List Instr) (i : Instr) (count : ℕ) → length (before ++ i ∷ []) ≡ count → eqb (length before + 1) count ≡ true
 last_is before i count is = eq-eqb (length before + 1) count (omega (arith, length-append before (i ∷ [])))
 
-not_last_is : (before : List Instr) (i j : Instr) (rest : List Instr) (count : ℕ) → length (before ++ i ∷ j ∷ rest) ≡ count → eqb (length before + 1) count ≡ false
+not_last_is : (before : List Instr) (i j : Instr) (rest : List Instr) (count : ℕ) → length (before ++ i ∷ j ∷ rest) ≡ count
+    → eqb (length before + 1) count ≡ false
 not_last_is before i j rest count is = ne_eqb (length before + 1) count (λ e. omega (arith, length-append before (i ∷ j ∷ rest)))
 
 -- what is read is closed
@@ -205,13 +206,15 @@ read_whole tables rows count before (i ∷ j ∷ rest) size some each =
         let other = not_last_is before i j rest count size in cc)
 
 -- an instruction with a rest behind it is not the last
-not_end : (before : List Instr) (i : Instr) (rest : List Instr) (count : ℕ) → length (before ++ i ∷ rest) ≡ count → (depth : ℕ) (begun : Bool) → IsRest depth begun rest
+not_end : (before : List Instr) (i : Instr) (rest : List Instr) (count : ℕ) → length (before ++ i ∷ rest) ≡ count → (depth : ℕ) (begun : Bool)
+    → IsRest depth begun rest
     → eqb (length before + 1) count ≡ false
 not_end before i [] count size depth begun closed = absurd closed
 not_end before i (j ∷ rest) count size depth begun closed = not_last_is before i j rest count size
 
 -- one instruction on
-next_whole : (tables : List Table) (rows : List (List ℕ)) (before : List Instr) (i : Instr) (rest : List Instr) → IsRest (depth_after (open_behind 0 before) i) (begins i) rest
+next_whole : (tables : List Table) (rows : List (List ℕ)) (before : List Instr) (i : Instr) (rest : List Instr)
+    → IsRest (depth_after (open_behind 0 before) i) (begins i) rest
     → AllByRecursion (IsInstr tables rows) rest → cycle_count (before ++ i ∷ rest) ≤ 2 ^ 48
     → AreWhole tables rows ((before ++ i ∷ []) ++ rest) (open_behind 0 (before ++ i ∷ [])) (begun_behind false (before ++ i ∷ [])) rest
 next_whole tables rows before i rest closed named bounded = record {

@@ -1,10 +1,10 @@
 -- What is read is spelled so, and what is spelled so is read: for each part of a code.
-use Rattle.std.proofs.Common.{◌≡◌, ℕ, ◌-◌, ◌^◌, ◌<◌, ◌≤◌, Bool, true, false, not, cond, eqb, ltb, leb, ◌&&◌, ◌||◌, List, [], ◌∷◌, ◌++◌, length, take, Option, Some, Result, Ok, Err, refl, sym, ap, subst, ◌∙◌, append_assoc, arith, inl, inr}
+use Rattle.std.proofs.Common.{◌≡◌, ℕ, ◌-◌, ◌^◌, ◌<◌, ◌≤◌, Bool, true, false, not, cond, eqb, ltb, leb, ◌&&◌, List, [], ◌∷◌, ◌++◌, length, Option, Some, Result, Ok, Err, refl, sym, ap, subst, ◌∙◌, append_assoc, arith}
 use Rattle.std.specs.Int.{w8, w16, w32, w64}
 use Rattle.std.specs.List.{flat_map, list_all, list_any, find}
 use Rattle.std.specs.Option.{option_map_or}
-use Rattle.std.proofs.lemmas.Bool.{and_parts, and_from, or_cases, not-true, not_from_false, ltb-true, leb-true, eqb-true, lt-ltb, le-leb}
-use Rattle.std.proofs.lemmas.List.{append-nil, take_at}
+use Rattle.std.proofs.lemmas.Bool.{and_parts, and_from, not-true, not_from_false, ltb-true, leb-true, eqb-true, lt-ltb, le-leb}
+use Rattle.std.proofs.lemmas.List.{append-nil}
 use Rattle.page_code.specs.declared.fault.Refusal.{Refusal}
 use Rattle.tester_types.specs.declared.wave.Act.{Act}
 use Rattle.tester_types.specs.declared.wave.Act.TheVariants.{Push, Look}
@@ -17,14 +17,13 @@ use Rattle.tester_types.specs.declared.signal.Direction.{Direction}
 use Rattle.tester_types.specs.declared.signal.Direction.TheVariants.{In, Out, InOut, Supply, Pseudo}
 use Rattle.page_code.specs.declared.parts.CodeSignal.{CodeSignal}
 use Rattle.page_code.specs.declared.parts.CodeChain.{CodeChain}
-use Rattle.page_code.specs.Letters.{direction_code, direction_of, act_code, acts, act_of, is_place}
+use Rattle.page_code.specs.Letters.{direction_code, direction_of, act_code, acts, act_of}
 use Rattle.text_bytes.specs.Bytes.{is_printable, is_character}
 use Rattle.text_bytes.proofs.ByteLemmas.{is_character-ascii}
-use Rattle.page_code.specs.Conditions.{EachBehind, last_of, IsText, IsName, is_named, IsSignal, latest, IsEvent, is_behind, IsWave, wave_count, IsTable, IsRow, IsChain}
-use Rattle.page_code.specs.Rows.{is_row_of}
+use Rattle.page_code.specs.Conditions.{EachBehind, last_of, IsText, IsName, is_named, IsSignal, latest, IsEvent, is_behind, IsWave, wave_count, IsTable, IsChain}
 use Rattle.page_code.specs.Fields.{◌>>=◌, byte_at, piece_at, number_at, checked, known, meant, items_at}
-use Rattle.page_code.specs.Spelling.{number, text, signal, event, wave, table, row, chain}
-use Rattle.page_code.specs.Reading.{raw_text_at, text_at, name_at, signal_at, event_at, pair_at, may_stand, wave_at, table_with, table_at, letters_at, row_at, chain_at}
+use Rattle.page_code.specs.Spelling.{number, text, signal, event, wave, table, chain}
+use Rattle.page_code.specs.Reading.{raw_text_at, text_at, name_at, signal_at, event_at, pair_at, may_stand, wave_at, table_with, table_at, chain_at}
 use Rattle.page_code.proofs.ReaderLaws.{IsReader, adapted, done_reader, then_reader, checked_reader, byte_reader, wide16, wide32, wide64, number_reader, plain_reader, known_takes, items_reader}
 
 -- a number below a limit
@@ -71,7 +70,7 @@ name_reader =
 
 -- ---- directions and acts
 
-find_passes : {A : Type 0} (test : A → Bool) (xs : List A) (a : A) → find test xs ≡ Some a → test a ≡ true
+pub find_passes : {A : Type 0} (test : A → Bool) (xs : List A) (a : A) → find test xs ≡ Some a → test a ≡ true
 find_passes test [] a e = absurd cc
 find_passes {A} test (x ∷ xs) a e = by_test (test x) refl (λ found. find_passes test xs a found) e
   where
@@ -101,7 +100,8 @@ act_again (Look look.HighWindow) = refl
 act_again (Look look.OffWindow) = refl
 
 -- a byte that stands for a value
-known_byte_reader : {B : Type 0} (meaning : ℕ → Option B) (code : B → ℕ) → ((n : ℕ) (b : B) → meaning n ≡ Some b → code b ≡ n) → ((b : B) → meaning (code b) ≡ Some b)
+known_byte_reader : {B : Type 0} (meaning : ℕ → Option B) (code : B → ℕ) → ((n : ℕ) (b : B) → meaning n ≡ Some b → code b ≡ n) → ((b : B)
+    → meaning (code b) ≡ Some b)
     → IsReader (known byte_at meaning) (λ b. code b ∷ []) (λ b. Unit {0})
 known_byte_reader meaning code is back = record {
   takes = λ bytes b rest fits e.
@@ -119,8 +119,10 @@ act_reader = known_byte_reader act_of act_code (λ n a e. eqb-true (act_code a) 
 
 -- ---- signals
 
-signal_raw : (before : List CodeSignal) → IsReader (signal_at before) (λ (b : CodeSignal). (λ (d : Direction). direction_code d ∷ []) b.direction ++ (text b.name ++ ([])))
-    (λ (b : CodeSignal). (λ (d : Direction). Unit {0}) b.direction × ((IsTextWith (λ text. ltb 0 (length text) && not (list_any (is_named text) before))) b.name × (b ≡ record { name = b.name; direction = b.direction })))
+signal_raw : (before : List CodeSignal) → IsReader (signal_at before) (λ (b : CodeSignal). (λ (d : Direction). direction_code d ∷ []) b.direction
+    ++ (text b.name ++ ([])))
+    (λ (b : CodeSignal). (λ (d : Direction). Unit {0}) b.direction × ((IsTextWith
+    (λ text. ltb 0 (length text) && not (list_any (is_named text) before))) b.name × (b ≡ record { name = b.name; direction = b.direction })))
 unfolding signal_at
 signal_raw before =
     then_reader (known byte_at direction_of) (λ (d : Direction). direction_code d ∷ []) (λ (d : Direction). Unit {0})
@@ -150,8 +152,10 @@ signal_reader before =
 short_period : {p : ℕ} → IsNumber (2 ^ 64) (λ period. ltb 0 period && leb period 1000000000000) p → p ≤ 1000000000000
 short_period {p} f = leb-true p 1000000000000 (and_parts (ltb 0 p) (leb p 1000000000000) f.1).1
 
-event_raw : (period : ℕ) (before : List Event) → IsReader (event_at period before) (λ (b : Event). (number w64) b.time ++ ((λ (a : Act). act_code a ∷ []) b.act ++ ([])))
-    (λ (b : Event). (IsNumber (2 ^ 64) (λ time. leb (latest before) time && ltb time period)) b.time × ((λ (a : Act). Unit {0}) b.act × (b ≡ record { time = b.time; act = b.act })))
+event_raw : (period : ℕ) (before : List Event) → IsReader (event_at period before) (λ (b : Event). (number w64) b.time
+    ++ ((λ (a : Act). act_code a ∷ []) b.act ++ ([])))
+    (λ (b : Event). (IsNumber (2 ^ 64) (λ time. leb (latest before) time && ltb time period)) b.time × ((λ (a : Act). Unit {0}) b.act
+    × (b ≡ record { time = b.time; act = b.act })))
 unfolding event_at
 event_raw period before =
     then_reader (checked (number_at w64) (λ time. leb (latest before) time && ltb time period)) (number w64) (IsNumber (2 ^ 64) (λ time. leb (latest before) time && ltb time period))
@@ -202,7 +206,7 @@ pair_text p = number w16 p.0 ++ p.1 ∷ []
 abbrev IsPair : ℕ → ℕ × ℕ → Type 0
 IsPair signals p = (p.0 < signals) × (is_character p.1 ≡ true)
 
-character_small : (c : ℕ) → is_character c ≡ true → c < 256
+pub character_small : (c : ℕ) → is_character c ≡ true → c < 256
 character_small c is =
     omega (arith, is_character-ascii c is)
 
@@ -217,8 +221,11 @@ pair_reader signals few =
 abbrev made_wave : ℕ × ℕ → List Event → Wave
 made_wave p events = record { signal = p.0; letter = p.1; events = events }
 
-wave_raw : (signals period most : ℕ) (few : signals ≤ 1024) (short : period ≤ 1000000000000) (before : List Wave) → IsReader (wave_at signals period most before) (λ (b : Wave). pair_text ((b.signal, b.letter)) ++ ((λ (c : ℕ). c ∷ []) (length b.events) ++ ((flat_map event) b.events ++ ([]))))
-    (λ (b : Wave). (λ (p : ℕ × ℕ). IsPair signals p × (may_stand most before p ≡ true)) ((b.signal, b.letter)) × ((IsNumber 256 (λ count. leb count 16)) (length b.events) × ((AreItems (IsEvent period) (length b.events)) b.events × (b ≡ made_wave (b.signal, b.letter) b.events))))
+wave_raw : (signals period most : ℕ) (few : signals ≤ 1024) (short : period ≤ 1000000000000) (before : List Wave)
+    → IsReader (wave_at signals period most before) (λ (b : Wave). pair_text ((b.signal, b.letter)) ++ ((λ (c : ℕ). c ∷ []) (length b.events)
+    ++ ((flat_map event) b.events ++ ([]))))
+    (λ (b : Wave). (λ (p : ℕ × ℕ). IsPair signals p × (may_stand most before p ≡ true)) ((b.signal, b.letter)) × ((IsNumber 256
+    (λ count. leb count 16)) (length b.events) × ((AreItems (IsEvent period) (length b.events)) b.events × (b ≡ made_wave (b.signal, b.letter) b.events))))
 unfolding wave_at
 wave_raw signals period most few short before =
     then_reader (checked (pair_at signals) (may_stand most before)) pair_text (λ (p : ℕ × ℕ). IsPair signals p × (may_stand most before p ≡ true))
@@ -245,7 +252,8 @@ number_8 : (n : ℕ) → n < 256 → number w8 n ≡ n ∷ []
 unfolding number
 number_8 n small = ap (λ (x : ℕ). x ∷ []) (omega arith)
 
-pub wave_reader : (signals period most : ℕ) → signals ≤ 1024 → period ≤ 1000000000000 → (before : List Wave) → IsReader (wave_at signals period most before) wave (IsWave signals period most before)
+pub wave_reader : (signals period most : ℕ) → signals ≤ 1024 → period ≤ 1000000000000 → (before : List Wave)
+    → IsReader (wave_at signals period most before) wave (IsWave signals period most before)
 wave_reader signals period most few short before =
     adapted (wave_at signals period most before) _ wave _ (IsWave signals period most before) (wave_raw signals period most few short before)
     (λ w f. let p = and_parts (option_map_or (is_behind w.signal w.letter) (last_of before) true) (ltb (length before) most) f.0.1 in
@@ -259,8 +267,11 @@ wave_reader signals period most few short before =
     ∙ ap (λ (x : List ℕ). number w16 w.signal ++ (w.letter ∷ (length w.events ∷ x))) (append-nil (flat_map event w.events))
     ∙ ap (λ (x : List ℕ). number w16 w.signal ++ (w.letter ∷ (x ++ flat_map event w.events))) (sym (number_8 (length w.events) (omega arith))))
 
-table_raw : (signals most : ℕ) (few : signals ≤ 1024) → IsReader (table_with signals most) (λ (b : Table). text b.name ++ ((number w64) b.period ++ ((number w32) (length b.waves) ++ ((flat_map wave) b.waves ++ ([])))))
-    (λ (b : Table). IsName b.name × ((IsNumber (2 ^ 64) (λ period. ltb 0 period && leb period 1000000000000)) b.period × ((IsBelow (2 ^ 32)) (length b.waves) × ((AreItems (IsWave signals b.period most) (length b.waves)) b.waves × (b ≡ record { name = b.name; period = b.period; waves = b.waves })))))
+table_raw : (signals most : ℕ) (few : signals ≤ 1024) → IsReader (table_with signals most) (λ (b : Table). text b.name ++ ((number w64) b.period
+    ++ ((number w32) (length b.waves) ++ ((flat_map wave) b.waves ++ ([])))))
+    (λ (b : Table). IsName b.name × ((IsNumber (2 ^ 64) (λ period. ltb 0 period && leb period 1000000000000)) b.period
+    × ((IsBelow (2 ^ 32)) (length b.waves) × ((AreItems (IsWave signals b.period most) (length b.waves)) b.waves
+    × (b ≡ record { name = b.name; period = b.period; waves = b.waves })))))
 unfolding table_with
 table_raw signals most few =
     then_reader (name_at) text IsName
@@ -298,39 +309,21 @@ table_reader signals few before =
     (f.name, ((omega arith, and_from (ltb 0 t.period) (leb t.period 1000000000000) (lt-ltb 0 t.period f.some) (le-leb t.period 1000000000000 few_period)), (f.count, ((refl, f.waves), refl)))))
     (λ t f. ap (λ (x : List ℕ). text t.name ++ (number w64 t.period ++ (number w32 (length t.waves) ++ x))) (append-nil (flat_map wave t.waves)))
 
--- ---- rows
+-- ---- what is not refused
 
 -- what is not refused was taken
 pub taken : {A : Type 0} (b : Bool) (d : Refusal) (x : Result A Refusal) (y : A) → cond b x (Err d) ≡ Ok y → (b ≡ true) × (x ≡ Ok y)
 taken true d x y e = (refl, e)
 taken false d x y e = absurd cc
 
-letters_reader : (signals : ℕ) → IsReader (letters_at signals) row (λ r. (length r ≡ signals) × (list_all is_place r ≡ true))
-unfolding letters_at
-letters_reader signals = record {
-  takes = λ bytes r rest fits e.
-      let c = taken (list_all is_place (take signals bytes)) _ (piece_at signals bytes) (r, rest) e in
-      let t = (plain_reader signals).takes bytes r rest fits c.1 in
-      let front : take signals bytes ≡ r = ap (take signals) t.0 ∙ take_at r rest signals t.2 in
-      (t.0, t.1, (t.2, subst (λ (x : List ℕ). list_all is_place x ≡ true) front c.0));
-  again = λ r rest fits.
-      let front : list_all is_place (take signals (r ++ rest)) ≡ true = ap (list_all is_place) (take_at r rest signals fits.0) ∙ fits.1 in
-      rw front ((plain_reader signals).again r rest fits.0);
-}
-
-pub row_reader : (signals : ℕ) (before : List (List ℕ)) → IsReader (row_at signals before) row (IsRow signals before)
-unfolding row_at
-row_reader signals before =
-    adapted (row_at signals before) row row (λ r. ((length r ≡ signals) × (list_all is_place r ≡ true)) × (not (is_row_of before r) ≡ true)) (IsRow signals before)
-    (checked_reader (letters_at signals) row (λ r. (length r ≡ signals) × (list_all is_place r ≡ true)) (λ r. not (is_row_of before r)) (letters_reader signals))
-    (λ r f. record { places = f.0.0; letters = f.0.1; fresh = not-true (is_row_of before r) f.1 })
-    (λ r f. ((f.places, f.letters), not_from_false _ f.fresh))
-    (λ r f. refl)
-
 -- ---- chains
 
-chain_raw : (signals : ℕ) → IsReader (chain_at signals) (λ (b : CodeChain). text b.name ++ ((number w16) b.out ++ ((number w32) b.length ++ ((number w32) (length b.cells) ++ ((flat_map text) b.cells ++ ([]))))))
-    (λ (b : CodeChain). IsName b.name × ((IsNumber (2 ^ 16) (λ out. ltb out signals)) b.out × ((IsNumber (2 ^ 32) (λ size. leb size (2 ^ 20))) b.length × ((IsNumber (2 ^ 32) (λ count. leb count (2 ^ 20))) (length b.cells) × ((AreItems (λ (before : List (List ℕ)) (t : List ℕ). IsName t) (length b.cells)) b.cells × (b ≡ record { name = b.name; out = b.out; length = b.length; cells = b.cells }))))))
+chain_raw : (signals : ℕ) → IsReader (chain_at signals) (λ (b : CodeChain). text b.name ++ ((number w16) b.out ++ ((number w32) b.length
+    ++ ((number w32) (length b.cells) ++ ((flat_map text) b.cells ++ ([]))))))
+    (λ (b : CodeChain). IsName b.name × ((IsNumber (2 ^ 16) (λ out. ltb out signals)) b.out × ((IsNumber (2 ^ 32)
+    (λ size. leb size (2 ^ 20))) b.length × ((IsNumber (2 ^ 32) (λ count. leb count (2 ^ 20))) (length b.cells) × ((AreItems
+    (λ (before : List (List ℕ)) (t : List ℕ). IsName t) (length b.cells)) b.cells
+    × (b ≡ record { name = b.name; out = b.out; length = b.length; cells = b.cells }))))))
 unfolding chain_at
 chain_raw signals =
     then_reader (name_at) text IsName

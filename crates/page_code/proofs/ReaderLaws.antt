@@ -8,8 +8,8 @@ use Rattle.std.proofs.lemmas.Nat.{le_bytes_2, le_bytes_4, le_bytes_8, from_le_by
 use Rattle.page_code.specs.declared.fault.Refusal.{Refusal}
 use Rattle.page_code.specs.declared.fault.Refusal.TheVariants.{Torn, BadCode}
 use Rattle.page_code.specs.Conditions.{EachBehind}
-use Rattle.page_code.specs.Fields.{◌>>=◌, Read, byte_at, piece_at, number_at, checked, meant, known, items_at}
-use Rattle.page_code.specs.Spelling.{number}
+use Rattle.page_code.specs.Fields.{◌>>=◌, Read, byte_at, piece_at, number_at, judged, checked, meant, known, items_at}
+use Rattle.page_code.specs.Spelling.{number, behind}
 
 -- ---- bytes
 
@@ -74,7 +74,8 @@ done_reader made = record {
 
 -- one part, and then the rest by it
 pub then_reader : {A B : Type 0} (read : List ℕ → Read A) (s : A → List ℕ) (F : A → Type 0) (next : A × List ℕ → Read B) (s' : B → List ℕ)
-    (G : A → B → Type 0) (of : B → A) → IsReader read s F → ((a : A) → F a → IsReader (λ bytes. next (a, bytes)) s' (G a)) → ((a : A) (b : B) → G a b → of b ≡ a)
+    (G : A → B → Type 0) (of : B → A) → IsReader read s F → ((a : A) → F a → IsReader (λ bytes. next (a, bytes)) s' (G a)) → ((a : A) (b : B)
+    → G a b → of b ≡ a)
     → IsReader (λ bytes. read bytes >>= next) (λ b. s (of b) ++ s' b) (λ b. F (of b) × G (of b) b)
 then_reader {A} read s F next s' G of first second back = record {
   takes = λ bytes b rest fits e.
@@ -92,16 +93,55 @@ then_reader {A} read s F next s' G of first second back = record {
       ∙ (second (of b) fits.0).again b rest fits.1;
 }
 
--- a condition
-pub checked_reader : {A : Type 0} (read : List ℕ → Read A) (s : A → List ℕ) (F : A → Type 0) (test : A → Bool) → IsReader read s F
-    → IsReader (checked read test) s (λ a. F a × (test a ≡ true))
-checked_reader read s F test reader = record {
+-- a condition, which is refused where so many bytes are left
+pub judged_reader : {A : Type 0} (read : List ℕ → Read A) (s : A → List ℕ) (F : A → Type 0) (test : A → Bool) (left : List ℕ → ℕ)
+    → IsReader read s F → IsReader (λ bytes. read bytes >>= judged (left bytes) test) s (λ a. F a × (test a ≡ true))
+judged_reader read s F test left reader = record {
   takes = λ bytes a rest fits e.
-      let step = bind_ok (read bytes) (λ x. cond (test x.0) (Ok x) (Err (BadCode (length bytes)))) (a, rest) e in
-      let guard = guard_ok (test step.0.0) (BadCode (length bytes)) step.0 (a, rest) step.2 in
+      let step = bind_ok (read bytes) (judged (left bytes) test) (a, rest) e in
+      let guard = guard_ok (test step.0.0) (BadCode (left bytes)) step.0 (a, rest) step.2 in
       let t = reader.takes bytes a rest fits (step.1 ∙ ap Ok guard.1) in
       (t.0, t.1, (t.2, subst (λ x. test x.0 ≡ true) guard.1 guard.0));
   again = λ a rest fits. rw (reader.again a rest fits.0, fits.1) refl;
+}
+
+-- a condition, which is refused at the first byte
+pub checked_reader : {A : Type 0} (read : List ℕ → Read A) (s : A → List ℕ) (F : A → Type 0) (test : A → Bool) → IsReader read s F
+    → IsReader (checked read test) s (λ a. F a × (test a ≡ true))
+checked_reader read s F test reader = judged_reader read s F test length reader
+
+-- a condition on what was read before, and then the rest
+pub judged_then : {A B : Type 0} (a : A) (test : A → Bool) (left : ℕ) (next : A × List ℕ → Read B) (s : B → List ℕ) (G : B → Type 0)
+    → (test a ≡ true → IsReader (λ bytes. next (a, bytes)) s G)
+    → IsReader (λ bytes. judged left test (a, bytes) >>= next) s (λ b. (test a ≡ true) × G b)
+judged_then a test left next s G second = record {
+  takes = λ bytes b rest fits e.
+      let step = bind_ok (judged left test (a, bytes)) next (b, rest) e in
+      let guard = guard_ok (test a) (BadCode left) (a, bytes) step.0 step.1 in
+      let t = (second guard.0).takes bytes b rest fits (ap next guard.1 ∙ step.2) in
+      (t.0, t.1, (guard.0, t.2));
+  again = λ b rest fits. rw fits.0 ((second fits.0).again b rest fits.1);
+}
+
+-- what was read, as what it stands for
+pub mapped_reader : {A B : Type 0} (read : List ℕ → Read A) (s : A → List ℕ) (F : A → Type 0) (to : A → B) (back : B → A) (G : B → Type 0)
+    → IsReader read s F → ((a : A) → F a → (back (to a) ≡ a) × G (to a)) → ((b : B) → G b → F (back b) × (to (back b) ≡ b))
+    → IsReader (λ bytes. read bytes >>= λ x. Ok (to x.0, x.1)) (λ b. s (back b)) G
+mapped_reader {A} {B} read s F to back G reader forth again = record {
+  takes = λ bytes b rest fits e.
+      let step = bind_ok (read bytes) (λ x. Ok (to x.0, x.1)) (b, rest) e in
+      let same = ok_is (to step.0.0, step.0.1) (b, rest) step.2 in
+      let is : to step.0.0 ≡ b = ap (λ p. p.0) same in
+      let end : step.0.1 ≡ rest = ap (λ p. p.1) same in
+      let t = reader.takes bytes step.0.0 step.0.1 fits step.1 in
+      let f = forth step.0.0 t.2 in (
+        t.0 ∙ ap (λ (a : A). s a ++ step.0.1) (sym f.0 ∙ ap back is) ∙ ap (λ (x : List ℕ). s (back b) ++ x) end,
+        subst IsBytes end t.1,
+        subst G is f.1,
+      );
+  again = λ b rest fits.
+      let f = again b fits in
+      ap (λ r. r >>= λ x. Ok (to x.0, x.1)) (reader.again (back b) rest f.0) ∙ ap (λ (x : B). Ok (x, rest)) f.1;
 }
 
 -- ---- bytes and numbers
@@ -223,50 +263,82 @@ known_takes read s F meaning reader bytes b rest fits e =
 
 -- ---- items
 
-items_takes : {A : Type 0} (one : List A → List ℕ → Read A) (spell : A → List ℕ) (Fits : List A → A → Type 0) → ((before : List A) → IsReader (one before) spell (Fits before))
-    → (count : ℕ) (before : List A) (bytes : List ℕ) (all : List A) (rest : List ℕ) → IsBytes bytes → items_at one count before bytes ≡ Ok (all, rest)
-    → (new : List A) × (all ≡ before ++ new) × (bytes ≡ flat_map spell new ++ rest) × IsBytes rest × (length new ≡ count) × EachBehind Fits before new
+-- readers of items behind those before them, where those are good
+record AreReaders {A : Type 0} (one : List A → List ℕ → Read A) (spell : List A → A → List ℕ) (Fits : List A → A → Type 0) (Good : List A → Type 0) : Type 0 where
+  pub reads : (before : List A) → Good before → IsReader (one before) (spell before) (Fits before)
+  pub stays : (before : List A) (x : A) → Good before → Fits before x → Good (before ++ x ∷ [])
+
+items_takes : {A : Type 0} (one : List A → List ℕ → Read A) (spell : List A → A → List ℕ) (Fits : List A → A → Type 0) (Good : List A → Type 0)
+    → AreReaders one spell Fits Good → (count : ℕ) (before : List A) → Good before → (bytes : List ℕ) (all : List A) (rest : List ℕ)
+    → IsBytes bytes → items_at one count before bytes ≡ Ok (all, rest)
+    → (new : List A) × (all ≡ before ++ new) × (bytes ≡ behind spell before new ++ rest) × IsBytes rest × (length new ≡ count)
+    × EachBehind Fits before new
 unfolding items_at
-items_takes one spell Fits readers zero before bytes all rest fits e =
+items_takes one spell Fits Good readers zero before good bytes all rest fits e =
     let same = ok_is (before, bytes) (all, rest) e in
     ([], sym (ap (λ p. p.0) same) ∙ sym (append-nil before), ap (λ p. p.1) same, subst IsBytes (ap (λ p. p.1) same) fits, refl, tt)
-items_takes {A} one spell Fits readers (suc n) before bytes all rest fits e =
+items_takes {A} one spell Fits Good readers (suc n) before good bytes all rest fits e =
     let step = bind_ok (one before bytes) (λ x. items_at one n (before ++ x.0 ∷ []) x.1) (all, rest) e in
-    let t = (readers before).takes bytes step.0.0 step.0.1 fits step.1 in
-    let more = items_takes one spell Fits readers n (before ++ step.0.0 ∷ []) step.0.1 all rest t.1 step.2 in (
+    let t = (readers.reads before good).takes bytes step.0.0 step.0.1 fits step.1 in
+    let more = items_takes one spell Fits Good readers n (before ++ step.0.0 ∷ []) (readers.stays before step.0.0 good t.2) step.0.1 all rest t.1 step.2 in (
       step.0.0 ∷ more.0,
       more.1 ∙ append_assoc before (step.0.0 ∷ []) more.0,
-      t.0 ∙ ap (λ (x : List ℕ). spell step.0.0 ++ x) more.2 ∙ sym (append_assoc (spell step.0.0) (flat_map spell more.0) rest),
+      t.0 ∙ ap (λ (x : List ℕ). spell before step.0.0 ++ x) more.2
+          ∙ sym (append_assoc (spell before step.0.0) (behind spell (before ++ step.0.0 ∷ []) more.0) rest),
       more.3,
       ap suc more.4,
       (t.2, more.5),
     )
 
-items_again : {A : Type 0} (one : List A → List ℕ → Read A) (spell : A → List ℕ) (Fits : List A → A → Type 0) → ((before : List A) → IsReader (one before) spell (Fits before))
-    → (before new : List A) (rest : List ℕ) → EachBehind Fits before new → items_at one (length new) before (flat_map spell new ++ rest) ≡ Ok (before ++ new, rest)
+items_again : {A : Type 0} (one : List A → List ℕ → Read A) (spell : List A → A → List ℕ) (Fits : List A → A → Type 0) (Good : List A → Type 0)
+    → AreReaders one spell Fits Good → (before : List A) → Good before → (new : List A) (rest : List ℕ) → EachBehind Fits before new
+    → items_at one (length new) before (behind spell before new ++ rest) ≡ Ok (before ++ new, rest)
 unfolding items_at
-items_again one spell Fits readers before [] rest each = ap (λ x. Ok (x, rest)) (sym (append-nil before))
-items_again {A} one spell Fits readers before (x ∷ xs) rest each =
-    ap (λ (bs : List ℕ). items_at one (suc (length xs)) before bs) (append_assoc (spell x) (flat_map spell xs) rest)
-    ∙ ap (λ r. r >>= λ y. items_at one (length xs) (before ++ y.0 ∷ []) y.1) ((readers before).again x (flat_map spell xs ++ rest) each.0)
-    ∙ items_again one spell Fits readers (before ++ x ∷ []) xs rest each.1
+items_again one spell Fits Good readers before good [] rest each = ap (λ x. Ok (x, rest)) (sym (append-nil before))
+items_again {A} one spell Fits Good readers before good (x ∷ xs) rest each =
+    ap (λ (bs : List ℕ). items_at one (suc (length xs)) before bs) (append_assoc (spell before x) (behind spell (before ++ x ∷ []) xs) rest)
+    ∙ ap (λ r. r >>= λ y. items_at one (length xs) (before ++ y.0 ∷ []) y.1)
+    ((readers.reads before good).again x (behind spell (before ++ x ∷ []) xs ++ rest) each.0)
+    ∙ items_again one spell Fits Good readers (before ++ x ∷ []) (readers.stays before x good each.0) xs rest each.1
     ∙ ap (λ (ys : List A). Ok (ys, rest)) (append_assoc before (x ∷ []) xs)
 
--- so many items
-pub items_reader : {A : Type 0} (one : List A → List ℕ → Read A) (spell : A → List ℕ) (Fits : List A → A → Type 0) → ((before : List A) → IsReader (one before) spell (Fits before))
-    → (count : ℕ) → IsReader (items_at one count []) (λ items. flat_map spell items) (λ items. (length items ≡ count) × EachBehind Fits [] items)
-items_reader {A} one spell Fits readers count = record {
-  takes = λ bytes items rest fits e.
-      let t = items_takes one spell Fits readers count [] bytes items rest fits e in
-      let is : items ≡ t.0 = t.1 in
-      (t.2 ∙ ap (λ (xs : List A). flat_map spell xs ++ rest) (sym is), t.3, (ap length is ∙ t.4, subst (λ (xs : List A). EachBehind Fits [] xs) (sym is) t.5));
-  again = λ items rest fits.
-      ap (λ (n : ℕ). items_at one n [] (flat_map spell items ++ rest)) (sym fits.0) ∙ items_again one spell Fits readers [] items rest fits.1;
-}
+-- so many items, each spelled as it is behind those before it
+pub behind_reader : {A : Type 0} (one : List A → List ℕ → Read A) (spell : List A → A → List ℕ) (Fits : List A → A → Type 0) (Good : List A → Type 0)
+    → Good [] → ((before : List A) → Good before → IsReader (one before) (spell before) (Fits before))
+    → ((before : List A) (x : A) → Good before → Fits before x → Good (before ++ x ∷ [])) → (count : ℕ)
+    → IsReader (items_at one count []) (behind spell []) (λ items. (length items ≡ count) × EachBehind Fits [] items)
+behind_reader {A} one spell Fits Good begins reads stays count =
+    let readers : AreReaders one spell Fits Good = record { reads = reads; stays = stays } in
+    record {
+      takes = λ bytes items rest fits e.
+          let t = items_takes one spell Fits Good readers count [] begins bytes items rest fits e in
+          let is : items ≡ t.0 = t.1 in (
+            t.2 ∙ ap (λ (xs : List A). behind spell [] xs ++ rest) (sym is),
+            t.3,
+            (ap length is ∙ t.4, subst (λ (xs : List A). EachBehind Fits [] xs) (sym is) t.5),
+          );
+      again = λ items rest fits.
+          ap (λ (n : ℕ). items_at one n [] (behind spell [] items ++ rest)) (sym fits.0)
+          ∙ items_again one spell Fits Good readers [] begins items rest fits.1;
+    }
+
+behind_flat : {A : Type 0} (spell : A → List ℕ) (before items : List A) → behind (λ before item. spell item) before items ≡ flat_map spell items
+behind_flat spell before [] = refl
+behind_flat spell before (x ∷ xs) = ap (λ (more : List ℕ). spell x ++ more) (behind_flat spell (before ++ x ∷ []) xs)
+
+-- so many items, each spelled alike wherever it is
+pub items_reader : {A : Type 0} (one : List A → List ℕ → Read A) (spell : A → List ℕ) (Fits : List A → A → Type 0)
+    → ((before : List A) → IsReader (one before) spell (Fits before)) → (count : ℕ)
+    → IsReader (items_at one count []) (λ items. flat_map spell items) (λ items. (length items ≡ count) × EachBehind Fits [] items)
+items_reader one spell Fits readers count =
+    adapted (items_at one count []) (behind (λ before item. spell item) []) (flat_map spell) _ _
+    (behind_reader one (λ before item. spell item) Fits (λ before. Unit {0}) tt (λ before good. readers before) (λ before x good fits. tt) count)
+    (λ items f. f) (λ items f. f) (λ items f. behind_flat spell [] items)
 
 -- a field that is read passes its test
-pub checked_test : {A : Type 0} (read : List ℕ → Read A) (test : A → Bool) (bytes : List ℕ) (a : A) (rest : List ℕ) → checked read test bytes ≡ Ok (a, rest) → test a ≡ true
+pub checked_test : {A : Type 0} (read : List ℕ → Read A) (test : A → Bool) (bytes : List ℕ) (a : A) (rest : List ℕ)
+    → checked read test bytes ≡ Ok (a, rest) → test a ≡ true
 checked_test read test bytes a rest e =
-    let step = bind_ok (read bytes) (λ x. cond (test x.0) (Ok x) (Err (BadCode (length bytes)))) (a, rest) e in
+    let step = bind_ok (read bytes) (judged (length bytes) test) (a, rest) e in
     let guard = guard_ok (test step.0.0) (BadCode (length bytes)) step.0 (a, rest) step.2 in
     subst (λ x. test x.0 ≡ true) guard.1 guard.0

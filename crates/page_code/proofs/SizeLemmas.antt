@@ -1,5 +1,6 @@
 -- A saved program has fewer bytes than 64 bits count.
-use Rattle.std.proofs.Common.{◌≡◌, ℕ, ◌*◌, ◌^◌, ◌<◌, ◌≤◌, List, [], ◌∷◌, ◌++◌, length, refl, arith}
+use Rattle.std.proofs.Common.{◌≡◌, ℕ, ◌*◌, ◌^◌, ◌+◌, ◌<◌, ◌≤◌, suc, ltb, List, [], ◌∷◌, ◌++◌, length, refl, arith, inl, inr}
+use Rattle.std.proofs.lemmas.Bool.{cases_Bool, and_parts, ltb-true}
 use Rattle.std.specs.List.{AllByRecursion, flat_map}
 use Rattle.std.specs.Int.{w8, w16, w32, w64}
 use Rattle.std.proofs.lemmas.List.{length-append}
@@ -8,12 +9,15 @@ use Rattle.tester_types.specs.declared.wave.Wave.{Wave}
 use Rattle.tester_types.specs.declared.wave.Table.{Table}
 use Rattle.page_meaning.specs.declared.instr.Instr.{Instr}
 use Rattle.page_meaning.specs.declared.instr.Instr.TheVariants.{Run, Loop, End, Done}
+use Rattle.page_code.specs.declared.version.Version.{Version}
+use Rattle.page_code.specs.declared.version.Version.TheVariants.{One, Two}
 use Rattle.page_code.specs.declared.parts.CodeSignal.{CodeSignal}
 use Rattle.page_code.specs.declared.parts.CodeChain.{CodeChain}
 use Rattle.page_code.specs.Letters.{act_code}
 use Rattle.page_code.specs.Program.{Exec, Program}
 use Rattle.page_code.specs.Conditions.{EachBehind, IsText, IsName, IsSignal, IsWave, IsTable, IsRow, IsChain, IsExec, IsProgram}
-use Rattle.page_code.specs.Spelling.{number, text, signal, event, wave, table, row, chain, instr, exec, earlier, later, program}
+use Rattle.page_code.specs.Changes.{last_row, changes, is_shorter, is_difference}
+use Rattle.page_code.specs.Spelling.{number, text, signal, event, wave, table, behind, change, difference, row, chain, instr, exec, earlier, later, program}
 
 -- ---- lists
 
@@ -88,8 +92,45 @@ length-table signals before t fits =
       length-append (number w32 (length t.waves)) (flat_map wave t.waves),
     )
 
-length-row : (signals : ℕ) (before : List (List ℕ)) (r : List ℕ) → IsRow signals before r → length (row r) ≤ signals
-length-row signals before r fits = omega (arith, fits.places)
+pub length-changes : (cs : List (ℕ × ℕ)) → length (flat_map change cs) ≡ 3 * length cs
+length-changes [] = refl
+length-changes (c ∷ cs) =
+    omega (
+      arith,
+      length-append (change c) (flat_map change cs),
+      length-append (number w16 c.0) (c.1 ∷ []),
+      length-16 c.0,
+      length-changes cs,
+    )
+
+pub length-difference : (cs : List (ℕ × ℕ)) → length (difference cs) ≡ 3 * length cs + 2
+length-difference cs =
+    omega (arith, length-append (number w16 (length cs)) (flat_map change cs), length-16 (length cs), length-changes cs)
+
+length-row : (version : Version) (signals : ℕ) (before : List (List ℕ)) (r : List ℕ) → IsRow signals before r
+    → length (row version before r) ≤ suc signals
+length-row One signals before r fits = omega (arith, fits.places)
+length-row Two signals before r fits =
+    elim (cases_Bool (is_difference before r)) [
+      | inl changed ↦
+          let cs = changes 0 (last_row before) r in
+          let short = ltb-true (3 * length cs + 2) (length r) (and_parts (ltb 0 (length before)) (is_shorter (length cs) (length r)) changed).1 in
+          rw changed (omega (arith, fits.places, short, length-difference cs))
+      | inr whole ↦ rw whole (omega (arith, fits.places))
+    ]
+
+-- items that are spelled behind those before them
+length-behind-le : {A : Type 0} (spell : List A → A → List ℕ) (Fits : List A → A → Type 0) (most : ℕ)
+    → ((before : List A) (x : A) → Fits before x → length (spell before x) ≤ suc most)
+    → (before xs : List A) → EachBehind Fits before xs → length (behind spell before xs) ≤ length xs * most + length xs
+length-behind-le spell Fits most few before [] each = omega arith
+length-behind-le spell Fits most few before (x ∷ xs) each =
+    omega (
+      arith,
+      length-append (spell before x) (behind spell (before ++ x ∷ []) xs),
+      few before x each.0,
+      length-behind-le spell Fits most few (before ++ x ∷ []) xs each.1,
+    )
 
 length-chain : (signals : ℕ) (before : List CodeChain) (c : CodeChain) → IsChain signals c → length (chain c) ≤ 2 ^ 31
 length-chain signals before c fits =
@@ -119,7 +160,8 @@ all_instrs : (is : List Instr) → AllByRecursion (λ i. length (instr i) ≤ 16
 all_instrs [] = tt
 all_instrs (i ∷ is) = (omega (arith, length-instr i), all_instrs is)
 
-length-exec : (signals : ℕ) (tables : List Table) (rows : List (List ℕ)) (before : List Exec) (e : Exec) → IsExec signals tables rows e → length (exec e) ≤ 2 ^ 40
+length-exec : (signals : ℕ) (tables : List Table) (rows : List (List ℕ)) (before : List Exec) (e : Exec) → IsExec signals tables rows e
+    → length (exec e) ≤ 2 ^ 40
 length-exec signals tables rows before e fits =
     let chains = length-flat_map-le chain (2 ^ 31) e.chains (behind_all (λ (b : List CodeChain) (c : CodeChain). IsChain signals c) (λ c. length (chain c) ≤ 2 ^ 31) (length-chain signals) [] e.chains fits.chains) in
     let few : length e.chains ≤ 256 = fits.few_chains in
@@ -154,11 +196,12 @@ length-earlier p is =
       length-append (number w16 (length p.tables)) (flat_map table p.tables),
     )
 
-length-later : (p : Program) → IsProgram p → length (later p) ≤ 2 ^ 53
-length-later p is =
-    let rows = length-flat_map-le row (length p.signals) p.rows (behind_all (IsRow (length p.signals)) (λ r. length (row r) ≤ length p.signals) (length-row (length p.signals)) [] p.rows is.rows) in
+length-later : (version : Version) (p : Program) → IsProgram p → length (later version p) ≤ 2 ^ 53
+length-later version p is =
+    let rows = length-behind-le (row version) (IsRow (length p.signals)) (length p.signals) (length-row version (length p.signals)) [] p.rows is.rows in
     let execs = length-flat_map-le exec (2 ^ 40) p.execs (behind_all (λ (b : List Exec) (e : Exec). IsExec (length p.signals) p.tables p.rows e) (λ e. length (exec e) ≤ 2 ^ 40) (length-exec (length p.signals) p.tables p.rows) [] p.execs is.execs) in
     let few_rows : length p.rows * length p.signals ≤ 2 ^ 28 = is.few_rows in
+    let count_rows : length p.rows < 2 ^ 32 = is.count_rows in
     let few_execs : length p.execs ≤ 64 = is.few_execs in
     omega (
       arith,
@@ -166,10 +209,10 @@ length-later p is =
       execs,
       length-32 (length p.rows),
       length-16 (length p.execs),
-      length-append (number w32 (length p.rows)) (flat_map row p.rows ++ (number w16 (length p.execs) ++ flat_map exec p.execs)),
-      length-append (flat_map row p.rows) (number w16 (length p.execs) ++ flat_map exec p.execs),
+      length-append (number w32 (length p.rows)) (behind (row version) [] p.rows ++ (number w16 (length p.execs) ++ flat_map exec p.execs)),
+      length-append (behind (row version) [] p.rows) (number w16 (length p.execs) ++ flat_map exec p.execs),
       length-append (number w16 (length p.execs)) (flat_map exec p.execs),
     )
 
-pub length-program : (p : Program) → IsProgram p → length (program p) < 2 ^ 60
-length-program p is = omega (arith, length-earlier p is, length-later p is, length-append (earlier p) (later p))
+pub length-program : (version : Version) (p : Program) → IsProgram p → length (program version p) < 2 ^ 60
+length-program version p is = omega (arith, length-earlier p is, length-later version p is, length-append (earlier p) (later version p))

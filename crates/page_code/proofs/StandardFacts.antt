@@ -1,13 +1,14 @@
 -- Known parts and their bytes, which the definitions must give.
-use Rattle.std.proofs.Common.{◌≡◌, [], ◌∷◌, Some, None, Err, refl}
+use Rattle.std.proofs.Common.{◌≡◌, ℕ, List, [], ◌∷◌, Some, None, Ok, Err, refl}
 use Rattle.page_meaning.specs.declared.instr.Instr.TheVariants.{Run}
 use Rattle.tester_types.specs.declared.wave.Act.TheVariants.{Look}
 use Rattle.tester_types.specs.declared.wave.Look.TheVariants as look
 use Rattle.page_code.specs.declared.fault.Refusal.TheVariants.{BadMagic, BadVersion, Torn, BadCode}
 use Rattle.text_bytes.specs.Bytes.{is_character}
-use Rattle.page_code.specs.Spelling.{number, instr, text, wave}
-use Rattle.page_code.specs.Fields.{number_at}
-use Rattle.page_code.specs.Reading.{instr_of, head_at, letters_at}
+use Rattle.page_code.specs.declared.version.Version.TheVariants.{Two}
+use Rattle.page_code.specs.Spelling.{number, instr, text, wave, row}
+use Rattle.page_code.specs.Fields.{number_at, items_at}
+use Rattle.page_code.specs.Reading.{instr_of, head_at, letters_at, change_from, difference_at, whole_row_at, formed_row_at, row_at}
 
 -- runs table 0, row 1 three times without a mark
 pub example_instr : instr (Run 0 1 0 3) ≡ 1 ∷ 0 ∷ 0 ∷ 0 ∷ 1 ∷ 0 ∷ 0 ∷ 0 ∷ 0 ∷ 0 ∷ 0 ∷ 0 ∷ 3 ∷ 0 ∷ 0 ∷ 0 ∷ []
@@ -42,7 +43,11 @@ pub short_magic : head_at (0xD7 ∷ 0x53 ∷ []) ≡ Err Torn
 unfolding head_at
 short_magic = refl
 
-pub other_version : head_at (0xD7 ∷ 0x53 ∷ 0x54 ∷ 0x50 ∷ 2 ∷ 0 ∷ []) ≡ Err BadVersion
+pub second_version : head_at (0xD7 ∷ 0x53 ∷ 0x54 ∷ 0x50 ∷ 2 ∷ 0 ∷ 0 ∷ 0 ∷ []) ≡ Ok (Two, [])
+unfolding head_at number_at
+second_version = refl
+
+pub other_version : head_at (0xD7 ∷ 0x53 ∷ 0x54 ∷ 0x50 ∷ 3 ∷ 0 ∷ []) ≡ Err BadVersion
 unfolding head_at number_at
 other_version = refl
 
@@ -54,3 +59,65 @@ wrong_letter = refl
 pub short_row : letters_at 4 (48 ∷ 49 ∷ []) ≡ Err Torn
 unfolding letters_at is_character
 short_row = refl
+
+-- ---- rows of version 2
+
+-- P110000XX
+abbrev first_row : List ℕ
+first_row = 80 ∷ 49 ∷ 49 ∷ 48 ∷ 48 ∷ 48 ∷ 48 ∷ 88 ∷ 88 ∷ []
+
+-- P100000XX
+abbrev second_row : List ℕ
+second_row = 80 ∷ 49 ∷ 48 ∷ 48 ∷ 48 ∷ 48 ∷ 48 ∷ 88 ∷ 88 ∷ []
+
+-- one character of nine changes: 5 is below 9
+pub one_change : row Two (first_row ∷ []) second_row ≡ 1 ∷ 1 ∷ 0 ∷ 2 ∷ 0 ∷ 0x30 ∷ []
+unfolding number
+one_change = refl
+
+-- one of two changes: 5 is not below 2
+pub narrow_row : row Two ((48 ∷ 48 ∷ []) ∷ []) (49 ∷ 48 ∷ []) ≡ 0 ∷ 49 ∷ 48 ∷ []
+narrow_row = refl
+
+pub one_change_again : formed_row_at 9 (first_row ∷ []) (1 ∷ 1 ∷ 0 ∷ 2 ∷ 0 ∷ 0x30 ∷ 7 ∷ []) ≡ Ok (second_row, 7 ∷ [])
+unfolding formed_row_at difference_at change_from items_at number_at is_character
+one_change_again = refl
+
+-- the same spelled whole is refused at its form
+pub whole_refused : formed_row_at 9 (first_row ∷ []) (0 ∷ second_row) ≡ Err (BadCode 10)
+unfolding formed_row_at whole_row_at letters_at is_character
+whole_refused = refl
+
+-- the first row is spelled whole
+pub first_refused : formed_row_at 9 [] (1 ∷ 1 ∷ 0 ∷ 2 ∷ 0 ∷ 0x30 ∷ []) ≡ Err (BadCode 6)
+unfolding formed_row_at
+first_refused = refl
+
+-- no change, or more than there are signals, is refused at the count
+pub none_refused : formed_row_at 9 (first_row ∷ []) (1 ∷ 0 ∷ 0 ∷ []) ≡ Err (BadCode 2)
+unfolding formed_row_at difference_at number_at
+none_refused = refl
+
+pub many_refused : formed_row_at 9 (first_row ∷ []) (1 ∷ 10 ∷ 0 ∷ []) ≡ Err (BadCode 2)
+unfolding formed_row_at difference_at number_at
+many_refused = refl
+
+-- three changes of nine are no shorter: 11 is not below 9
+pub long_refused : formed_row_at 9 (first_row ∷ []) (1 ∷ 3 ∷ 0 ∷ []) ≡ Err (BadCode 3)
+unfolding formed_row_at difference_at number_at
+long_refused = refl
+
+-- signals rise
+pub order_refused : formed_row_at 9 (first_row ∷ []) (1 ∷ 2 ∷ 0 ∷ 2 ∷ 0 ∷ 0x30 ∷ 2 ∷ 0 ∷ 0x31 ∷ []) ≡ Err (BadCode 3)
+unfolding formed_row_at difference_at change_from items_at number_at is_character
+order_refused = refl
+
+-- a character that is the old one is no change
+pub old_refused : formed_row_at 9 (first_row ∷ []) (1 ∷ 1 ∷ 0 ∷ 2 ∷ 0 ∷ 0x31 ∷ []) ≡ Err (BadCode 1)
+unfolding formed_row_at difference_at change_from items_at number_at is_character
+old_refused = refl
+
+-- a row that was there is refused at its form, after its changes
+pub equal_refused : row_at Two 9 (second_row ∷ first_row ∷ []) (1 ∷ 1 ∷ 0 ∷ 2 ∷ 0 ∷ 0x30 ∷ []) ≡ Err (BadCode 6)
+unfolding row_at formed_row_at difference_at change_from items_at number_at is_character
+equal_refused = refl

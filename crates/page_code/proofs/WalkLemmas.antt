@@ -1,7 +1,6 @@
 -- A walk over a code stays over it, and its cycles name tables and rows of the code.
-use Rattle.std.proofs.Common.{◌≡◌, ℕ, zero, suc, ◌+◌, ◌*◌, ◌^◌, ◌<◌, ◌≤◌, List, [], ◌∷◌, ◌++◌, length, get_or, replicate, take, drop, refl, sym, ap, subst, ◌∙◌, arith}
-use Rattle.std.specs.List.{AllByRecursion, flat_map}
-use Rattle.std.proofs.lemmas.List.{take_more, flat_map_more, length-append}
+use Rattle.std.proofs.Common.{◌≡◌, ℕ, zero, suc, ◌+◌, ◌*◌, ◌^◌, ◌<◌, ◌≤◌, List, [], ◌∷◌, length, get_or, replicate, sym, subst, arith}
+use Rattle.std.specs.List.{AllByRecursion}
 use Rattle.tester_types.specs.declared.wave.Table.{Table}
 use Rattle.page_meaning.specs.declared.instr.Entry.{Entry}
 use Rattle.page_meaning.specs.declared.instr.Instr.{Instr}
@@ -11,9 +10,9 @@ use Rattle.page_meaning.specs.Meaning.{repeated, top, on_top, closed, bodies, Me
 use Rattle.page_meaning.specs.Course.{coming, IsOn}
 use Rattle.page_meaning.proofs.CountLemmas.{cycle_count-length}
 use Rattle.page_code.specs.declared.walker.Walk.{Walk}
-use Rattle.page_code.specs.Program.{Exec, Program}
+use Rattle.page_code.specs.Program.{Program}
 use Rattle.page_code.specs.Conditions.{IsInstr, IsExec, IsTable, IsProgram}
-use Rattle.page_code.specs.Cycles.{exec_of, pieces, page_count, pages_of_exec}
+use Rattle.page_code.specs.Cycles.{exec_of}
 use Rattle.page_code.specs.Walk.{IsOf, IsOver, entries_left}
 use Rattle.text_bytes.proofs.ListLemmas.{all_append}
 use Rattle.page_code.proofs.Lists.{behind_at, each_all, each_at, all_replicate}
@@ -95,19 +94,3 @@ goes_on_over code old entry course period over small on given =
     subst (λ (xs : List Entry). old.start + 1000000000000 * length xs ≤ 1000000000000 * 2 ^ 48) given over.room in
     let named : AllByRecursion (Named code) (entry ∷ left) = subst (λ (xs : List Entry). AllByRecursion (Named code) xs) given over.named in
     record { exec = over.exec; on = on; room = omega (arith, room); named = named.1 }
-
--- ---- pages
-
-length-pieces : (n : ℕ) (instrs : List Instr) → length (pieces n instrs) ≡ n
-length-pieces zero instrs = refl
-length-pieces (suc n) instrs = ap suc (length-pieces n (drop 256 instrs))
-
--- one executive more
-pub pages_more : (execs : List Exec) (i : ℕ) (exec : Exec) → i < length execs → exec ≡ get_or execs i exec
-    → length (flat_map pages_of_exec (take (i + 1) execs)) ≡ length (flat_map pages_of_exec (take i execs)) + page_count (length exec.instrs)
-pages_more execs i exec lt is =
-    ap (λ (xs : List Exec). length (flat_map pages_of_exec xs)) (take_more execs i exec lt)
-    ∙ ap (λ (e : Exec). length (flat_map pages_of_exec (take i execs ++ e ∷ []))) (sym is)
-    ∙ ap length (sym (flat_map_more pages_of_exec [] (take i execs) exec))
-    ∙ length-append (flat_map pages_of_exec (take i execs)) (pages_of_exec exec)
-    ∙ ap (λ (n : ℕ). length (flat_map pages_of_exec (take i execs)) + n) (length-pieces (page_count (length exec.instrs)) exec.instrs)

@@ -1,12 +1,12 @@
 -- Waves in order: where a search may stop, and that those of a table are in order.
-use Rattle.std.proofs.Common.{◌≡◌, ℕ, ◌+◌, ◌-◌, ◌<◌, ◌≤◌, Bool, true, false, eqb, ltb, ◌&&◌, ◌||◌, List, [], ◌∷◌, ◌++◌, length, get_or, drop, Some, refl, sym, ap, subst, ◌∙◌, arith}
+use Rattle.std.proofs.Common.{◌≡◌, ℕ, ◌+◌, ◌<◌, ◌≤◌, Bool, true, false, eqb, ltb, ◌&&◌, ◌||◌, List, [], ◌∷◌, ◌++◌, length, get_or, drop, refl, sym, ap, subst, ◌∙◌, arith}
 use Rattle.std.specs.List.{AllByRecursion}
 use Rattle.std.specs.Option.{option_map_or}
 use Rattle.std.proofs.lemmas.Bool.{ltb-true, eqb-true, ne_eqb}
-use Rattle.std.proofs.lemmas.List.{drop_more, get_or_push, length-append}
-use Rattle.std.proofs.lemmas.Option.{slice_get-get_or}
+use Rattle.std.proofs.lemmas.List.{drop_more}
 use Rattle.tester_types.specs.declared.wave.Wave.{Wave}
-use Rattle.page_code.specs.Conditions.{EachBehind, IsRising, IsWave, last_of, is_behind, has_wave}
+use Rattle.page_code.proofs.Lists.{last_of_push}
+use Rattle.page_code.specs.Conditions.{EachBehind, IsRising, IsWave, is_behind, has_wave}
 
 -- no wave of later signals is one of this signal
 none_later : (ws : List Wave) (signal letter least : ℕ) → signal < least → AllByRecursion (λ later. least ≤ later.signal) ws → has_wave ws signal letter ≡ false
@@ -25,13 +25,6 @@ none_above ws i signal letter w inside is rising above =
     ∙ none_later (w ∷ drop (i + 1) ws) signal letter w.signal above (omega arith, order.0)
 
 -- ---- the waves of a table are in order
-
-last_of_push : (before : List Wave) (w : Wave) → last_of (before ++ w ∷ []) ≡ Some w
-last_of_push before w =
-    let size : length (before ++ w ∷ []) ≡ length before + 1 = length-append before (w ∷ []) in
-    let place : length (before ++ w ∷ []) - 1 ≡ length before = omega arith in
-    slice_get-get_or (before ++ w ∷ []) (length (before ++ w ∷ []) - 1) w (omega arith)
-    ∙ ap Some (ap (λ (i : ℕ). get_or (before ++ w ∷ []) i w) place ∙ get_or_push before w w (length before) refl)
 
 behind_later : (signal letter : ℕ) (w : Wave) → is_behind signal letter w ≡ true → w.signal ≤ signal
 behind_later signal letter w is = cases (ltb w.signal signal) (eqb w.signal signal) refl refl is

@@ -6,4 +6,5 @@ use Rattle.page_code.specs.Conditions.{has_waves, waves_of, letters_of}
 
 -- the table of each pair has a wave for each character of its row
 pub record AreAccepted (tables : List Table) (rows : List (List ℕ)) (pairs : List (ℕ × ℕ)) : Type 0 where
-  pub each : AllByRecursion (λ (pair : ℕ × ℕ). has_waves (waves_of tables pair.0) 0 (letters_of rows pair.1) ≡ true) pairs
+  pub each : AllByRecursion
+      (λ (pair : ℕ × ℕ). has_waves (waves_of tables pair.0) 0 (letters_of rows pair.1) ≡ true) pairs

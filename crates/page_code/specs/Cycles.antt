@@ -1,5 +1,5 @@
 -- The cycles of an executive, with their starts, and its pages.
-use Rattle.std.specs.Prelude.{ℕ, zero, suc, ◌+◌, ◌/◌, List, [], ◌∷◌, length, take, drop, slice_get, slice_index_or}
+use Rattle.std.specs.Prelude.{ℕ, zero, suc, ◌+◌, ◌/◌, ◌%◌, List, [], ◌∷◌, length, take, drop, slice_get, slice_index_or}
 use Rattle.std.specs.List.{flat_map}
 use Rattle.std.specs.Option.{option_map_or}
 use Rattle.tester_types.specs.declared.wave.Table.{Table}
@@ -44,3 +44,14 @@ pages_of_exec exec = pieces (page_count (length exec.instrs)) exec.instrs
 -- the pages of a code: each executive begins a page of its own
 abbrev pub pages_of : Program → List (List Instr)
 pages_of code = flat_map pages_of_exec code.execs
+
+-- the first page of an executive stands behind those of the executives before it
+abbrev pub first_page : Program → ℕ → ℕ
+first_page code number = length (flat_map pages_of_exec (take number code.execs))
+
+-- the page of an executive's instruction, and its place on this page
+abbrev pub page_of : Program → ℕ → ℕ → ℕ
+page_of code number place = first_page code number + place / 256
+
+abbrev pub offset_of : ℕ → ℕ
+offset_of place = place % 256

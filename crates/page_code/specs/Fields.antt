@@ -41,9 +41,13 @@ number_at width bytes =
     if nat_lt (length bytes) (byte_len width) then Err Torn
     else Ok (from_le_bytes width (take (byte_len width) bytes), drop (byte_len width) bytes)
 
+-- what was read, under a condition: where it fails, it is refused where so many bytes are left
+abbrev pub judged : {A : Type 0} → ℕ → (A → Bool) → A × List ℕ → Read A
+judged left fits x = if fits x.0 then Ok x else Err (BadCode left)
+
 -- a field with a condition: where it fails, it is refused at the field's first byte
 abbrev pub checked : {A : Type 0} → (List ℕ → Read A) → (A → Bool) → List ℕ → Read A
-checked read fits bytes = read bytes >>= λ x. if fits x.0 then Ok x else Err (BadCode (length bytes))
+checked read fits bytes = read bytes >>= judged (length bytes) fits
 
 -- a value that bytes stand for, or a refusal with so many bytes left
 abbrev pub meant : {A : Type 0} → ℕ → Option A → List ℕ → Read A

@@ -17,3 +17,7 @@ pub record Program : Type 0 where
   pub tables : List Table
   pub rows : List (List ℕ)
   pub execs : List Exec
+
+-- a code of these parts
+abbrev pub code_of : List CodeSignal → List Table → List (List ℕ) → List Exec → Program
+code_of signals tables rows execs = record { signals = signals; tables = tables; rows = rows; execs = execs }

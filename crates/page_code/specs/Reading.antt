@@ -1,6 +1,6 @@
 -- Reading a saved program from left to right, with the first refusal that is met.
-use Rattle.std.specs.Prelude.{ℕ, suc, ◌+◌, ◌-◌, ◌*◌, ◌^◌, Bool, true, false, not, List, [], ◌∷◌, ◌++◌, ◌==◌, ◌&&◌, nat_lt, nat_le, length, take, drop, slice_index, Option, Some, None, Result, Ok, Err, if◌then◌else◌}
-use Rattle.std.specs.List.{list_all, list_any, take_while}
+use Rattle.std.specs.Prelude.{ℕ, suc, ◌+◌, ◌-◌, ◌*◌, ◌^◌, Bool, true, false, not, List, [], ◌∷◌, ◌++◌, ◌==◌, ◌&&◌, ◌||◌, nat_lt, nat_le, length, take, drop, slice_index, Option, Some, None, Result, Ok, Err, if◌then◌else◌}
+use Rattle.std.specs.List.{list_all, list_any, take_while, find}
 use Rattle.std.specs.Option.{option_map_or}
 use Rattle.std.specs.Int.{w16, w32, w64, from_le_bytes}
 use Rattle.text_bytes.specs.Bytes.{is_printable, is_character}
@@ -14,13 +14,17 @@ use Rattle.page_code.specs.declared.fault.Refusal.{Refusal}
 use Rattle.page_code.specs.declared.fault.Refusal.TheVariants.{BadMagic, BadVersion, Torn, BadCode}
 use Rattle.page_code.specs.declared.fault.SavedFault.{SavedFault}
 use Rattle.page_code.specs.declared.fault.SavedFault.TheVariants as saved
+use Rattle.page_code.specs.declared.version.Version.{Version}
+use Rattle.page_code.specs.declared.version.Version.TheVariants.{One, Two}
 use Rattle.page_code.specs.declared.parts.CodeSignal.{CodeSignal}
 use Rattle.page_code.specs.declared.parts.CodeChain.{CodeChain}
 use Rattle.page_code.specs.Letters.{direction_of, act_of, is_place}
 use Rattle.page_code.specs.Program.{Exec, Program}
 use Rattle.page_code.specs.Rows.{is_row_of}
 use Rattle.page_code.specs.Conditions.{last_of, is_named, latest, is_behind, wave_count, has_waves, waves_of, letters_of}
-use Rattle.page_code.specs.Fields.{◌>>=◌, Read, byte_at, piece_at, number_at, checked, known, items_at}
+use Rattle.page_code.specs.Changes.{last_row, with_changes, is_shorter, is_difference}
+use Rattle.page_code.specs.Spelling.{version_number}
+use Rattle.page_code.specs.Fields.{◌>>=◌, Read, byte_at, piece_at, number_at, judged, checked, known, items_at}
 
 -- a text is one field: its bytes are judged when all of them are there
 unfoldable pub raw_text_at : List ℕ → Read (List ℕ)
@@ -59,7 +63,8 @@ pair_at signals bytes = do
 
 -- whether a wave may stand here: behind the one before it, as one of at most so many
 abbrev pub may_stand : ℕ → List Wave → ℕ × ℕ → Bool
-may_stand most before pair = option_map_or (is_behind pair.0 pair.1) (last_of before) true && nat_lt (length before) most
+may_stand most before pair =
+    option_map_or (is_behind pair.0 pair.1) (last_of before) true && nat_lt (length before) most
 
 -- a signal and a letter that may stand here, a count of events, and these
 unfoldable pub wave_at : ℕ → ℕ → ℕ → List Wave → List ℕ → Read Wave
@@ -88,9 +93,55 @@ letters_at signals bytes =
     if list_all is_place (take signals bytes) then piece_at signals bytes
     else Err (BadCode (length bytes - length (take_while is_place bytes)))
 
+-- the least signal that may come behind these changes
+abbrev pub least_behind : List (ℕ × ℕ) → ℕ
+least_behind before = option_map_or (λ change. suc change.0) (last_of before) 0
+
+-- a change of the last row: a signal, at least so much, and a character that differs from the one in its place
+unfoldable pub change_from : ℕ → ℕ → List ℕ → List ℕ → Read (ℕ × ℕ)
+change_from least signals last bytes = do
+  signal ← checked (number_at w16) (λ signal. nat_le least signal && nat_lt signal signals) bytes
+  letter ← checked byte_at (λ letter. is_place letter && not (letter == slice_index last signal.0)) signal.1
+  Ok ((signal.0, letter.0), letter.1)
+
+-- changes rise strictly by signal
+abbrev pub change_at : ℕ → List ℕ → List (ℕ × ℕ) → List ℕ → Read (ℕ × ℕ)
+change_at signals last before bytes = change_from (least_behind before) signals last bytes
+
+-- the last row with so many changes in place
+abbrev pub changed_at : ℕ → List ℕ → ℕ → List ℕ → Read (List ℕ)
+changed_at signals last count bytes =
+    items_at (change_at signals last) count [] bytes >>= λ changes. Ok (with_changes last changes.0, changes.1)
+
+-- a row that is spelled as a difference, behind its form: a count, which must make it shorter, and so many changes of
+-- the last row. Where the count does not, it is the form that is refused, where so many bytes are left.
+unfoldable pub difference_at : ℕ → ℕ → List ℕ → List ℕ → Read (List ℕ)
+difference_at left signals last bytes = do
+  count ← checked (number_at w16) (λ count. nat_lt 0 count && nat_le count signals) bytes
+  few ← judged left (λ count. is_shorter count signals) count
+  changed_at signals last few.0 few.1
+
+-- a row that is spelled whole, behind its form. Where a difference would be shorter, it is the form that is refused.
+unfoldable pub whole_row_at : ℕ → ℕ → List (List ℕ) → List ℕ → Read (List ℕ)
+whole_row_at left signals before bytes =
+    letters_at signals bytes >>= judged left (λ row. not (is_difference before row))
+
+-- a row of version 2: its form, which is 0 for the first row, and then the row by it
+unfoldable pub formed_row_at : ℕ → List (List ℕ) → List ℕ → Read (List ℕ)
+formed_row_at signals before bytes = do
+  form ← checked byte_at (λ form. form == 0 || form == 1 && nat_lt 0 (length before)) bytes
+  if form.0 == 0 then whole_row_at (length bytes) signals before form.1
+      else difference_at (length bytes) signals (last_row before) form.1
+
+-- a row as it is spelled in a version
+abbrev pub spelled_row_at : Version → ℕ → List (List ℕ) → List ℕ → Read (List ℕ)
+spelled_row_at One signals before bytes = letters_at signals bytes
+spelled_row_at Two signals before bytes = formed_row_at signals before bytes
+
 -- a row that no row before equals
-unfoldable pub row_at : ℕ → List (List ℕ) → List ℕ → Read (List ℕ)
-row_at signals before bytes = checked (letters_at signals) (λ row. not (is_row_of before row)) bytes
+unfoldable pub row_at : Version → ℕ → List (List ℕ) → List ℕ → Read (List ℕ)
+row_at version signals before bytes =
+    checked (spelled_row_at version signals before) (λ row. not (is_row_of before row)) bytes
 
 -- a name, a scan-out signal, a length, a count of cells, and these
 unfoldable pub chain_at : ℕ → List ℕ → Read CodeChain
@@ -114,7 +165,8 @@ part place size bytes = take size (drop place bytes)
 unfoldable pub instr_of : List ℕ → Option Instr
 instr_of bytes =
     if slice_index bytes 0 == 1 && slice_index bytes 1 == 0 then
-    Some (Run (from_le_bytes w16 (part 2 2 bytes)) (from_le_bytes w32 (part 4 4 bytes)) (from_le_bytes w32 (part 8 4 bytes)) (from_le_bytes w32 (part 12 4 bytes)))
+    Some (Run (from_le_bytes w16 (part 2 2 bytes)) (from_le_bytes w32 (part 4 4 bytes))
+    (from_le_bytes w32 (part 8 4 bytes)) (from_le_bytes w32 (part 12 4 bytes)))
     else (if slice_index bytes 0 == 2 && are_zero (part 1 7 bytes) then Some (Loop (from_le_bytes w64 (part 8 8 bytes)))
     else (if slice_index bytes 0 == 3 && are_zero (part 1 15 bytes) then Some End
     else (if slice_index bytes 0 == 4 && are_zero (part 1 15 bytes) then Some Done
@@ -142,7 +194,8 @@ abbrev pub follows : List Table → List (List ℕ) → Bool → ℕ → Bool �
 follows tables rows is_last depth begun (Run table row mark times) =
     not is_last && nat_lt 0 times && nat_lt table (length tables) && nat_lt row (length rows)
     && has_waves (waves_of tables table) 0 (letters_of rows row)
-follows tables rows is_last depth begun (Loop times) = not is_last && nat_lt 0 times && nat_le times (2 ^ 48) && nat_lt depth 64
+follows tables rows is_last depth begun (Loop times) =
+    not is_last && nat_lt 0 times && nat_le times (2 ^ 48) && nat_lt depth 64
 follows tables rows is_last depth begun End = not is_last && not begun && nat_lt 0 depth
 follows tables rows is_last depth begun Done = is_last && depth == 0
 
@@ -183,32 +236,42 @@ magic_at [] bytes = Ok (tt, bytes)
 magic_at (byte ∷ magic) [] = Err Torn
 magic_at (byte ∷ magic) (b ∷ bytes) = if b == byte then magic_at magic bytes else Err BadMagic
 
--- the known bytes, the version 1, and 0
-unfoldable pub head_at : List ℕ → Read (Unit {0})
+-- the version of a number
+abbrev pub version_of : ℕ → Option Version
+version_of n = find (λ version. version_number version == n) (One ∷ Two ∷ [])
+
+-- a version that is known
+abbrev pub known_version : Option Version → List ℕ → Read Version
+known_version None rest = Err BadVersion
+known_version (Some version) rest = Ok (version, rest)
+
+-- the known bytes, a version, and 0
+unfoldable pub head_at : List ℕ → Read Version
 head_at bytes = do
   magic ← magic_at (0xD7 ∷ 0x53 ∷ 0x54 ∷ 0x50 ∷ []) bytes
-  version ← number_at w16 magic.1
-  zeros ← if version.0 == 1 then checked (number_at w16) (λ n. n == 0) version.1 else Err BadVersion
-  Ok (tt, zeros.1)
+  n ← number_at w16 magic.1
+  version ← known_version (version_of n.0) n.1
+  zeros ← checked (number_at w16) (λ n. n == 0) version.1
+  Ok (version.0, zeros.1)
 
--- the head; signals, tables, rows and executives, each behind their count
-unfoldable pub program_at : List ℕ → Read Program
-program_at bytes = do
-  head ← head_at bytes
-  signal_count ← checked (number_at w16) (λ count. nat_le count 1024) head.1
+-- behind the head of a version: signals, tables, rows and executives, each behind their count
+unfoldable pub program_at : Version → List ℕ → Read Program
+program_at version bytes = do
+  signal_count ← checked (number_at w16) (λ count. nat_le count 1024) bytes
   signals ← items_at signal_at signal_count.0 [] signal_count.1
   table_count ← checked (number_at w16) (λ count. nat_le count 4096) signals.1
   tables ← items_at (table_at (length signals.0)) table_count.0 [] table_count.1
   row_count ← checked (number_at w32) (λ count. nat_le (count * length signals.0) (2 ^ 28)) tables.1
-  rows ← items_at (row_at (length signals.0)) row_count.0 [] row_count.1
+  rows ← items_at (row_at version (length signals.0)) row_count.0 [] row_count.1
   exec_count ← checked (number_at w16) (λ count. nat_lt 0 count && nat_le count 64) rows.1
   execs ← items_at (λ before. exec_at (length signals.0) tables.0 rows.0) exec_count.0 [] exec_count.1
   Ok (record { signals = signals.0; tables = tables.0; rows = rows.0; execs = execs.0 }, execs.1)
 
--- a whole saved program: bytes behind it are refused at the first of them
+-- a whole saved program of either version: bytes behind it are refused at the first of them
 unfoldable pub whole_at : List ℕ → Result Program Refusal
 whole_at bytes = do
-  program ← program_at bytes
+  head ← head_at bytes
+  program ← program_at head.0 head.1
   if length program.1 == 0 then Ok program.0 else Err (BadCode (length program.1))
 
 -- the refusal as it is answered: its place is counted from the beginning

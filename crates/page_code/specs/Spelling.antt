@@ -1,5 +1,5 @@
--- The saved program, version 1: how each part of a code is spelled. Numbers are little-endian.
-use Rattle.std.specs.Prelude.{ℕ, List, [], ◌∷◌, ◌++◌, length, replicate}
+-- The saved program, versions 1 and 2: how each part of a code is spelled. Numbers are little-endian.
+use Rattle.std.specs.Prelude.{ℕ, List, [], ◌∷◌, ◌++◌, length, replicate, if◌then◌else◌}
 use Rattle.std.specs.List.{flat_map}
 use Rattle.std.specs.Int.{Width, w8, w16, w32, w64, to_le_bytes}
 use Rattle.tester_types.specs.declared.wave.Event.{Event}
@@ -7,9 +7,12 @@ use Rattle.tester_types.specs.declared.wave.Wave.{Wave}
 use Rattle.tester_types.specs.declared.wave.Table.{Table}
 use Rattle.page_meaning.specs.declared.instr.Instr.{Instr}
 use Rattle.page_meaning.specs.declared.instr.Instr.TheVariants.{Run, Loop, End, Done}
+use Rattle.page_code.specs.declared.version.Version.{Version}
+use Rattle.page_code.specs.declared.version.Version.TheVariants.{One, Two}
 use Rattle.page_code.specs.declared.parts.CodeSignal.{CodeSignal}
 use Rattle.page_code.specs.declared.parts.CodeChain.{CodeChain}
 use Rattle.page_code.specs.Letters.{direction_code, act_code}
+use Rattle.page_code.specs.Changes.{last_row, changes, is_difference}
 use Rattle.page_code.specs.Program.{Exec, Program}
 
 -- a number in its bytes, the lowest first
@@ -36,9 +39,25 @@ wave w = number w16 w.signal ++ (w.letter ∷ (number w8 (length w.events) ++ fl
 abbrev pub table : Table → List ℕ
 table t = text t.name ++ (number w64 t.period ++ (number w32 (length t.waves) ++ flat_map wave t.waves))
 
--- its characters
-abbrev pub row : List ℕ → List ℕ
-row letters = letters
+-- items, each spelled as it is behind those before it
+abbrev pub behind : {A : Type 0} → (List A → A → List ℕ) → List A → List A → List ℕ
+behind spell before [] = []
+behind spell before (item ∷ items) = spell before item ++ behind spell (before ++ item ∷ []) items
+
+-- the signal in 16 bits, and a byte for its new character
+abbrev pub change : ℕ × ℕ → List ℕ
+change c = number w16 c.0 ++ c.1 ∷ []
+
+-- the count of changes in 16 bits, and the changes
+abbrev pub difference : List (ℕ × ℕ) → List ℕ
+difference cs = number w16 (length cs) ++ flat_map change cs
+
+-- a row behind those before it. Version 1: its characters. Version 2: a byte for the form, and for form 0 the
+-- characters, for form 1 what it changes of the row before it.
+abbrev pub row : Version → List (List ℕ) → List ℕ → List ℕ
+row One before letters = letters
+row Two before letters =
+    if is_difference before letters then 1 ∷ difference (changes 0 (last_row before) letters) else 0 ∷ letters
 
 -- the name, the scan-out signal in 16 bits, the length and the count of cells in 32 bits, and the cells
 abbrev pub chain : CodeChain → List ℕ
@@ -60,9 +79,14 @@ exec e =
     text e.name ++ (number w16 (length e.chains) ++ (flat_map chain e.chains
     ++ (number w32 (length e.instrs) ++ flat_map instr e.instrs)))
 
--- four known bytes, the version 1 and 0 in 16 bits each
-abbrev pub head : List ℕ
-head = 0xD7 ∷ 0x53 ∷ 0x54 ∷ 0x50 ∷ 1 ∷ 0 ∷ 0 ∷ 0 ∷ []
+-- a version's number
+abbrev pub version_number : Version → ℕ
+version_number One = 1
+version_number Two = 2
+
+-- four known bytes, the version and 0 in 16 bits each
+abbrev pub head : Version → List ℕ
+head v = 0xD7 ∷ 0x53 ∷ 0x54 ∷ 0x50 ∷ version_number v ∷ 0 ∷ 0 ∷ 0 ∷ []
 
 -- signals and tables, each behind their count
 abbrev pub earlier : Program → List ℕ
@@ -71,11 +95,11 @@ earlier p =
     ++ (number w16 (length p.tables) ++ flat_map table p.tables))
 
 -- rows and executives, each behind their count
-abbrev pub later : Program → List ℕ
-later p =
-    number w32 (length p.rows) ++ (flat_map row p.rows
+abbrev pub later : Version → Program → List ℕ
+later v p =
+    number w32 (length p.rows) ++ (behind (row v) [] p.rows
     ++ (number w16 (length p.execs) ++ flat_map exec p.execs))
 
 -- the whole saved program
-abbrev pub program : Program → List ℕ
-program p = head ++ (earlier p ++ later p)
+abbrev pub program : Version → Program → List ℕ
+program v p = head v ++ (earlier p ++ later v p)

@@ -1,10 +1,12 @@
 //! A code: what a test program is compiled to.
 
-ghost use Rattle.std.specs.Prelude.{◌≡◌, ◌+◌, ◌<◌, ◌≤◌, ◌^◌, Some, length, slice_get};
+ghost use Rattle.std.specs.Prelude.{◌≡◌, ◌*◌, ◌<◌, ◌≤◌, List, Some, length, take, drop, slice_get};
+ghost use Rattle.std.specs.List.{flat_map};
 ghost use Rattle.std.specs.Option.{option_map};
 ghost use Rattle.page_meaning.specs.Meaning.{Means, cycle_count};
 ghost use Rattle.page_code.specs.Conditions.{IsProgram};
-ghost use Rattle.page_code.specs.Cycles.{exec_of, pages_of, page_count};
+ghost use Rattle.page_code.specs.Program.{code_of};
+ghost use Rattle.page_code.specs.Cycles.{exec_of, pages_of, pages_of_exec, page_count, page_of as the_page_of, offset_of};
 
 use crate::exec::{CodeExec, CodeExecList};
 use crate::parts::{CodeChainList, CodeSignal, CodeSignalList};
@@ -26,14 +28,14 @@ pub struct Code {
 }
 
 impl Model for Code {
-    ghost use Rattle.page_code.specs.Program.{Program};
+    ghost use Rattle.page_code.specs.Program.{Program, code_of};
     ghost use Rattle.page_code.specs.Conditions.{IsProgram};
 
     ghost Value = { Program };
 
-    ghost view = { λ c. record { signals = c.signals; tables = c.tables; rows = c.rows; execs = c.execs } };
+    ghost view = { λ c. code_of c.signals c.tables c.rows c.execs };
 
-    ghost invariant = { λ c. IsProgram (record { signals = c.signals; tables = c.tables; rows = c.rows; execs = c.execs }) };
+    ghost invariant = { λ c. IsProgram (code_of c.signals c.tables c.rows c.execs) };
 }
 
 impl Code {
@@ -44,8 +46,8 @@ impl Code {
         rows: RowList,
         execs: CodeExecList,
     ) -> Code
-        requires { IsProgram (record { signals = signals; tables = tables; rows = rows; execs = execs }) }
-        ensures { result ≡ record { signals = signals; tables = tables; rows = rows; execs = execs } }
+        requires { IsProgram (code_of signals tables rows execs) }
+        ensures { result ≡ code_of signals tables rows execs }
     {
         Code {
             signals,
@@ -206,12 +208,59 @@ impl Code {
     pub fn pages(&self) -> u32
         ensures { result ≡ length (pages_of self.now) }
     {
+        self.pages_before(self.execs.len())
+    }
+
+    /// How many pages so many executives fill.
+    fn pages_before(&self, count: usize) -> u32
+        requires { count ≤ length self.now.execs }
+        ensures exact { result ≡ length (flat_map pages_of_exec (take count self.now.execs)) }
+        ensures few { result ≤ 16385 * count }
+    {
         let mut pages = 0;
-        for exec in self.execs.as_slice() {
-            pages += filled_pages(exec.instrs().len());
+        for number in 0..count {
+            pages += filled_pages(self.execs.as_slice()[number].instrs().len());
         }
         pages
     }
+
+    /// The number of the page on which an executive's instruction stands. Its place there is the remainder of its
+    /// place by 256.
+    pub fn page_of(&self, exec: u16, place: u32) -> u32
+        requires exec { exec < length self.now.execs }
+        requires place { place < length (exec_of self.now exec).instrs }
+        ensures number { result ≡ the_page_of self.now exec place }
+        ensures there { result < length (pages_of self.now) }
+        ensures stands { (page : List Instr) × (slice_get (pages_of self.now) result ≡ Some page)
+            × (slice_get page (offset_of place) ≡ slice_get (exec_of self.now exec).instrs place) }
+    {
+        self.pages_before(exec as usize) + place / PAGE as u32
+    }
+
+    /// The instructions of a page, in order: 256, or fewer where it is the last of its executive.
+    pub fn page(&self, page: u32) -> &[Instr]
+        requires { page < length (pages_of self.now) }
+        ensures { slice_get (pages_of self.now) page ≡ Some result.now }
+    {
+        let mut left = page as usize;
+        for exec in self.execs.as_slice() {
+            let pages = filled_pages(exec.instrs().len()) as usize;
+            if left < pages {
+                return piece(exec.instrs(), left);
+            }
+            left -= pages;
+        }
+        &[]
+    }
+}
+
+/// The page of a number, of an executive with these instructions.
+fn piece(instrs: &[Instr], page: usize) -> &[Instr]
+    requires { page < page_count (length instrs.now) }
+    ensures { result.now ≡ take 256 (drop (256 * page) instrs.now) }
+{
+    let rest = &instrs[page * PAGE..];
+    &rest[..rest.len().min(PAGE)]
 }
 
 /// How many pages so many instructions of an executive fill.

@@ -13,7 +13,7 @@ pub enum SavedFault {
     NoMemory,
     /// One of the first four bytes differs from 0xD7, 0x53, 0x54 and 0x50.
     BadMagic,
-    /// Another version than 1.
+    /// Another version than 1 and 2.
     BadVersion,
     /// The bytes end before a field does; their number.
     Torn(u64),

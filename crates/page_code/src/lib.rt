@@ -3,19 +3,24 @@
 
 mod accepted;
 mod beginning;
+mod changes;
 mod code;
 mod exec;
 mod fault;
 mod fields;
 mod laws;
 mod loading;
+mod packed;
 mod parts;
 mod read_execs;
 mod read_instrs;
+mod read_rows;
 mod read_tables;
 mod rows;
 mod saving;
+mod saving_rows;
 mod spelled;
+mod version;
 mod walker;
 mod wave_check;
 
@@ -25,10 +30,11 @@ pub use exec::{CodeExec, CodeExecList};
 pub use fault::SavedFault;
 pub use laws::{no_spelling_begins_another, one_spelling};
 pub use loading::load;
+pub use packed::{PackedInstr, PackedPage, PackedPages, pack, read_page};
 pub use page_meaning::{Entry, Instr};
 pub use parts::{CodeChain, CodeChainList, CodeSignal, CodeSignalList, InstrList};
 pub use rows::RowList;
-pub use saving::{save, saved_len};
+pub use saving::{save, save_old, saved_len};
 pub use tester_types::Direction;
 pub use walker::Walk;
 

@@ -7,16 +7,18 @@ ghost use Rattle.page_code.specs.declared.fault.SavedFault.TheVariants as saved;
 ghost use Rattle.page_code.specs.Program.{Program};
 ghost use Rattle.page_code.specs.Saved.{Saved};
 ghost use Rattle.page_code.specs.Fields.{Gives, number_at, checked};
-ghost use Rattle.page_code.specs.Reading.{magic_at, head_at, program_at, whole_at, load_of, refusal_of};
+ghost use Rattle.page_code.specs.Reading.{magic_at, version_of, known_version, head_at, program_at, whole_at, load_of, refusal_of};
 
 use crate::code::Code;
 use crate::exec::CodeExecList;
 use crate::fault::{ReadError, Refusal, SavedFault};
 use crate::fields::{bad, number16, number16_to, number32};
 use crate::parts::CodeSignalList;
-use crate::read_execs::{execs, rows};
+use crate::read_execs::execs;
+use crate::read_rows::rows;
 use crate::read_tables::{signals, tables};
 use crate::rows::RowList;
+use crate::version::Version;
 use std::alloc::Global;
 use tester_types::TableList;
 
@@ -33,21 +35,32 @@ fn magic(bytes: &[u8]) -> Result<&[u8], ReadError>
     }
 }
 
-/// The head: the known bytes, the version and a zero.
+/// The version of a number.
+fn version(number: u16) -> Option<Version>
+    ensures { result ≡ version_of number }
+{
+    match number {
+        1 => Some(Version::One),
+        2 => Some(Version::Two),
+        _ => None,
+    }
+}
+
+/// The head: the known bytes, a version and a zero.
 #[tactic(auto, unfolding(crate::specs::Reading::head_at))]
-fn head(bytes: &[u8]) -> Result<&[u8], ReadError>
-    ensures { Gives (λ x. (tt, x.now)) result (head_at bytes.now) }
+fn head(bytes: &[u8]) -> Result<(Version, &[u8]), ReadError>
+    ensures { Gives (λ x. (x.0, x.1.now)) result (head_at bytes.now) }
 {
     let rest = magic(bytes)?;
-    let (version, rest) = number16(rest)?;
-    if version != 1 {
+    let (number, rest) = number16(rest)?;
+    let Some(version) = version(number) else {
         return Err(ReadError::Refused(Refusal::BadVersion));
-    }
+    };
     let (zeros, after) = number16(rest)?;
     if zeros != 0 {
         return Err(bad(rest));
     }
-    Ok(after)
+    Ok((version, after))
 }
 
 /// The most bytes of all rows together.
@@ -55,7 +68,8 @@ const MOST_ROW_BYTES: usize = 268435456;
 
 /// The number of rows of so many characters.
 fn row_count(signals: usize, bytes: &[u8]) -> Result<(u32, &[u8]), ReadError>
-    ensures { Gives (λ x. (x.0, x.1.now)) result (checked (number_at w32) (λ count. nat_le (count * signals) (2 ^ 28)) bytes.now) }
+    ensures { Gives (λ x. (x.0, x.1.now)) result
+        (checked (number_at w32) (λ count. nat_le (count * signals) (2 ^ 28)) bytes.now) }
 {
     let (count, rest) = number32(bytes)?;
     if (count as usize).saturating_mul(signals) > MOST_ROW_BYTES {
@@ -66,7 +80,8 @@ fn row_count(signals: usize, bytes: &[u8]) -> Result<(u32, &[u8]), ReadError>
 
 /// The number of executives, 1 to 64.
 fn exec_count(bytes: &[u8]) -> Result<(u16, &[u8]), ReadError>
-    ensures { Gives (λ x. (x.0, x.1.now)) result (checked (number_at w16) (λ count. nat_lt 0 count && nat_le count 64) bytes.now) }
+    ensures { Gives (λ x. (x.0, x.1.now)) result
+        (checked (number_at w16) (λ count. nat_lt 0 count && nat_le count 64) bytes.now) }
 {
     let (count, rest) = number16(bytes)?;
     if count == 0 || count > 64 {
@@ -85,19 +100,20 @@ struct Parts<'a> {
     rest: &'a [u8],
 }
 
-/// The parts of a code, and the bytes behind them.
+/// The parts of a code behind the head of a version, and the bytes behind them.
 #[tactic(auto, unfolding(crate::specs::Reading::program_at))]
-fn read_parts(alloc: Global, bytes: &[u8]) -> Result<Parts<'_>, ReadError>
-    ensures { Gives (λ x. (record { signals = x.signals; tables = x.tables; rows = x.rows; execs = x.execs }, x.rest.now)) result (program_at bytes.now) }
+fn read_parts(alloc: Global, version: Version, bytes: &[u8]) -> Result<Parts<'_>, ReadError>
+    ensures { Gives
+        (λ x. (record { signals = x.signals; tables = x.tables; rows = x.rows; execs = x.execs }, x.rest.now))
+        result (program_at version bytes.now) }
 {
-    let rest = head(bytes)?;
-    let (count, rest) = number16_to(1024, rest)?;
+    let (count, rest) = number16_to(1024, bytes)?;
     let (signals, rest) = signals(alloc, count, rest)?;
     let width = signals.len();
     let (count, rest) = number16_to(4096, rest)?;
     let (tables, rest) = tables(alloc, width, count, rest)?;
     let (count, rest) = row_count(width, rest)?;
-    let (rows, rest) = rows(alloc, width, count, rest)?;
+    let (rows, rest) = rows(alloc, version, width, count, rest)?;
     let (count, rest) = exec_count(rest)?;
     let (execs, rest) = execs(alloc, width, tables.as_slice(), &rows, count, rest)?;
     Ok(Parts {
@@ -114,13 +130,14 @@ fn read_parts(alloc: Global, bytes: &[u8]) -> Result<Parts<'_>, ReadError>
 fn whole(alloc: Global, bytes: &[u8]) -> Result<Code, ReadError>
     ensures { Gives (λ code. code) result (whole_at bytes.now) }
 {
+    let (version, behind) = head(bytes)?;
     let Parts {
         signals,
         tables,
         rows,
         execs,
         rest,
-    } = read_parts(alloc, bytes)?;
+    } = read_parts(alloc, version, behind)?;
     if !rest.is_empty() {
         return Err(bad(rest));
     }
@@ -141,7 +158,8 @@ fn fault_of(refusal: Refusal, length: usize) -> SavedFault
 
 /// The code that the bytes spell, or the first refusal.
 fn loaded(alloc: Global, bytes: &[u8]) -> Result<Code, SavedFault>
-    ensures { MatchResult result (λ code. load_of bytes.now ≡ Ok code) (λ e. (e ≡ saved.NoMemory) ⊎ (load_of bytes.now ≡ Err e)) }
+    ensures { MatchResult result (λ code. load_of bytes.now ≡ Ok code)
+        (λ e. (e ≡ saved.NoMemory) ⊎ (load_of bytes.now ≡ Err e)) }
 {
     match whole(alloc, bytes) {
         Ok(code) => Ok(code),
@@ -150,13 +168,15 @@ fn loaded(alloc: Global, bytes: &[u8]) -> Result<Code, SavedFault>
     }
 }
 
-/// Reads a saved program, version 1, from left to right. It answers the code where the bytes are its
+/// Reads a saved program, of version 1 or 2, from left to right. It answers the code where the bytes are its
 /// saved form, and else the first refusal that it meets, with its place.
 pub fn load(alloc: Global, bytes: &[u8]) -> Result<Code, SavedFault>
     ensures found { IfOk result (λ code. Saved code bytes.now) }
-    ensures only { (code : Program) → Saved code bytes.now → MatchResult result (λ c. c ≡ code) (λ e. e ≡ saved.NoMemory) }
+    ensures only { (code : Program) → Saved code bytes.now
+        → MatchResult result (λ c. c ≡ code) (λ e. e ≡ saved.NoMemory) }
     ensures fault { IfErr result (λ e. (e ≡ saved.NoMemory) ⊎ (load_of bytes.now ≡ Err e)) }
-    ensures refused { (f : SavedFault) → load_of bytes.now ≡ Err f → MatchResult result (λ _. ⊥) (λ e. (e ≡ saved.NoMemory) ⊎ (e ≡ f)) }
+    ensures refused { (f : SavedFault) → load_of bytes.now ≡ Err f
+        → MatchResult result (λ _. ⊥) (λ e. (e ≡ saved.NoMemory) ⊎ (e ≡ f)) }
 {
     loaded(alloc, bytes)
 }

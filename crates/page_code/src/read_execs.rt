@@ -1,85 +1,22 @@
-//! Reading the rows and the executives of a saved program.
+//! Reading the executives of a saved program.
 
-ghost use Rattle.std.specs.Prelude.{◌≡◌, ◌+◌, ◌*◌, ◌^◌, ◌<◌, ◌≤◌, ◌&&◌, ◌||◌, ◌==◌, ◌++◌, ◌∷◌, true, [], not, nat_le, nat_lt, nat_eq, length, map, take, ℕ, List, Ok, MatchResult};
-ghost use Rattle.std.specs.List.{list_all, list_any, take_while, AllByRecursion};
-ghost use Rattle.std.specs.Int.{w16, w32, w64};
-ghost use Rattle.page_meaning.specs.Whole.{IsRest};
-ghost use Rattle.page_code.specs.Letters.{is_place};
+ghost use Rattle.std.specs.Prelude.{◌≡◌, ◌&&◌, [], nat_le, nat_lt, true};
+ghost use Rattle.std.specs.List.{AllByRecursion};
+ghost use Rattle.std.specs.Int.{w32};
 ghost use Rattle.page_code.specs.Accepted.{AreAccepted};
 ghost use Rattle.page_code.specs.Conditions.{IsRising};
-ghost use Rattle.page_code.specs.Fields.{Gives, Fails, byte_at, number_at, known, checked, piece_at, items_at};
-ghost use Rattle.page_code.specs.Reading.{letters_at, row_at, name_at, chain_at, are_zero, instr_of, instr_at, exec_at};
+ghost use Rattle.page_code.specs.Fields.{Gives, number_at, checked, items_at};
+ghost use Rattle.page_code.specs.Reading.{name_at, chain_at, exec_at};
 
 use crate::accepted::Accepted;
 use crate::exec::{CodeExec, CodeExecList};
-use crate::fault::{ReadError, Refusal};
-use crate::fields::{bad, name, number16_below, number16_to, number32, number32_to, piece, text};
+use crate::fault::ReadError;
+use crate::fields::{bad, name, number16_below, number16_to, number32, number32_to, text};
 use crate::parts::{CodeChain, CodeChainList};
 use crate::read_instrs::instrs;
 use crate::rows::RowList;
 use std::alloc::Global;
 use tester_types::{Table, TextList};
-use text_bytes::is_character;
-
-/// How many characters of a row, or places without one, stand at the front.
-fn places(bytes: &[u8]) -> usize
-    ensures { result ≡ length (take_while is_place bytes.now) }
-{
-    bytes
-        .iter()
-        .take_while(|byte| **byte == 0 || is_character(**byte))
-        .count()
-}
-
-/// The characters of a row.
-#[tactic(auto, unfolding(crate::specs::Reading::letters_at))]
-fn letters(signals: usize, bytes: &[u8]) -> Result<(&[u8], &[u8]), ReadError>
-    ensures { Gives (λ x. (x.0.now, x.1.now)) result (letters_at signals bytes.now) }
-{
-    let front = places(bytes);
-    if front < signals.min(bytes.len()) {
-        return Err(ReadError::Refused(Refusal::BadCode(bytes.len() - front)));
-    }
-    piece(signals, bytes)
-}
-
-/// A row behind those before it.
-#[tactic(auto, unfolding(crate::specs::Reading::row_at))]
-fn row<'a>(
-    alloc: Global,
-    signals: usize,
-    rows: &mut RowList,
-    bytes: &'a [u8],
-) -> Result<&'a [u8], ReadError>
-    ensures { MatchResult result
-        (λ rest. (letters : List ℕ) × (row_at signals rows.old bytes.now ≡ Ok (letters, rest.now)) × (rows.new ≡ rows.old ++ letters ∷ []))
-        (λ e. Fails e (row_at signals rows.old bytes.now)) }
-{
-    let (letters, rest) = letters(signals, bytes)?;
-    let fresh = rows.insert(Vec::from_slice(alloc, letters)?)?;
-    if !fresh {
-        return Err(bad(bytes));
-    }
-    Ok(rest)
-}
-
-/// So many rows.
-pub(crate) fn rows(
-    alloc: Global,
-    signals: usize,
-    count: u32,
-    bytes: &[u8],
-) -> Result<(RowList, &[u8]), ReadError>
-    ensures { Gives (λ x. (x.0, x.1.now)) result (items_at (row_at signals) count [] bytes.now) }
-{
-    let mut rows = RowList::new(alloc);
-    let mut rest = bytes;
-    for _ in 0..count {
-        let after = row(alloc, signals, &mut rows, rest)?;
-        rest = after;
-    }
-    Ok((rows, rest))
-}
 
 /// So many names of cells.
 fn cells(alloc: Global, count: u32, bytes: &[u8]) -> Result<(TextList, &[u8]), ReadError>
@@ -138,7 +75,8 @@ fn chains(
 
 /// The number of instructions of an executive, 1 to 2^22 + 1.
 fn instr_count(bytes: &[u8]) -> Result<(u32, &[u8]), ReadError>
-    ensures { Gives (λ x. (x.0, x.1.now)) result (checked (number_at w32) (λ n. nat_lt 0 n && nat_le n 4194305) bytes.now) }
+    ensures { Gives (λ x. (x.0, x.1.now)) result
+        (checked (number_at w32) (λ n. nat_lt 0 n && nat_le n 4194305) bytes.now) }
 {
     let (count, rest) = number32(bytes)?;
     if count == 0 || count > 4_194_305 {
@@ -180,7 +118,8 @@ pub(crate) fn execs<'a>(
     bytes: &'a [u8],
 ) -> Result<(CodeExecList, &'a [u8]), ReadError>
     requires { AllByRecursion (λ table. IsRising table.waves) tables.now }
-    ensures { Gives (λ x. (x.0, x.1.now)) result (items_at (λ before. exec_at signals tables.now rows.now) count [] bytes.now) }
+    ensures { Gives (λ x. (x.0, x.1.now)) result
+        (items_at (λ before. exec_at signals tables.now rows.now) count [] bytes.now) }
 {
     let mut accepted = Accepted::new(alloc);
     let mut execs = Vec::new(alloc);

@@ -66,7 +66,7 @@ fn zeros(bytes: &[u8], place: usize, size: usize) -> bool
 
 /// The instruction that 16 bytes stand for.
 #[tactic(auto, unfolding(crate::specs::Reading::instr_of))]
-fn instr_of_bytes(raw: &[u8]) -> Option<Instr>
+pub(crate) fn instr_of_bytes(raw: &[u8]) -> Option<Instr>
     requires { length raw.now ≡ 16 }
     ensures meaning { result ≡ instr_of raw.now }
     ensures narrow { IfSome result IsNarrow }
@@ -210,7 +210,8 @@ fn instr<'a>(
     ensures accepted { AreAccepted tables.now rows.now accepted.new.keys }
     ensures narrow { IfOk result (λ x. IsNarrow x.0) }
     ensures read { MatchResult result
-        (λ x. (instr_with tables.now rows.now is_last instrs.old.items bytes.now ≡ Ok (x.0, x.1.now)) × (instrs.new.items ≡ instrs.old.items ++ x.0 ∷ []))
+        (λ x. (instr_with tables.now rows.now is_last instrs.old.items bytes.now ≡ Ok (x.0, x.1.now))
+        × (instrs.new.items ≡ instrs.old.items ++ x.0 ∷ []))
         (λ e. Fails e (instr_with tables.now rows.now is_last instrs.old.items bytes.now)) }
 {
     let (instr, rest) = raw_instr(bytes)?;
@@ -236,7 +237,8 @@ pub(crate) fn instrs<'a>(
     requires rising { AllByRecursion (λ table. IsRising table.waves) tables.now }
     requires accepted { AreAccepted tables.now rows.now accepted.old.keys }
     ensures accepted { AreAccepted tables.now rows.now accepted.new.keys }
-    ensures read { Gives (λ x. (x.0, x.1.now)) result (items_at (instr_at tables.now rows.now count) count [] bytes.now) }
+    ensures read { Gives (λ x. (x.0, x.1.now)) result
+        (items_at (instr_at tables.now rows.now count) count [] bytes.now) }
     ensures whole { IfOk result (λ x. 0 < count → IsWhole x.0) }
 {
     let mut instrs = Vec::new(alloc);

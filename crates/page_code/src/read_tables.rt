@@ -91,7 +91,8 @@ fn fresh_name<'a>(
     before: &[CodeSignal],
     bytes: &'a [u8],
 ) -> Result<(Text, &'a [u8]), ReadError>
-    ensures { Gives (λ x. (x.0, x.1.now)) result (text_at (λ text. nat_lt 0 (length text) && not (list_any (is_named text) before.now)) bytes.now) }
+    ensures { Gives (λ x. (x.0, x.1.now)) result
+        (text_at (λ text. nat_lt 0 (length text) && not (list_any (is_named text) before.now)) bytes.now) }
 {
     let (raw, rest) = raw_text(bytes)?;
     if !all_printable(raw) || raw.is_empty() || is_taken(raw, before) {
@@ -243,7 +244,8 @@ fn waves(
 
 /// A period, 1 to 10^12 femtoseconds.
 fn period(bytes: &[u8]) -> Result<(u64, &[u8]), ReadError>
-    ensures { Gives (λ x. (x.0, x.1.now)) result (checked (number_at w64) (λ n. nat_lt 0 n && nat_le n 1000000000000) bytes.now) }
+    ensures { Gives (λ x. (x.0, x.1.now)) result
+        (checked (number_at w64) (λ n. nat_lt 0 n && nat_le n 1000000000000) bytes.now) }
 {
     let (number, rest) = number64(bytes)?;
     if number == 0 || number > 1_000_000_000_000 {

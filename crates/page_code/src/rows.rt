@@ -51,7 +51,8 @@ impl RowList {
     /// Puts a row at the end, unless it is there. Answers its number.
     pub fn add(&mut self, row: Vec<u8>) -> Result<usize, AllocError>
         ensures number { IfOk result (λ number. slice_get self.new number ≡ Some row.items) }
-        ensures rows { IfOk result (λ number. self.new ≡ (if is_row_of self.old row.items then self.old else self.old ++ row.items ∷ [])) }
+        ensures rows { IfOk result
+            (λ number. self.new ≡ (if is_row_of self.old row.items then self.old else self.old ++ row.items ∷ [])) }
         ensures err { OnErr result (self.new ≡ self.old) }
     {
         let (number, _) = self.rows.insert_full(row)?;

@@ -5,16 +5,19 @@ ghost use Rattle.std.specs.List.{flat_map};
 ghost use Rattle.std.specs.Int.{w8, w16, w32, w64};
 ghost use Rattle.tester_types.specs.Outside.{HasRisen, Puts};
 ghost use Rattle.page_code.specs.Letters.{direction_code, act_code};
+ghost use Rattle.page_code.specs.Conditions.{IsNarrow};
 ghost use Rattle.page_code.specs.Spelling as spell;
-ghost use Rattle.page_code.specs.Spelling.{number};
+ghost use Rattle.page_code.specs.Spelling.{number, behind};
+ghost use Rattle.page_code.specs.declared.version.Version.TheVariants.{One, Two};
 
 use crate::code::Code;
 use crate::exec::CodeExec;
 use crate::parts::{CodeChain, CodeSignal};
-use crate::rows::RowList;
+use crate::saving_rows::Rows;
 use crate::spelled::{
     Byte, Bytes, Count8, Count16, Count32, Each, Number16, Number32, Number64, Spelled, Then,
 };
+use crate::version::Version;
 use page_meaning::Instr;
 use tester_types::{
     Act, Direction, Event, Look, Push, Sink, SinkFault, Table, Text, Wave, put_all,
@@ -134,7 +137,9 @@ impl Spelled for Event {
 
 /// The signal, the letter and the events.
 fn wave_parts(wave: &Wave) -> Then<Number16, Then<Byte, Then<Count8, Each<'_, Event>>>>
-    ensures { number w16 result.first.number ++ ((result.second.first.byte ∷ []) ++ (number w8 result.second.second.first.count ++ (flat_map spell.event result.second.second.second.items.now))) ≡ spell.wave wave.now }
+    ensures { number w16 result.first.number ++ ((result.second.first.byte ∷ [])
+        ++ (number w8 result.second.second.first.count ++ (flat_map spell.event result.second.second.second.items.now)))
+        ≡ spell.wave wave.now }
 {
     then(
         Number16 {
@@ -168,7 +173,9 @@ impl Spelled for Wave {
 
 /// The name, the period and the waves.
 fn table_parts(table: &Table) -> Then<&Text, Then<Number64, Then<Count32, Each<'_, Wave>>>>
-    ensures { spell.text result.first.now ++ (number w64 result.second.first.number ++ (number w32 result.second.second.first.count ++ (flat_map spell.wave result.second.second.second.items.now))) ≡ spell.table table.now }
+    ensures { spell.text result.first.now ++ (number w64 result.second.first.number
+        ++ (number w32 result.second.second.first.count ++ (flat_map spell.wave result.second.second.second.items.now)))
+        ≡ spell.table table.now }
 {
     then(
         &table.name,
@@ -204,7 +211,9 @@ impl Spelled for Table {
 fn chain_parts(
     chain: &CodeChain,
 ) -> Then<&Text, Then<Number16, Then<Number32, Then<Count32, Each<'_, Text>>>>>
-    ensures { spell.text result.first.now ++ (number w16 result.second.first.number ++ (number w32 result.second.second.first.number ++ (number w32 result.second.second.second.first.count ++ (flat_map spell.text result.second.second.second.second.items.now)))) ≡ spell.chain chain.now }
+    ensures { spell.text result.first.now ++ (number w16 result.second.first.number
+        ++ (number w32 result.second.second.first.number ++ (number w32 result.second.second.second.first.count
+        ++ (flat_map spell.text result.second.second.second.second.items.now)))) ≡ spell.chain chain.now }
 {
     then(
         &chain.name,
@@ -241,8 +250,9 @@ impl Spelled for CodeChain {
 
 /// The 16 bytes of an instruction.
 #[tactic(auto, unfolding(crate::specs::Spelling::number))]
-fn instr_bytes(instr: Instr) -> [u8; 16]
-    ensures { result ≡ spell.instr instr }
+pub(crate) fn instr_bytes(instr: Instr) -> [u8; 16]
+    ensures bytes { result ≡ spell.instr instr }
+    ensures narrow { IsNarrow instr }
 {
     match instr {
         Instr::Run {
@@ -292,8 +302,9 @@ fn exec_parts(
     Then<Count16, Bytes<'_>>,
     Then<Count16, Then<Each<'_, CodeChain>, Then<Count32, Each<'_, Instr>>>>,
 >
-    ensures { (number w16 result.first.first.count ++ result.first.second.bytes.now) ++ (number w16 result.second.first.count
-        ++ (flat_map spell.chain result.second.second.first.items.now ++ (number w32 result.second.second.second.first.count
+    ensures { (number w16 result.first.first.count ++ result.first.second.bytes.now)
+        ++ (number w16 result.second.first.count ++ (flat_map spell.chain result.second.second.first.items.now
+        ++ (number w32 result.second.second.second.first.count
         ++ flat_map spell.instr result.second.second.second.second.items.now))) ≡ spell.exec exec.now }
 {
     let chains = exec.chains().as_slice();
@@ -329,60 +340,33 @@ impl Spelled for CodeExec {
     }
 }
 
-/// Rows, one behind another.
-#[derive(Drop)]
-struct Rows<'a> {
-    rows: &'a RowList,
-}
-
-impl Spelled for Rows<'_> {
-    ghost spelling = { λ s. flat_map spell.row s.rows.now };
-
-    fn put<K: Sink>(&self, sink: &mut K) -> Result<(), SinkFault> {
-        put_rows(sink, self.rows)
-    }
-
-    fn size(&self) -> u64 {
-        size_of_rows(self.rows)
-    }
-}
-
-fn put_rows<K: Sink>(sink: &mut K, rows: &RowList) -> Result<(), SinkFault>
-    ensures puts { Puts (K.told sink.old) (flat_map spell.row rows.now) result (K.told sink.new) }
-    ensures count { K.faults sink.old ≤ K.faults sink.new }
-    ensures cause { OnErr result (HasRisen (K.faults sink.old) (K.faults sink.new)) }
+/// The bytes with which a saved program of a version begins: four known bytes, the version, and 0.
+fn head_bytes(version: Version) -> [u8; 8]
+    ensures { result ≡ spell.head version }
 {
-    for number in 0..rows.len() {
-        put_all(sink, rows.row(number))?;
-    }
-    Ok(())
+    let number = match version {
+        Version::One => 1,
+        Version::Two => 2,
+    };
+    [0xD7, 0x53, 0x54, 0x50, number, 0, 0, 0]
 }
 
-fn size_of_rows(rows: &RowList) -> u64
-    ensures { result ≡ min (length (flat_map spell.row rows.now)) (2 ^ 64 - 1) }
-{
-    let mut size: u64 = 0;
-    for number in 0..rows.len() {
-        size = size.saturating_add(rows.row(number).len() as u64);
-    }
-    size
-}
-
-/// The bytes with which a saved program begins: four known bytes, the version 1, and 0.
-const HEAD: [u8; 8] = [0xD7, 0x53, 0x54, 0x50, 1, 0, 0, 0];
-
-/// The rows and the executives, each behind their count.
-fn later_parts(code: &Code) -> Then<Count32, Then<Rows<'_>, Then<Count16, Each<'_, CodeExec>>>>
-    ensures { number w32 result.first.count ++ (flat_map spell.row result.second.first.rows.now
+/// The rows of a version and the executives, each behind their count.
+fn later_parts(
+    version: Version,
+    code: &Code,
+) -> Then<Count32, Then<Rows<'_>, Then<Count16, Each<'_, CodeExec>>>>
+    ensures { number w32 result.first.count
+        ++ (behind (spell.row result.second.first.version) [] result.second.first.rows.now
         ++ (number w16 result.second.second.first.count ++ flat_map spell.exec result.second.second.second.items.now))
-        ≡ spell.later code.now }
+        ≡ spell.later version code.now }
 {
     let rows = code.row_list();
     let execs = code.exec_list();
     then(
         Count32 { count: rows.len() },
         then(
-            Rows { rows },
+            Rows { version, rows },
             then(Count16 { count: execs.len() }, Each { items: execs }),
         ),
     )
@@ -414,28 +398,52 @@ fn earlier_parts(
     )
 }
 
-/// Writes the saved program of a code, version 1. It takes no memory.
-pub fn save<K: Sink>(code: &Code, sink: &mut K) -> Result<(), SinkFault>
-    ensures puts { Puts (K.told sink.old) (spell.program code.now) result (K.told sink.new) }
+/// Puts the saved program of a version.
+fn put_program<K: Sink>(version: Version, code: &Code, sink: &mut K) -> Result<(), SinkFault>
+    ensures puts { Puts (K.told sink.old) (spell.program version code.now) result (K.told sink.new) }
     ensures count { K.faults sink.old ≤ K.faults sink.new }
     ensures cause { OnErr result (HasRisen (K.faults sink.old) (K.faults sink.new)) }
 {
-    let head = Bytes { bytes: &HEAD };
-    then(head, then(earlier_parts(code), later_parts(code))).put(sink)
+    let bytes = head_bytes(version);
+    let head = Bytes { bytes: &bytes };
+    then(head, then(earlier_parts(code), later_parts(version, code))).put(sink)
 }
 
-/// How many bytes the saved program of a code has.
+/// Writes the saved program of a code, version 2. It takes no memory.
+pub fn save<K: Sink>(code: &Code, sink: &mut K) -> Result<(), SinkFault>
+    ensures puts { Puts (K.told sink.old) (spell.program Two code.now) result (K.told sink.new) }
+    ensures count { K.faults sink.old ≤ K.faults sink.new }
+    ensures cause { OnErr result (HasRisen (K.faults sink.old) (K.faults sink.new)) }
+{
+    put_program(Version::Two, code, sink)
+}
+
+/// Writes the saved program of a code, version 1. It takes no memory.
+pub fn save_old<K: Sink>(code: &Code, sink: &mut K) -> Result<(), SinkFault>
+    ensures puts { Puts (K.told sink.old) (spell.program One code.now) result (K.told sink.new) }
+    ensures count { K.faults sink.old ≤ K.faults sink.new }
+    ensures cause { OnErr result (HasRisen (K.faults sink.old) (K.faults sink.new)) }
+{
+    put_program(Version::One, code, sink)
+}
+
+/// How many bytes the saved program of a code has in version 2.
 pub fn saved_len(code: &Code) -> u64
-    ensures { result ≡ length (spell.program code.now) }
+    ensures { result ≡ length (spell.program Two code.now) }
 {
     let _conditions = code.signals();
     size_of(code)
 }
 
-/// How many bytes the saved program has, as far as 64 bits count.
+/// How many bytes the saved program has in version 2, as far as 64 bits count.
 fn size_of(code: &Code) -> u64
-    ensures { result ≡ min (length (spell.program code.now)) (2 ^ 64 - 1) }
+    ensures { result ≡ min (length (spell.program Two code.now)) (2 ^ 64 - 1) }
 {
-    let head = Bytes { bytes: &HEAD };
-    then(head, then(earlier_parts(code), later_parts(code))).size()
+    let bytes = head_bytes(Version::Two);
+    let head = Bytes { bytes: &bytes };
+    then(
+        head,
+        then(earlier_parts(code), later_parts(Version::Two, code)),
+    )
+    .size()
 }

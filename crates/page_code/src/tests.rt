@@ -25,6 +25,13 @@ const END: [u8; 16] = [3, 0, 0, 0, 0, 0, 0, 0, 0, 0, 0, 0, 0, 0, 0, 0];
 
 const DONE: [u8; 16] = [4, 0, 0, 0, 0, 0, 0, 0, 0, 0, 0, 0, 0, 0, 0, 0];
 
+/// The same in version 2, whose rows have a form.
+const FRONT_TWO: [u8; 71] = [
+    0xD7, 0x53, 0x54, 0x50, 2, 0, 0, 0, 1, 0, 0, 1, 0, b'a', 1, 0, 1, 0, b'w', 0x00, 0xE1, 0xF5,
+    0x05, 0, 0, 0, 0, 2, 0, 0, 0, 0, 0, b'0', 1, 0, 0, 0, 0, 0, 0, 0, 0, 1, 0, 0, b'1', 1, 0, 0, 0,
+    0, 0, 0, 0, 0, 2, 2, 0, 0, 0, 0, b'0', 0, b'1', 1, 0, 0, 0, 0, 0,
+];
+
 /// The saved program with these instructions, `count` as their number, and these bytes behind them.
 fn program(
     alloc: Global,
@@ -32,7 +39,18 @@ fn program(
     instrs: &[[u8; 16]],
     behind: &[u8],
 ) -> Result<Vec<u8>, AllocError> {
-    let mut bytes = Vec::from_slice(alloc, &FRONT)?;
+    behind_front(alloc, &FRONT, count, instrs, behind)
+}
+
+/// The same behind another front.
+fn behind_front(
+    alloc: Global,
+    front: &[u8],
+    count: u32,
+    instrs: &[[u8; 16]],
+    behind: &[u8],
+) -> Result<Vec<u8>, AllocError> {
+    let mut bytes = Vec::from_slice(alloc, front)?;
     bytes.extend_from_slice(&count.to_le_bytes())?;
     for instr in instrs {
         bytes.extend_from_slice(instr)?;
@@ -55,16 +73,22 @@ fn changed(alloc: Global, place: usize, value: u8) -> Result<Option<SavedFault>,
     Ok(fault(alloc, &bytes))
 }
 
+/// Whether each front of these bytes is torn at its length, and the whole is not refused.
+fn is_torn_everywhere(alloc: Global, bytes: &[u8]) -> bool {
+    for size in 0..bytes.len() {
+        if fault(alloc, &bytes[..size]) != Some(SavedFault::Torn(size as u64)) {
+            return false;
+        }
+    }
+    fault(alloc, bytes).is_none()
+}
+
 #[test]
 fn each_prefix_is_torn_at_its_length(rt: HostRuntime) -> Result<(), Fail> {
     let bytes = program(rt.alloc(), 2, &[RUN, DONE], &[])?;
-    for size in 0..bytes.len() {
-        assert_eq!(rt;
-            fault(rt.alloc(), &bytes[..size]),
-            Some(SavedFault::Torn(size as u64))
-        );
-    }
-    assert_eq!(rt; fault(rt.alloc(), &bytes), None);
+    assert!(rt; is_torn_everywhere(rt.alloc(), &bytes));
+    let two = behind_front(rt.alloc(), &FRONT_TWO, 2, &[RUN, DONE], &[])?;
+    assert!(rt; is_torn_everywhere(rt.alloc(), &two));
     Ok(())
 }
 
@@ -97,7 +121,7 @@ fn refusals_have_their_places(rt: HostRuntime) -> Result<(), Fail> {
         );
     }
     assert_eq!(rt; changed(rt.alloc(), 3, 0)?, Some(SavedFault::BadMagic));
-    assert_eq!(rt; changed(rt.alloc(), 4, 2)?, Some(SavedFault::BadVersion));
+    assert_eq!(rt; changed(rt.alloc(), 4, 3)?, Some(SavedFault::BadVersion));
     Ok(())
 }
 
@@ -174,7 +198,7 @@ fn walked(alloc: Global, code: &Code, most: u32) -> Result<Vec<Cycle>, AllocErro
 }
 
 /// A program of 559 instructions, with a loop across the border of the first page.
-fn long_program(alloc: Global) -> Result<Vec<u8>, AllocError> {
+fn long_program(alloc: Global, front: &[u8]) -> Result<Vec<u8>, AllocError> {
     let mut rest = Vec::from_slice(alloc, &[2, 0, 0, 0, 0, 0, 0, 0, 2, 0, 0, 0, 0, 0, 0, 0])?;
     for instr in [RUN, RUN, END] {
         rest.extend_from_slice(&instr)?;
@@ -183,7 +207,7 @@ fn long_program(alloc: Global) -> Result<Vec<u8>, AllocError> {
         rest.extend_from_slice(&RUN)?;
     }
     rest.extend_from_slice(&DONE)?;
-    program(alloc, 559, &[RUN; 254], &rest)
+    behind_front(alloc, front, 559, &[RUN; 254], &rest)
 }
 
 /// Whether the saved form of a code is these bytes, written in puts of at most 7.
@@ -197,9 +221,16 @@ fn is_saved_as(alloc: Global, code: &Code, bytes: &[u8]) -> Result<bool, NoMemor
     )
 }
 
+/// Whether the saved form of a code in version 1 is these bytes.
+fn is_old_form(alloc: Global, code: &Code, bytes: &[u8]) -> Result<bool, NoMemory> {
+    let none = Vec::new(alloc);
+    let mut sink = MemSink::new(alloc, bytes.len(), 7, none, Vec::new(alloc))?;
+    Ok(save_old(code, &mut sink).is_ok() && sink.bytes() == bytes)
+}
+
 #[test]
 fn three_pages_with_a_loop_across_a_border(rt: HostRuntime) -> Result<(), Fail> {
-    let bytes = long_program(rt.alloc())?;
+    let bytes = long_program(rt.alloc(), &FRONT_TWO)?;
     let code = load(rt.alloc(), &bytes).ok().ok_or("the bytes are a code")?;
     assert!(rt; code.execs() == 1);
     assert_eq!(rt; code.pages(), 3);
@@ -208,6 +239,53 @@ fn three_pages_with_a_loop_across_a_border(rt: HostRuntime) -> Result<(), Fail> 
     let last = cycles.last().ok_or("there are cycles")?;
     assert_eq!(rt; last.start, 167_300_000_000);
     assert!(rt; is_saved_as(rt.alloc(), &code, &bytes)?);
+    let old = long_program(rt.alloc(), &FRONT)?;
+    assert!(rt; is_old_form(rt.alloc(), &code, &old)?);
+    Ok(())
+}
+
+#[test]
+fn a_page_is_read_as_it_was_packed(rt: HostRuntime) -> Result<(), Fail> {
+    let bytes = long_program(rt.alloc(), &FRONT)?;
+    let code = load(rt.alloc(), &bytes).ok().ok_or("the bytes are a code")?;
+    assert!(rt; code.execs() == 1);
+    assert!(rt; code.instrs(0) == 559);
+    assert_eq!(rt; code.page_of(0, 558), 2);
+    let pages = pack(rt.alloc(), &code)?;
+    assert!(rt; pages.len() == 3);
+    let mut window = Vec::new(rt.alloc());
+    read_page(&pages, 2, &mut window)?;
+    assert_eq!(rt; window.len(), 47);
+    assert!(rt; window.last() == Some(&Instr::Done));
+    Ok(())
+}
+
+/// Nine signals without tables, and the row P110000XX behind its form.
+const NINE: [u8; 62] = [
+    0xD7, 0x53, 0x54, 0x50, 2, 0, 0, 0, 9, 0, 0, 1, 0, b'a', 0, 1, 0, b'b', 0, 1, 0, b'c', 0, 1, 0,
+    b'd', 0, 1, 0, b'e', 0, 1, 0, b'f', 0, 1, 0, b'g', 0, 1, 0, b'h', 0, 1, 0, b'i', 0, 0, 2, 0, 0,
+    0, 0, b'P', b'1', b'1', b'0', b'0', b'0', b'0', b'X', b'X',
+];
+
+/// The nine signals with a second row that is spelled so, and an executive that does nothing.
+fn nine(alloc: Global, second: &[u8]) -> Result<Vec<u8>, AllocError> {
+    let mut bytes = Vec::from_slice(alloc, &NINE)?;
+    bytes.extend_from_slice(second)?;
+    bytes.extend_from_slice(&[1, 0, 0, 0, 0, 0, 1, 0, 0, 0])?;
+    bytes.extend_from_slice(&DONE)?;
+    Ok(bytes)
+}
+
+#[test]
+fn a_row_is_what_it_changes(rt: HostRuntime) -> Result<(), Fail> {
+    let bytes = nine(rt.alloc(), &[1, 1, 0, 2, 0, 0x30])?;
+    let code = load(rt.alloc(), &bytes).ok().ok_or("the bytes are a code")?;
+    assert!(rt; code.rows() == 2);
+    assert!(rt; code.row(1) == b"P100000XX".as_slice());
+    assert!(rt; is_saved_as(rt.alloc(), &code, &bytes)?);
+    assert!(rt; is_torn_everywhere(rt.alloc(), &bytes));
+    let whole = nine(rt.alloc(), b"\0P100000XX")?;
+    assert_eq!(rt; fault(rt.alloc(), &whole), Some(SavedFault::BadCode(62)));
     Ok(())
 }
 
@@ -215,8 +293,8 @@ fn three_pages_with_a_loop_across_a_border(rt: HostRuntime) -> Result<(), Fail> 
 fn what_is_saved_was_loaded(rt: HostRuntime) -> Result<(), Fail> {
     let bytes = program(rt.alloc(), 2, &[RUN, DONE], &[])?;
     let code = load(rt.alloc(), &bytes).ok().ok_or("the bytes are a code")?;
-    assert_eq!(rt; saved_len(&code), 105);
-    assert!(rt; is_saved_as(rt.alloc(), &code, &bytes)?);
+    assert_eq!(rt; saved_len(&code), 107);
+    assert!(rt; is_old_form(rt.alloc(), &code, &bytes)?);
     Ok(())
 }
 

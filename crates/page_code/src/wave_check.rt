@@ -25,7 +25,8 @@ fn has_letter(waves: &[Wave], signal: usize, letter: u8) -> bool
 fn from_signal(waves: &[Wave], signal: usize) -> &[Wave]
     requires { IsRising waves.now }
     ensures rising { IsRising result.now }
-    ensures same { (later letter : ℕ) → signal ≤ later → has_wave result.now later letter ≡ has_wave waves.now later letter }
+    ensures same { (later letter : ℕ) → signal ≤ later
+        → has_wave result.now later letter ≡ has_wave waves.now later letter }
 {
     let mut rest = waves;
     while let [first, others @ ..] = rest {

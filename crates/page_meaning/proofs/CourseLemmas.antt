@@ -1,14 +1,18 @@
 -- Each move of a walk keeps what is still to come.
-use Rattle.std.proofs.Common.{◌≡◌, ℕ, zero, suc, ◌+◌, ◌-◌, ◌^◌, ◌<◌, ◌≤◌, Bool, true, false, List, [], ◌∷◌, ◌++◌, length, drop, get_or, set, replicate, Some, None, refl, sym, ap, subst, ◌∙◌, append_assoc, arith, ◌⊎◌, inl, inr}
+use Rattle.std.proofs.Common.{◌≡◌, ℕ, zero, suc, ◌+◌, ◌-◌, ◌^◌, ◌<◌, ◌≤◌, Bool, true, false, cond, List, [], ◌∷◌, ◌++◌, length, drop, get_or, set, replicate, Some, None, refl, sym, ap, subst, ◌∙◌, append_assoc, arith, ◌⊎◌, inl, inr}
 use Rattle.std.proofs.lemmas.List.{drop-drop, drop_more, drop_all, drop_at, length-append, length-replicate, length-set, get_or-replicate, get_or_append_left, get_or-set_same, get_or-set_other}
+use Rattle.std.proofs.lemmas.Bool.{cases_lt, eq-eqb, ne_eqb}
+use Rattle.std.proofs.lemmas.Option.{get_or_from_slice_get}
 use Rattle.page_meaning.specs.declared.instr.Entry.{Entry}
 use Rattle.page_meaning.specs.declared.instr.Instr.{Instr}
 use Rattle.page_meaning.specs.declared.instr.Instr.TheVariants.{Run, Loop, End, Done}
 use Rattle.page_meaning.specs.declared.course.OpenLoop.{OpenLoop}
 use Rattle.page_meaning.specs.declared.course.Course.{Course}
+use Rattle.page_meaning.specs.declared.course.Step.{Step}
+use Rattle.page_meaning.specs.declared.course.Step.TheVariants.{Gave, Moved, Over}
 use Rattle.page_meaning.specs.Meaning.{repeated, top, below, on_top, closed, bodies, Means}
 use Rattle.page_meaning.specs.Whole.{IsRest}
-use Rattle.page_meaning.specs.Course.{loop_at, opened, bodies_at, to_come, coming, AreOpen, IsOn, IsSameWalk, run_times, loop_times, at_end}
+use Rattle.page_meaning.specs.Course.{loop_at, opened, bodies_at, to_come, coming, AreOpen, IsOn, IsSameWalk, run_times, loop_times, at_end, StandsAt, leads_on, most_moves, given_by, Steps}
 use Rattle.page_meaning.proofs.BodyLemmas.{length-bodies, two_bodies, one_body, end_in_front, loop_in_front, begun_not_end, inside_code}
 
 -- ---- open loops
@@ -90,7 +94,15 @@ goes_out code old on end last =
 -- back to the body of a loop that has a pass left
 pub goes_back : (code : List Instr) (old : Course) → IsOn code old → at_end (drop old.at code) ≡ true
     → ((loop_at old.loops (old.depth - 1)).left ≡ 0 → ⊥)
-    → IsSameWalk code old (record { at = (loop_at old.loops (old.depth - 1)).start; taken = old.taken; depth = old.depth; loops = set old.loops (old.depth - 1) (record { start = (loop_at old.loops (old.depth - 1)).start; left = (loop_at old.loops (old.depth - 1)).left - 1 }) })
+    → IsSameWalk code old (record {
+      at = (loop_at old.loops (old.depth - 1)).start;
+      taken = old.taken;
+      depth = old.depth;
+      loops = set old.loops (old.depth - 1) (record {
+        start = (loop_at old.loops (old.depth - 1)).start;
+        left = (loop_at old.loops (old.depth - 1)).left - 1;
+      });
+    })
     × (at_end (drop (loop_at old.loops (old.depth - 1)).start code) ≡ false)
 unfolding to_come AreOpen bodies repeated
 goes_back code old on end more =
@@ -141,7 +153,12 @@ goes_back code old on end more =
 
 -- into a loop
 pub goes_in : (code : List Instr) (old : Course) (times : ℕ) → IsOn code old → loop_times (drop old.at code) ≡ Some times
-    → IsSameWalk code old (record { at = old.at + 1; taken = old.taken; depth = old.depth + 1; loops = set old.loops old.depth (record { start = old.at + 1; left = times - 1 }) })
+    → IsSameWalk code old (record {
+      at = old.at + 1;
+      taken = old.taken;
+      depth = old.depth + 1;
+      loops = set old.loops old.depth (record { start = old.at + 1; left = times - 1 });
+    })
     × (at_end (drop (old.at + 1) code) ≡ false) × (0 < times) × (old.depth < 64)
 unfolding to_come AreOpen bodies repeated
 goes_in code old times on begins =
@@ -334,37 +351,186 @@ pub starts_with : (code : List Instr) → to_come code (bodies_at code 0) [] ≡
 unfolding to_come
 starts_with code = refl
 
-run_is_past : (code : List Instr) (taken : ℕ) → taken < run_times code → (at_end code ≡ false) × (loop_times code ≡ None)
-run_is_past [] taken lt = absurd (omega arith)
-run_is_past (Run table row mark times ∷ code) taken lt = (refl, refl)
-run_is_past (Loop times ∷ code) taken lt = absurd (omega arith)
-run_is_past (End ∷ code) taken lt = absurd (omega arith)
-run_is_past (Done ∷ code) taken lt = absurd (omega arith)
+-- ---- steps
 
-no_run : (code : List Instr) (i : Instr) → ((table row mark times : ℕ) → i ≡ Run table row mark times → ⊥) → run_times (i ∷ code) ≡ 0
-no_run code (Run table row mark times) other = absurd (other table row mark times refl)
-no_run code (Loop times) other = refl
-no_run code End other = refl
-no_run code Done other = refl
+-- what stands in front of the rest of the code
+front : (code : List Instr) (old : Course) (i : Instr) → StandsAt code old i → drop old.at code ≡ i ∷ drop (old.at + 1) code
+front code old i stands =
+    drop_more code old.at i stands.on.inside
+    ∙ ap (λ (x : Instr). x ∷ drop (old.at + 1) code) (get_or_from_slice_get code old.at i i stands.here)
 
--- no Run is in front
-pub run_times-none : (code : List Instr) (at : ℕ) → at < length code
-    → ((table row mark times : ℕ) → get_or code at (Run 0 0 0 0) ≡ Run table row mark times → ⊥) → run_times (drop at code) ≡ 0
-run_times-none code at inside other =
-    ap run_times (drop_more code at (Run 0 0 0 0) inside) ∙ no_run (drop (at + 1) code) (get_or code at (Run 0 0 0 0)) other
+-- what is read at the place, where a Run stands
+reads_run : (code : List Instr) (old : Course) (i : Instr) → StandsAt code old i → get_or code old.at (Run 0 0 0 0) ≡ i
+reads_run code old i stands = get_or_from_slice_get code old.at i (Run 0 0 0 0) stands.here
 
--- what is half given stays so on the way over ends and loops
-pub stays_fresh : (code : List Instr) (a b c : Course)
-    → (a.taken ≡ 0) ⊎ (a.taken < run_times (drop a.at code))
-    → b.taken ≡ a.taken → (at_end (drop a.at code) ≡ false → b ≡ a)
-    → c.taken ≡ b.taken → (loop_times (drop b.at code) ≡ None → c ≡ b)
-    → (c.taken ≡ 0) ⊎ (c.taken < run_times (drop c.at code))
-stays_fresh code a b c fresh ab kept_b bc kept_c =
-    elim fresh as (λ _. (c.taken ≡ 0) ⊎ (c.taken < run_times (drop c.at code))) [
-      | inl none ↦ inl (bc ∙ ab ∙ none)
-      | inr lt ↦
-          (let past = run_is_past (drop a.at code) a.taken lt in
-          let same_b : b ≡ a = kept_b past.0 in
-          let same_c : c ≡ b = kept_c (ap (λ (x : Course). loop_times (drop x.at code)) same_b ∙ past.1) in
-          inr (subst (λ (x : Course). x.taken < run_times (drop x.at code)) (sym (same_c ∙ same_b)) lt))
+-- a fresh instruction that is no End leads no further
+fresh_stays : (depth : ℕ) (begun : Bool) (taken : ℕ) (code : List Instr) → IsRest depth begun code → at_end code ≡ false → taken ≡ 0
+    → leads_on taken code ≡ false
+fresh_stays depth begun taken [] rest past none = refl
+fresh_stays depth begun taken (Run table row mark times ∷ code) rest past none =
+    let some : 0 < times = rest.0 in ne_eqb taken times (λ e. omega (arith, e, none))
+fresh_stays depth begun taken (Loop times ∷ code) rest past none = refl
+fresh_stays depth begun taken (End ∷ code) rest past none = absurd cc
+fresh_stays depth begun taken (Done ∷ code) rest past none = refl
+
+-- one place further
+nearer_on : (code : List Instr) (old new : Course) → old.at < length code → leads_on old.taken (drop old.at code) ≡ true
+    → new.at ≡ old.at + 1 → most_moves code new < most_moves code old
+nearer_on code old new inside leads next =
+    let more : cond {A = ℕ} (leads_on new.taken (drop new.at code)) (length code) 0 ≤ length code =
+    at_most_all (leads_on new.taken (drop new.at code)) (length code) in
+    rw leads (omega (arith, more, next))
+  where
+    at_most_all : (b : Bool) (n : ℕ) → cond {A = ℕ} b n 0 ≤ n
+    at_most_all true n = omega arith
+    at_most_all false n = omega arith
+
+-- to a place that leads no further
+nearer_stay : (code : List Instr) (old new : Course) → old.at < length code → leads_on new.taken (drop new.at code) ≡ false
+    → (leads_on old.taken (drop old.at code) ≡ true) ⊎ (new.at ≡ old.at + 1)
+    → most_moves code new < most_moves code old
+nearer_stay code old new inside stays (inl leads) = rw (stays, leads) (omega arith)
+nearer_stay code old new inside stays (inr next) = rw stays (omega (arith, next))
+
+-- a move to the same walk from another place
+moved : (code : List Instr) (old new : Course) → IsSameWalk code old new → most_moves code new < most_moves code old → Steps code old Moved new
+moved code old new same nearer = record { on = same.on; given = sym same.coming; says = nearer }
+
+-- past a Run of which all cycles were taken
+pub leaves_run : (code : List Instr) (old : Course) (table row mark times : ℕ) → StandsAt code old (Run table row mark times)
+    → old.taken ≡ times → Steps code old Moved (record { at = old.at + 1; taken = 0; depth = old.depth; loops = old.loops })
+leaves_run code old table row mark times stands used =
+    let new : Course = record { at = old.at + 1; taken = 0; depth = old.depth; loops = old.loops } in
+    let same = goes_on code old table row mark times stands.on (reads_run code old (Run table row mark times) stands) used in
+    let leads = ap (leads_on old.taken) (front code old (Run table row mark times) stands) ∙ eq-eqb old.taken times used in
+    moved code old new same (nearer_on code old new stands.on.inside leads refl)
+
+-- a cycle of a Run
+pub gives_cycle : (code : List Instr) (old : Course) (table row mark times : ℕ) → StandsAt code old (Run table row mark times)
+    → (old.taken ≡ times → ⊥)
+    → (old.taken + 1 < 2 ^ 32) × Steps code old (Gave (record { table = table; row = row; mark = mark }))
+    (record { at = old.at; taken = old.taken + 1; depth = old.depth; loops = old.loops })
+gives_cycle code old table row mark times stands left =
+    let shape = front code old (Run table row mark times) stands in
+    let most : old.taken ≤ times = subst (λ (xs : List Instr). old.taken ≤ run_times xs) shape stands.on.taken in
+    let fewer : old.taken < times = below_or_not old.taken times most left in
+    let g = gives_run code old table row mark times stands.on (reads_run code old (Run table row mark times) stands)
+    (inr (subst (λ (xs : List Instr). old.taken < run_times xs) (sym shape) fewer)) in
+    (let fits : times < 2 ^ 32 = g.2 in omega arith, record { on = g.1.on; given = g.1.given; says = tt })
+  where
+    below_or_not : (a b : ℕ) → a ≤ b → (a ≡ b → ⊥) → a < b
+    below_or_not a b le other = elim (cases_lt a b) [
+      | inl lt ↦ lt
+      | inr ge ↦ absurd (other (omega arith))
     ]
+
+-- into a loop
+pub enters : (code : List Instr) (old : Course) (times : ℕ) → StandsAt code old (Loop times)
+    → (0 < times) × (old.depth < 64) × Steps code old Moved (record {
+      at = old.at + 1;
+      taken = old.taken;
+      depth = old.depth + 1;
+      loops = set old.loops old.depth (record { start = old.at + 1; left = times - 1 });
+    })
+enters code old times stands =
+    let new : Course = record {
+      at = old.at + 1;
+      taken = old.taken;
+      depth = old.depth + 1;
+      loops = set old.loops old.depth (record { start = old.at + 1; left = times - 1 });
+    } in
+    let shape = front code old (Loop times) stands in
+    let g = goes_in code old times stands.on (ap loop_times shape) in
+    let most : old.taken ≤ 0 = subst (λ (xs : List Instr). old.taken ≤ run_times xs) shape stands.on.taken in
+    let stays = fresh_stays new.depth g.0.on.begun new.taken (drop new.at code) g.0.on.rest g.1 (omega arith) in
+    (g.2, g.3, moved code old new g.0 (nearer_stay code old new stands.on.inside stays (inr refl)))
+
+-- a loop is open at an End
+pub is_open : (code : List Instr) (old : Course) → StandsAt code old End → (0 < old.depth) × (old.depth ≤ 64)
+is_open code old stands =
+    let rest : IsRest old.depth stands.on.begun (End ∷ drop (old.at + 1) code) =
+    subst (λ (xs : List Instr). IsRest old.depth stands.on.begun xs) (front code old End stands) stands.on.rest in
+    (rest.1, stands.on.depth)
+
+-- out of a loop
+pub leaves_loop : (code : List Instr) (old : Course) → StandsAt code old End → (loop_at old.loops (old.depth - 1)).left ≡ 0
+    → Steps code old Moved (record { at = old.at + 1; taken = old.taken; depth = old.depth - 1; loops = old.loops })
+leaves_loop code old stands last =
+    let new : Course = record { at = old.at + 1; taken = old.taken; depth = old.depth - 1; loops = old.loops } in
+    let shape = front code old End stands in
+    let same = goes_out code old stands.on (ap at_end shape) last in
+    moved code old new same (nearer_on code old new stands.on.inside (ap (leads_on old.taken) shape) refl)
+
+-- back to the body of a loop
+pub begins_pass : (code : List Instr) (old : Course) → StandsAt code old End → ((loop_at old.loops (old.depth - 1)).left ≡ 0 → ⊥)
+    → Steps code old Moved (record {
+      at = (loop_at old.loops (old.depth - 1)).start;
+      taken = old.taken;
+      depth = old.depth;
+      loops = set old.loops (old.depth - 1) (record {
+        start = (loop_at old.loops (old.depth - 1)).start;
+        left = (loop_at old.loops (old.depth - 1)).left - 1;
+      });
+    })
+begins_pass code old stands more =
+    let loop = loop_at old.loops (old.depth - 1) in
+    let new : Course = record {
+      at = loop.start;
+      taken = old.taken;
+      depth = old.depth;
+      loops = set old.loops (old.depth - 1) (record { start = loop.start; left = loop.left - 1 });
+    } in
+    let shape = front code old End stands in
+    let g = goes_back code old stands.on (ap at_end shape) more in
+    let most : old.taken ≤ 0 = subst (λ (xs : List Instr). old.taken ≤ run_times xs) shape stands.on.taken in
+    let stays = fresh_stays new.depth g.0.on.begun new.taken (drop new.at code) g.0.on.rest g.1 (omega arith) in
+    moved code old new g.0 (nearer_stay code old new stands.on.inside stays (inl (ap (leads_on old.taken) shape)))
+
+-- nothing comes at a Done
+pub is_over : (code : List Instr) (old : Course) → StandsAt code old Done → Steps code old Over old
+is_over code old stands =
+    let shape = front code old Done stands in
+    record {
+      on = stands.on;
+      given = refl;
+      says = gives_none code old stands.on (ap at_end shape) (ap loop_times shape) (ap run_times shape);
+    }
+
+-- ---- steps up to a cycle
+
+-- whether a step was a move
+abbrev pub is_move : Step → Bool
+is_move (Gave entry) = false
+is_move Moved = true
+is_move Over = false
+
+-- moves from this place on, and one step more where the last one was a move
+abbrev pub still : List Instr → Step → Course → ℕ
+still code step course = cond {A = ℕ} (is_move step) (suc (most_moves code course)) 0
+
+-- what was walked up to here
+pub record IsWalked (code : List Instr) (begun : Course) (step : Step) (now : Course) : Type 0 where
+  pub on : IsOn code now
+  pub so_far : coming code begun ≡ given_by step ++ coming code now
+  pub says : step ≡ Over → coming code now ≡ []
+
+pub walked_once : (code : List Instr) (begun : Course) (step : Step) (now : Course) → Steps code begun step now → IsWalked code begun step now
+walked_once code begun (Gave entry) now s = record { on = s.on; so_far = s.given; says = λ e. absurd cc }
+walked_once code begun Moved now s = record { on = s.on; so_far = s.given; says = λ e. absurd cc }
+walked_once code begun Over now s = record { on = s.on; so_far = s.given; says = λ e. s.says }
+
+pub walked_on : (code : List Instr) (begun old : Course) (last step : Step) (new : Course) → is_move last ≡ true
+    → IsWalked code begun last old → Steps code old step new → IsWalked code begun step new
+walked_on code begun old (Gave entry) step new move was s = absurd cc
+walked_on code begun old Moved step new move was s =
+    let once = walked_once code old step new s in
+    record { on = s.on; so_far = was.so_far ∙ s.given; says = once.says }
+walked_on code begun old Over step new move was s = absurd cc
+
+pub falls : (code : List Instr) (old : Course) (last step : Step) (new : Course) → is_move last ≡ true → Steps code old step new
+    → still code step new < still code last old
+falls code old (Gave entry) step new move s = absurd cc
+falls code old Moved (Gave entry) new move s = omega arith
+falls code old Moved Moved new move s = let nearer : most_moves code new < most_moves code old = s.says in omega arith
+falls code old Moved Over new move s = omega arith
+falls code old Over step new move s = absurd cc

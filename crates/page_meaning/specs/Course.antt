@@ -1,10 +1,12 @@
 -- Where a walk over instructions stands, and what it still gives.
-use Rattle.std.specs.Prelude.{◌≡◌, ℕ, zero, suc, ◌<◌, ◌≤◌, Bool, true, false, List, [], ◌∷◌, ◌++◌, length, drop, slice_index_or, Option, Some, None}
+use Rattle.std.specs.Prelude.{◌≡◌, ℕ, zero, suc, ◌+◌, ◌-◌, ◌^◌, ◌<◌, ◌≤◌, Bool, true, false, ◌==◌, if◌then◌else◌, List, [], ◌∷◌, ◌++◌, length, drop, slice_get, slice_index_or, Option, Some, None}
 use Rattle.page_meaning.specs.declared.instr.Entry.{Entry}
 use Rattle.page_meaning.specs.declared.instr.Instr.{Instr}
 use Rattle.page_meaning.specs.declared.instr.Instr.TheVariants.{Run, Loop, End, Done}
 use Rattle.page_meaning.specs.declared.course.OpenLoop.{OpenLoop}
 use Rattle.page_meaning.specs.declared.course.Course.{Course}
+use Rattle.page_meaning.specs.declared.course.Step.{Step}
+use Rattle.page_meaning.specs.declared.course.Step.TheVariants.{Gave, Moved, Over}
 use Rattle.page_meaning.specs.Meaning.{repeated, top, below, bodies}
 use Rattle.page_meaning.specs.Whole.{IsRest}
 
@@ -78,3 +80,42 @@ loop_times (Done ∷ code) = None
 pub record IsSameWalk (code : List Instr) (old new : Course) : Type 0 where
   pub on : IsOn code new
   pub coming : coming code new ≡ coming code old
+
+-- a walk stands at this instruction
+pub record StandsAt (code : List Instr) (course : Course) (instr : Instr) : Type 0 where
+  pub on : IsOn code course
+  pub here : slice_get code course.at ≡ Some instr
+  pub short : length code < 2 ^ 64
+
+-- whether the instruction in front leads further without a cycle, and maybe back: an End, or a Run of which so many
+-- cycles were taken and no more are left
+abbrev pub leads_on : ℕ → List Instr → Bool
+leads_on taken [] = false
+leads_on taken (Run table row mark times ∷ code) = taken == times
+leads_on taken (Loop times ∷ code) = false
+leads_on taken (End ∷ code) = true
+leads_on taken (Done ∷ code) = false
+
+-- how many moves come at most before a cycle or the end: up to the place behind the last instruction, and as many once
+-- more where the way may lead back to the body of a loop
+abbrev pub most_moves : List Instr → Course → ℕ
+most_moves code course =
+    length code - course.at + (if leads_on course.taken (drop course.at code) then length code else 0)
+
+-- the cycle that a step gives, where it gives one
+abbrev pub given_by : Step → List Entry
+given_by (Gave entry) = entry ∷ []
+given_by Moved = []
+given_by Over = []
+
+-- what a step says: nothing comes where it is over, and a move brings the next cycle nearer
+abbrev pub SaysSo : List Instr → Course → Course → Step → Type 0
+SaysSo code old new (Gave entry) = Unit {0}
+SaysSo code old new Moved = most_moves code new < most_moves code old
+SaysSo code old new Over = coming code new ≡ []
+
+-- a step in these instructions: it gives a cycle, or goes on without one, or nothing comes
+pub record Steps (code : List Instr) (old : Course) (step : Step) (new : Course) : Type 0 where
+  pub on : IsOn code new
+  pub given : coming code old ≡ given_by step ++ coming code new
+  pub says : SaysSo code old new step

@@ -8,6 +8,6 @@ mod instr;
 mod laws;
 
 pub use count::cycles;
-pub use course::Course;
+pub use course::{Course, Step};
 pub use instr::{Entry, Instr};
 pub use laws::{count_is_length, meaning_is_nesting};

@@ -4,7 +4,7 @@ use Rattle.std.specs.Prelude.{codes}
 use Rattle.std.specs.List.{list_all}
 use Rattle.std.specs.Str.{bytes_eq}
 use Rattle.plan_rows.specs.Words.{number_in, is_name, name_of, net_of}
-use Rattle.plan_rows.specs.Forms.{Columns, Written, a_lot, a_clock, a_bind, a_die, a_fault, a_stop, a_bin, given, unused, lot_form, clock_form, bound_net, bind_form, die_form, fault_tries, fault_form, stop_form, ending_form, bin_form, form_of, columns_of, written_of}
+use Rattle.plan_rows.specs.Forms.{Columns, Written, a_lot, a_clock, a_bind, a_die, a_fault, a_stop, a_bin, a_skew, given, unused, lot_form, clock_form, bound_net, bind_form, die_form, fault_tries, fault_form, stop_form, ending_form, bin_form, offset_in, skew_form, form_of, columns_of, written_of}
 
 -- what a record says, if it is a die's, has a file's name
 abbrev pub SaysFile : Option Written → Type 0
@@ -16,6 +16,7 @@ SaysFile (Some (a_die site name file)) = is_name file ≡ true
 SaysFile (Some (a_fault site name net value tries)) = Unit {0}
 SaysFile (Some (a_stop site name number batch)) = Unit {0}
 SaysFile (Some (a_bin ending number)) = Unit {0}
+SaysFile (Some (a_skew site signal back size)) = Unit {0}
 
 -- behind a part
 given-says : {A : Type 0} (o : Option A) (f : A → Option Written) → ((x : A) → SaysFile (f x)) → SaysFile (given o f)
@@ -72,6 +73,11 @@ bin_form-says : (r : Columns) → SaysFile (bin_form r)
 bin_form-says r =
     unused-says (r.fifth ∷ r.sixth ∷ []) _ (given-says (ending_form r) _ (λ ending. given-says (number_in r.fourth) _ (λ number. tt)))
 
+skew_form-says : (r : Columns) → SaysFile (skew_form r)
+skew_form-says r =
+    unused-says (r.fifth ∷ r.sixth ∷ []) _ (given-says (number_in r.second) _ (λ site. given-says (net_of r.third) _ (λ signal.
+    given-says (offset_in r.fourth) _ (λ offset. tt))))
+
 -- each form
 form_of-says : (r : Columns) → SaysFile (form_of r)
 form_of-says r =
@@ -81,7 +87,8 @@ form_of-says r =
     (chosen-says (bytes_eq r.kind (codes "die")) _ _ (die_form-says r)
     (chosen-says (bytes_eq r.kind (codes "fault")) _ _ (fault_form-says r)
     (chosen-says (bytes_eq r.kind (codes "stop")) _ _ (stop_form-says r)
-    (chosen-says (bytes_eq r.kind (codes "bin")) _ _ (bin_form-says r) tt))))))
+    (chosen-says (bytes_eq r.kind (codes "bin")) _ _ (bin_form-says r)
+    (chosen-says (bytes_eq r.kind (codes "skew")) _ _ (skew_form-says r) tt)))))))
 
 -- each record
 pub written_of-says : (fields : List (List ℕ)) → SaysFile (written_of fields)

@@ -6,10 +6,10 @@ use Rattle.std.proofs.lemmas.Bool.{and_parts, leb-true, ne_eqb}
 use Rattle.std.proofs.lemmas.List.{length-map}
 use Rattle.std.proofs.lemmas.List.Quantifiers.{position-Some}
 use Rattle.plan_rows.specs.Rows.{dies_of, dies_at, IsLot}
-use Rattle.plan_rows.specs.Forms.{Written, a_lot, a_clock, a_bind, a_die, a_fault, a_stop, a_bin, written_of}
+use Rattle.plan_rows.specs.Forms.{Written, a_lot, a_clock, a_bind, a_die, a_fault, a_stop, a_bin, a_skew, written_of}
 use Rattle.first_fault.specs.Reading.{and_then}
 use Rattle.plan_rows.specs.Subjects.{subject_of}
-use Rattle.plan_rows.specs.Judging.{is_lot, stands, is_within, lot_fits, die_fits, tries_fit, ending_fits, names_at, number_at, of_die, within, row_of, says_again, placed, once, row_at, judge_at, judge}
+use Rattle.plan_rows.specs.Judging.{is_lot, stands, is_within, lot_fits, die_fits, tries_fit, ending_fits, names_at, number_at, has_die, of_die, within, row_of, says_again, placed, once, row_at, judge_at, judge}
 use Rattle.plan_rows.specs.Inside.{Suits, IsNext, key_of}
 use Rattle.plan_rows.proofs.FileLemmas.{SaysFile, written_of-says}
 use Rattle.plan_rows.proofs.SubjectLemmas.{same_subject-keys}
@@ -17,7 +17,7 @@ use Rattle.text_bytes.proofs.ListLemmas.{list_any-map}
 use Rattle.plan_rows.specs.declared.row.Row.{Row}
 use Rattle.plan_rows.specs.declared.row.DieRow.{DieRow}
 use Rattle.plan_rows.specs.declared.fault.PlanFault.{PlanFault}
-use Rattle.plan_rows.specs.declared.fault.PlanFault.TheVariants.{Shape, Twice}
+use Rattle.plan_rows.specs.declared.fault.PlanFault.TheVariants.{Shape, UnknownName, Twice}
 
 -- two steps that end well
 pub steps : {A B : Type 0} (r : Result A PlanFault) (next : A → Result B PlanFault) (y : B) → and_then r next ≡ Ok y →
@@ -92,6 +92,12 @@ lot_is batch tries keep h =
       keep = leb-true keep 1024 k;
     }
 
+-- a row that is made where a test holds
+where_some : (b : Bool) (fault : PlanFault) (made x : Row) → cond {A = Result Row PlanFault} b (Ok made) (Err fault) ≡ Ok x
+    → cond {A = Result Row PlanFault} true (Ok made) (Err fault) ≡ Ok x
+where_some true fault made x h = h
+where_some false fault made x h = cc
+
 -- a row made of what a record says suits the rows before it
 pub suits : (place : ℕ) (before : List Row) (w : Written) (x : Row) → SaysFile (Some w) → stands before w ≡ true
     → row_of place before w ≡ Ok x → Suits before x
@@ -124,6 +130,10 @@ suits place before (a_bin ending number) x says st h =
     let (least, most) = and_parts (nat_le 1 number) (nat_le number 99) (and_parts (ending_fits ending) (is_within 1 99 number) fits).1 in
     of_same (Suits before) _ x _ refl made
     (not_first before (a_bin ending number) refl st, leb-true 1 number least, leb-true number 99 most)
+suits place before (a_skew site signal back size) x says st h =
+    let (fits, found) = fits_within place (nat_le site 63 && nat_le size 1000000000000) _ x h in
+    of_same (Suits before) _ x _ refl (where_some (has_die site before) (UnknownName place) _ x found)
+    (not_first before (a_skew site signal back size) refl st)
 
 -- the row of a judged record may follow those before it
 pub next_is : (place : ℕ) (before : List Row) (fields : List (List ℕ)) (x : Row) → judge_at place before fields ≡ Ok x → IsNext before x

@@ -251,6 +251,7 @@ adds before (row.Clock s) kept some next =
       fresh = next.fresh;
     }
 adds before (row.Bind b) kept some next = adds_none before (row.Bind b) kept refl refl refl refl refl (none_of _) next.fresh
+adds before (row.Skew k) kept some next = adds_none before (row.Skew k) kept refl refl refl refl refl (none_of _) next.fresh
 adds before (row.Bin b) kept some next =
     adds_none before (row.Bin b) kept refl refl refl refl refl
     (one_of (λ (c : BinRow). (1 ≤ c.bin) × (c.bin ≤ 99)) b (next.suits.1, next.suits.2)) next.fresh
@@ -312,6 +313,7 @@ first_kept (row.Die d) some = absurd (omega (arith, some.0))
 first_kept (row.Fault f) some = absurd (omega (arith, some.0))
 first_kept (row.Stop s) some = absurd (omega (arith, some.0))
 first_kept (row.Bin b) some = absurd (omega (arith, some.0))
+first_kept (row.Skew k) some = absurd (omega (arith, some))
 
 -- what is kept, with a row that may follow
 pub kept_next : (before : List Row) (x : Row) → IsNext before x → (0 < length before → AreKept before) → AreKept (before ++ x ∷ [])

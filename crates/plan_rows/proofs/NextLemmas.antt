@@ -123,6 +123,7 @@ noted old new rows (row.Die d) t suits fresh notes = die_tally old new rows d t 
 noted old new rows (row.Fault f) t suits fresh notes = other_tally old new rows (row.Fault f) t notes refl refl
 noted old new rows (row.Stop s) t suits fresh notes = other_tally old new rows (row.Stop s) t notes refl refl
 noted old new rows (row.Bin b) t suits fresh notes = other_tally old new rows (row.Bin b) t notes refl refl
+noted old new rows (row.Skew k) t suits fresh notes = other_tally old new rows (row.Skew k) t notes refl refl
 
 -- what the rows are about, with one more
 pub subjects_more : {X : Type 0} (f : X → List ℕ) (keys keys' : List X) (k : X) (subjects : List (List ℕ)) →

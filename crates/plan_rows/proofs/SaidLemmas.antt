@@ -49,6 +49,7 @@ covers_die (row.Bind b) d h = cc
 covers_die (row.Fault f) d h = cc
 covers_die (row.Stop s) d h = cc
 covers_die (row.Bin b) d h = cc
+covers_die (row.Skew k) d h = cc
 
 pub covers_fault : (x : Row) (f : FaultRow) → as_fault x ≡ Some f → subject_of x ≡ fault_subject f
 covers_fault (row.Fault e) f h = let same : e ≡ f = cc in ap fault_subject same
@@ -58,6 +59,7 @@ covers_fault (row.Bind b) f h = cc
 covers_fault (row.Die d) f h = cc
 covers_fault (row.Stop s) f h = cc
 covers_fault (row.Bin b) f h = cc
+covers_fault (row.Skew k) f h = cc
 
 pub covers_clock : (x : Row) (s : List ℕ) → as_clock x ≡ Some s → subject_of x ≡ clock_subject s
 covers_clock (row.Clock e) s h = refl
@@ -67,6 +69,7 @@ covers_clock (row.Die d) s h = cc
 covers_clock (row.Fault f) s h = cc
 covers_clock (row.Stop x) s h = cc
 covers_clock (row.Bin b) s h = cc
+covers_clock (row.Skew k) s h = cc
 
 -- a name at a site is a die's subject
 named : (site : ℕ) (name : List ℕ) (dies : List DieRow) →

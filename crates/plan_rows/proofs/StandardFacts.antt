@@ -1,10 +1,10 @@
 -- Known fields, records and plans, as the definitions must read them.
-use Rattle.std.proofs.Common.{◌≡◌, ℕ, ◌-◌, ◌^◌, List, [], ◌∷◌, Some, None, Ok, Err, true, codes, refl}
+use Rattle.std.proofs.Common.{◌≡◌, ℕ, ◌-◌, ◌^◌, List, [], ◌∷◌, Some, None, Ok, Err, true, false, pos, negsuc, codes, refl}
 use Rattle.csv.specs.Machine.{next_record}
 use Rattle.csv.specs.Reading.{default_config, records, records_from, strip_bom}
 use Rattle.text_bytes.specs.Bytes.{is_digit, is_printing, is_printable}
 use Rattle.plan_rows.specs.Words.{number_in, name_of, net_of}
-use Rattle.plan_rows.specs.Forms.{a_lot, a_clock, a_bind, a_die, a_fault, a_stop, a_bin, written_of}
+use Rattle.plan_rows.specs.Forms.{a_lot, a_clock, a_bind, a_die, a_fault, a_stop, a_bin, a_skew, written_of}
 use Rattle.plan_rows.specs.Judging.{plan_of}
 use Rattle.plan_rows.specs.declared.row.Row.TheVariants as row
 use Rattle.plan_rows.specs.declared.row.Ending.TheVariants.{Pass, Fail}
@@ -80,6 +80,23 @@ pub pass_record : written_of (codes "bin" ∷ codes "pass" ∷ [] ∷ codes "9" 
 unfolding is_digit is_printing is_printable
 pass_record = refl
 
+-- a skew: later, earlier, and 0 of either sign; a sign that is another, or stands alone
+pub skew_record : written_of (codes "skew" ∷ codes "3" ∷ codes "a b" ∷ codes "70" ∷ [] ∷ [] ∷ []) ≡ Some (a_skew 3 (codes "a b") false 70)
+unfolding is_digit is_printing is_printable
+skew_record = refl
+
+pub earlier_record : written_of (codes "skew" ∷ codes "3" ∷ codes "a" ∷ codes "-070" ∷ [] ∷ [] ∷ []) ≡ Some (a_skew 3 (codes "a") true 70)
+unfolding is_digit is_printing is_printable
+earlier_record = refl
+
+pub plus_sign : written_of (codes "skew" ∷ codes "3" ∷ codes "a" ∷ codes "+70" ∷ [] ∷ [] ∷ []) ≡ None
+unfolding is_digit is_printing is_printable
+plus_sign = refl
+
+pub sign_alone : written_of (codes "skew" ∷ codes "3" ∷ codes "a" ∷ codes "-" ∷ [] ∷ [] ∷ []) ≡ None
+unfolding is_digit is_printing is_printable
+sign_alone = refl
+
 -- a field that is not used, a kind that is none, five fields
 pub used_record : written_of (codes "clock" ∷ codes "c" ∷ codes "d" ∷ [] ∷ [] ∷ [] ∷ []) ≡ None
 used_record = refl
@@ -111,6 +128,35 @@ pub small_plan : plan_of (lot_fields ∷ die_fields ∷ other_die_fields ∷ fau
     ∷ row.Fault (record { site = 3; die = 1; net = codes "n"; value = true; tries = None }) ∷ [])
 unfolding is_digit is_printing is_printable
 small_plan = refl
+
+-- a skew of `-0`, and one that is as far as may be
+abbrev skew_fields : List ℕ → List ℕ → List (List ℕ)
+skew_fields signal offset = codes "skew" ∷ codes "3" ∷ signal ∷ offset ∷ [] ∷ [] ∷ []
+
+pub skewed_plan : plan_of (lot_fields ∷ die_fields ∷ skew_fields (codes "a") (codes "-0") ∷ skew_fields (codes "b") (codes "-1000000000000") ∷ [])
+    ≡ Ok (row.Lot (record { batch = 4; tries = 2; keep = 3 })
+    ∷ row.Die (record { site = 3; name = codes "a"; file = codes "f" })
+    ∷ row.Skew (record { site = 3; signal = codes "a"; skew = pos 0 })
+    ∷ row.Skew (record { site = 3; signal = codes "b"; skew = negsuc 999999999999 }) ∷ [])
+unfolding is_digit is_printing is_printable
+skewed_plan = refl
+
+-- one femtosecond more, 21 digits; no die at the site; a signal again
+pub skew_too_far : plan_of (lot_fields ∷ die_fields ∷ skew_fields (codes "a") (codes "1000000000001") ∷ []) ≡ Err (OutOfRange 3)
+unfolding is_digit is_printing is_printable
+skew_too_far = refl
+
+pub skew_too_long : plan_of (lot_fields ∷ die_fields ∷ skew_fields (codes "a") (codes "-000000000000000000001") ∷ []) ≡ Err (OutOfRange 3)
+unfolding is_digit is_printing is_printable
+skew_too_long = refl
+
+pub skew_early : plan_of (lot_fields ∷ skew_fields (codes "a") (codes "1") ∷ die_fields ∷ []) ≡ Err (UnknownName 2)
+unfolding is_digit is_printing is_printable
+skew_early = refl
+
+pub skew_again : plan_of (lot_fields ∷ die_fields ∷ skew_fields (codes "a") (codes "1") ∷ skew_fields (codes "a") (codes "1") ∷ []) ≡ Err (Twice 4)
+unfolding is_digit is_printing is_printable
+skew_again = refl
 
 pub no_record : plan_of [] ≡ Err (Shape 1)
 no_record = refl

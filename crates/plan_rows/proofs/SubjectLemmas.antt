@@ -5,7 +5,7 @@ use Rattle.std.specs.Str.{bytes_eq}
 use Rattle.std.specs.Cmp.Lexicographic.{bytes_decides}
 use Rattle.std.proofs.lemmas.Bool.{and_from}
 use Rattle.text_bytes.proofs.BoolLemmas.{and_true}
-use Rattle.plan_rows.specs.Subjects.{Subject, the_lot, the_clock, the_signal, the_name, the_net, the_try, the_ending, subject_of, same_ending, same_subject}
+use Rattle.plan_rows.specs.Subjects.{Subject, the_lot, the_clock, the_signal, the_name, the_net, the_try, the_ending, the_skew, subject_of, same_ending, same_subject}
 use Rattle.plan_rows.specs.Inside.{ending_key, subject_key, key_of}
 use Rattle.plan_rows.specs.declared.row.Row.{Row}
 use Rattle.plan_rows.specs.declared.row.Ending.{Ending}
@@ -31,6 +31,7 @@ same_subject-key (the_name s n) (the_name t m) = refl
 same_subject-key (the_net s d n) (the_net t e m) = refl
 same_subject-key (the_try s d n) (the_try t e m) = ap (λ b. (s == t) && ((d == e) && b)) (and_true (n == m))
 same_subject-key (the_ending a) (the_ending b) = same_ending-key a b
+same_subject-key (the_skew s n) (the_skew t m) = refl
 same_subject-key the_lot _ = refl
 same_subject-key the_clock _ = refl
 same_subject-key (the_signal s) _ = refl
@@ -38,6 +39,7 @@ same_subject-key (the_name s n) _ = refl
 same_subject-key (the_net s d n) _ = refl
 same_subject-key (the_try s d n) _ = refl
 same_subject-key (the_ending a) _ = refl
+same_subject-key (the_skew s n) _ = refl
 
 -- a row is about what earlier rows are about, in numbers
 pub same_subject-keys : (before : List Row) (a : Subject)

@@ -1,5 +1,5 @@
 -- What a record says by its form alone: its kind, with its numbers as they are written.
-use Rattle.std.specs.Prelude.{ℕ, ◌==◌, List, [], ◌∷◌, length, codes, Option, Some, None, if◌then◌else◌}
+use Rattle.std.specs.Prelude.{ℕ, ◌==◌, Bool, true, false, List, [], ◌∷◌, length, codes, Option, Some, None, if◌then◌else◌}
 use Rattle.std.specs.List.{list_all}
 use Rattle.std.specs.Str.{bytes_eq}
 use Rattle.plan_rows.specs.Words.{number_in, name_of, net_of}
@@ -24,6 +24,7 @@ pub data Written : Type 0 where
   a_fault : ℕ → List ℕ → List ℕ → ℕ → Option ℕ → Written
   a_stop : ℕ → List ℕ → ℕ → ℕ → Written
   a_bin : Ending → ℕ → Written
+  a_skew : ℕ → List ℕ → Bool → ℕ → Written
 
 -- what follows from a part, where it is there
 abbrev pub given : {A B : Type 0} → Option A → (A → Option B) → Option B
@@ -92,6 +93,19 @@ abbrev pub bin_form : Columns → Option Written
 bin_form r = unused (r.fifth ∷ r.sixth ∷ [])
     (given (ending_form r) (λ ending. given (number_in r.fourth) (λ number. Some (a_bin ending number))))
 
+-- a number of femtoseconds and whether a `-` stands before it
+abbrev pub offset_in : List ℕ → Option (Bool × ℕ)
+offset_in [] = None
+offset_in (b ∷ bytes) =
+    if b == 45 then given (number_in bytes) (λ size. Some (true, size))
+    else given (number_in (b ∷ bytes)) (λ size. Some (false, size))
+
+-- skew,SITE,SIGNAL,FS,,
+abbrev pub skew_form : Columns → Option Written
+skew_form r = unused (r.fifth ∷ r.sixth ∷ [])
+    (given (number_in r.second) (λ site. given (net_of r.third) (λ signal. given (offset_in r.fourth) (λ offset.
+    Some (a_skew site signal offset.0 offset.1)))))
+
 -- the form of each kind
 abbrev pub form_of : Columns → Option Written
 form_of r =
@@ -102,6 +116,7 @@ form_of r =
     else if bytes_eq r.kind (codes "fault") then fault_form r
     else if bytes_eq r.kind (codes "stop") then stop_form r
     else if bytes_eq r.kind (codes "bin") then bin_form r
+    else if bytes_eq r.kind (codes "skew") then skew_form r
     else None
 
 -- a record of exactly six fields

@@ -8,7 +8,7 @@ use Rattle.first_fault.specs.Reading.{reading}
 use Rattle.plan_rows.specs.Limits.{last_site, most_dies, most_kept, last_bin}
 use Rattle.plan_rows.specs.Words.{is_name}
 use Rattle.plan_rows.specs.Judging.{names_at, says_again, judge}
-use Rattle.plan_rows.specs.Subjects.{Subject, the_lot, the_clock, the_signal, the_name, the_net, the_try, the_ending, subject_of}
+use Rattle.plan_rows.specs.Subjects.{Subject, the_lot, the_clock, the_signal, the_name, the_net, the_try, the_ending, the_skew, subject_of}
 use Rattle.plan_rows.specs.Plan.{HasRecords}
 use Rattle.plan_rows.specs.declared.tally.DieTally.{DieTally}
 use Rattle.plan_rows.specs.declared.book.Book.{Book}
@@ -60,6 +60,7 @@ subject_key (the_name site name) = 3 ∷ site ∷ name
 subject_key (the_net site die net) = 4 ∷ site ∷ die ∷ net
 subject_key (the_try site die number) = 5 ∷ site ∷ die ∷ number ∷ []
 subject_key (the_ending ending) = 6 ∷ ending_key ending
+subject_key (the_skew site signal) = 7 ∷ site ∷ signal
 
 -- what this row is about, in numbers
 abbrev pub key_of : Row → List ℕ
@@ -81,6 +82,7 @@ Suits before (row.Die d) = (0 < length before) × (d.site ≤ last_site) × (len
 Suits before (row.Fault f) = (0 < length before) × (f.die < length (dies_at f.site before))
 Suits before (row.Stop s) = (0 < length before) × (s.die < length (dies_at s.site before))
 Suits before (row.Bin b) = (0 < length before) × (1 ≤ b.bin) × (b.bin ≤ last_bin)
+Suits before (row.Skew k) = 0 < length before
 
 -- a row that may follow these
 pub record IsNext (before : List Row) (x : Row) : Type 0 where
@@ -109,6 +111,7 @@ HasPlace t (row.Die d) = (d.site < length t.names.items) × (t.dies < most_dies)
 HasPlace t (row.Fault f) = Unit {0}
 HasPlace t (row.Stop s) = Unit {0}
 HasPlace t (row.Bin b) = Unit {0}
+HasPlace t (row.Skew k) = Unit {0}
 
 -- what a row changes of what is kept
 abbrev pub Notes : DieTally → DieTally → Row → Type 0
@@ -121,3 +124,4 @@ Notes old new (row.Bind b) = new ≡ old
 Notes old new (row.Fault f) = new ≡ old
 Notes old new (row.Stop s) = new ≡ old
 Notes old new (row.Bin b) = new ≡ old
+Notes old new (row.Skew k) = new ≡ old

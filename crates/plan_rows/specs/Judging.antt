@@ -1,11 +1,11 @@
 -- Records judged one after another, each by the rows before it.
-use Rattle.std.specs.Prelude.{ℕ, ◌+◌, ◌*◌, ◌&&◌, ◌==◌, nat_le, Bool, true, false, not, List, [], ◌∷◌, ◌++◌, length, map, Option, Some, None, Result, Ok, Err, if◌then◌else◌}
+use Rattle.std.specs.Prelude.{ℕ, ◌+◌, ◌*◌, ◌&&◌, ◌==◌, nat_lt, nat_le, ℤ, pos, neg_ℤ, Bool, true, false, not, List, [], ◌∷◌, ◌++◌, length, map, Option, Some, None, Result, Ok, Err, if◌then◌else◌}
 use Rattle.std.specs.List.{list_any, position}
 use Rattle.std.specs.Str.{bytes_eq}
 use Rattle.first_fault.specs.Reading.{and_then, reading}
-use Rattle.plan_rows.specs.Limits.{last_site, most_dies, most_batch, most_tries, most_keep, most_kept, last_batch, last_executive, last_bin}
+use Rattle.plan_rows.specs.Limits.{last_site, most_dies, most_batch, most_tries, most_keep, most_kept, last_batch, most_skew, last_executive, last_bin}
 use Rattle.plan_rows.specs.Rows.{dies_of, dies_at, lot_of}
-use Rattle.plan_rows.specs.Forms.{Written, a_lot, a_clock, a_bind, a_die, a_fault, a_stop, a_bin, written_of}
+use Rattle.plan_rows.specs.Forms.{Written, a_lot, a_clock, a_bind, a_die, a_fault, a_stop, a_bin, a_skew, written_of}
 use Rattle.plan_rows.specs.Subjects.{subject_of, same_subject}
 use Rattle.plan_rows.specs.declared.row.Row.{Row}
 use Rattle.plan_rows.specs.declared.row.Row.TheVariants as row
@@ -23,6 +23,7 @@ is_lot (a_die site name file) = false
 is_lot (a_fault site name net value tries) = false
 is_lot (a_stop site name number batch) = false
 is_lot (a_bin ending number) = false
+is_lot (a_skew site signal back size) = false
 
 -- the lot's own record is the first, and no other
 abbrev pub stands : List Row → Written → Bool
@@ -61,6 +62,15 @@ names_at site rows = map (λ d. d.name) (dies_at site rows)
 abbrev pub number_at : List Row → ℕ → List ℕ → Option ℕ
 number_at before site name = position (bytes_eq name) (names_at site before)
 
+-- whether a site has a die
+abbrev pub has_die : ℕ → List Row → Bool
+has_die site before = nat_lt 0 (length (dies_at site before))
+
+-- a number below 0, or not
+abbrev pub signed : Bool → ℕ → ℤ
+signed true size = neg_ℤ (pos size)
+signed false size = pos size
+
 -- the row of a die that is there
 abbrev pub of_die : ℕ → Option ℕ → (ℕ → Row) → Result Row PlanFault
 of_die place None made = Err (UnknownName place)
@@ -88,6 +98,9 @@ row_of place before (a_stop site name number batch) =
     (λ die. row.Stop (record { site = site; die = die; number = number; batch = batch })))
 row_of place before (a_bin ending number) = within place (ending_fits ending && is_within 1 last_bin number)
     (Ok (row.Bin (record { ending = ending; bin = number })))
+row_of place before (a_skew site signal back size) = within place (nat_le site last_site && nat_le size most_skew)
+    (if has_die site before then Ok (row.Skew (record { site = site; signal = signal; skew = signed back size }))
+    else Err (UnknownName place))
 
 -- an earlier row is about the same
 abbrev pub says_again : List Row → Row → Bool

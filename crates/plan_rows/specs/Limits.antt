@@ -29,6 +29,10 @@ most_kept = 2 ^ 20
 abbrev pub last_batch : ℕ
 last_batch = 2 ^ 48
 
+-- the most femtoseconds by which a skew moves events, either way
+abbrev pub most_skew : ℕ
+most_skew = 1000000000000
+
 -- the greatest number of an executive
 abbrev pub last_executive : ℕ
 last_executive = 63

@@ -12,6 +12,7 @@ use Rattle.plan_rows.specs.declared.row.DieRow.{DieRow}
 use Rattle.plan_rows.specs.declared.row.FaultRow.{FaultRow}
 use Rattle.plan_rows.specs.declared.row.StopRow.{StopRow}
 use Rattle.plan_rows.specs.declared.row.BinRow.{BinRow}
+use Rattle.plan_rows.specs.declared.row.SkewRow.{SkewRow}
 
 -- one item, where there is one
 abbrev pub one : {A : Type 0} → Option A → List A
@@ -32,6 +33,7 @@ as_lot (row.Die d) = None
 as_lot (row.Fault f) = None
 as_lot (row.Stop s) = None
 as_lot (row.Bin b) = None
+as_lot (row.Skew k) = None
 
 -- the signal of a row of the clock
 abbrev pub as_clock : Row → Option (List ℕ)
@@ -42,6 +44,7 @@ as_clock (row.Die d) = None
 as_clock (row.Fault f) = None
 as_clock (row.Stop s) = None
 as_clock (row.Bin b) = None
+as_clock (row.Skew k) = None
 
 -- the row of a signal and its net
 abbrev pub as_bind : Row → Option BindRow
@@ -52,6 +55,7 @@ as_bind (row.Die d) = None
 as_bind (row.Fault f) = None
 as_bind (row.Stop s) = None
 as_bind (row.Bin b) = None
+as_bind (row.Skew k) = None
 
 -- the row of a die, with its site and its netlist's file
 abbrev pub as_die : Row → Option DieRow
@@ -62,6 +66,7 @@ as_die (row.Die d) = Some d
 as_die (row.Fault f) = None
 as_die (row.Stop s) = None
 as_die (row.Bin b) = None
+as_die (row.Skew k) = None
 
 -- the row of a stuck net of a die
 abbrev pub as_fault : Row → Option FaultRow
@@ -72,6 +77,7 @@ as_fault (row.Die d) = None
 as_fault (row.Fault f) = Some f
 as_fault (row.Stop s) = None
 as_fault (row.Bin b) = None
+as_fault (row.Skew k) = None
 
 -- the row that stops a try of a die
 abbrev pub as_stop : Row → Option StopRow
@@ -82,6 +88,7 @@ as_stop (row.Die d) = None
 as_stop (row.Fault f) = None
 as_stop (row.Stop s) = Some s
 as_stop (row.Bin b) = None
+as_stop (row.Skew k) = None
 
 -- the row of an ending's bin
 abbrev pub as_bin : Row → Option BinRow
@@ -92,6 +99,18 @@ as_bin (row.Die d) = None
 as_bin (row.Fault f) = None
 as_bin (row.Stop s) = None
 as_bin (row.Bin b) = Some b
+as_bin (row.Skew k) = None
+
+-- the row of a signal's skew at a site
+abbrev pub as_skew : Row → Option SkewRow
+as_skew (row.Lot l) = None
+as_skew (row.Clock s) = None
+as_skew (row.Bind b) = None
+as_skew (row.Die d) = None
+as_skew (row.Fault f) = None
+as_skew (row.Stop s) = None
+as_skew (row.Bin b) = None
+as_skew (row.Skew k) = Some k
 
 -- the dies of a plan, in order
 abbrev pub dies_of : List Row → List DieRow
@@ -108,6 +127,10 @@ faults_at site die rows = filter (λ f. (f.site == site) && (f.die == die)) (eac
 -- the stops of a die, in order
 abbrev pub stops_at : ℕ → ℕ → List Row → List StopRow
 stops_at site die rows = filter (λ s. (s.site == site) && (s.die == die)) (each_of as_stop rows)
+
+-- the skews of a site, in order
+abbrev pub skews_at : ℕ → List Row → List SkewRow
+skews_at site rows = filter (λ k. k.site == site) (each_of as_skew rows)
 
 -- how many sites there are: the greatest site plus 1, and none without a die
 abbrev pub sites_of : List Row → ℕ

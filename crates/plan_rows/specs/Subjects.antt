@@ -7,7 +7,7 @@ use Rattle.plan_rows.specs.declared.row.Ending.{Ending}
 use Rattle.plan_rows.specs.declared.row.Ending.TheVariants.{Pass, Fail, Stopped, Contact}
 
 -- what a row is about: the lot, the clock, a signal, the name of a die at a site, a net of a die of a site, a try of a
--- die of a site, or how a last try ends
+-- die of a site, how a last try ends, or the skew of a signal at a site
 pub data Subject : Type 0 where
   the_lot : Subject
   the_clock : Subject
@@ -16,6 +16,7 @@ pub data Subject : Type 0 where
   the_net : ℕ → ℕ → List ℕ → Subject
   the_try : ℕ → ℕ → ℕ → Subject
   the_ending : Ending → Subject
+  the_skew : ℕ → List ℕ → Subject
 
 -- what this row is about
 abbrev pub subject_of : Row → Subject
@@ -26,6 +27,7 @@ subject_of (row.Die d) = the_name d.site d.name
 subject_of (row.Fault f) = the_net f.site f.die f.net
 subject_of (row.Stop s) = the_try s.site s.die s.number
 subject_of (row.Bin b) = the_ending b.ending
+subject_of (row.Skew k) = the_skew k.site k.signal
 
 -- whether two endings are one
 abbrev pub same_ending : Ending → Ending → Bool
@@ -46,4 +48,5 @@ same_subject (the_net site die net) (the_net place number other) =
 same_subject (the_try site die try) (the_try place number other) =
     (site == place) && ((die == number) && (try == other))
 same_subject (the_ending ending) (the_ending other) = same_ending ending other
+same_subject (the_skew site signal) (the_skew place other) = (site == place) && bytes_eq signal other
 same_subject _ _ = false

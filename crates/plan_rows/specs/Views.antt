@@ -1,7 +1,7 @@
 -- The code's values without where they lie in memory; no public clause cites them.
 use Rattle.std.specs.Prelude.{List, ℕ, Option, option_map, Result, Ok, Err}
 use Rattle.std.specs.Borrow.{Bor}
-use Rattle.plan_rows.specs.Forms.{Columns, Written, a_lot, a_clock, a_bind, a_die, a_fault, a_stop, a_bin}
+use Rattle.plan_rows.specs.Forms.{Columns, Written, a_lot, a_clock, a_bind, a_die, a_fault, a_stop, a_bin, a_skew}
 use Rattle.plan_rows.specs.declared.row.Ending.{Ending}
 use Rattle.plan_rows.specs.declared.row.Ending.TheVariants.{Pass, Fail, Stopped, Contact}
 use Rattle.plan_rows.specs.declared.fault.PlanFault.{PlanFault}
@@ -44,6 +44,7 @@ written_seen (says.Die site name file) = a_die site name.now file.now
 written_seen (says.Fault fault) = fault_seen fault
 written_seen (says.Stop site name number batch) = a_stop site name.now number batch
 written_seen (says.Bin ending number) = a_bin (ending_seen ending) number
+written_seen (says.Skew site signal back size) = a_skew site signal.now back size
 
 -- what a record says, or its fault
 abbrev pub placed_seen : Result written.Written.Written PlanFault → Result Written PlanFault

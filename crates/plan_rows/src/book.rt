@@ -2,17 +2,18 @@
 
 ghost use Rattle.std.specs.Prelude.{◌≡◌, ◌==◌, ◌<◌, ◌≤◌, ◌⊎◌, ◌∷◌, ◌++◌, ◌-◌, ◌^◌, [], Ok, Err, length, OnOk, IfOk, IfErr};
 ghost use Rattle.csv.specs.Records.{fields_of};
-ghost use Rattle.plan_rows.specs.Judging.{row_of, number_at, placed, row_at, judge, is_lot};
-ghost use Rattle.plan_rows.specs.Forms.{a_die, a_stop, written_of};
+ghost use Rattle.plan_rows.specs.Judging.{row_of, number_at, has_die, placed, row_at, judge, is_lot};
+ghost use Rattle.plan_rows.specs.Forms.{a_die, a_stop, a_skew, written_of};
 ghost use Rattle.plan_rows.specs.Views.{written_seen, placed_seen, fault_seen};
 ghost use Rattle.plan_rows.specs.Inside.{IsAnswer, IsBook, IsNext, Reads, key_of};
 ghost use Rattle.plan_rows.specs.declared.fault.PlanFault.TheVariants.{NoMemory};
 
 use crate::fault::PlanFault;
 use crate::kinds::{
-    LAST_BATCH, LAST_SITE, MOST_TRIES, are_tries, bin_row, bind_row, lot_row, small_tries,
+    LAST_BATCH, LAST_SITE, MOST_SKEW, MOST_TRIES, are_tries, bin_row, bind_row, lot_row, signed,
+    small_tries,
 };
-use crate::row::{DieRow, FaultRow, Row, StopRow};
+use crate::row::{DieRow, FaultRow, Row, SkewRow, StopRow};
 use crate::subject::key_of;
 use crate::tally::DieTally;
 use crate::written::{Written, WrittenFault, written_of};
@@ -78,6 +79,15 @@ impl Book {
     {
         let number = self.tally.place_of(site, name)?;
         Some(number as u16)
+    }
+
+    /// Whether a site has a die.
+    fn has_die(&self, site: u64) -> bool
+        requires book { IsBook self.now }
+        requires site { site ≤ 63 }
+        ensures { result ≡ has_die site self.now.rows.items }
+    {
+        self.tally.has_die(site)
     }
 
     /// The row of one more die: at a site from 0 to 63, and within the limits of dies and of kept fails.
@@ -151,6 +161,32 @@ impl Book {
         }))
     }
 
+    /// The row of a signal's skew, up to 10^12 femtoseconds either way, at a site that has a die.
+    fn skew_row(
+        &self,
+        alloc: Global,
+        place: u32,
+        site: u64,
+        signal: &[u8],
+        back: bool,
+        size: u64,
+    ) -> Result<Row, PlanFault>
+        requires book { IsBook self.now }
+        ensures { IsAnswer result (row_of place self.now.rows.items (a_skew site signal.now back size)) }
+    {
+        if site > LAST_SITE || size > MOST_SKEW {
+            return Err(PlanFault::OutOfRange(place));
+        }
+        if !self.has_die(site) {
+            return Err(PlanFault::UnknownName(place));
+        }
+        Ok(Row::Skew(SkewRow {
+            site: site as u8,
+            signal: Items::from_slice(alloc, signal)?,
+            skew: signed(back, size),
+        }))
+    }
+
     /// The row of what a record says: its numbers within their ranges, and then its die.
     fn row_of(&self, alloc: Global, place: u32, written: &Written) -> Result<Row, PlanFault>
         requires book { IsBook self.now }
@@ -169,6 +205,12 @@ impl Book {
                 batch,
             } => self.stop_row(place, site, name, number, batch),
             Written::Bin { ended, number } => bin_row(place, ended, number),
+            Written::Skew {
+                site,
+                signal,
+                back,
+                size,
+            } => self.skew_row(alloc, place, site, signal, back, size),
         }
     }
 

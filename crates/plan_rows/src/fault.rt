@@ -20,6 +20,8 @@ pub enum PlanFault {
     Twice(u32),
     /// A number of the row is out of its range.
     OutOfRange(u32),
+    /// The skew of the row moves an event out of its cycle.
+    SkewOutside(u32),
     /// The signal of this name has no net that fits it.
     Unbound(Text),
 }
@@ -42,6 +44,10 @@ impl fmt::Display for PlanFault {
             PlanFault::OutOfRange(row) => write!(
                 f,
                 "row {row} of the plan has a number out of its range"
+            ),
+            PlanFault::SkewOutside(row) => write!(
+                f,
+                "row {row} of the plan moves an event out of its cycle"
             ),
             PlanFault::Unbound(_) => write!(f, "a signal has no net that fits it"),
         }

@@ -1,7 +1,8 @@
 //! Rows that no earlier die decides, each by the ranges of its numbers.
 
-ghost use Rattle.std.specs.Prelude.{◌≡◌, ℕ, true, [], Some, None, if◌then◌else◌};
-ghost use Rattle.plan_rows.specs.Judging.{row_of, tries_fit, ending_fits};
+ghost use Rattle.std.specs.Prelude.{◌≡◌, ◌≤◌, ℕ, true, [], Some, None, if◌then◌else◌};
+ghost use Rattle.plan_rows.specs.Limits.{most_skew};
+ghost use Rattle.plan_rows.specs.Judging.{row_of, signed, tries_fit, ending_fits};
 ghost use Rattle.plan_rows.specs.Forms.{a_lot, a_bind, a_bin};
 ghost use Rattle.plan_rows.specs.Views.{ending_seen, net_seen};
 ghost use Rattle.plan_rows.specs.Inside.{IsAnswer};
@@ -20,6 +21,9 @@ pub(crate) const MOST_TRIES: u64 = 8;
 
 /// The greatest number of a batch.
 pub(crate) const LAST_BATCH: u64 = 281_474_976_710_656;
+
+/// The most femtoseconds by which a skew moves events.
+pub(crate) const MOST_SKEW: u64 = 1_000_000_000_000;
 
 /// The most cycles of a batch.
 const MOST_CYCLES: u64 = 1_048_576;
@@ -85,6 +89,15 @@ pub(crate) fn bin_row(place: u32, ended: Ended, number: u64) -> Result<Row, Plan
         })),
         _ => Err(PlanFault::OutOfRange(place)),
     }
+}
+
+/// A skew of this size, below 0 or not.
+pub(crate) fn signed(back: bool, size: u64) -> i64
+    requires { size ≤ most_skew }
+    ensures { result ≡ signed back size }
+{
+    let size = size as i64;
+    if back { -size } else { size }
 }
 
 /// Whether a fault's tries are within their range.

@@ -15,7 +15,7 @@ mod written;
 pub use fault::PlanFault;
 pub use laws::{first_refused, no_fault_in_plan, one_record_list};
 pub use read::read_rows;
-pub use row::{BinRow, BindRow, DieRow, Ending, FaultRow, LotRow, PlanRows, Row, StopRow};
+pub use row::{BinRow, BindRow, DieRow, Ending, FaultRow, LotRow, PlanRows, Row, SkewRow, StopRow};
 
 #[cfg(test)]
 mod tests;

@@ -72,6 +72,15 @@ pub struct BinRow {
     pub bin: u8,
 }
 
+/// All events of a signal are moved at a site.
+#[derive(Debug, Drop)]
+pub struct SkewRow {
+    pub site: u8,
+    pub signal: Text,
+    /// By so many femtoseconds, from -10^12 to 10^12.
+    pub skew: i64,
+}
+
 /// A row of a plan.
 #[derive(Debug, Drop)]
 pub enum Row {
@@ -83,6 +92,7 @@ pub enum Row {
     Fault(FaultRow),
     Stop(StopRow),
     Bin(BinRow),
+    Skew(SkewRow),
 }
 
 /// Rows in order.

@@ -49,5 +49,6 @@ pub(crate) fn key_of(alloc: Global, row: &Row) -> Result<Vec<u16>, AllocError>
             b"",
         ),
         Row::Bin(bin) => ending_key(alloc, bin.ending),
+        Row::Skew(skew) => key(alloc, &[7, u16::from(skew.site)], skew.signal.as_slice()),
     }
 }

@@ -1,6 +1,6 @@
 //! What the rows so far say of the lot and its dies.
 
-ghost use Rattle.std.specs.Prelude.{◌≡◌, ◌+◌, ◌*◌, ◌<◌, ◌≤◌, ◌^◌, nat_le, ◌&&◌, [], length, All, slice_index_or, slice_set, option_map, OnOk, IfOk};
+ghost use Rattle.std.specs.Prelude.{◌≡◌, ◌+◌, ◌*◌, ◌<◌, ◌≤◌, ◌^◌, nat_lt, nat_le, ◌&&◌, [], length, All, slice_index_or, slice_set, option_map, OnOk, IfOk};
 ghost use Rattle.std.specs.List.{position};
 ghost use Rattle.std.specs.Str.{bytes_eq};
 ghost use Rattle.plan_rows.specs.Inside.{kept_names, key_texts, with_name, IsTally, HasPlace, Notes};
@@ -74,6 +74,14 @@ impl DieTally {
         self.names[site as usize].get_index_of(name)
     }
 
+    /// Whether a site has a die.
+    pub(crate) fn has_die(&self, site: u64) -> bool
+        requires { site < length self.now.names.items }
+        ensures { result ≡ nat_lt 0 (length (slice_index_or (kept_names self.now) site [])) }
+    {
+        !self.names[site as usize].is_empty()
+    }
+
     /// Whether one more die is within the limits of dies and of kept fails.
     pub(crate) fn has_room(&self) -> bool
         ensures { result ≡ (nat_le (self.now.dies + 1) 4096
@@ -115,7 +123,12 @@ impl DieTally {
                 Ok(())
             }
             Row::Die(die) => self.add_die(alloc, die),
-            Row::Clock(_) | Row::Bind(_) | Row::Fault(_) | Row::Stop(_) | Row::Bin(_) => Ok(()),
+            Row::Clock(_)
+            | Row::Bind(_)
+            | Row::Fault(_)
+            | Row::Stop(_)
+            | Row::Bin(_)
+            | Row::Skew(_) => Ok(()),
         }
     }
 }

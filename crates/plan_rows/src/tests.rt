@@ -222,6 +222,39 @@ fn each_ending_has_one_bin(rt: HostRuntime) -> Result<(), Fail> {
 }
 
 #[test]
+fn a_skew_is_of_a_site_with_a_die(rt: HostRuntime) -> Result<(), Fail> {
+    let cases = [
+        (b"skew,3,s,-0,,".as_slice(), Answer::Rows(3)),
+        (b"skew,3,s,1000000000000,,".as_slice(), Answer::Rows(3)),
+        (b"skew,3,s,-1000000000000,,".as_slice(), Answer::Rows(3)),
+        (
+            b"skew,3,s,1000000000001,,".as_slice(),
+            Answer::OutOfRange(3),
+        ),
+        (
+            b"skew,3,s,-1000000000001,,".as_slice(),
+            Answer::OutOfRange(3),
+        ),
+        (
+            b"skew,3,s,-000000000000000000001,,".as_slice(),
+            Answer::OutOfRange(3),
+        ),
+        (b"skew,3,s,+1,,".as_slice(), Answer::Shape(3)),
+        (b"skew,3,s,-,,".as_slice(), Answer::Shape(3)),
+        (b"skew,3,s,1,,1".as_slice(), Answer::Shape(3)),
+        (b"skew,64,s,1,,".as_slice(), Answer::OutOfRange(3)),
+        (
+            b"skew,4,s,1,,\ndie,4,a,f,,".as_slice(),
+            Answer::UnknownName(3),
+        ),
+        (b"skew,3,s,1,,\nskew,3,s,2,,".as_slice(), Answer::Twice(4)),
+        (b"skew,3,s,1,,\nskew,3,t,1,,".as_slice(), Answer::Rows(4)),
+    ];
+    assert_eq!(rt; first_wrong(rt.alloc(), FRONT, &cases)?, None);
+    Ok(())
+}
+
+#[test]
 fn the_first_fault_is_answered(rt: HostRuntime) -> Result<(), Fail> {
     let cases = [
         (b"fault,64,b,n,x,".as_slice(), Answer::Shape(3)),
@@ -296,6 +329,10 @@ fn a_fault_is_printed_with_its_row(rt: HostRuntime) -> Result<(), Fail> {
         (
             PlanFault::OutOfRange(4),
             "row 4 of the plan has a number out of its range",
+        ),
+        (
+            PlanFault::SkewOutside(5),
+            "row 5 of the plan moves an event out of its cycle",
         ),
         (
             PlanFault::Unbound(Items::from_slice(rt.alloc(), b"a")?),

@@ -3,7 +3,7 @@
 ghost use Rattle.std.specs.Prelude.{◌≡◌, ◌==◌, length, map, option_map};
 ghost use Rattle.std.specs.List.{list_all};
 ghost use Rattle.csv.specs.Records.{fields_of};
-ghost use Rattle.plan_rows.specs.Forms.{columns_of, written_of, form_of, lot_form, clock_form, bound_net, bind_form, die_form, fault_tries, fault_form, stop_form, ending_form, bin_form};
+ghost use Rattle.plan_rows.specs.Forms.{columns_of, written_of, form_of, lot_form, clock_form, bound_net, bind_form, die_form, fault_tries, fault_form, stop_form, ending_form, bin_form, offset_in, skew_form};
 ghost use Rattle.plan_rows.specs.Views.{columns_seen, written_seen, ending_seen, net_seen};
 
 use crate::words::{is_word, name_of, net_of, number_in};
@@ -69,6 +69,12 @@ pub(crate) enum Written<'a> {
     Bin {
         ended: Ended,
         number: u64,
+    },
+    Skew {
+        site: u64,
+        signal: &'a [u8],
+        back: bool,
+        size: u64,
     },
 }
 
@@ -231,6 +237,36 @@ fn bin_form<'a>(r: &Columns<'a>) -> Option<Written<'a>>
     Some(Written::Bin { ended, number })
 }
 
+/// A number of femtoseconds and whether a `-` stands before it.
+fn offset_in(bytes: &[u8]) -> Option<(bool, u64)>
+    ensures { result ≡ offset_in bytes.now }
+{
+    let (first, rest) = bytes.split_first()?;
+    if *first == b'-' {
+        Some((true, number_in(rest)?))
+    } else {
+        Some((false, number_in(bytes)?))
+    }
+}
+
+/// `skew,SITE,SIGNAL,FS,,`
+fn skew_form<'a>(r: &Columns<'a>) -> Option<Written<'a>>
+    ensures { option_map written_seen result ≡ skew_form (columns_seen r.now) }
+{
+    if !(r.fifth.is_empty() && r.sixth.is_empty()) {
+        return None;
+    }
+    let site = number_in(r.second)?;
+    let signal = net_of(r.third)?;
+    let (back, size) = offset_in(r.fourth)?;
+    Some(Written::Skew {
+        site,
+        signal,
+        back,
+        size,
+    })
+}
+
 /// What six fields say, by the form of their kind.
 fn form_of<'a>(r: &Columns<'a>) -> Option<Written<'a>>
     ensures { option_map written_seen result ≡ form_of (columns_seen r.now) }
@@ -249,6 +285,8 @@ fn form_of<'a>(r: &Columns<'a>) -> Option<Written<'a>>
         stop_form(r)
     } else if is_word(r.kind, b"bin") {
         bin_form(r)
+    } else if is_word(r.kind, b"skew") {
+        skew_form(r)
     } else {
         None
     }

@@ -5,3 +5,4 @@ pub mod FileLemmas
 pub mod OneDieLemmas
 pub mod LotLemmas
 pub mod RunLemmas
+pub mod SkewLemmas

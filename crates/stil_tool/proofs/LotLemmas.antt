@@ -70,15 +70,6 @@ wide-net told name b b' n r low between (net_memory is) = net_memory is
 wide-net told name b b' n r low between (net_unread is) = net_unread (wide-unread told name b b' n n r low between (omega arith) is)
 wide-net told name b b' n r low between (net_faulty bytes file fault is same) = net_faulty bytes file fault is same
 
--- a plan is bound to the signals and the executive of the code as to those of the text
-pub bound-is : (inputs : Inputs) (code : Program) → IsCodeOf inputs.thin code →
-    record { rows = inputs.rows; signals = code.signals; execs = length code.execs; circuits = inputs.circuit ∷ [] } ≡ bound_of inputs
-bound-is inputs code is =
-    let one : length code.execs ≡ 1 = ap length is.execs in
-    let view : ℕ → Bound = λ n. record { rows = inputs.rows; signals = code.signals; execs = n; circuits = inputs.circuit ∷ [] } in
-    ap view one
-    ∙ ap (λ signals. record { rows = inputs.rows; signals = signals; execs = 1; circuits = inputs.circuit ∷ [] }) is.signals
-
 -- what was read of the three files, one after another, where no load changes what the shelf tells
 pub inputs_are : (told first second : Option Files) (program plan name : List ℕ) (inputs : Inputs) →
     IsTextFile told program inputs.thin → first ≡ told → IsPlanFile first plan inputs.rows →
@@ -91,13 +82,13 @@ inputs_are told first second program plan name inputs text same plan_is same' na
 }
 
 -- what is refused where the binding is
-pub unbound_refused : (told : Option Files) (before now sockets : ℕ) (program plan : List ℕ) (inputs : Inputs) (b : Bound)
-    (e : PlanFault) → AreInputs told program plan inputs → b ≡ bound_of inputs →
-    (e ≡ fault.NoMemory) ⊎ (refusal b ≡ Some e) → IsRefused told before now sockets program plan (refused.Plan e)
-unbound_refused told before now sockets program plan inputs b e are same (inl none) =
+pub unbound_refused : (told : Option Files) (before now sockets : ℕ) (program plan : List ℕ) (inputs : Inputs) (code : Program)
+    (e : PlanFault) → AreInputs told program plan inputs → IsCodeOf inputs.thin code →
+    (e ≡ fault.NoMemory) ⊎ (refusal (bound_of inputs code) ≡ Some e) → IsRefused told before now sockets program plan (refused.Plan e)
+unbound_refused told before now sockets program plan inputs code e are compiled (inl none) =
     no_memory (ap (λ f. status_of (refused.Plan f)) none)
-unbound_refused told before now sockets program plan inputs b e are same (inr is) =
-    unbound inputs are e (ap refusal (sym same) ∙ is) refl
+unbound_refused told before now sockets program plan inputs code e are compiled (inr is) =
+    unbound inputs are code compiled e is refl
 
 -- what a run at the first of some sockets wants, by the counts of the first before and after it
 pub run_at_first : {S : Type 0} (told : S → Told) (sockets : List S) (s s' : S) (code : Program) (bound : Bound) (status : Status)
@@ -120,9 +111,9 @@ pub run_wants : (told : Option Files) (before now sockets faults faults' : ℕ) 
 run_wants told before now sockets faults faults' program plan code bound Done text ready want = is_run refl (record {
   inputs = ready.inputs;
   are = ready.are;
-  accepted = ready.accepted;
   code = code;
   compiled = ready.compiled;
+  accepted = ready.accepted;
   trial = want.0;
   tried = subst (λ (b : Bound). IsTried code b faults faults' text want.0) ready.is want.1;
 })
@@ -178,4 +169,4 @@ refused_wants told before now sockets faults program plan r cause =
 pub no_socket_wants : (told : Option Files) (before now sockets : ℕ) (program plan : List ℕ) (code : Program) (bound : Bound) →
     IsReady told program plan code bound → sockets ≡ 0 → IsRefused told before now sockets program plan refused.NoSocket
 no_socket_wants told before now sockets program plan code bound ready none =
-    no_socket ready.inputs ready.are ready.accepted none refl
+    no_socket ready.inputs ready.are code ready.compiled ready.accepted none refl

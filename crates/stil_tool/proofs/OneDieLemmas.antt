@@ -13,8 +13,8 @@ use Rattle.bench_net.specs.Circuit.{Circuit}
 use Rattle.die_sim.specs.declared.image.Bind.{Bind}
 use Rattle.lot_plan.specs.Needs.{PinNeed, needs_of, need_of}
 use Rattle.lot_plan.specs.Binds.{bound_or, bind_to, is_driven, binds_from, binds_of, list_of, unbound_in}
-use Rattle.lot_plan.specs.Bound.{Bound, no_circuit, file_of, circuit_of, image_of}
-use Rattle.lot_plan.specs.Refusal.{is_signal, rows_refusal, first_unbound, IsBound}
+use Rattle.lot_plan.specs.Bound.{Bound, signals_of, no_circuit, file_of, circuit_of, image_of}
+use Rattle.lot_plan.specs.Refusal.{refused_row, first_unbound, IsBound}
 use Rattle.plan_rows.specs.declared.fault.PlanFault.TheVariants as fault
 use Rattle.lot_plan.proofs.RefusalLemmas.{none_both, none-mapped}
 use Rattle.text_bytes.proofs.ListLemmas.{drop-item}
@@ -32,6 +32,7 @@ sites-zero (row.Die d ∷ rows) all =
 sites-zero (row.Fault f ∷ rows) all = sites-zero rows (and_parts (is_of_one_die (row.Fault f)) (list_all is_of_one_die rows) all).1
 sites-zero (row.Stop s ∷ rows) all = sites-zero rows (and_parts (is_of_one_die (row.Stop s)) (list_all is_of_one_die rows) all).1
 sites-zero (row.Bin b ∷ rows) all = sites-zero rows (and_parts (is_of_one_die (row.Bin b)) (list_all is_of_one_die rows) all).1
+sites-zero (row.Skew k ∷ rows) all = sites-zero rows (and_parts (is_of_one_die (row.Skew k)) (list_all is_of_one_die rows) all).1
 
 -- the one die of a plan
 pub record HasDie (rows : List Row) : Type 0 where
@@ -100,17 +101,17 @@ single (x ∷ []) long = (x, refl)
 single (x ∷ y ∷ xs) long = absurd (omega (arith, long))
 
 -- the image of the die binds each signal
-pub image-long : (b : Bound) → HasDie b.rows → IsBound b → length (image_of b 0 0 1).binds ≡ length b.signals
+pub image-long : (b : Bound) → HasDie b.rows → IsBound b → length (image_of b 0 0 1).binds ≡ length (signals_of b)
 image-long b h bound =
     let one = single b.circuits (bound.files ∙ ap length (one_file b.rows h)) in
     let c : Circuit = one.0 in
     let here : circuit_of b 0 0 ≡ c =
     ap (λ n. get_or b.circuits n no_circuit) (first-file b.rows h) ∙ ap (λ cs. get_or cs 0 no_circuit) one.1 in
-    let needs : List PinNeed = needs_of b.rows b.signals in
-    let none = (none_both (rows_refusal (is_signal b.signals) b.execs (circuit_of b) 1 b.rows) _ bound.accepted).1 in
+    let needs : List PinNeed = needs_of b.rows (signals_of b) in
+    let none = (none_both (refused_row b) _ bound.accepted).1 in
     let all : first_unbound needs b.circuits ≡ None = none-mapped fault.Unbound (first_unbound needs b.circuits) none in
     let first = (none_both (unbound_in (binds_of c needs)) _ (ap (first_unbound needs) (sym one.1) ∙ all)).0 in
     ap (λ (k : Circuit). length (list_of (binds_of k needs))) here
     ∙ binds-long c [] needs first
     ∙ zero-add (length needs)
-    ∙ length-map b.signals (need_of b.rows)
+    ∙ length-map (signals_of b) (need_of b.rows)

@@ -1,5 +1,5 @@
 -- The record of a lot of one die can be printed: `printable`.
-use Rattle.std.proofs.Common.{◌≡◌, ℕ, zero, suc, ◌<◌, List, [], ◌∷◌, length, refl, ap, subst, arith, get_or}
+use Rattle.std.proofs.Common.{◌≡◌, ℕ, zero, suc, ◌<◌, ℤ, List, [], ◌∷◌, length, refl, ap, subst, arith, get_or}
 use Rattle.std.specs.Prelude.{All}
 use Rattle.tester_types.specs.declared.record.Fail.{Fail}
 use Rattle.tester_types.specs.declared.record.Trial.{Trial}
@@ -7,6 +7,7 @@ use Rattle.tester_types.specs.declared.record.Record.{Record}
 use Rattle.page_code.specs.Program.{Program}
 use Rattle.plan_rows.specs.Rows.{dies_at, sites_of, lot_of}
 use Rattle.lot_plan.specs.Bound.{Bound, image_of}
+use Rattle.lot_plan.specs.Skews.{site_skews}
 use Rattle.die_sim.specs.Die.{Image}
 use Rattle.tester_types.specs.Outside.{HasRisen}
 use Rattle.one_try.specs.Trials.{IsTrial, IsContact}
@@ -46,12 +47,15 @@ printable code b trial h known =
     by all (suc site) none within = absurd (omega (arith, within))
 
 -- what a run at a socket is
-pub tried_so : (code : Program) (b : Bound) (image : Image) (keep : ℕ) (trial : Trial) (sites : List (List Record))
-    (faults faults' : ℕ) → image ≡ image_of b 0 0 1 → keep ≡ (lot_of b.rows).keep → IsTrial code image keep trial →
+pub tried_so : (code : Program) (b : Bound) (skews : List ℤ) (image : Image) (keep : ℕ) (trial : Trial) (sites : List (List Record))
+    (faults faults' : ℕ) → skews ≡ site_skews b 0 → image ≡ image_of b 0 0 1 → keep ≡ (lot_of b.rows).keep →
+    IsTrial code skews image keep trial →
     (IsContact trial.verdict → HasRisen faults faults') → sites ≡ (record_of trial ∷ []) ∷ [] →
     IsTried code b faults faults' (lot_text code b sites) trial
-tried_so code b image keep trial sites faults faults' loaded kept is contact are = record {
-  tried = subst (λ (k : ℕ). IsTrial code (image_of b 0 0 1) k trial) kept (subst (λ (i : Image). IsTrial code i keep trial) loaded is);
+tried_so code b skews image keep trial sites faults faults' moved loaded kept is contact are = record {
+  tried = subst (λ (k : ℕ). IsTrial code (site_skews b 0) (image_of b 0 0 1) k trial) kept
+      (subst (λ (i : Image). IsTrial code (site_skews b 0) i keep trial) loaded
+      (subst (λ (l : List ℤ). IsTrial code l image keep trial) moved is));
   contact = contact;
   written = ap (lot_text code b) are;
 }

@@ -1,5 +1,5 @@
 -- What `lot` answers for one die at one site, and why.
-use Rattle.std.specs.Prelude.{◌≡◌, ℕ, ◌≤◌, true, false, List, [], ◌∷◌, length, map, codes, Option, Some, None}
+use Rattle.std.specs.Prelude.{◌≡◌, ℕ, ◌≤◌, true, false, List, [], ◌∷◌, length, codes, Option, Some, None}
 use Rattle.tester_types.specs.declared.record.Trial.{Trial}
 use Rattle.tester_types.specs.declared.record.Record.{Record}
 use Rattle.tester_types.specs.Outside.{HasRisen, Files, TellsFile}
@@ -12,6 +12,7 @@ use Rattle.plan_rows.specs.Rows.{lot_of}
 use Rattle.plan_rows.specs.Plan as plans
 use Rattle.plan_rows.specs.declared.fault.PlanFault.{PlanFault}
 use Rattle.lot_plan.specs.Bound.{Bound, image_of}
+use Rattle.lot_plan.specs.Skews.{site_skews}
 use Rattle.lot_plan.specs.Refusal.{refusal}
 use Rattle.die_sim.specs.Socket.{Told}
 use Rattle.page_code.specs.Program.{Program}
@@ -19,7 +20,7 @@ use Rattle.one_try.specs.Trials.{IsTrial, IsContact}
 use Rattle.datalog.specs.DatalogText.{lot_text}
 use Rattle.thin_stil.specs.declared.thin.ThinText.{ThinText}
 use Rattle.thin_stil.specs.Thin.{IsThin}
-use Rattle.thin_code.specs.Compiled.{IsCodeOf, signal_of}
+use Rattle.thin_code.specs.Compiled.{IsCodeOf}
 use Rattle.stil_tool.specs.declared.status.Status.{Status}
 use Rattle.stil_tool.specs.declared.status.Status.TheVariants.{Done, OutOfMemory}
 use Rattle.stil_tool.specs.declared.refusal.Refusal.{Refusal}
@@ -69,14 +70,9 @@ pub record AreInputs (told : Option Files) (program plan : List ℕ) (inputs : I
   pub rows : IsPlanFile told plan inputs.rows
   pub net : IsNetFile told (net_file inputs.rows) inputs.circuit
 
--- the plan, bound to the signals and the one executive of the text, and to the netlist
-abbrev pub bound_of : Inputs → Bound
-bound_of inputs = record {
-  rows = inputs.rows;
-  signals = map signal_of inputs.thin.signals;
-  execs = 1;
-  circuits = inputs.circuit ∷ [];
-}
+-- the plan, bound to a program and to the netlist
+abbrev pub bound_of : Inputs → Program → Bound
+bound_of inputs code = record { rows = inputs.rows; program = code; circuits = inputs.circuit ∷ [] }
 
 -- a file isn't loaded: its load failed, or it is too long, or there is no memory
 abbrev pub IsUnread : Option Files → ℕ → ℕ → List ℕ → Refusal → Type 0
@@ -120,10 +116,12 @@ pub data IsRefused (told : Option Files) (before now sockets : ℕ) (program pla
       → IsRefused told before now sockets program plan r
   of_net : (thin : ThinText) → IsTextFile told program thin → (rows : List Row) → IsPlanFile told plan rows
       → IsNetRefused told before now (net_file rows) r → IsRefused told before now sockets program plan r
-  unbound : (inputs : Inputs) → AreInputs told program plan inputs → (fault : PlanFault)
-      → refusal (bound_of inputs) ≡ Some fault → r ≡ Plan fault → IsRefused told before now sockets program plan r
-  no_socket : (inputs : Inputs) → AreInputs told program plan inputs → refusal (bound_of inputs) ≡ None → sockets ≡ 0
-      → r ≡ NoSocket → IsRefused told before now sockets program plan r
+  unbound : (inputs : Inputs) → AreInputs told program plan inputs → (code : Program) → IsCodeOf inputs.thin code
+      → (fault : PlanFault) → refusal (bound_of inputs code) ≡ Some fault → r ≡ Plan fault
+      → IsRefused told before now sockets program plan r
+  no_socket : (inputs : Inputs) → AreInputs told program plan inputs → (code : Program) → IsCodeOf inputs.thin code
+      → refusal (bound_of inputs code) ≡ None → sockets ≡ 0 → r ≡ NoSocket
+      → IsRefused told before now sockets program plan r
 
 -- how many faults the first socket has counted
 abbrev pub first_count : {S : Type 0} → (S → Told) → List S → ℕ
@@ -134,10 +132,10 @@ first_count told (socket ∷ sockets) = (told socket).count
 abbrev pub record_of : Trial → Record
 record_of trial = record { site = 0; die = 0; trials = trial ∷ [] }
 
--- The one try of the die by a code. The text written is the datalog of what was recorded; contact is lost only where
--- the socket's count of faults has risen.
+-- The one try of the die by a code, with the skews of its site. The text written is the datalog of what was recorded;
+-- contact is lost only where the socket's count of faults has risen.
 pub record IsTried (code : Program) (bound : Bound) (faults faults' : ℕ) (text : List ℕ) (trial : Trial) : Type 0 where
-  pub tried : IsTrial code (image_of bound 0 0 1) (lot_of bound.rows).keep trial
+  pub tried : IsTrial code (site_skews bound 0) (image_of bound 0 0 1) (lot_of bound.rows).keep trial
   pub contact : IsContact trial.verdict → HasRisen faults faults'
   pub written : text ≡ lot_text code bound ((record_of trial ∷ []) ∷ [])
 
@@ -145,11 +143,11 @@ pub record IsTried (code : Program) (bound : Bound) (faults faults' : ℕ) (text
 pub record IsRun (told : Option Files) (faults faults' : ℕ) (program plan text : List ℕ) : Type 0 where
   pub inputs : Inputs
   pub are : AreInputs told program plan inputs
-  pub accepted : refusal (bound_of inputs) ≡ None
   pub code : Program
   pub compiled : IsCodeOf inputs.thin code
+  pub accepted : refusal (bound_of inputs code) ≡ None
   pub trial : Trial
-  pub tried : IsTried code (bound_of inputs) faults faults' text trial
+  pub tried : IsTried code (bound_of inputs code) faults faults' text trial
 
 -- a refusal, with its status and its line
 pub record IsRefusal (told : Option Files) (before now sockets : ℕ) (program plan : List ℕ) (status : Status)
@@ -187,5 +185,5 @@ pub record IsReady (told : Option Files) (program plan : List ℕ) (code : Progr
   pub inputs : Inputs
   pub are : AreInputs told program plan inputs
   pub compiled : IsCodeOf inputs.thin code
-  pub is : bound ≡ bound_of inputs
-  pub accepted : refusal (bound_of inputs) ≡ None
+  pub is : bound ≡ bound_of inputs code
+  pub accepted : refusal (bound_of inputs code) ≡ None

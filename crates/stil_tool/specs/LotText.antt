@@ -46,6 +46,7 @@ plan_line (plan.Shape row) = plan_fault_line (codes "Shape ") (decimal row)
 plan_line (plan.UnknownName row) = plan_fault_line (codes "UnknownName ") (decimal row)
 plan_line (plan.Twice row) = plan_fault_line (codes "Twice ") (decimal row)
 plan_line (plan.OutOfRange row) = plan_fault_line (codes "OutOfRange ") (decimal row)
+plan_line (plan.SkewOutside row) = plan_fault_line (codes "SkewOutside ") (decimal row)
 plan_line (plan.Unbound signal) = plan_fault_line (codes "Unbound ") (printed_name signal)
 
 -- a plan is refused, but for want of memory
@@ -55,6 +56,7 @@ plan_status (plan.Shape row) = RefusedPlan
 plan_status (plan.UnknownName row) = RefusedPlan
 plan_status (plan.Twice row) = RefusedPlan
 plan_status (plan.OutOfRange row) = RefusedPlan
+plan_status (plan.SkewOutside row) = RefusedPlan
 plan_status (plan.Unbound signal) = RefusedPlan
 
 -- the status of a refusal

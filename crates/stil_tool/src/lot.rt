@@ -3,6 +3,7 @@
 ghost use Rattle.std.specs.Prelude.{◌≡◌, ◌≤◌, ◌∷◌, [], ℕ, IfOk, IfErr, length, map, true};
 ghost use Rattle.std.specs.Arc.{arc_value};
 ghost use Rattle.std.specs.Str.{IsUtf8};
+ghost use Rattle.tester_types.specs.Records.{records_of};
 ghost use Rattle.plan_rows.specs.Rows.{files_of};
 ghost use Rattle.lot_plan.specs.Refusal.{IsAnswer};
 ghost use Rattle.stil_tool.specs.Offline.{Answers};
@@ -44,8 +45,7 @@ fn bind(alloc: Global, plan: Plan, code: &Code, net: Netlist) -> Result<BoundPla
     requires { length (files_of plan) ≡ 1 }
     ensures { IsAnswer (record {
       rows = plan;
-      signals = code.now.signals;
-      execs = length code.now.execs;
+      program = code.now;
       circuits = net ∷ [];
     }) result }
 {
@@ -99,29 +99,33 @@ fn prepare<F: Shelf>(
 }
 
 /// The records of all sites, where a trial is all that was made.
-fn records_of(alloc: Global, trial: Trial) -> Result<Items<RecordList>, AllocError>
-    ensures { IfOk result (λ sites. sites ≡ (record_of trial ∷ []) ∷ []) }
+fn records_of(alloc: Global, trial: Trial) -> Result<Items<RecordList>, NoMemory>
+    ensures { IfOk result (λ sites. records_of sites ≡ (record_of trial ∷ []) ∷ []) }
 {
     let record = Record {
         site: 0,
         die: 0,
         trials: Items::of_one(alloc, trial)?,
     };
-    Items::of_one(alloc, Items::of_one(alloc, record)?)
+    let mut records = RecordList::new(alloc, 1)?;
+    records.file(record);
+    Ok(Items::of_one(alloc, records)?)
 }
 
 /// Runs the one try of the die, and prints what was recorded.
 fn run<S: Socket, K: Sink>(alloc: Global, lot: &ReadyLot, socket: &mut S, out: &mut K) -> Status
     requires one { is_one_die lot.now.plan.rows ≡ true }
-    requires signals { lot.now.plan.signals ≡ lot.now.code.signals }
+    requires program { lot.now.plan.program ≡ lot.now.code }
     ensures answers { Answers (RunWants lot.now.code lot.now.plan (S.told socket.old).count (S.told socket.new).count)
         (K.told out.old) (K.faults out.old) result (K.told out.new) (K.faults out.new) }
     ensures count { (S.told socket.old).count ≤ (S.told socket.new).count }
     ensures puts { K.faults out.old ≤ K.faults out.new }
 {
     let _sites = lot.plan.sites();
+    let _signals = lot.code.signals();
     let image = lot.plan.image(0, 0, 1);
-    let Ok(trial) = run_try(alloc, &lot.code, image, lot.plan.keep(), socket) else {
+    let skews = lot.plan.skews(0);
+    let Ok(trial) = run_try(alloc, &lot.code, image, skews, lot.plan.keep(), socket) else {
         return no_memory(out);
     };
     let Ok(sites) = records_of(alloc, trial) else {

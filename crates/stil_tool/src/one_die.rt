@@ -19,6 +19,7 @@ fn is_of_one_die(row: &Row) -> bool
         Row::Fault(fault) => fault.tries.is_none(),
         Row::Stop(_) => false,
         Row::Bin(_) => false,
+        Row::Skew(skew) => skew.site == 0,
     }
 }
 

@@ -153,6 +153,7 @@ fn put_plan<K: Sink>(out: &mut K, fault: &PlanFault) -> Status
         PlanFault::UnknownName(row) => put_bad_row(out, b"UnknownName ", *row),
         PlanFault::Twice(row) => put_bad_row(out, b"Twice ", *row),
         PlanFault::OutOfRange(row) => put_bad_row(out, b"OutOfRange ", *row),
+        PlanFault::SkewOutside(row) => put_bad_row(out, b"SkewOutside ", *row),
         PlanFault::Unbound(signal) => put_unbound(out, signal.as_slice()),
     }
 }

@@ -3,3 +3,4 @@ pub mod Printing
 pub mod Memory
 pub mod Desk
 pub mod Cells
+pub mod Records

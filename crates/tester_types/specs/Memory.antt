@@ -85,7 +85,9 @@ after_load s = record s {
 -- what a load answers: a failure where the call is one that fails or the file isn't there; else its bytes,
 -- or that they are too long
 abbrev pub LoadAnswers : ShelfState → List ℕ → ℕ → Result (Vec ℕ Global) ShelfFault → Type 0
-LoadAnswers s name room (Ok bytes) = (load_fails s ≡ false) × (file_of s.files name ≡ Some bytes.items) × (length bytes.items ≤ room)
+LoadAnswers s name room (Ok bytes) =
+    (load_fails s ≡ false) × (file_of s.files name ≡ Some bytes.items) × (length bytes.items ≤ room)
 LoadAnswers s name room (Err Failed) = (load_fails s ≡ true) ⊎ (file_of s.files name ≡ None)
-LoadAnswers s name room (Err TooLong) = (load_fails s ≡ false) × ((bytes : List ℕ) × (file_of s.files name ≡ Some bytes) × (room < length bytes))
+LoadAnswers s name room (Err TooLong) =
+    (load_fails s ≡ false) × ((bytes : List ℕ) × (file_of s.files name ≡ Some bytes) × (room < length bytes))
 LoadAnswers s name room (Err NoMemory) = load_fails s ≡ false

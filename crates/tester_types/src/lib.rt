@@ -10,6 +10,7 @@ mod mem_sink;
 mod outside;
 mod printing;
 mod record;
+mod record_list;
 mod signal;
 mod wave;
 
@@ -21,7 +22,8 @@ pub use mem_shelf::MemShelf;
 pub use mem_sink::MemSink;
 pub use outside::{Failed, NoMemory, Shelf, ShelfFault, Sink, SinkFault};
 pub use printing::{Piece, Printed, put_all, put_each};
-pub use record::{By, Fail, FailList, Record, RecordList, Trial, TrialList, Verdict};
+pub use record::{By, Fail, FailList, Record, Trial, TrialList, Verdict};
+pub use record_list::RecordList;
 pub use signal::Direction;
 pub use wave::{
     Act, Event, EventList, Look, Push, Table, TableList, Text, TextList, Wave, WaveList,

@@ -57,7 +57,8 @@ impl MemShelf {
 
 /// The bytes of the first file of this name.
 fn find_file<'a>(files: &'a [(String, Vec<u8>)], name: &str) -> Option<&'a [u8]>
-    ensures { MatchOption result (file_of (files_seen files.now) name.now ≡ None) (λ bytes. file_of (files_seen files.now) name.now ≡ Some bytes.now) }
+    ensures { MatchOption result (file_of (files_seen files.now) name.now ≡ None)
+        (λ bytes. file_of (files_seen files.now) name.now ≡ Some bytes.now) }
 {
     for file in files {
         if file.0.as_str() == name {

@@ -69,6 +69,3 @@ pub struct Record {
     pub die: u16,
     pub trials: TrialList,
 }
-
-/// Records in the order of filing.
-pub type RecordList = Items<Record>;

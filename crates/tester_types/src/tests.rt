@@ -1,8 +1,8 @@
 //! Values that no clause names: printed names, and the objects in memory in each of their ways.
 
 use crate::{
-    Ask, Desk, ListDesk, MemShelf, MemSink, NoMemory, Piece, Shelf, ShelfFault, Sink, SinkFault,
-    put_all, put_each,
+    Ask, Desk, Items, ListDesk, MemShelf, MemSink, NoMemory, Piece, Record, RecordList, Shelf,
+    ShelfFault, Sink, SinkFault, put_all, put_each,
 };
 use std::test::Fail;
 
@@ -93,5 +93,18 @@ fn want_of_memory_and_a_failed_put_print_a_line(rt: HostRuntime) -> Result<(), F
     assert_eq!(rt; line.as_str(), "out of memory");
     let line = SinkFault.to_string(rt.alloc())?;
     assert_eq!(rt; line.as_str(), "the text could not be written whole");
+    Ok(())
+}
+
+#[test]
+fn a_record_is_filed_in_a_place_that_was_reserved(rt: HostRuntime) -> Result<(), Fail> {
+    let mut list = RecordList::new(rt.alloc(), 2)?;
+    list.file(Record {
+        site: 1,
+        die: 4,
+        trials: Items::from_vec(Vec::new(rt.alloc())),
+    });
+    assert_eq!(rt; list.spare(), 1);
+    assert_eq!(rt; list.as_slice().len(), 1);
     Ok(())
 }

@@ -40,7 +40,8 @@ vectors_from statements s = map (λ (m : Made). m.vector) (run no_bodies stateme
 
 -- the dated cycles of the one executive
 abbrev pub cycles_of : ThinText → List Dated
-cycles_of text = dated (λ v. text.table.period) (vectors_from (pattern_of text.vectors) (start_of (length text.signals)))
+cycles_of text =
+    dated (λ v. text.table.period) (vectors_from (pattern_of text.vectors) (start_of (length text.signals)))
 
 -- the bytes are those of this thin text: its tokens are joined into statements, and these have the thin forms
 pub record IsThin (bytes : List ℕ) (thin : ThinText) : Type 0 where

@@ -69,7 +69,8 @@ struct VectorForm<'k, 'a> {
 /// What one statement of a V assigns.
 fn given_of(form: &VectorForm, stmt: &Stmt) -> Result<(u16, u8), FormFault>
     ensures { Answers result
-        (kept (given_of form.now.numbers.now form.now.letters.now (head_of (lexemes form.now.source) (entry_of stmt.now)) (body_of (entry_of stmt.now)))) }
+        (kept (given_of form.now.numbers.now form.now.letters.now
+        (head_of (lexemes form.now.source) (entry_of stmt.now)) (body_of (entry_of stmt.now)))) }
 {
     if body(stmt).is_some() {
         return Err(NOT_THIN);
@@ -87,7 +88,8 @@ fn read_given(
     stmts: &[Stmt],
 ) -> Result<(), FormFault>
     ensures { AnswersBy (λ _. given.new.items) result
-        (reading (λ _ e. kept (given_of form.now.numbers.now form.now.letters.now (head_of (lexemes form.now.source) e) (body_of e)))
+        (reading (λ _ e. kept (given_of form.now.numbers.now form.now.letters.now
+        (head_of (lexemes form.now.source) e) (body_of e)))
         given.old.items (map entry_of stmts.now)) }
 {
     for stmt in stmts {

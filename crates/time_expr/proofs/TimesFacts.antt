@@ -102,7 +102,8 @@ unfolding is_blank is_digit begins_name is_word paren_len short_name word_front 
 whole_third = refl
 
 -- the greatest number twice is out of range, and once it is a time
-pub twice_the_greatest : time (codes "170141183460469231731687303715884105727*2") ≡ Err (record { kind = OutOfRange; block = codes "Timing"; name = codes "t"; line = 7 })
+pub twice_the_greatest : time (codes "170141183460469231731687303715884105727*2")
+    ≡ Err (record { kind = OutOfRange; block = codes "Timing"; name = codes "t"; line = 7 })
 unfolding is_blank is_digit begins_name is_word paren_len short_name word_front unit_front number_front sign_front front_of lexed
     lowest lowest_signed divisor_of remainders
 twice_the_greatest = refl

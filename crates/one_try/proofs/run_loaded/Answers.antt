@@ -23,7 +23,7 @@ returns-in-Ok-clause-trial g c =
     (g.K.Socket.told c.args.socket.now) c.requires.loaded c.in_ok-bench.ensures.checker c.in_ok-bench.ensures.last
     (c.signals.ensures.count ∙ sym c.requires.signals) in
     let is = subst (λ (n : ℕ). IsTrialOf c.make_cycles.new.bench.checker n None c.trial_of.result) c.in-Ok.ensures.all c.trial_of.ensures in
-    whole (whole_try code (device_of c.args.image.now) c.args.keep c.make_cycles.new.bench.checker _ _ c.trial_of.result
+    whole (whole_try code c.args.skews.now (device_of c.args.image.now) c.args.keep c.make_cycles.new.bench.checker _ _ c.trial_of.result
     (c.in-Ok.ensures.goes_on c.args.keep [] begun) is)
 
 pub returns-in-Ok-clause-contact : goal.returns-in-Ok-clause-contact
@@ -33,9 +33,9 @@ returns-in-Ok-clause-contact g c =
     (g.K.Socket.told c.args.socket.now) c.requires.loaded c.in_ok-bench.ensures.checker c.in_ok-bench.ensures.last
     (c.signals.ensures.count ∙ sym c.requires.signals) in
     let is = subst (λ (n : ℕ). IsTrialOf c.make_cycles.new.bench.checker n None c.trial_of.result) c.in-Ok.ensures.all c.trial_of.ensures in
-    let made = whole_try code (device_of c.args.image.now) c.args.keep c.make_cycles.new.bench.checker _ _ c.trial_of.result
+    let made = whole_try code c.args.skews.now (device_of c.args.image.now) c.args.keep c.make_cycles.new.bench.checker _ _ c.trial_of.result
     (c.in-Ok.ensures.goes_on c.args.keep [] begun) is in
-    λ contact. absurd (no_contact (found_in code (device_of c.args.image.now) made.gone) c.trial_of.result.verdict made.records.verdict contact)
+    λ contact. absurd (no_contact (found_in code c.args.skews.now (device_of c.args.image.now) made.gone) c.trial_of.result.verdict made.records.verdict contact)
 
 pub returns-in-Err-Contact-clause-trial : goal.returns-in-Err-Contact-clause-trial
 returns-in-Err-Contact-clause-trial g c =
@@ -43,5 +43,5 @@ returns-in-Err-Contact-clause-trial g c =
     (g.K.Socket.told c.args.socket.now) c.requires.loaded c.in_ok-bench.ensures.checker c.in_ok-bench.ensures.last
     (c.signals.ensures.count ∙ sym c.requires.signals) in
     let stops = rw c.in-Err-Contact.field-0-is at c.in-Err-Contact.ensures.stops in
-    cut (cut_try c.args.code.now (device_of c.args.image.now) c.args.keep c.make_cycles.new.bench.checker c.in-Err-Contact.cycle
+    cut (cut_try c.args.code.now c.args.skews.now (device_of c.args.image.now) c.args.keep c.make_cycles.new.bench.checker c.in-Err-Contact.cycle
     c.in-Err-Contact.at c.trial_of-in-Err-Contact.result (stops c.args.keep [] begun) c.trial_of-in-Err-Contact.ensures)

@@ -19,7 +19,7 @@ make_cycle-requires-clause-way g c =
     let way = c.requires.way in
     record {
       keep = way.keep;
-      before = way.before ++ places_from c.args.code.now 0 (take c.loop-number.number (cycles_of c.args.code.now 0));
+      before = way.before ++ places_from c.args.code.now c.args.skews.now 0 (take c.loop-number.number (cycles_of c.args.code.now 0));
       underway = c.loop-number.invariant.goes way.keep way.before way.underway;
     }
 
@@ -31,7 +31,7 @@ returns-in_err-make_cycle-clause-stops g c =
     let next = next_cycle code _ i _ (cycles_left code c.next.new.self) c.in-Some.cycle c.cycles-cycles.ensures (omega arith) before.left c.in-Some.ensures.given in
     let p = err_from_is_err_and c.from_residual.result c.from_residual.ensures.1 in
     rw (p.1, p.2)
-    (cycle_stops (device_of c.args.image.now) code i c.in-Some.cycle _ _ _ _ _ _ (g.K.Socket.told c.args.socket.now) (g.K.Socket.told c.loop-number.socket)
+    (cycle_stops (device_of c.args.image.now) code c.args.skews.now i c.in-Some.cycle _ _ _ _ _ _ (g.K.Socket.told c.args.socket.now) (g.K.Socket.told c.loop-number.socket)
     c.in_err-make_cycle.field-0.0 next before.goes c.in_err-make_cycle.ensures.stops)
 
 pub loop-number-preserved : goal.loop-number-preserved
@@ -43,7 +43,7 @@ loop-number-preserved g c =
     record {
       over = c.in-Some.ensures.over;
       left = next.rest;
-      goes = cycle_goes_on (device_of c.args.image.now) code i c.in-Some.cycle _ _ _ _ _ _ _ (g.K.Socket.told c.args.socket.now)
+      goes = cycle_goes_on (device_of c.args.image.now) code c.args.skews.now i c.in-Some.cycle _ _ _ _ _ _ _ (g.K.Socket.told c.args.socket.now)
           (g.K.Socket.told c.loop-number.socket) (g.K.Socket.told c.make_cycle.new.socket) next before.goes c.in_ok-make_cycle.ensures.goes_on;
       room = c.in_ok-make_cycle.ensures.room;
       count = omega (arith, before.count, c.in_ok-make_cycle.ensures.count);
@@ -56,4 +56,4 @@ pub returns-clause-goes_on : goal.returns-clause-goes_on
 returns-clause-goes_on g c =
     let code = c.args.code.now in
     let done : c.loop-number.number ≡ length (cycles_of code 0) = omega (arith, length-cycles code, c.cycles-cycles.ensures) in
-    λ keep before u. all_taken (device_of c.args.image.now) code keep before c.loop-number.number _ _ _ done (c.loop-number.invariant.goes keep before u)
+    λ keep before u. all_taken (device_of c.args.image.now) code c.args.skews.now keep before c.loop-number.number _ _ _ done (c.loop-number.invariant.goes keep before u)

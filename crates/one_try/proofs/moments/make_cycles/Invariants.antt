@@ -11,7 +11,7 @@ abbrev pub invariant-loop-number : goal.invariant-loop-number
 invariant-loop-number g l = record {
   over : IsOver l.code l.place;
   left : cycles_left l.code l.place ≡ drop l.number (cycles_of l.code 0);
-  goes : GoesOn (device_of l.image) 0 l.number (places_from l.code 0 (take l.number (cycles_of l.code 0)))
+  goes : GoesOn (device_of l.image) 0 l.number (places_from l.code l.skews 0 (take l.number (cycles_of l.code 0)))
       l.fn.bench.checker l.fn.bench.last.items (g.K.Socket.told l.fn.socket) l.bench.checker l.bench.last.items (g.K.Socket.told l.socket);
   room : FitsBench (length l.image.binds) l.bench.last.items l.bench.levels.items;
   count : (g.K.Socket.told l.fn.socket).count ≤ (g.K.Socket.told l.socket).count;

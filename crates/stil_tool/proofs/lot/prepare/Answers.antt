@@ -5,7 +5,7 @@ use Rattle.stil_tool.specs.OneDie.{net_file}
 use Rattle.stil_tool.specs.Lot.{Inputs, IsPlanFile, IsPlanRefused, IsNetRefused}
 use Rattle.stil_tool.specs.Lot.IsRefused.{of_text, of_plan, of_net}
 use Rattle.stil_tool.proofs.OneDieLemmas.{has_die, one_file}
-use Rattle.stil_tool.proofs.LotLemmas.{wide-plan, wide-net, bound-is, inputs_are, unbound_refused}
+use Rattle.stil_tool.proofs.LotLemmas.{wide-plan, wide-net, inputs_are, unbound_refused}
 use Rattle.stil_tool.proofs.lot.prepare.Goals as goal
 
 pub returns-in-Err-clause-refused : goal.returns-in-Err-clause-refused
@@ -44,14 +44,13 @@ bind-requires g c =
 pub returns-in-Ok-bind-clause-ready : goal.returns-in-Ok-bind-clause-ready
 returns-in-Ok-bind-clause-ready g c =
     let inputs : Inputs = record { thin = c.in-Ok.text; rows = c.in-Ok-read_plan.plan; circuit = c.in-Ok-read_net.net } in
-    let same = bound-is inputs c.in-Ok-compile.code c.in-Ok-compile.ensures in
     record {
       inputs = inputs;
       are = inputs_are (g.F.Shelf.told c.args.shelf.now) _ _ _ _ _ inputs c.in-Ok.ensures.found c.in-Ok.ensures.kept
           c.in-Ok-read_plan.ensures.found c.in-Ok-read_plan.ensures.kept c.net_file.ensures c.in-Ok-read_net.ensures.found;
       compiled = c.in-Ok-compile.ensures;
-      is = c.in-Ok-bind.ensures.0 ∙ same;
-      accepted = ap refusal (sym same) ∙ c.in-Ok-bind.ensures.1;
+      is = c.in-Ok-bind.ensures.0;
+      accepted = c.in-Ok-bind.ensures.1;
     }
 
 pub returns-in-Err-bind-clause-refused : goal.returns-in-Err-bind-clause-refused
@@ -60,5 +59,5 @@ returns-in-Err-bind-clause-refused g c = λ sockets.
     let inputs : Inputs = record { thin = c.in-Ok.text; rows = c.in-Ok-read_plan.plan; circuit = c.in-Ok-read_net.net } in
     let are = inputs_are told _ _ c.args.program.now c.args.plan.now _ inputs c.in-Ok.ensures.found c.in-Ok.ensures.kept
     c.in-Ok-read_plan.ensures.found c.in-Ok-read_plan.ensures.kept c.net_file.ensures c.in-Ok-read_net.ensures.found in
-    unbound_refused told _ _ sockets c.args.program.now c.args.plan.now inputs _ c.in-Err-bind.fault are
-    (bound-is inputs c.in-Ok-compile.code c.in-Ok-compile.ensures) c.in-Err-bind.ensures
+    unbound_refused told _ _ sockets c.args.program.now c.args.plan.now inputs c.in-Ok-compile.code c.in-Err-bind.fault are
+    c.in-Ok-compile.ensures c.in-Err-bind.ensures

@@ -21,6 +21,11 @@ pub returns-in-OutOfRange-clause-ends : goal.returns-in-OutOfRange-clause-ends
 returns-in-OutOfRange-clause-ends g c =
     same_ends _ _ _ _ _ _ _ _ _ (ap plan_status (sym c.in-OutOfRange.is)) (ap plan_line (sym c.in-OutOfRange.is)) c.put_bad_row-in-OutOfRange.ensures.ends
 
+pub returns-in-SkewOutside-clause-ends : goal.returns-in-SkewOutside-clause-ends
+returns-in-SkewOutside-clause-ends g c =
+    same_ends _ _ _ _ _ _ _ _ _ (ap plan_status (sym c.in-SkewOutside.is)) (ap plan_line (sym c.in-SkewOutside.is))
+    c.put_bad_row-in-SkewOutside.ensures.ends
+
 pub returns-in-Unbound-clause-ends : goal.returns-in-Unbound-clause-ends
 returns-in-Unbound-clause-ends g c =
     same_ends _ _ _ _ _ _ _ _ _ (ap plan_status (sym c.in-Unbound.is))

@@ -1,8 +1,12 @@
-use Rattle.page_meaning.proofs.CourseLemmas.{goes_in}
+use Rattle.std.proofs.Common.{arith}
+use Rattle.page_meaning.proofs.CourseLemmas.{enters}
 use Rattle.page_meaning.proofs.course.Course.enter.Goals as goal
 
-pub returns-clause-same : goal.returns-clause-same
-returns-clause-same c = (goes_in c.args.code.now c.args.self.now c.args.times c.requires.on c.requires.begins).0
+pub overflow_sub-self : goal.overflow_sub-self
+overflow_sub-self c = let into = enters c.requires.0 c.args.self.now c.args.times c.requires.1 in omega (arith, into.0)
 
-pub returns-clause-past : goal.returns-clause-past
-returns-clause-past c = (goes_in c.args.code.now c.args.self.now c.args.times c.requires.on c.requires.begins).1
+pub bounds-self-self : goal.bounds-self-self
+bounds-self-self c = let into = enters c.requires.0 c.args.self.now c.args.times c.requires.1 in omega (arith, into.1)
+
+pub returns : goal.returns
+returns c = λ code stands. (enters code c.args.self.now c.args.times stands).2
