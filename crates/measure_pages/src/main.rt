@@ -1,55 +1,25 @@
 //! Walks, saves or loads a code a number of times and prints how much that was, so that it can be timed. The words are `walk`
-//! with a number of cycles, or `save` or `load` with a number of times.
+//! with a number of cycles, or `save` or `load` with a number of times. `cursor` does what `walk` does by a cursor, inside a
+//! page; `far` walks a loop over three pages, and `far1`, `far2` and `far64` do so by a cursor with so many frames. `save_rows`
+//! and `load_rows` take a code of many rows in place of one of many instructions. With `_old` behind it, a word saves or loads
+//! version 1.
 #![tactic(auto)]
 
-ghost use Rattle.std.specs.Prelude.{◌<◌, length};
+mod programs;
 
-use page_code::{Code, load, save, saved_len, walk};
-use std::alloc::{AllocError, Global};
+ghost use Rattle.std.specs.Prelude.{◌≡◌, ◌<◌, ◌≤◌, IfSome, length};
+
+use page_code::{Code, load, save, save_old, walk};
+use pattern_mem::{PatternMem, PoolPass, at};
+use programs::{far, long, many_rows, nest};
+use std::alloc::Global;
 use std::rt::Env;
+use std::sync::Wait;
 use std::{env, io};
-use tester_types::MemSink;
+use tester_types::{MemSink, NoMemory};
 
-/// A signal a, a table w with waves for 0 and 1, the rows 0 and 1, and an executive up to its chains.
-const FRONT: [u8; 69] = [
-    0xD7, 0x53, 0x54, 0x50, 1, 0, 0, 0, 1, 0, 0, 1, 0, b'a', 1, 0, 1, 0, b'w', 0x00, 0xE1, 0xF5,
-    0x05, 0, 0, 0, 0, 2, 0, 0, 0, 0, 0, b'0', 1, 0, 0, 0, 0, 0, 0, 0, 0, 1, 0, 0, b'1', 1, 0, 0, 0,
-    0, 0, 0, 0, 0, 2, 2, 0, 0, 0, b'0', b'1', 1, 0, 0, 0, 0, 0,
-];
-
-/// Runs row 1 of table 0 once.
-const RUN: [u8; 16] = [1, 0, 0, 0, 1, 0, 0, 0, 0, 0, 0, 0, 1, 0, 0, 0];
-
-/// Runs what it encloses 2 to the power of 24 times.
-const LOOP: [u8; 16] = [2, 0, 0, 0, 0, 0, 0, 0, 0, 0, 0, 1, 0, 0, 0, 0];
-
-const END: [u8; 16] = [3, 0, 0, 0, 0, 0, 0, 0, 0, 0, 0, 0, 0, 0, 0, 0];
-
-const DONE: [u8; 16] = [4, 0, 0, 0, 0, 0, 0, 0, 0, 0, 0, 0, 0, 0, 0, 0];
-
-/// The instructions of the long program, 16 MB of them.
-const RUNS: u32 = 1_000_000;
-
-/// A program of two loops round one cycle.
-fn nest(alloc: Global) -> Result<Vec<u8>, AllocError> {
-    let mut bytes = Vec::from_slice(alloc, &FRONT)?;
-    bytes.extend_from_slice(&6u32.to_le_bytes())?;
-    for instr in [LOOP, LOOP, RUN, END, END, DONE] {
-        bytes.extend_from_slice(&instr)?;
-    }
-    Ok(bytes)
-}
-
-/// A program of many instructions.
-fn long(alloc: Global) -> Result<Vec<u8>, AllocError> {
-    let mut bytes = Vec::from_slice(alloc, &FRONT)?;
-    bytes.extend_from_slice(&(RUNS + 1).to_le_bytes())?;
-    for _ in 0..RUNS {
-        bytes.extend_from_slice(&RUN)?;
-    }
-    bytes.extend_from_slice(&DONE)?;
-    Ok(bytes)
-}
+/// The bytes that each saved program has room in.
+const ROOM: usize = 20_000_000;
 
 /// How many cycles come, of so many that are asked for.
 fn walked(code: &Code, most: u32) -> u64
@@ -65,26 +35,69 @@ fn walked(code: &Code, most: u32) -> u64
     count
 }
 
-/// How many bytes are saved in so many times.
-fn saved(alloc: Global, code: &Code, times: u32) -> Result<u64, AllocError> {
+/// How many cycles a cursor gives, of so many that are asked for.
+fn given<R: Wait>(
+    rt: &R,
+    alloc: Global,
+    mem: &PatternMem,
+    pass: &mut PoolPass,
+    most: u32,
+) -> Result<u64, NoMemory>
+    requires exec { 0 < length mem.now.code.execs }
+    requires pass { pass.old ≡ mem.now }
+{
+    let mut cursor = at(alloc, mem, 0)?;
     let mut count = 0u64;
-    for _ in 0..times {
-        let room = saved_len(code) as usize;
-        let (none, nothing) = (Vec::new(alloc), Vec::new(alloc));
-        match MemSink::new(alloc, room, room.max(1), none, nothing) {
-            Ok(mut sink) => {
-                if save(code, &mut sink).is_ok() {
-                    count = count.saturating_add(sink.bytes().len() as u64);
-                }
-            }
-            Err(_) => return Err(AllocError),
+    for _ in 0..most {
+        if cursor.next(rt, mem, pass)?.is_some() {
+            count = count.saturating_add(1);
         }
     }
     Ok(count)
 }
 
+/// The same over a code with so many frames.
+fn given_of<R: Wait>(
+    rt: &R,
+    alloc: Global,
+    code: Code,
+    frames: u16,
+    most: u32,
+) -> Result<u64, NoMemory>
+    requires exec { 0 < length code.execs }
+    requires frames { (1 ≤ frames) × (frames ≤ 256) }
+{
+    let (mem, passes) = PatternMem::new(alloc, code, frames, 1)?;
+    match passes.into_vec().pop() {
+        Some(mut pass) => given(rt, alloc, &mem, &mut pass, most),
+        None => Ok(0),
+    }
+}
+
+/// A sink with a code in it, in version 1 where that is asked for.
+fn saved(alloc: Global, code: &Code, is_old: bool) -> Result<MemSink, NoMemory> {
+    let (none, nothing) = (Vec::new(alloc), Vec::new(alloc));
+    let mut sink = MemSink::new(alloc, ROOM, ROOM, none, nothing)?;
+    let _end = if is_old {
+        save_old(code, &mut sink)
+    } else {
+        save(code, &mut sink)
+    };
+    Ok(sink)
+}
+
+/// How many bytes are saved in so many times.
+fn saves(alloc: Global, code: &Code, is_old: bool, times: u32) -> Result<u64, NoMemory> {
+    let mut count = 0u64;
+    for _ in 0..times {
+        let sink = saved(alloc, code, is_old)?;
+        count = count.saturating_add(sink.bytes().len() as u64);
+    }
+    Ok(count)
+}
+
 /// How many bytes are loaded in so many times.
-fn loaded(alloc: Global, bytes: &[u8], times: u32) -> u64 {
+fn loads(alloc: Global, bytes: &[u8], times: u32) -> u64 {
     let mut count = 0u64;
     for _ in 0..times {
         if load(alloc, bytes).is_ok() {
@@ -94,16 +107,56 @@ fn loaded(alloc: Global, bytes: &[u8], times: u32) -> u64 {
     count
 }
 
-/// What the words ask for, so many times.
-fn measured(alloc: Global, what: &str, times: u32) -> Result<u64, AllocError> {
-    if what == "load" {
-        return Ok(loaded(alloc, long(alloc)?.as_slice(), times));
+/// With how many frames a cursor gives what the word asks for; none where a walk does.
+fn frames(what: &str) -> Option<u16>
+    ensures { IfSome result (λ frames. (1 ≤ frames) × (frames ≤ 256)) }
+{
+    match what {
+        "cursor" | "far1" => Some(1),
+        "far2" => Some(2),
+        "far64" => Some(64),
+        _ => None,
     }
-    let is_walk = what == "walk";
-    let bytes = if is_walk { nest(alloc)? } else { long(alloc)? };
+}
+
+/// How many cycles come by what the word asks for, of so many.
+fn cycles<R: Wait>(rt: &R, alloc: Global, what: &str, most: u32) -> Result<u64, NoMemory> {
+    let bytes = if what.starts_with("far") {
+        far(alloc)?
+    } else {
+        nest(alloc)?
+    };
     match load(alloc, bytes.as_slice()) {
-        Ok(code) if is_walk && code.execs() > 0 => Ok(walked(&code, times)),
-        Ok(code) => saved(alloc, &code, times),
+        Ok(code) if code.execs() > 0 => match frames(what) {
+            Some(frames) => given_of(rt, alloc, code, frames, most),
+            None => Ok(walked(&code, most)),
+        },
+        _ => Ok(0),
+    }
+}
+
+/// How many bytes of a code are saved or loaded as the word asks for, so many times.
+fn moved(alloc: Global, code: &Code, what: &str, times: u32) -> Result<u64, NoMemory> {
+    let is_old = what.ends_with("_old");
+    if what.starts_with("save") {
+        return saves(alloc, code, is_old, times);
+    }
+    let sink = saved(alloc, code, is_old)?;
+    Ok(loads(alloc, sink.bytes(), times))
+}
+
+/// What the word asks for, so many times.
+fn measured<R: Wait>(rt: &R, alloc: Global, what: &str, times: u32) -> Result<u64, NoMemory> {
+    if !what.starts_with("save") && !what.starts_with("load") {
+        return cycles(rt, alloc, what, times);
+    }
+    let bytes = if what.contains("_rows") {
+        many_rows(alloc)?
+    } else {
+        long(alloc)?
+    };
+    match load(alloc, bytes.as_slice()) {
+        Ok(code) => moved(alloc, &code, what, times),
         Err(_) => Ok(0),
     }
 }
@@ -116,7 +169,7 @@ fn main(rt: HostRuntime) -> io::Result<()> {
         .and_then(|word| word.as_str().parse().ok())
         .unwrap_or(1);
     let what = what.as_ref().map_or("walk", |word| word.as_str());
-    match measured(rt.alloc(), what, times) {
+    match measured(&rt, rt.alloc(), what, times) {
         Ok(count) => println!(rt; "{count}"),
         Err(_) => println!(rt; "no memory"),
     }
