@@ -1,0 +1,140 @@
+-- What is written of a list of items, item by item, and of trees, tree by tree.
+use Rattle.std.proofs.Common.{◌≡◌, ℕ, ◌+◌, ◌<◌, List, [], ◌∷◌, ◌++◌, length, take, drop, take-append-drop, get_or, refl, sym, ap, subst, ◌∙◌, arith}
+use Rattle.std.proofs.lemmas.List.{take_more, get_or_default}
+use Rattle.std.proofs.lemmas.List.Sums.{sum_by_more}
+use Rattle.tester_types.specs.declared.wave.Table.{Table}
+use Rattle.stil_ast.specs.Meaning.State.{State}
+use Rattle.stil_ast.specs.Meaning.Running.{Ran, still, behind, then_run, outside}
+use Rattle.stil_ast.specs.Meaning.Flat.{Flat, done, flat_run, measure}
+use Rattle.stil_ast.specs.Meaning.Flattening.{joined}
+use Rattle.stil_ast.proofs.RunLemmas.{then_run-assoc}
+use Rattle.stil_ast.proofs.FlatSteps.{flat_run-joined}
+use Rattle.flat_tree.specs.Items.{item_front, items_flat}
+use Rattle.flat_tree.specs.declared.flat.FlatItem.{FlatItem}
+use Rattle.flat_tree.proofs.FlatLemmas.{items_flat-append, measure-take_more}
+use Rattle.page_meaning.specs.declared.instr.Instr.{Instr}
+use Rattle.instr_writer.specs.Working.{Walked, IsStopped, flats_run, flats_measure, AreStopped, IsOfTree}
+use Rattle.instr_writer.specs.declared.fault.WriteError.{WriteError}
+use Rattle.instr_writer.specs.declared.trouble.Trouble.{Trouble}
+use Rattle.instr_writer.specs.declared.trouble.Trouble.TheVariants.{NoMemory, At}
+use Rattle.instr_writer.proofs.FaultLemmas.{stopped-behind, stopped-before}
+use Rattle.instr_writer.proofs.WalkedLemmas.{walked-then, walked-as, walked-alone}
+
+-- ---- items
+
+-- an item behind those before it
+taken_more : (items : List FlatItem) (i : ℕ) (d item : FlatItem) → item ≡ get_or items i d → i < length items
+    → items_flat (take (i + 1) items) ≡ joined (items_flat (take i items)) (item_front item done)
+taken_more items i d item e within =
+    ap items_flat (take_more items i d within)
+    ∙ (items_flat-append (take i items) (get_or items i d ∷ [])
+    ∙ ap (λ (x : FlatItem). joined (items_flat (take i items)) (item_front x done)) (sym e))
+
+taken_run : (items : List FlatItem) (i : ℕ) (d item : FlatItem) (base s : State) → item ≡ get_or items i d
+    → i < length items
+    → flat_run (items_flat (take (i + 1) items)) base s
+    ≡ then_run (flat_run (items_flat (take i items)) base s) (flat_run (item_front item done) base)
+taken_run items i d item base s e within =
+    ap (λ (f : Flat). flat_run f base s) (taken_more items i d item e within)
+    ∙ flat_run-joined (items_flat (take i items)) (item_front item done) base s
+
+pub walked-item : (tables : List Table) (first : ℕ) (items : List FlatItem) (i : ℕ) (d item : FlatItem) (base s : State)
+    (old mid new : List Instr) (before rows after : List (List ℕ)) (now next : State)
+    → item ≡ get_or items i d → i < length items
+    → Walked tables first (flat_run (items_flat (take i items)) base s) (measure (items_flat (take i items)))
+    old mid before rows now
+    → Walked tables first (flat_run (item_front item done) base now) (measure (item_front item done))
+    mid new rows after next
+    → Walked tables first (flat_run (items_flat (take (i + 1) items)) base s) (measure (items_flat (take (i + 1) items)))
+    old new before after next
+walked-item tables first items i d item base s old mid new before rows after now next e within p q =
+    let m = measure (items_flat (take i items)) in
+    let n = measure (item_front item done) in
+    let size = measure-take_more items i d item e within in
+    let r = flat_run (items_flat (take i items)) base s in
+    let last = flat_run (item_front item done) base in
+    walked-as tables first (then_run r last) (flat_run (items_flat (take (i + 1) items)) base s) (m + n)
+    (measure (items_flat (take (i + 1) items))) old new before after next
+    (sym (taken_run items i d item base s e within)) (omega (arith, size))
+    (walked-then tables first r last m n old mid new before rows after now next p q)
+
+-- a list stops at an item
+pub stopped-item : (tables : List Table) (first : ℕ) (items : List FlatItem) (i : ℕ) (d item : FlatItem) (base s : State)
+    (size : ℕ) (old mid : List Instr) (before rows : List (List ℕ)) (now : State) (t : Trouble)
+    → item ≡ get_or items i d → i < length items
+    → Walked tables first (flat_run (items_flat (take i items)) base s) size old mid before rows now
+    → IsStopped tables (flat_run (item_front item done) base now).made t
+    → IsStopped tables (flat_run (items_flat items) base s).made t
+stopped-item tables first items i d item base s size old mid before rows now t e within p stop =
+    let r = flat_run (items_flat (take i items)) base s in
+    let one = flat_run (item_front item done) base r.here in
+    let here = subst (λ (x : State). IsStopped tables (flat_run (item_front item done) base x).made t) p.here_is stop in
+    let upto = subst (λ (x : Ran State). IsStopped tables x.made t) (sym (taken_run items i d item base s e within))
+    (stopped-behind tables r.made one.made t p.wrote.fine here) in
+    let front = items_flat (take (i + 1) items) in
+    let rest = items_flat (drop (i + 1) items) in
+    let whole = ap items_flat (sym (take-append-drop (i + 1) items)) ∙ items_flat-append (take (i + 1) items) (drop (i + 1) items) in
+    subst (λ (x : Ran State). IsStopped tables x.made t)
+    (sym (ap (λ (f : Flat). flat_run f base s) whole ∙ flat_run-joined front rest base s))
+    (stopped-before tables (flat_run front base s).made (flat_run rest base (flat_run front base s).here).made t upto)
+
+-- ---- trees
+
+flats_run-append : (flats more : List Flat) (s : State)
+    → flats_run (flats ++ more) s ≡ then_run (flats_run flats s) (flats_run more)
+flats_run-append [] more s = refl
+flats_run-append (f ∷ flats) more s =
+    let r = flat_run f (outside s).held s in
+    ap (behind r.made) (flats_run-append flats more r.here) ∙ sym (then_run-assoc r (flats_run flats) (flats_run more))
+
+-- a tree behind those before it
+flats_more : (flats : List Flat) (i : ℕ) (s : State) → i < length flats
+    → flats_run (take (i + 1) flats) s
+    ≡ then_run (flats_run (take i flats) s) (λ (now : State). then_run (flat_run (get_or flats i done) (outside now).held now) still)
+flats_more flats i s within =
+    ap (λ (fs : List Flat). flats_run fs s) (take_more flats i done within)
+    ∙ flats_run-append (take i flats) (get_or flats i done ∷ []) s
+
+pub walked-tree : (tables : List Table) (first : ℕ) (flats : List Flat) (i : ℕ) (f : Flat) (outer s : State)
+    (old mid new : List Instr) (before rows after : List (List ℕ)) (now next : State)
+    → f ≡ get_or flats i f → i < length flats → outer ≡ (outside now).held
+    → Walked tables first (flats_run (take i flats) s) (flats_measure (take i flats)) old mid before rows now
+    → Walked tables first (flat_run f outer now) (measure f) mid new rows after next
+    → Walked tables first (flats_run (take (i + 1) flats) s) (flats_measure (take (i + 1) flats)) old new before after next
+walked-tree tables first flats i f outer s old mid new before rows after now next e within held p q =
+    let at = get_or_done flats i f e within in
+    let size = sum_by_more measure flats i done within in
+    let m = flats_measure (take i flats) in
+    let n = measure (get_or flats i done) in
+    let one = λ (here : State). flat_run (get_or flats i done) (outside here).held here in
+    let alone = subst (λ (g : Flat). Walked tables first (flat_run g (outside now).held now) (measure g) mid new rows after next) at
+    (subst (λ (b : State). Walked tables first (flat_run f b now) (measure f) mid new rows after next) held q) in
+    walked-as tables first (then_run (flats_run (take i flats) s) (λ (here : State). then_run (one here) still))
+    (flats_run (take (i + 1) flats) s) (m + n) (flats_measure (take (i + 1) flats)) old new before after next
+    (sym (flats_more flats i s within)) (omega (arith, size))
+    (walked-then tables first (flats_run (take i flats) s) (λ (here : State). then_run (one here) still) m n old mid new
+    before rows after now next p (walked-alone tables first (one now) n n mid new rows after next (omega arith) alone))
+  where
+    get_or_done : (flats : List Flat) (i : ℕ) (f : Flat) → f ≡ get_or flats i f → i < length flats → f ≡ get_or flats i done
+    get_or_done flats i f e within = e ∙ get_or_default flats i f done within
+
+-- trees stop at a tree
+pub stopped-tree : (tables : List Table) (first : ℕ) (flats : List Flat) (i : ℕ) (f : Flat) (outer s : State) (size : ℕ)
+    (old mid : List Instr) (before rows : List (List ℕ)) (now : State) (t : Trouble) (e : WriteError)
+    → f ≡ get_or flats i f → i < length flats → outer ≡ (outside now).held
+    → Walked tables first (flats_run (take i flats) s) size old mid before rows now
+    → IsStopped tables (flat_run f outer now).made t → IsOfTree i t e → AreStopped tables flats s e
+stopped-tree tables first flats i f outer s size old mid before rows now NoMemory e at within held p stop of =
+    subst (λ (x : WriteError). AreStopped tables flats s x) (sym of) tt
+stopped-tree tables first flats i f outer s size old mid before rows now (At place kind) e at within held p stop of =
+    let g = at ∙ get_or_default flats i f done within in
+    let r = flats_run (take i flats) s in
+    subst (λ (x : WriteError). AreStopped tables flats s x) (sym of)
+    (record {
+      there = within;
+      fine = p.wrote.fine;
+      first =
+          subst (λ (here : State). IsStopped tables (flat_run (get_or flats i done) (outside here).held here).made (At place kind)) p.here_is
+          (subst (λ (x : Flat). IsStopped tables (flat_run x (outside now).held now).made (At place kind)) g
+          (subst (λ (b : State). IsStopped tables (flat_run f b now).made (At place kind)) held stop));
+    })

@@ -1,0 +1,29 @@
+//! Whether a table defines the characters of signals (IEEE 1450-1999, clause 18).
+
+ghost use Rattle.std.specs.Prelude.{◌≡◌, ◌≤◌, ◌^◌, length, slice_get};
+ghost use Rattle.stil_ast.specs.Faults.CodeFaults.{has_wave, have_waves};
+
+use wave_tables::WaveSet;
+
+/// Whether the table defines the character of a signal, if it has one.
+fn has_wave(tables: &WaveSet, table: u16, signal: u16, letter: Option<u8>) -> bool
+    ensures { result ≡ has_wave (slice_get tables.now table) signal letter }
+{
+    match letter {
+        Some(letter) => tables.wave(usize::from(table), signal, letter).is_some(),
+        None => true,
+    }
+}
+
+/// The same of each signal.
+pub(crate) fn have_waves(tables: &WaveSet, table: u16, letters: &[Option<u8>]) -> bool
+    requires { length letters.now ≤ 2 ^ 16 }
+    ensures { result ≡ have_waves (slice_get tables.now table) 0 letters.now }
+{
+    for (signal, letter) in letters.iter().enumerate() {
+        if !has_wave(tables, table, signal as u16, *letter) {
+            return false;
+        }
+    }
+    true
+}

@@ -1,0 +1,186 @@
+//! What a flat tree runs, as instructions.
+
+ghost use Rattle.std.specs.Prelude.{◌≡◌, ◌∷◌, [], ◌*◌, ◌+◌, IfErr, IfOk, OnOk};
+ghost use Rattle.stil_ast.specs.Meaning.Running.{times};
+ghost use Rattle.stil_ast.specs.Meaning.Flat.{done, flat_run, measure, repeat, save};
+ghost use Rattle.flat_tree.specs.Items.{item_front};
+ghost use Rattle.instr_writer.specs.Working.{Walked, Wrote, IsStopped, made_at};
+
+use crate::counting::list_cycles;
+use crate::output::{put_cycle, put_loop};
+use crate::state::State;
+use crate::trouble::Trouble;
+use crate::waves::have_waves;
+use flat_tree::{FlatItem, FlatList, Origin};
+use page_code::{Entry, Instr, RowList};
+use std::alloc::{AllocError, Global};
+use stil_ast::StilKind;
+use wave_tables::WaveSet;
+
+/// Where memory comes from, the executive's tables, and the number of the first of them in the code.
+#[derive(Clone, Copy)]
+pub(crate) struct Source<'a> {
+    pub(crate) alloc: Global,
+    pub(crate) tables: &'a WaveSet,
+    pub(crate) first: u16,
+}
+
+/// The number of a row, if 32 bits have room for it.
+fn row_number(number: usize) -> Result<u32, AllocError>
+    ensures { IfOk result (λ row. row ≡ number) }
+{
+    match u32::try_from(number) {
+        Ok(row) => Ok(row),
+        Err(_) => Err(AllocError),
+    }
+}
+
+/// Writes a vector of this state, if it can run.
+fn write_vector(
+    source: &Source,
+    state: &State,
+    mark: u32,
+    place: Origin,
+    code: &mut Vec<Instr>,
+    rows: &mut RowList,
+) -> Result<(), Trouble>
+    ensures done { OnOk result (Wrote source.now.tables.now source.now.first (made_at state.now mark place ∷ []) 1
+        code.old.items code.new.items rows.old rows.new) }
+    ensures stopped { IfErr result (IsStopped source.now.tables.now (made_at state.now mark place ∷ [])) }
+{
+    let Some(table) = state.table() else {
+        return Err(Trouble::At(place, StilKind::NoTable));
+    };
+    if !have_waves(source.tables, table, state.letters()) {
+        return Err(Trouble::At(place, StilKind::NoWave));
+    }
+    let number = rows.add(state.row()?)?;
+    let row = row_number(number)?;
+    let table = source.first.saturating_add(table);
+    put_cycle(code, Entry { table, row, mark })?;
+    Ok(())
+}
+
+/// Writes what a flat tree runs from this state on. `base` is the state with which the innermost save round it began.
+#[cycle(writing)]
+pub(crate) fn write_list(
+    source: &Source,
+    list: &FlatList,
+    base: &State,
+    state: &mut State,
+    code: &mut Vec<Instr>,
+    rows: &mut RowList,
+) -> Result<(), Trouble>
+    ensures done { OnOk result (Walked source.now.tables.now source.now.first (flat_run list.now base.now state.old)
+        (measure list.now) code.old.items code.new.items rows.old rows.new state.new) }
+    ensures stopped { IfErr result (IsStopped source.now.tables.now (flat_run list.now base.now state.old).made) }
+{
+    for item in list.as_slice() {
+        match write_item(source, item, base, state, code, rows) {
+            Ok(()) => {}
+            Err(trouble) => return Err(trouble),
+        }
+    }
+    Ok(())
+}
+
+/// The same of an item.
+#[cycle(writing)]
+fn write_item(
+    source: &Source,
+    item: &FlatItem,
+    base: &State,
+    state: &mut State,
+    code: &mut Vec<Instr>,
+    rows: &mut RowList,
+) -> Result<(), Trouble>
+    ensures done { OnOk result (Walked source.now.tables.now source.now.first
+        (flat_run (item_front item.now done) base.now state.old) (measure (item_front item.now done))
+        code.old.items code.new.items rows.old rows.new state.new) }
+    ensures stopped { IfErr result (IsStopped source.now.tables.now
+        (flat_run (item_front item.now done) base.now state.old).made) }
+{
+    match item {
+        FlatItem::Table(table) => {
+            state.set_table(*table);
+            Ok(())
+        }
+        FlatItem::Character(signal, letter) => {
+            state.set(*signal, Some(*letter));
+            Ok(())
+        }
+        FlatItem::Back(signal) => {
+            state.set(*signal, base.letter(*signal));
+            Ok(())
+        }
+        FlatItem::Cycle(mark, place) => write_vector(source, state, *mark, *place, code, rows),
+        FlatItem::Repeat(count, body) => write_loop(source, *count, body, base, state, code, rows),
+        FlatItem::Save(putting, body) => write_save(source, *putting, body, state, code, rows),
+    }
+}
+
+/// Writes a loop: its first pass, and behind it a Loop over the second one, which all later ones are like.
+#[cycle(writing)]
+fn write_loop(
+    source: &Source,
+    count: u64,
+    body: &FlatList,
+    base: &State,
+    state: &mut State,
+    code: &mut Vec<Instr>,
+    rows: &mut RowList,
+) -> Result<(), Trouble>
+    ensures done { OnOk result (Walked source.now.tables.now source.now.first
+        (times count (flat_run body.now base.now) state.old) (2 * measure body.now + 2)
+        code.old.items code.new.items rows.old rows.new state.new) }
+    ensures stopped { IfErr result (IsStopped source.now.tables.now
+        (times count (flat_run body.now base.now) state.old).made) }
+{
+    if count == 0 {
+        return Ok(());
+    }
+    match write_list(source, body, base, state, code, rows) {
+        Ok(()) => {}
+        Err(trouble) => return Err(trouble),
+    }
+    if count == 1 {
+        return Ok(());
+    }
+    if list_cycles(body) == 0 {
+        return Ok(());
+    }
+    let mut pass = Vec::new(source.alloc);
+    match write_list(source, body, base, state, &mut pass, rows) {
+        Ok(()) => {}
+        Err(trouble) => return Err(trouble),
+    }
+    put_loop(code, count - 1, pass)?;
+    Ok(())
+}
+
+/// Writes the body of a save, behind which the state is put back or not.
+#[cycle(writing)]
+fn write_save(
+    source: &Source,
+    putting: bool,
+    body: &FlatList,
+    state: &mut State,
+    code: &mut Vec<Instr>,
+    rows: &mut RowList,
+) -> Result<(), Trouble>
+    ensures done { OnOk result (Walked source.now.tables.now source.now.first
+        (flat_run (save putting body.now done) state.old state.old) (measure body.now)
+        code.old.items code.new.items rows.old rows.new state.new) }
+    ensures stopped { IfErr result (IsStopped source.now.tables.now
+        (flat_run body.now state.old state.old).made) }
+{
+    let held = state.copy()?;
+    match write_list(source, body, &held, state, code, rows) {
+        Ok(()) => {}
+        Err(trouble) => return Err(trouble),
+    }
+    if putting {
+        *state = held;
+    }
+    Ok(())
+}
