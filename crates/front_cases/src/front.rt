@@ -1,22 +1,18 @@
 //! A text by the passes of the language, up to its first fault.
 
-ghost use Rattle.std.specs.Prelude.{◌≡◌, ◌≤◌, ◌<◌, IfOk, length};
+ghost use Rattle.std.specs.Prelude.{◌≤◌, IfOk, length};
 ghost use Rattle.text_bytes.specs.Limits.{most_bytes};
 ghost use Rattle.stil_ast.specs.Data.OneText.{AreOfOneText};
-ghost use Rattle.stil_ast.specs.Meaning.Signals.{names_of};
-ghost use Rattle.signal_groups.specs.Table.{table_of};
 
-use crate::patterns::{Standing, walk_patterns};
-use pattern_order::{BurstNames, play_order};
-use signal_groups::SignalTable;
+use burst_exec::executives;
+use cycle_comp::compile;
+use page_code::Code;
 use std::alloc::{AllocError, AllocFailed, Global};
 use stil_ast::{Blocks, StilFault, StilRefusal};
 use stil_lex::lex;
 use stil_read::read_blocks;
 use stil_tree::forest;
 use text_bytes::MOST_BYTES;
-use time_expr::choose;
-use wave_tables::WaveSet;
 
 /// Why a text isn't read to its end.
 #[derive(Drop)]
@@ -68,67 +64,6 @@ fn blocks_of(alloc: Global, text: &[u8]) -> Result<Blocks, Stop>
     }
 }
 
-/// How many waves tables have.
-fn waves_in(set: &WaveSet) -> u32 {
-    let mut count = 0u32;
-    for table in 0..set.len() {
-        let waves = u32::try_from(set.waves(table).len()).unwrap_or(u32::MAX);
-        count = count.saturating_add(waves);
-    }
-    count
-}
-
-/// How many waves the executives so far have, and how many statements they walk and signals they assign.
-#[derive(Clone, Copy)]
-struct Counts {
-    waves: u32,
-    walked: u32,
-}
-
-/// Judges the names, variables, tables, chains and patterns of an executive, behind others.
-fn judge_exec(
-    alloc: Global,
-    blocks: &Blocks,
-    exec: usize,
-    names: &BurstNames,
-    signals: &SignalTable,
-    counts: &mut Counts,
-) -> Result<(), Stop>
-    requires text { AreOfOneText blocks.now }
-    requires executive { exec < length blocks.now.executives }
-    requires names { names.now ≡ blocks.now }
-    requires signals { signals.now ≡ table_of (names_of blocks.now) }
-{
-    let order = play_order(alloc, names, exec)?;
-    let vars = choose(alloc, blocks, exec)?;
-    let tables = wave_tables::build(alloc, blocks, exec, signals, &vars, counts.waves)?;
-    let chains = scan_chain::build(alloc, blocks, exec, signals)?;
-    counts.waves = counts.waves.saturating_add(waves_in(&tables));
-    let standing = Standing {
-        blocks,
-        signals,
-        tables: &tables,
-        chains: &chains,
-    };
-    walk_patterns(alloc, &standing, order.as_slice(), &mut counts.walked)
-}
-
-/// Judges all executives.
-fn judge_execs(alloc: Global, blocks: &Blocks, signals: &SignalTable) -> Result<(), Stop>
-    requires text { AreOfOneText blocks.now }
-    requires signals { signals.now ≡ table_of (names_of blocks.now) }
-{
-    let names = BurstNames::new(alloc, blocks)?;
-    let mut counts = Counts {
-        waves: 0,
-        walked: 0,
-    };
-    for exec in 0..blocks.executives.len() {
-        judge_exec(alloc, blocks, exec, &names, signals, &mut counts)?;
-    }
-    Ok(())
-}
-
 /// Judges a text by its blocks, its signals and groups, and its executives.
 fn judge_text(alloc: Global, text: &[u8]) -> Result<(), Stop> {
     if text.len() > MOST_BYTES {
@@ -136,7 +71,20 @@ fn judge_text(alloc: Global, text: &[u8]) -> Result<(), Stop> {
     }
     let blocks = blocks_of(alloc, text)?;
     let signals = signal_groups::build(alloc, &blocks)?;
-    judge_execs(alloc, &blocks, &signals)
+    let _execs = executives(alloc, &blocks, &signals)?;
+    Ok(())
+}
+
+/// The code of a text.
+fn code_of(alloc: Global, text: &[u8]) -> Result<Code, Stop> {
+    if text.len() > MOST_BYTES {
+        return Err(Stop::NoText);
+    }
+    let blocks = blocks_of(alloc, text)?;
+    let signals = signal_groups::build(alloc, &blocks)?;
+    let execs = executives(alloc, &blocks, &signals)?;
+    let code = compile(alloc, &signals, &execs)?;
+    Ok(code)
 }
 
 /// The bytes as a word that can be printed.
@@ -154,12 +102,37 @@ fn told(alloc: Global, fault: &StilFault) -> Result<String, AllocError> {
     Ok(format!(in alloc; "{kind} {block} {name} {line}")?)
 }
 
-/// What is told of a text's first fault, or `fine`.
+/// What is told where a text isn't read to its end.
+fn stopped(alloc: Global, stop: Stop) -> Result<String, AllocError> {
+    match stop {
+        Stop::NoMemory => String::from_str(alloc, "no memory"),
+        Stop::NoText => String::from_str(alloc, "no statements"),
+        Stop::Fault(fault) => told(alloc, &fault),
+    }
+}
+
+/// What is told of a text's first fault before it is compiled, or `fine`.
 pub(crate) fn judge(alloc: Global, text: &[u8]) -> Result<String, AllocError> {
     match judge_text(alloc, text) {
         Ok(()) => String::from_str(alloc, "fine"),
-        Err(Stop::NoMemory) => String::from_str(alloc, "no memory"),
-        Err(Stop::NoText) => String::from_str(alloc, "no statements"),
-        Err(Stop::Fault(fault)) => told(alloc, &fault),
+        Err(stop) => stopped(alloc, stop),
+    }
+}
+
+/// What is told of a code: how many executives, cycles of all of them, and rows it has.
+fn counted(alloc: Global, code: &Code) -> Result<String, AllocError> {
+    let mut cycles: u64 = 0;
+    for exec in 0..code.execs() {
+        cycles = cycles.saturating_add(code.cycles(exec));
+    }
+    let (execs, rows) = (code.execs(), code.rows());
+    Ok(format!(in alloc; "{execs} {cycles} {rows}")?)
+}
+
+/// What is told of a text's code, or of its first fault.
+pub(crate) fn judge_code(alloc: Global, text: &[u8]) -> Result<String, AllocError> {
+    match code_of(alloc, text) {
+        Ok(code) => counted(alloc, &code),
+        Err(stop) => stopped(alloc, stop),
     }
 }

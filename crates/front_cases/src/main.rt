@@ -5,9 +5,8 @@
 
 mod front;
 mod known;
-mod patterns;
 
-use crate::front::judge;
+use crate::front::{judge, judge_code};
 use crate::known::{Known, known_of};
 use std::alloc::Global;
 use std::rt::{Env, Files};
@@ -20,9 +19,14 @@ struct Tally {
     differ: u64,
 }
 
-/// What is told of a text's first fault, or `fine`.
-fn answer_of(alloc: Global, text: &str) -> String {
-    match judge(alloc, text.as_bytes()) {
+/// What is told of a text: of its code where that is wanted, else of its first fault before it is compiled, or `fine`.
+fn answer_of(alloc: Global, text: &str, is_compiled: bool) -> String {
+    let answer = if is_compiled {
+        judge_code(alloc, text.as_bytes())
+    } else {
+        judge(alloc, text.as_bytes())
+    };
+    match answer {
         Ok(answer) => answer,
         Err(_) => String::new(alloc),
     }
@@ -32,12 +36,16 @@ impl Tally {
     /// Judges one text, and prints what differs.
     fn take<R: Print + AllocGlobal>(&mut self, rt: &R, file: &str, known: Known) -> io::Result<()> {
         self.texts = self.texts.saturating_add(1);
-        let answer = answer_of(rt.alloc(), known.text);
-        if answer.as_str() == known.wanted {
+        let (wanted, is_compiled) = match known.wanted.strip_prefix("code ") {
+            Some(wanted) => (wanted, true),
+            None => (known.wanted, false),
+        };
+        let answer = answer_of(rt.alloc(), known.text, is_compiled);
+        if answer.as_str() == wanted {
             return Ok(());
         }
         self.differ = self.differ.saturating_add(1);
-        let (title, wanted) = (known.title, known.wanted);
+        let title = known.title;
         println!(rt; "{file}: {title}: `{answer}`, and `{wanted}` is wanted")
     }
 

@@ -24,6 +24,7 @@ mod walking;
 
 pub use bodies::Bodies;
 pub use expanding::expand;
+pub use refusing::fault_of;
 pub use scope::{BlockTitles, PatternScope};
 
 #[cfg(test)]

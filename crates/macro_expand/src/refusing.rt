@@ -38,8 +38,8 @@ fn title<'a>(titles: &BlockTitles<'a>, body: BodyKind) -> &'a [u8]
     }
 }
 
-/// A fault of this kind on a line of a body.
-fn fault_of(
+/// A fault of this kind on a line of a body, told with the name of the block in which the body stands.
+pub fn fault_of(
     alloc: Global,
     titles: &BlockTitles,
     kind: StilKind,

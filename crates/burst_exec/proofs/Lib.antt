@@ -1,0 +1,12 @@
+pub mod CountLemmas
+pub mod FindLemmas
+pub mod ListLemmas
+pub mod WaveLemmas
+pub mod StagedLemmas
+pub mod JoinedLemmas
+pub mod StopLemmas
+pub mod OutLemmas
+pub mod ScopeLemmas
+pub mod TreeLemmas
+pub mod RunLemmas
+pub mod GatherLemmas

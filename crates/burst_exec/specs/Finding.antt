@@ -1,0 +1,15 @@
+-- What is answered where the first fault refuses.
+use Rattle.std.specs.Prelude.{◌≡◌, Option, Some, None, Result, Ok, Err}
+use Rattle.stil_ast.specs.declared.fault.StilFault.{StilFault}
+use Rattle.stil_ast.specs.declared.fault.StilRefusal.{StilRefusal}
+use Rattle.stil_ast.specs.declared.fault.StilRefusal.TheVariants as refusal
+
+-- a refusal has the fault that is there, or memory was short
+abbrev pub IsRefusal : Option StilFault → StilRefusal → Type 0
+IsRefusal fault refusal.NoMemory = Unit {0}
+IsRefusal fault (refusal.Fault first) = fault ≡ Some first
+
+-- what is wanted where there is no fault, else the fault, or want of memory
+abbrev pub Finds : {A : Type 0} → Option StilFault → (A → Type 0) → Result A StilRefusal → Type 0
+Finds fault Wanted (Ok x) = (fault ≡ None) × Wanted x
+Finds fault Wanted (Err r) = IsRefusal fault r

@@ -1,0 +1,17 @@
+pub mod EachLemmas
+pub mod FoundLemmas
+pub mod NameLemmas
+pub mod EventLemmas
+pub mod WaveLemmas
+pub mod TableLemmas
+pub mod SignalLemmas
+pub mod ChainLemmas
+pub mod VectorLemmas
+pub mod RowLemmas
+pub mod InstrLemmas
+pub mod CycleLemmas
+pub mod ProgramLemmas
+pub mod StepLemmas
+pub mod TextLemmas
+pub mod CodeLemmas
+pub mod BuildLemmas

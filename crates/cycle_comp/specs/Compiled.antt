@@ -1,0 +1,67 @@
+-- The code of executives: their signals, tables, rows and chains, and for each its cycles (IEEE 1450-1999, clauses 16,
+-- 18 and 22).
+use Rattle.std.specs.Prelude.{◌≡◌, ℕ, ◌+◌, ◌-◌, ◌≤◌, ◌==◌, List, [], ◌∷◌, ◌++◌, Option, Some, None, map, length, if◌then◌else◌}
+use Rattle.std.specs.List.{enumerate_from}
+use Rattle.stil_ast.specs.Meaning.Signals.{Signal, Names}
+use Rattle.stil_ast.specs.Meaning.Chains.{Chain}
+use Rattle.stil_ast.specs.Meaning.Cycles.{Dated}
+use Rattle.stil_ast.specs.Meaning.ExecutiveData.{Executive, cycles_of as text_cycles, measure_of, rows_of, tables_of}
+use Rattle.stil_ast.specs.Faults.CodeFaults.{compile_faults}
+use Rattle.stil_ast.specs.declared.fault.StilFault.{StilFault}
+use Rattle.page_code.specs.declared.parts.CodeSignal.{CodeSignal}
+use Rattle.page_code.specs.declared.parts.CodeChain.{CodeChain}
+use Rattle.tester_types.specs.declared.cycle.Cycle.{Cycle}
+use Rattle.page_code.specs.Program.{Program}
+use Rattle.page_code.specs.Conditions.{letters_of}
+use Rattle.page_code.specs.Cycles.{cycles_of, exec_of}
+
+-- a signal of a code
+abbrev pub signal_of : Signal → CodeSignal
+signal_of s = record { name = s.text; direction = s.direction }
+
+-- a chain of a code
+abbrev pub chain_of : Chain → CodeChain
+chain_of c = record { name = c.name; out = c.scan_out; length = c.length; cells = c.cells }
+
+-- what a row has for a signal, as a character: 0 is none
+abbrev pub letter_of : ℕ → Option ℕ
+letter_of byte = if byte == 0 then None else Some byte
+
+-- a numbered cycle of a code, its row read as characters, and its table as one of its executive, whose first table has
+-- the number `first` in the code
+abbrev pub read_cycle : ℕ → List (List ℕ) → ℕ × Cycle → Dated
+read_cycle first rows cycle = record {
+  number = cycle.0;
+  start = cycle.1.start;
+  vector = record {
+    table = Some (cycle.1.table - first);
+    letters = map letter_of (letters_of rows cycle.1.row);
+    mark = cycle.1.mark;
+  };
+}
+
+-- the cycles of an executive of a code, read so
+abbrev pub read_cycles : ℕ → Program → ℕ → List Dated
+read_cycles first code exec = map (read_cycle first code.rows) (enumerate_from 0 (cycles_of code exec))
+
+-- An executive of a code is one of a text over so many signals: its name, its chains, and its cycles one by one. No
+-- loop is unrolled, since the number of its instructions is that of its measure at most.
+pub record IsExecOf (signals first : ℕ) (e : Executive) (code : Program) (number : ℕ) : Type 0 where
+  pub name : (exec_of code number).name ≡ e.name
+  pub chains : (exec_of code number).chains ≡ map chain_of e.chains
+  pub cycles : read_cycles first code number ≡ text_cycles signals e
+  pub size : length (exec_of code number).instrs ≤ measure_of e + 1
+
+-- the code of executives: their signals, their tables one after another, the rows of their vectors, each once, and each
+-- executive under its number
+pub record IsCodeOf (names : Names) (executives : List Executive) (code : Program) : Type 0 where
+  pub signals : code.signals ≡ map signal_of names.signals
+  pub tables : code.tables ≡ tables_of executives
+  pub rows : code.rows ≡ rows_of (length names.signals) executives
+  pub count : length code.execs ≡ length executives
+  pub each : (before after : List Executive) (e : Executive) → executives ≡ before ++ e ∷ after
+      → IsExecOf (length names.signals) (length (tables_of before)) e code (length before)
+
+-- the first fault of executives over these signals as they are compiled
+abbrev pub code_fault : Names → List Executive → Option StilFault
+code_fault names executives = compile_faults (length names.signals) [] executives
