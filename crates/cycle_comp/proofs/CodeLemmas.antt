@@ -178,6 +178,13 @@ module _ (known : SignalNames) (executives : List Executive) (p : AreOfText know
   count_is others are =
       ap (λ (k : SignalNames). length k.texts) are ∙ length-map others.signals (λ (s : Signal). s.text)
 
+  -- what is built over so many signals as the table has texts is built over those of the text
+  pub built_here : (count : ℕ) (these : List Executive) (b : Building) → count ≡ length known.texts → these ≡ executives
+      → IsBuilt count these b → IsBuilt (length names.signals) executives b
+  built_here count these b is same built =
+      subst (λ (k : ℕ). IsBuilt k executives b) (is ∙ count_is names p.table_is)
+      (subst (λ (es : List Executive). IsBuilt count es b) same built)
+
   module _ (b : Building) (built : IsBuilt (length names.signals) executives b) where
     conditions : AllByRecursion (λ (t : Table). IsGoodTable (length names.signals) t × AreInOrder t.waves) (tables_of executives)
     conditions =

@@ -7,8 +7,8 @@ use Rattle.stil_ast.specs.Meaning.Signals.{names_of}
 use Rattle.page_code.specs.Conditions.{IsProgram}
 use Rattle.page_code.specs.Program.{Exec, Program, code_of}
 use Rattle.cycle_comp.specs.Compiled.{IsCodeOf}
-use Rattle.cycle_comp.specs.Working.{IsBuilt, IsFit}
-use Rattle.cycle_comp.proofs.CodeLemmas.{few_tables, fits, count_is, program_is, code_is}
+use Rattle.cycle_comp.specs.Working.{IsFit}
+use Rattle.cycle_comp.proofs.CodeLemmas.{few_tables, fits, count_is, built_here, program_is, code_is}
 use Rattle.cycle_comp.proofs.compiling.compile.Goals as goal
 
 pub build_all-requires-clause-few : goal.build_all-requires-clause-few
@@ -27,11 +27,8 @@ pub new-requires : goal.new-requires
 new-requires c =
     let p = c.requires in
     let b = c.in_ok-tables.field-0 in
-    let n : c.count-count.result ≡ length (names_of p.blocks).signals =
-    c.count-count.ensures.count ∙ count_is c.args.signals.now c.args.execs.now p (names_of p.blocks) p.table_is in
-    let built : IsBuilt (length (names_of p.blocks).signals) c.args.execs.now b =
-    subst (λ (k : ℕ). IsBuilt k c.args.execs.now b) n
-    (subst (λ (es : List Executive). IsBuilt c.count-count.result es b) c.as_slice.ensures c.in_ok-tables.ensures.1) in
+    let built = built_here c.args.signals.now c.args.execs.now p c.count-count.result c.as_slice.result.now b
+    c.count-count.ensures.count c.as_slice.ensures c.in_ok-tables.ensures.1 in
     subst (λ (ts : List Table). IsProgram (code_of c.in_ok-signals.signals ts b.rows c.from_vec.result))
     (sym c.from_vec-tables.ensures)
     (subst (λ (es : List Exec). IsProgram (code_of c.in_ok-signals.signals b.tables.items b.rows es)) (sym c.from_vec.ensures)
@@ -42,14 +39,11 @@ pub returns-clause-found : goal.returns-clause-found
 returns-clause-found c = λ others are.
     let p = c.requires in
     let b = c.in_ok-tables.field-0 in
-    let n : c.count-count.result ≡ length (names_of p.blocks).signals =
-    c.count-count.ensures.count ∙ count_is c.args.signals.now c.args.execs.now p (names_of p.blocks) p.table_is in
-    let m : c.count-count.result ≡ length others.signals =
+    let count : c.count-count.result ≡ length others.signals =
     c.count-count.ensures.count ∙ count_is c.args.signals.now c.args.execs.now p others are in
-    let built : IsBuilt (length (names_of p.blocks).signals) c.args.execs.now b =
-    subst (λ (k : ℕ). IsBuilt k c.args.execs.now b) n
-    (subst (λ (es : List Executive). IsBuilt c.count-count.result es b) c.as_slice.ensures c.in_ok-tables.ensures.1) in (
-      ap (λ (k : ℕ). compile_faults k [] c.args.execs.now) (sym m)
+    let built = built_here c.args.signals.now c.args.execs.now p c.count-count.result c.as_slice.result.now b
+    c.count-count.ensures.count c.as_slice.ensures c.in_ok-tables.ensures.1 in (
+      ap (λ (k : ℕ). compile_faults k [] c.args.execs.now) (sym count)
           ∙ (ap (λ (es : List Executive). compile_faults c.count-count.result [] es) (sym c.as_slice.ensures)
           ∙ c.in_ok-tables.ensures.0),
       subst (λ (code : Program). IsCodeOf others c.args.execs.now code)
