@@ -16,7 +16,7 @@ use Rattle.stil_ast.specs.declared.timing.TableDecl.{TableDecl}
 use Rattle.stil_ast.proofs.FoundLemmas.{or_else-none}
 
 -- a test that has no fault is passed
-passed : (b : Bool) (f : StilFault) (rest : Option StilFault) → unless b f rest ≡ None → (b ≡ true) × (rest ≡ None)
+pub passed : (b : Bool) (f : StilFault) (rest : Option StilFault) → unless b f rest ≡ None → (b ≡ true) × (rest ≡ None)
 passed true f rest h = (refl, h)
 passed false f rest h = absurd (none-some f (sym h))
 

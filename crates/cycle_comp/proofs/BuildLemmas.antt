@@ -35,7 +35,7 @@ use Rattle.burst_exec.specs.Finding.{IsRefusal}
 use Rattle.cycle_comp.specs.Compiled.{chain_of}
 use Rattle.cycle_comp.specs.Working.{size_fault, rows_fault, IsSized, IsInside, IsMade, AreMade, IsBuilt}
 use Rattle.cycle_comp.specs.declared.building.Building.{Building}
-use Rattle.cycle_comp.proofs.EventLemmas.{passed}
+use Rattle.burst_exec.proofs.WaveLemmas.{passed}
 use Rattle.cycle_comp.proofs.ProgramLemmas.{tables_push}
 
 -- a test in front of others

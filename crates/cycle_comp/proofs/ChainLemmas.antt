@@ -26,7 +26,7 @@ use Rattle.page_code.specs.Conditions.{IsName, IsChain}
 use Rattle.page_code.proofs.Lists.{all_each}
 use Rattle.cycle_comp.specs.Compiled.{chain_of}
 use Rattle.cycle_comp.proofs.EachLemmas.{all_weaker, all_map, all_flat_map, all_passing, all_both}
-use Rattle.cycle_comp.proofs.EventLemmas.{passed}
+use Rattle.burst_exec.proofs.WaveLemmas.{passed}
 use Rattle.cycle_comp.proofs.NameLemmas.{IsShown, name_is, shown_is, names_shown, short_name}
 use Rattle.cycle_comp.proofs.SignalLemmas.{refused_not}
 

@@ -3,7 +3,7 @@ use Rattle.std.proofs.Common.{◌≡◌, ℕ, ◌+◌, ◌-◌, ◌≤◌, ◌==
 use Rattle.std.specs.Prelude.{slice_get, unwrap_or, sum_by}
 use Rattle.std.specs.List.{enumerate_from, AllByRecursion}
 use Rattle.std.specs.Option.{option_map_or}
-use Rattle.std.proofs.lemmas.Bool.{eqb-true, false≢true}
+use Rattle.std.proofs.lemmas.Bool.{eqb-true, le-leb, false≢true}
 use Rattle.std.proofs.lemmas.List.{length-append}
 use Rattle.std.proofs.lemmas.List.Sums.{sum_by-append, sum_by-cons}
 use Rattle.std.proofs.lemmas.Option.{get_or_from_slice_get}
@@ -16,7 +16,7 @@ use Rattle.page_meaning.specs.declared.instr.Entry.{Entry}
 use Rattle.page_code.specs.Conditions.{letters_of}
 use Rattle.page_code.specs.Cycles.{period_of, timed}
 use Rattle.instr_writer.specs.Entries.{IsEntry, AreEntries}
-use Rattle.cycle_comp.specs.Compiled.{letter_of, read_cycle}
+use Rattle.cycle_comp.specs.Compiled.{letter_of, table_in, read_cycle}
 use Rattle.cycle_comp.proofs.VectorLemmas.{IsLetter}
 
 -- a vector whose table stands in the code behind others, and whose characters can be read again
@@ -44,6 +44,12 @@ letters_again (c ∷ letters) all =
     ap (λ (d : Option ℕ). d ∷ map letter_of (map (λ (c : Option ℕ). unwrap_or c 0) letters)) (one_again c all.0)
     ∙ ap (λ (ds : List (Option ℕ)). c ∷ ds) (letters_again letters all.1)
 
+-- a table behind the first one is one of these
+table_behind : (first table : ℕ) → table_in first (first + table) ≡ Some table
+table_behind first table =
+    let back : first + table - first ≡ table = omega arith in
+    ap (λ (b : Bool). cond b (Some (first + table - first)) None) (le-leb first (first + table) (omega arith)) ∙ ap Some back
+
 module _ (first : ℕ) (own tables : List Table) (rows : List (List ℕ)) where
   -- the number of its table
   table_at_first : (v : Vector) (e : Entry) (is : IsRead first own tables v) → IsEntry first rows v e → e.table ≡ first + is.table
@@ -67,10 +73,8 @@ module _ (first : ℕ) (own tables : List Table) (rows : List (List ℕ)) where
       → read_cycle first rows (number, record { start = start; table = e.table; row = e.row; mark = e.mark })
       ≡ record { number = number; start = start; vector = v }
   one_cycle number start v e is entry =
-      let table : Some (e.table - first) ≡ v.table =
-      let its : e.table ≡ first + is.table = table_at_first v e is entry in
-      let back : e.table - first ≡ is.table = omega (arith, its) in
-      ap Some back ∙ sym is.table_is in
+      let table : table_in first e.table ≡ v.table =
+      ap (table_in first) (table_at_first v e is entry) ∙ (table_behind first is.table ∙ sym is.table_is) in
       let row : letters_of rows e.row ≡ row_of v = get_or_from_slice_get rows e.row (row_of v) [] entry.row in
       let letters : map letter_of (letters_of rows e.row) ≡ v.letters =
       ap (map letter_of) row ∙ letters_again v.letters is.letters in

@@ -1,12 +1,12 @@
 -- The events of a waveform in a table without a fault: their times don't fall and are below the period.
-use Rattle.std.proofs.Common.{◌≡◌, ℕ, ℤ, pos, negsuc, ◌≤◌, ◌<◌, ◌&&◌, Bool, true, false, List, [], ◌∷◌, ◌++◌, Option, Some, None, Result, Ok, Err, refl, sym, ap, ◌∙◌, arith}
+use Rattle.std.proofs.Common.{◌≡◌, ℕ, ℤ, pos, negsuc, ◌≤◌, ◌<◌, ◌&&◌, true, List, [], ◌∷◌, ◌++◌, Option, Some, None, Result, Ok, Err, refl, sym, ap, ◌∙◌, arith}
 use Rattle.std.specs.Prelude.{int_le, int_lt, nat_abs}
 use Rattle.std.specs.List.{filter_map, cons_option}
 use Rattle.std.specs.Option.{option_map_or}
 use Rattle.std.proofs.lemmas.Bool.{and_parts, leb-true, ltb-true}
 use Rattle.std.proofs.lemmas.Option.{none-some}
 use Rattle.stil_ast.specs.Data.Places.{Place}
-use Rattle.stil_ast.specs.Faults.Found.{on_line, fault_at, unless, first_in}
+use Rattle.stil_ast.specs.Faults.Found.{on_line, fault_at, first_in}
 use Rattle.stil_ast.specs.Faults.TableFaults.{Timed, with_time, events_fault, late_at, late_event}
 use Rattle.stil_ast.specs.Meaning.Tables.{act_of, timed_act, event_of}
 use Rattle.stil_ast.specs.Meaning.Times.{time_at}
@@ -18,11 +18,7 @@ use Rattle.tester_types.specs.declared.wave.Act.{Act}
 use Rattle.tester_types.specs.declared.wave.Event.{Event}
 use Rattle.page_code.specs.Conditions.{EachBehind, IsEvent, latest}
 use Rattle.page_code.proofs.Lists.{last_of_push}
-
--- a test that has no fault is passed
-pub passed : (b : Bool) (f : StilFault) (rest : Option StilFault) → unless b f rest ≡ None → (b ≡ true) × (rest ≡ None)
-passed true f rest h = (refl, h)
-passed false f rest h = absurd (none-some f (sym h))
+use Rattle.burst_exec.proofs.WaveLemmas.{passed}
 
 -- what is judged by a time is judged by one that is there
 pub timed : (r : Result ℤ StilFault) (rest : ℤ → Option StilFault) → with_time r rest ≡ None

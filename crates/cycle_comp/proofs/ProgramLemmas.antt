@@ -1,5 +1,5 @@
 -- What is made of the executives of a text meets the conditions on a code, and is their code.
-use Rattle.std.proofs.Common.{◌≡◌, ℕ, zero, suc, ◌+◌, ◌<◌, ◌≤◌, true, List, [], ◌∷◌, ◌++◌, length, map, Option, Some, None, refl, sym, ap, subst, ◌∙◌, append_assoc, arith}
+use Rattle.std.proofs.Common.{◌≡◌, ℕ, ◌+◌, ◌<◌, ◌≤◌, true, List, [], ◌∷◌, ◌++◌, length, map, Option, Some, None, refl, sym, ap, subst, ◌∙◌, append_assoc, arith}
 use Rattle.std.specs.Prelude.{slice_get, unwrap_or}
 use Rattle.std.specs.List.{flat_map, list_all, enumerate_from, AllByRecursion}
 use Rattle.std.specs.Option.{option_map_or}
@@ -12,13 +12,14 @@ use Rattle.tester_types.specs.declared.wave.Table.{Table}
 use Rattle.stil_ast.specs.Meaning.State.{Vector}
 use Rattle.stil_ast.specs.Meaning.ExecutiveData.{Executive, vectors_of, measure_of, tables_of, row_of}
 use Rattle.scan_chain.specs.Short.{is_short}
+use Rattle.tester_types.specs.declared.cycle.Cycle.{Cycle}
 use Rattle.page_meaning.specs.declared.instr.Entry.{Entry}
 use Rattle.page_meaning.specs.declared.instr.Instr.{Instr}
 use Rattle.page_meaning.specs.declared.instr.Instr.TheVariants.{Run, Loop, End, Done}
 use Rattle.page_meaning.specs.Meaning.{Means}
 use Rattle.page_code.specs.declared.parts.CodeChain.{CodeChain}
 use Rattle.page_code.specs.Program.{Exec, Program}
-use Rattle.page_code.specs.Cycles.{timed, exec_of}
+use Rattle.page_code.specs.Cycles.{timed, period_of, exec_of}
 use Rattle.page_code.specs.Conditions.{IsText, IsChain, IsInstr, IsExec, has_waves, waves_of, letters_of}
 use Rattle.page_code.proofs.Lists.{all_each}
 use Rattle.wave_tables.specs.Waves.{AreInOrder}
@@ -34,6 +35,7 @@ use Rattle.cycle_comp.proofs.RowLemmas.{IsGoodRow}
 use Rattle.cycle_comp.proofs.VectorLemmas.{IsRunnable, vectors_runnable, waves_in, row_has, HasGoodWaves, letters_are, row_places}
 use Rattle.cycle_comp.proofs.InstrLemmas.{Runs, each_run, runs_back, entries_all, vectors_back}
 use Rattle.cycle_comp.proofs.CycleLemmas.{IsRead, read_all}
+use Rattle.page_code.proofs.PageLemmas.{slice_get_left, slice_get_right}
 
 -- an executive without a fault before it is compiled
 pub record IsGoodExec (signals : ℕ) (e : Executive) : Type 0 where
@@ -44,18 +46,6 @@ pub record IsGoodExec (signals : ℕ) (e : Executive) : Type 0 where
   pub chains : AllByRecursion (IsGoodChain signals) e.chains
   pub short : list_all is_short e.chains ≡ true
   pub few_chains : length e.chains ≤ 256
-
--- what stands behind others, and in front of others
-pub got_behind : {A : Type 0} (a b : List A) (i : ℕ) → slice_get (a ++ b) (length a + i) ≡ slice_get b i
-got_behind [] b i = let same : 0 + i ≡ i = omega arith in ap (slice_get b) same
-got_behind (x ∷ a) b i =
-    let same : suc (length a) + i ≡ suc (length a + i) = omega arith in
-    ap (slice_get (x ∷ (a ++ b))) same ∙ got_behind a b i
-
-pub got_before : {A : Type 0} (a b : List A) (i : ℕ) → i < length a → slice_get (a ++ b) i ≡ slice_get a i
-got_before [] b i low = absurd (omega (arith, low))
-got_before (x ∷ a) b zero low = refl
-got_before (x ∷ a) b (suc i) low = got_before a b i (omega (arith, low))
 
 -- the tables of one executive more
 pub tables_push : (before : List Executive) (e : Executive) → tables_of (before ++ e ∷ []) ≡ tables_of before ++ e.tables
@@ -68,8 +58,8 @@ tables_cut : (before : List Executive) (e : Executive) (after : List Executive) 
 tables_cut before e after t low =
     ap (λ (ts : List Table). slice_get ts (length (tables_of before) + t))
     (flat_map-append (λ (e : Executive). e.tables) before (e ∷ after))
-    ∙ got_behind (tables_of before) (e.tables ++ tables_of after) t
-    ∙ got_before e.tables (tables_of after) t low
+    ∙ slice_get_right (tables_of before) (e.tables ++ tables_of after) t
+    ∙ slice_get_left e.tables (tables_of after) t low
 
 module _ (signals : ℕ) (tables : List Table) (rows : List (List ℕ)) where
   module _ (first : ℕ) (e : Executive) (m : Exec) (made : IsMade signals first rows e m) (good : IsGoodExec signals e)
@@ -144,6 +134,15 @@ module _ (signals : ℕ) (tables : List Table) (rows : List (List ℕ)) where
         of_table : (o : Option Table) → option_map_or (λ (t : Table). t.waves) o [] ≡ waves_in o
         of_table None = refl
         of_table (Some t) = refl
+
+    -- what it runs names its own tables
+    pub owned : AllByRecursion (λ (entry : Entry). (first ≤ entry.table) × (entry.table < first + length e.tables)) (Means m.instrs)
+    owned =
+        entries_all first rows IsHere (λ (entry : Entry). (first ≤ entry.table) × (entry.table < first + length e.tables))
+        (λ v entry is run.
+        let table : entry.table ≡ first + is.runs.table = omega (arith, run.table is.runs.table is.runs.table_is, room, is.low) in
+        (omega (arith, table), omega (arith, table, is.low)))
+        (vectors_of signals e) (Means m.instrs) made.entries here
 
     -- its instructions
     instrs_are : AllByRecursion (IsInstr tables rows) m.instrs
@@ -243,6 +242,12 @@ made_cut signals first rows (b ∷ before) after e (m ∷ made) are =
     omega (arith, size) in
     (rest.0, rest.1, subst (λ (n : ℕ). IsMade signals n rows e rest.0) same rest.2)
 
+-- what is so of the tables of entries is so of those of their cycles
+timed_all : (P : ℕ → Type 0) (tables : List Table) (start : ℕ) (entries : List Entry) → AllByRecursion (λ (entry : Entry). P entry.table) entries
+    → AllByRecursion (λ (cycle : Cycle). P cycle.table) (timed tables start entries)
+timed_all P tables start [] all = tt
+timed_all P tables start (entry ∷ entries) all = (all.0, timed_all P tables (start + period_of tables entry.table) entries all.1)
+
 -- the executive under its number is that of the text
 pub exec_at : (signals : ℕ) (code : Program) (executives before after : List Executive) (e : Executive)
     → AreMade signals 0 code.rows executives code.execs → AllByRecursion (IsGoodExec signals) executives
@@ -280,5 +285,10 @@ exec_at signals code executives before after e are good tables room is =
           ap (λ (x : Exec). map (read_cycle first code.rows) (enumerate_from 0 (timed code.tables 0 (Means x.instrs)))) found
           ∙ read_all first e.tables code.tables code.rows (vectors_of signals e) (Means m.instrs) made.entries
           (read signals code.tables code.rows first e m made own (omega (arith, within, room)) within stands);
+      inside =
+          subst (λ (x : Exec). AllByRecursion (λ (cycle : Cycle). (first ≤ cycle.table) × (cycle.table < first + length e.tables))
+          (timed code.tables 0 (Means x.instrs))) (sym found)
+          (timed_all (λ (t : ℕ). (first ≤ t) × (t < first + length e.tables)) code.tables 0 (Means m.instrs)
+          (owned signals code.tables code.rows first e m made own (omega (arith, within, room)) within stands));
       size = subst (λ (x : Exec). length x.instrs ≤ measure_of e + 1) (sym found) made.size;
     }

@@ -20,7 +20,7 @@ use Rattle.page_code.specs.declared.parts.CodeSignal.{CodeSignal}
 use Rattle.page_code.specs.Conditions.{EachBehind, IsSignal, is_named}
 use Rattle.cycle_comp.specs.Compiled.{signal_of}
 use Rattle.cycle_comp.proofs.EachLemmas.{all_flat_map, all_passing}
-use Rattle.cycle_comp.proofs.EventLemmas.{passed}
+use Rattle.burst_exec.proofs.WaveLemmas.{passed}
 use Rattle.cycle_comp.proofs.NameLemmas.{IsShown, shown_is, names_shown, short_name}
 
 -- a test that must fail fails

@@ -20,7 +20,8 @@ use Rattle.stil_ast.proofs.FoundLemmas.{or_else-none}
 use Rattle.tester_types.specs.declared.wave.Table.{Table}
 use Rattle.page_code.specs.Conditions.{IsName}
 use Rattle.cycle_comp.proofs.EachLemmas.{all_weaker, all_map, all_flat_map, all_both}
-use Rattle.cycle_comp.proofs.EventLemmas.{passed, timed}
+use Rattle.burst_exec.proofs.WaveLemmas.{passed}
+use Rattle.cycle_comp.proofs.EventLemmas.{timed}
 use Rattle.cycle_comp.proofs.FoundLemmas.{first_all, all_under, all_got, numbered_at}
 use Rattle.cycle_comp.proofs.WaveLemmas.{IsGoodWave, IsOwn, IsJudged, own_are, waves_are}
 use Rattle.cycle_comp.proofs.NameLemmas.{name_is}

@@ -24,7 +24,7 @@ use Rattle.page_code.specs.Conditions.{has_wave, has_waves}
 use Rattle.page_code.specs.Letters.{is_place}
 use Rattle.instr_writer.proofs.EffectLemmas.{run-length}
 use Rattle.cycle_comp.proofs.EachLemmas.{all_map}
-use Rattle.cycle_comp.proofs.EventLemmas.{passed}
+use Rattle.burst_exec.proofs.WaveLemmas.{passed}
 use Rattle.cycle_comp.proofs.WaveLemmas.{IsGoodWave}
 
 -- ---- as many characters as signals

@@ -1,7 +1,7 @@
 -- The code of executives: their signals, tables, rows and chains, and for each its cycles (IEEE 1450-1999, clauses 16,
 -- 18 and 22).
-use Rattle.std.specs.Prelude.{◌≡◌, ℕ, ◌+◌, ◌-◌, ◌≤◌, ◌==◌, List, [], ◌∷◌, ◌++◌, Option, Some, None, map, length, if◌then◌else◌}
-use Rattle.std.specs.List.{enumerate_from}
+use Rattle.std.specs.Prelude.{◌≡◌, ℕ, ◌+◌, ◌-◌, ◌<◌, ◌≤◌, ◌==◌, List, [], ◌∷◌, ◌++◌, Option, Some, None, map, length, nat_le, if◌then◌else◌}
+use Rattle.std.specs.List.{AllByRecursion, enumerate_from}
 use Rattle.stil_ast.specs.Meaning.Signals.{Signal, Names}
 use Rattle.stil_ast.specs.Meaning.Chains.{Chain}
 use Rattle.stil_ast.specs.Meaning.Cycles.{Dated}
@@ -27,6 +27,11 @@ chain_of c = record { name = c.name; out = c.scan_out; length = c.length; cells 
 abbrev pub letter_of : ℕ → Option ℕ
 letter_of byte = if byte == 0 then None else Some byte
 
+-- the table of a code as one of an executive whose first table has the number `first` in the code: none where it stands
+-- before these
+abbrev pub table_in : ℕ → ℕ → Option ℕ
+table_in first table = if nat_le first table then Some (table - first) else None
+
 -- a numbered cycle of a code, its row read as characters, and its table as one of its executive, whose first table has
 -- the number `first` in the code
 abbrev pub read_cycle : ℕ → List (List ℕ) → ℕ × Cycle → Dated
@@ -34,7 +39,7 @@ read_cycle first rows cycle = record {
   number = cycle.0;
   start = cycle.1.start;
   vector = record {
-    table = Some (cycle.1.table - first);
+    table = table_in first cycle.1.table;
     letters = map letter_of (letters_of rows cycle.1.row);
     mark = cycle.1.mark;
   };
@@ -44,12 +49,14 @@ read_cycle first rows cycle = record {
 abbrev pub read_cycles : ℕ → Program → ℕ → List Dated
 read_cycles first code exec = map (read_cycle first code.rows) (enumerate_from 0 (cycles_of code exec))
 
--- An executive of a code is one of a text over so many signals: its name, its chains, and its cycles one by one. No
--- loop is unrolled, since the number of its instructions is that of its measure at most.
+-- An executive of a code is one of a text over so many signals: its name, its chains, and its cycles one by one, which
+-- run in its own tables. No loop is unrolled, since the number of its instructions is that of its measure at most.
 pub record IsExecOf (signals first : ℕ) (e : Executive) (code : Program) (number : ℕ) : Type 0 where
   pub name : (exec_of code number).name ≡ e.name
   pub chains : (exec_of code number).chains ≡ map chain_of e.chains
   pub cycles : read_cycles first code number ≡ text_cycles signals e
+  pub inside : AllByRecursion (λ cycle. (first ≤ cycle.table) × (cycle.table < first + length e.tables))
+      (cycles_of code number)
   pub size : length (exec_of code number).instrs ≤ measure_of e + 1
 
 -- the code of executives: their signals, their tables one after another, the rows of their vectors, each once, and each

@@ -14,23 +14,12 @@ use Rattle.tester_types.specs.declared.record.Record.{Record}
 use Rattle.tester_types.specs.declared.record.Trial.{Trial}
 use Rattle.tester_types.specs.declared.record.Verdict.{Verdict}
 use Rattle.tester_types.specs.declared.record.Verdict.TheVariants as verdict
-use Rattle.tester_types.specs.declared.wave.Look.{Look}
-use Rattle.tester_types.specs.declared.wave.Look.TheVariants as look
+use Rattle.code_listing.specs.Letters.{look_letter}
 use Rattle.page_code.specs.declared.parts.CodeChain.{CodeChain}
 use Rattle.page_code.specs.Program.{Program}
 use Rattle.page_code.specs.Cycles.{exec_of}
 use Rattle.lot_plan.specs.Bound.{Bound, die_at}
 use Rattle.lot_plan.specs.Readings.{bin_of}
-
--- the letter of the act that was wanted (IEEE 1450, the events L, H, T, l, h, t and X)
-abbrev pub want_letter : Look → List ℕ
-want_letter look.Low = codes "L"
-want_letter look.High = codes "H"
-want_letter look.Off = codes "T"
-want_letter look.LowWindow = codes "l"
-want_letter look.HighWindow = codes "h"
-want_letter look.OffWindow = codes "t"
-want_letter look.Close = codes "X"
 
 -- the letter of the level that was seen
 abbrev pub seen_letter : Level → List ℕ
@@ -71,7 +60,7 @@ abbrev pub found_words : Program → Fail → List ℕ
 found_words code fail =
     codes "fail " ++ decimal fail.cycle ++ codes " " ++ decimal fail.at ++ codes " "
     ++ printed_name (signal_name code fail.signal) ++ codes " "
-    ++ want_letter fail.want ++ codes " " ++ seen_letter fail.seen
+    ++ look_letter fail.want ++ codes " " ++ seen_letter fail.seen
 
 -- one fail
 abbrev pub fail_line : Program → Fail → List ℕ

@@ -1,3 +1,4 @@
 pub mod DatalogText
 pub mod Printable
 pub mod Counts
+pub mod Summary

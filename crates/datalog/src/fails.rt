@@ -7,7 +7,8 @@ ghost use Rattle.datalog.specs.DatalogText.{signal_name, found_words, fail_line}
 ghost use Rattle.datalog.specs.Printable.{IsKnown};
 
 use crate::cells::put_cell;
-use crate::letters::{seen_letter, want_letter};
+use crate::letters::seen_letter;
+use code_listing::look_letter;
 use page_code::Code;
 use tester_types::{Fail, Piece, Sink, SinkFault, put_all, put_each};
 
@@ -51,7 +52,7 @@ fn put_found<K: Sink>(sink: &mut K, code: &Code, fail: &Fail) -> Result<(), Sink
         Piece::Text(b" "),
         Piece::Name(signal_name(code, fail.signal)),
         Piece::Text(b" "),
-        Piece::Text(want_letter(fail.want)),
+        Piece::Text(look_letter(fail.want)),
         Piece::Text(b" "),
         Piece::Text(seen_letter(fail.seen)),
     ];

@@ -1,24 +1,9 @@
-//! The letters of what was wanted and of what was seen.
+//! The letters of what was seen.
 
 ghost use Rattle.std.specs.Prelude.{◌≡◌};
-ghost use Rattle.datalog.specs.DatalogText.{want_letter, seen_letter};
+ghost use Rattle.datalog.specs.DatalogText.{seen_letter};
 
-use tester_types::{Level, Look};
-
-/// The letter of the act that was wanted.
-pub(crate) fn want_letter(want: Look) -> &'static [u8]
-    ensures { result.now ≡ want_letter want }
-{
-    match want {
-        Look::Low => b"L",
-        Look::High => b"H",
-        Look::Off => b"T",
-        Look::LowWindow => b"l",
-        Look::HighWindow => b"h",
-        Look::OffWindow => b"t",
-        Look::Close => b"X",
-    }
-}
+use tester_types::Level;
 
 /// The letter of the level that was seen.
 pub(crate) fn seen_letter(seen: Level) -> &'static [u8]

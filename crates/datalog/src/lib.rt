@@ -6,11 +6,13 @@ mod fails;
 mod letters;
 mod lot;
 mod records;
+mod summary;
 mod totals;
 mod trials;
 
 pub use lot::print_lot;
 pub use records::print_record;
+pub use summary::{fail_count, print_totals};
 
 #[cfg(test)]
 mod tests;

@@ -8,7 +8,7 @@ ghost use Rattle.datalog.specs.DatalogText.{record_text, site_text, filed_text, 
 ghost use Rattle.datalog.specs.Printable.{IsPrintable, IsPrintableAt, ArePrintable};
 
 use crate::records::print_record;
-use crate::totals::{counts_of, put_totals};
+use crate::summary::print_totals;
 use crate::trials::put_numbered;
 use lot_plan::BoundPlan;
 use page_code::Code;
@@ -28,7 +28,7 @@ pub fn print_lot<K: Sink>(
     ensures cause { OnErr result (HasRisen (K.faults sink.old) (K.faults sink.new)) }
 {
     put_sites(sink, code, plan, sites)?;
-    put_totals(sink, &counts_of(plan, sites))
+    print_totals(plan, sites, sink)
 }
 
 /// Puts the sites, by their numbers.

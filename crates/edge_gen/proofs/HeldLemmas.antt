@@ -11,7 +11,8 @@ use Rattle.edge_gen.specs.Held.{Held, is_pair, HoldsOnly, asked}
 abbrev pub Entries : Type 0
 Entries = List ((ℕ × ℕ) × List Moment)
 
-same_pair : (pair other : ℕ × ℕ) → is_pair pair other ≡ true → other ≡ pair
+-- numbers that are those of a pair
+pub same_pair : (pair other : ℕ × ℕ) → is_pair pair other ≡ true → other ≡ pair
 same_pair pair other is =
     let parts = and_parts _ _ is in
     let first = eqb-true pair.0 other.0 parts.0 in

@@ -19,14 +19,14 @@ found_next : {X : Type 0} (test p : X → Bool) (x : X) (rest : Option X) (b : B
 found_next test p x rest true here later = here
 found_next test p x rest false here later = later
 
-found_passes : {X : Type 0} (test p : X → Bool) (xs : List X) → list_all p xs ≡ true
+pub found_passes : {X : Type 0} (test p : X → Bool) (xs : List X) → list_all p xs ≡ true
     → IfSome (find test xs) (λ x. p x ≡ true)
 found_passes test p [] all = tt
 found_passes test p (x ∷ xs) all =
     let parts = and_parts (p x) (list_all p xs) all in
     found_next test p x (find test xs) (test x) parts.0 (found_passes test p xs parts.1)
 
-all_reversed : {X : Type 0} (p : X → Bool) (xs : List X) → list_all p xs ≡ true
+pub all_reversed : {X : Type 0} (p : X → Bool) (xs : List X) → list_all p xs ≡ true
     → list_all p (reverse xs) ≡ true
 all_reversed p [] all = refl
 all_reversed p (x ∷ xs) all =
@@ -36,7 +36,7 @@ all_reversed p (x ∷ xs) all =
 
 -- ---- the waves of a table
 
-own_events : (period : ℕ) (skews : List ℤ) (signal : ℕ) (found : Option Wave)
+pub own_events : (period : ℕ) (skews : List ℤ) (signal : ℕ) (found : Option Wave)
     → IfSome found (λ wave. wave.signal ≡ signal) → IfSome found (λ wave. is_inside period skews wave ≡ true)
     → stay_inside period (skew_of skews signal) (option_map_or (λ wave. wave.events) found []) ≡ true
 own_events period skews signal None own inside = refl

@@ -1,25 +1,19 @@
 //! A text by the passes of the language, up to its first fault.
 
-ghost use Rattle.std.specs.Prelude.{◌≤◌, IfOk, length};
-ghost use Rattle.text_bytes.specs.Limits.{most_bytes};
-ghost use Rattle.stil_ast.specs.Data.OneText.{AreOfOneText};
-
 use burst_exec::executives;
-use cycle_comp::compile;
 use page_code::Code;
 use std::alloc::{AllocError, AllocFailed, Global};
-use stil_ast::{Blocks, StilFault, StilRefusal};
-use stil_lex::lex;
-use stil_read::read_blocks;
-use stil_tree::forest;
+use stil_ast::{StilFault, StilRefusal};
+use stil_program::program;
 use text_bytes::MOST_BYTES;
+use text_front::read_text;
 
 /// Why a text isn't read to its end.
 #[derive(Drop)]
 pub(crate) enum Stop {
     NoMemory,
-    /// It has no tokens, or these are no statements.
-    NoText,
+    /// It has more bytes than a text may have.
+    TooLong,
     Fault(StilFault),
 }
 
@@ -44,32 +38,12 @@ impl From<StilRefusal> for Stop {
     }
 }
 
-/// The blocks of a text.
-fn blocks_of(alloc: Global, text: &[u8]) -> Result<Blocks, Stop>
-    requires { length text.now ≤ most_bytes }
-    ensures { IfOk result (λ blocks. AreOfOneText blocks) }
-{
-    let Ok(tokens) = lex(alloc, text) else {
-        return Err(Stop::NoText);
-    };
-    if tokens.len() > MOST_BYTES {
-        return Err(Stop::NoText);
-    }
-    let Ok(stmts) = forest(alloc, tokens.as_slice()) else {
-        return Err(Stop::NoText);
-    };
-    match read_blocks(alloc, text, tokens.as_slice(), &stmts) {
-        Ok(blocks) => Ok(blocks),
-        Err(refusal) => Err(Stop::from(refusal)),
-    }
-}
-
 /// Judges a text by its blocks, its signals and groups, and its executives.
 fn judge_text(alloc: Global, text: &[u8]) -> Result<(), Stop> {
     if text.len() > MOST_BYTES {
-        return Err(Stop::NoText);
+        return Err(Stop::TooLong);
     }
-    let blocks = blocks_of(alloc, text)?;
+    let blocks = read_text(alloc, text)?;
     let signals = signal_groups::build(alloc, &blocks)?;
     let _execs = executives(alloc, &blocks, &signals)?;
     Ok(())
@@ -78,12 +52,9 @@ fn judge_text(alloc: Global, text: &[u8]) -> Result<(), Stop> {
 /// The code of a text.
 fn code_of(alloc: Global, text: &[u8]) -> Result<Code, Stop> {
     if text.len() > MOST_BYTES {
-        return Err(Stop::NoText);
+        return Err(Stop::TooLong);
     }
-    let blocks = blocks_of(alloc, text)?;
-    let signals = signal_groups::build(alloc, &blocks)?;
-    let execs = executives(alloc, &blocks, &signals)?;
-    let code = compile(alloc, &signals, &execs)?;
+    let code = program(alloc, text)?;
     Ok(code)
 }
 
@@ -106,7 +77,7 @@ fn told(alloc: Global, fault: &StilFault) -> Result<String, AllocError> {
 fn stopped(alloc: Global, stop: Stop) -> Result<String, AllocError> {
     match stop {
         Stop::NoMemory => String::from_str(alloc, "no memory"),
-        Stop::NoText => String::from_str(alloc, "no statements"),
+        Stop::TooLong => String::from_str(alloc, "too long"),
         Stop::Fault(fault) => told(alloc, &fault),
     }
 }

@@ -140,7 +140,7 @@ file-below rows s d within =
     (record { site = 0; name = []; file = [] }) within)
 
 -- what a bound plan says of a die's circuit
-circuit-whole : (b : Bound) (s d : ℕ) → IsBound b → d < length (dies_at s b.rows) → IsWhole (circuit_of b s d)
+pub circuit-whole : (b : Bound) (s d : ℕ) → IsBound b → d < length (dies_at s b.rows) → IsWhole (circuit_of b s d)
 circuit-whole b s d bound within = bound.whole (file_of b.rows s d) no_circuit
     (omega (arith, bound.files, file-below b.rows s d within))
 
@@ -150,7 +150,7 @@ refusals b accepted =
     let both = none_both (refused_row b) _ accepted in
     (both.0, none-mapped _ (first_unbound (needs_of b.rows (signals_of b)) b.circuits) both.1)
 
-circuit-bound : (b : Bound) (s d : ℕ) → IsBound b → d < length (dies_at s b.rows) →
+pub circuit-bound : (b : Bound) (s d : ℕ) → IsBound b → d < length (dies_at s b.rows) →
     unbound_in (binds_of (circuit_of b s d) (needs_of b.rows (signals_of b))) ≡ None
 circuit-bound b s d bound within =
     each-bound (needs_of b.rows (signals_of b)) b.circuits (refusals b bound.accepted).1 (file_of b.rows s d) no_circuit

@@ -38,13 +38,13 @@ cut_page instrs page size is =
 
 -- ---- the pages of a code
 
-slice_get_right : {A : Type 0} (xs ys : List A) (k : ℕ) → slice_get (xs ++ ys) (length xs + k) ≡ slice_get ys k
+pub slice_get_right : {A : Type 0} (xs ys : List A) (k : ℕ) → slice_get (xs ++ ys) (length xs + k) ≡ slice_get ys k
 slice_get_right [] ys k = let none : 0 + k ≡ k = omega arith in ap (slice_get ys) none
 slice_get_right (x ∷ xs) ys k =
     let next : suc (length xs) + k ≡ suc (length xs + k) = omega arith in
     ap (slice_get (x ∷ xs ++ ys)) next ∙ slice_get_right xs ys k
 
-slice_get_left : {A : Type 0} (xs ys : List A) (k : ℕ) → k < length xs → slice_get (xs ++ ys) k ≡ slice_get xs k
+pub slice_get_left : {A : Type 0} (xs ys : List A) (k : ℕ) → k < length xs → slice_get (xs ++ ys) k ≡ slice_get xs k
 slice_get_left [] ys k lt = absurd (omega arith)
 slice_get_left (x ∷ xs) ys zero lt = refl
 slice_get_left (x ∷ xs) ys (suc k) lt = slice_get_left xs ys k (omega arith)

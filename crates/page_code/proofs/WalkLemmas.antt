@@ -1,5 +1,5 @@
 -- A walk over a code stays over it, and its cycles name tables and rows of the code.
-use Rattle.std.proofs.Common.{◌≡◌, ℕ, zero, suc, ◌+◌, ◌*◌, ◌^◌, ◌<◌, ◌≤◌, List, [], ◌∷◌, length, get_or, replicate, sym, subst, arith}
+use Rattle.std.proofs.Common.{◌≡◌, ℕ, zero, suc, ◌+◌, ◌*◌, ◌^◌, ◌<◌, ◌≤◌, List, [], ◌∷◌, length, get_or, replicate, refl, sym, ap, subst, arith}
 use Rattle.std.specs.List.{AllByRecursion}
 use Rattle.tester_types.specs.declared.wave.Table.{Table}
 use Rattle.page_meaning.specs.declared.instr.Entry.{Entry}
@@ -12,7 +12,7 @@ use Rattle.page_meaning.proofs.CountLemmas.{cycle_count-length}
 use Rattle.page_code.specs.declared.walker.Walk.{Walk}
 use Rattle.page_code.specs.Program.{Program}
 use Rattle.page_code.specs.Conditions.{IsInstr, IsExec, IsTable, IsProgram}
-use Rattle.page_code.specs.Cycles.{exec_of}
+use Rattle.page_code.specs.Cycles.{period_of, timed, exec_of, cycles_of}
 use Rattle.page_code.specs.Walk.{IsOf, IsOver, entries_left}
 use Rattle.text_bytes.proofs.ListLemmas.{all_append}
 use Rattle.page_code.proofs.Lists.{behind_at, each_all, each_at, all_replicate}
@@ -62,6 +62,15 @@ pub exec_is : (code : Program) (exec : ℕ) → IsProgram code → exec < length
     → IsExec (length code.signals) code.tables code.rows (exec_of code exec)
 exec_is code exec is lt =
     each_at (IsExec (length code.signals) code.tables code.rows) code.execs exec (record { name = []; chains = []; instrs = [] }) is.execs lt
+
+-- as many cycles as entries
+pub length-timed : (tables : List Table) (start : ℕ) (entries : List Entry) → length (timed tables start entries) ≡ length entries
+length-timed tables start [] = refl
+length-timed tables start (entry ∷ entries) = ap suc (length-timed tables (start + period_of tables entry.table) entries)
+
+-- an executive has as many cycles as its instructions mean
+pub length-cycles : (code : Program) (exec : ℕ) → length (cycles_of code exec) ≡ length (Means (exec_of code exec).instrs)
+length-cycles code exec = length-timed code.tables 0 (Means (exec_of code exec).instrs)
 
 -- a walk begins over its code
 pub begins_over : (code : Program) (exec : ℕ) (course : Course) → IsProgram code → exec < length code.execs

@@ -53,5 +53,6 @@ first_page code number = length (flat_map pages_of_exec (take number code.execs)
 abbrev pub page_of : Program → ℕ → ℕ → ℕ
 page_of code number place = first_page code number + place / 256
 
+-- where an instruction stands on its page
 abbrev pub offset_of : ℕ → ℕ
 offset_of place = place % 256

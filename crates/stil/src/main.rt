@@ -1,12 +1,12 @@
-//! The program: real files and standard output around the public call of `stil_tool`.
+//! The program: real files, standard output and simulated sockets around the public call of `stil_tool`.
 #![tactic(auto)]
 
-mod real;
-#[cfg(test)]
-mod tests;
+mod run;
 
+use host_files::FileDesk;
 use std::process::ExitCode;
 
 fn main(rt: HostRuntime) -> ExitCode {
-    ExitCode::from(real::run(&rt).number())
+    let mut desk = FileDesk::new(&rt);
+    ExitCode::from(run::run(&rt, &mut desk).number())
 }

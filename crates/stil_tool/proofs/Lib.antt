@@ -1,8 +1,12 @@
-pub mod RowsLemmas
-pub mod PrintLemmas
 pub mod WordsLemmas
-pub mod FileLemmas
-pub mod OneDieLemmas
+pub mod CompletenessLemmas
+pub mod ListedLemmas
+pub mod FewLemmas
+pub mod CommandLemmas
 pub mod LotLemmas
+pub mod NetLemmas
+pub mod DrillLemmas
+pub mod FineLotLemmas
+pub mod KnownLemmas
+pub mod PrintableLemmas
 pub mod RunLemmas
-pub mod SkewLemmas

@@ -1,61 +1,33 @@
--- The record of a lot of one die can be printed: `printable`.
-use Rattle.std.proofs.Common.{◌≡◌, ℕ, zero, suc, ◌<◌, ℤ, List, [], ◌∷◌, length, refl, ap, subst, arith, get_or}
-use Rattle.std.specs.Prelude.{All}
-use Rattle.tester_types.specs.declared.record.Fail.{Fail}
-use Rattle.tester_types.specs.declared.record.Trial.{Trial}
-use Rattle.tester_types.specs.declared.record.Record.{Record}
+-- What the run of a lot gives can be printed, and its text is that of the lot.
+use Rattle.std.proofs.Common.{◌≡◌, ◌≤◌, List, length, sym, ap, ◌∙◌, subst, arith}
+use Rattle.tester_types.specs.Records.{SiteRecords, records_of}
 use Rattle.page_code.specs.Program.{Program}
-use Rattle.plan_rows.specs.Rows.{dies_at, sites_of, lot_of}
-use Rattle.lot_plan.specs.Bound.{Bound, image_of}
-use Rattle.lot_plan.specs.Skews.{site_skews}
-use Rattle.die_sim.specs.Die.{Image}
-use Rattle.tester_types.specs.Outside.{HasRisen}
-use Rattle.one_try.specs.Trials.{IsTrial, IsContact}
+use Rattle.plan_rows.specs.Rows.{sites_of}
+use Rattle.die_sim.specs.Socket.{Told}
+use Rattle.lot_plan.specs.Bound.{Bound}
+use Rattle.lot_plan.specs.Refusal.{IsBound}
+use Rattle.tester_run.specs.Lot.{said_since}
 use Rattle.datalog.specs.DatalogText.{lot_text}
-use Rattle.datalog.specs.Printable.{IsKnown, IsKnownTrial, IsPrintable, IsPrintableAt, ArePrintable}
-use Rattle.stil_tool.specs.Lot.{record_of, IsTried}
-use Rattle.stil_tool.proofs.OneDieLemmas.{HasDie, dies-here, one_site}
+use Rattle.datalog.specs.Printable.{ArePrintable}
+use Rattle.stil_tool.specs.Lot.{Floor, IsBook, usable}
+use Rattle.stil_tool.proofs.PrintableLemmas.{printable_lot}
 
--- what is so of one item is so of each of them
-all_one : {X : Type 0} (P : X → Type 0) (x : X) → P x → All P (x ∷ [])
-all_one P x is zero d within = is
-all_one P x is (suc k) d within = absurd (omega (arith, within))
+-- its book is printable
+pub printable_so : {S : Type 0} (tells : S → Told) (bound : Bound) (old new : Floor S) (book seen : List SiteRecords) (code : Program)
+    (plan : Bound) → IsBook tells bound old new book → IsBound plan → plan ≡ bound → code ≡ bound.program → seen ≡ book
+    → sites_of bound.rows ≤ usable (length old.sockets) → ArePrintable code plan (records_of seen)
+printable_so tells bound old new book seen code plan is whole same coded shown enough =
+    let able : ArePrintable bound.program bound (records_of book) =
+    printable_lot tells bound (said_since old.stops new.stops) old.sockets new.sockets book (subst IsBound same whole)
+    (omega (arith, enough)) (omega (arith, enough)) is.all is.records in
+    subst (λ (c : Program). ArePrintable c plan (records_of seen)) (sym coded)
+    (subst (λ (p : Bound). ArePrintable bound.program p (records_of seen)) (sym same)
+    (subst (λ (b : List SiteRecords). ArePrintable bound.program bound (records_of b)) (sym shown) able))
 
-all_known : (code : Program) (fails : List Fail) → All (λ fail. fail.signal < length code.signals) fails → All (IsKnown code) fails
-all_known code fails all k d within = record { signal = all k d within }
-
--- the record of the die can be printed
-pub printable : (code : Program) (b : Bound) (trial : Trial) → HasDie b.rows →
-    All (λ fail. fail.signal < length code.signals) trial.kept → ArePrintable code b ((record_of trial ∷ []) ∷ [])
-printable code b trial h known =
-    let site : 0 < sites_of b.rows = omega (arith, one_site b.rows h) in
-    let die : 0 < length (dies_at 0 b.rows) = omega (arith, ap length (dies-here b.rows h)) in
-    let entry : IsPrintable code b (record_of trial) = record {
-      site = site;
-      die = die;
-      tried = omega arith;
-      known = all_one (IsKnownTrial code) trial (all_known code trial.kept known);
-    } in
-    record {
-      few = omega arith;
-      each = by (all_one (IsPrintableAt code b 0) (record_of trial) (record { own = refl; printable = entry }));
-    }
-  where
-    by : All (IsPrintableAt code b 0) (record_of trial ∷ []) → (site : ℕ) (none : List Record) → site < 1 →
-        All (IsPrintableAt code b site) (get_or ((record_of trial ∷ []) ∷ []) site none)
-    by all zero none within = all
-    by all (suc site) none within = absurd (omega (arith, within))
-
--- what a run at a socket is
-pub tried_so : (code : Program) (b : Bound) (skews : List ℤ) (image : Image) (keep : ℕ) (trial : Trial) (sites : List (List Record))
-    (faults faults' : ℕ) → skews ≡ site_skews b 0 → image ≡ image_of b 0 0 1 → keep ≡ (lot_of b.rows).keep →
-    IsTrial code skews image keep trial →
-    (IsContact trial.verdict → HasRisen faults faults') → sites ≡ (record_of trial ∷ []) ∷ [] →
-    IsTried code b faults faults' (lot_text code b sites) trial
-tried_so code b skews image keep trial sites faults faults' moved loaded kept is contact are = record {
-  tried = subst (λ (k : ℕ). IsTrial code (site_skews b 0) (image_of b 0 0 1) k trial) kept
-      (subst (λ (i : Image). IsTrial code (site_skews b 0) i keep trial) loaded
-      (subst (λ (l : List ℤ). IsTrial code l image keep trial) moved is));
-  contact = contact;
-  written = ap (lot_text code b) are;
-}
+-- and its text is the lot's
+pub written_so : (bound : Bound) (book seen : List SiteRecords) (code : Program) (plan : Bound) → plan ≡ bound → code ≡ bound.program
+    → seen ≡ book → lot_text code plan (records_of seen) ≡ lot_text bound.program bound (records_of book)
+written_so bound book seen code plan same coded shown =
+    ap (λ (c : Program). lot_text c plan (records_of seen)) coded
+    ∙ ap (λ (p : Bound). lot_text bound.program p (records_of seen)) same
+    ∙ ap (λ (b : List SiteRecords). lot_text bound.program bound (records_of b)) shown

@@ -1,55 +1,62 @@
--- What `lot` answers for one die at one site, and why.
-use Rattle.std.specs.Prelude.{◌≡◌, ℕ, ◌≤◌, true, false, List, [], ◌∷◌, length, codes, Option, Some, None}
-use Rattle.tester_types.specs.declared.record.Trial.{Trial}
-use Rattle.tester_types.specs.declared.record.Record.{Record}
-use Rattle.tester_types.specs.Outside.{HasRisen, Files, TellsFile}
+-- What `lot` answers, and why.
+use Rattle.std.specs.Prelude.{◌≡◌, ℕ, ◌<◌, ◌≤◌, ◌++◌, Bool, true, false, List, [], ◌∷◌, length, min, take, nat_eq, codes, Option, Some, None, Err}
+use Rattle.std.specs.Cmp.Lexicographic.{pointwise}
+use Rattle.tester_types.specs.Outside.{Files, TellsFile}
+use Rattle.tester_types.specs.Records.{SiteRecords, records_of}
 use Rattle.bench_net.specs.Circuit.{Circuit, IsWhole}
 use Rattle.bench_net.specs.Net.{IsNet}
 use Rattle.bench_net.specs.Fault as nets
 use Rattle.bench_net.specs.declared.fault.NetFault.{NetFault}
 use Rattle.plan_rows.specs.declared.row.Row.{Row}
-use Rattle.plan_rows.specs.Rows.{lot_of}
+use Rattle.plan_rows.specs.Rows.{sites_of, files_of}
 use Rattle.plan_rows.specs.Plan as plans
 use Rattle.plan_rows.specs.declared.fault.PlanFault.{PlanFault}
-use Rattle.lot_plan.specs.Bound.{Bound, image_of}
-use Rattle.lot_plan.specs.Skews.{site_skews}
+use Rattle.lot_plan.specs.Bound.{Bound}
 use Rattle.lot_plan.specs.Refusal.{refusal}
 use Rattle.die_sim.specs.Socket.{Told}
 use Rattle.page_code.specs.Program.{Program}
-use Rattle.one_try.specs.Trials.{IsTrial, IsContact}
+use Rattle.tester_run.specs.Lot.{AreOfLot, AreLeft, said_since}
 use Rattle.datalog.specs.DatalogText.{lot_text}
-use Rattle.thin_stil.specs.declared.thin.ThinText.{ThinText}
-use Rattle.thin_stil.specs.Thin.{IsThin}
-use Rattle.thin_code.specs.Compiled.{IsCodeOf}
+use Rattle.page_code.specs.Saved.{Saved}
+use Rattle.page_code.specs.Reading.{load_of}
+use Rattle.page_code.specs.declared.fault.SavedFault.{SavedFault}
+use Rattle.stil_ast.specs.declared.fault.StilFault.{StilFault}
+use Rattle.stil_program.specs.Program.{IsTextFault, IsProgramOf}
 use Rattle.stil_tool.specs.declared.status.Status.{Status}
 use Rattle.stil_tool.specs.declared.status.Status.TheVariants.{Done, OutOfMemory}
 use Rattle.stil_tool.specs.declared.refusal.Refusal.{Refusal}
-use Rattle.stil_tool.specs.declared.refusal.Refusal.TheVariants.{NoMemory, ReadFault, TooLong, NotThin, Net, Plan, NotOneDie, NoSocket}
-use Rattle.stil_tool.specs.Offline.{limit, LoadFailed, IsTooLong, Wants, memory_line}
+use Rattle.stil_tool.specs.declared.refusal.Refusal.TheVariants.{NoMemory, ReadFault, TooLong, Stil, Saved as SavedRefusal, Net, Plan, TooFewSockets}
+use Rattle.stil_tool.specs.Offline.{IsFile, LoadFailed, IsTooLong, memory_line}
 use Rattle.stil_tool.specs.LotText.{status_of, line_of}
-use Rattle.stil_tool.specs.OneDie.{is_one_die, net_file}
 
 -- the words `lot PROGRAM PLAN`
 abbrev pub AreLot : List (List ℕ) → List ℕ → List ℕ → Type 0
 AreLot words program plan = words ≡ codes "lot" ∷ program ∷ plan ∷ []
 
--- the file, where it is told, has these bytes, and they are not too many
-pub record IsFile (told : Option Files) (name bytes : List ℕ) : Type 0 where
-  pub are : TellsFile told name (λ found. found ≡ Some bytes)
-  pub fits : length bytes ≤ limit
+-- the bytes with which a saved program begins
+abbrev pub saved_mark : List ℕ
+saved_mark = 0xD7 ∷ 0x53 ∷ 0x54 ∷ 0x50 ∷ []
 
--- the file is a thin text
-pub record IsTextFile (told : Option Files) (name : List ℕ) (thin : ThinText) : Type 0 where
+-- whether bytes are to be read as a saved program, and not as a STIL text
+abbrev pub is_saved : List ℕ → Bool
+is_saved bytes = pointwise nat_eq (take 4 bytes) saved_mark
+
+-- the code of bytes that are read so
+abbrev pub IsCodeBy : Bool → List ℕ → Program → Type 0
+IsCodeBy true bytes code = Saved code bytes
+IsCodeBy false bytes code = IsProgramOf bytes code
+
+-- the file is a program with this code
+pub record IsProgramFile (told : Option Files) (name : List ℕ) (code : Program) : Type 0 where
   pub bytes : List ℕ
   pub file : IsFile told name bytes
-  pub reads : IsThin bytes thin
+  pub reads : IsCodeBy (is_saved bytes) bytes code
 
--- the file is a plan of one try of one die
+-- the file is a plan
 pub record IsPlanFile (told : Option Files) (name : List ℕ) (rows : List Row) : Type 0 where
   pub bytes : List ℕ
   pub file : IsFile told name bytes
   pub plan : plans.IsPlan bytes rows
-  pub one : is_one_die rows ≡ true
 
 -- the file is a netlist
 pub record IsNetFile (told : Option Files) (name : List ℕ) (circuit : Circuit) : Type 0 where
@@ -58,96 +65,119 @@ pub record IsNetFile (told : Option Files) (name : List ℕ) (circuit : Circuit)
   pub net : IsNet bytes circuit.net
   pub whole : IsWhole circuit
 
--- what the three files say
+-- these files are the netlists, one by one
+abbrev pub AreNetFiles : Option Files → List (List ℕ) → List Circuit → Type 0
+AreNetFiles told [] [] = Unit {0}
+AreNetFiles told [] (circuit ∷ circuits) = ⊥
+AreNetFiles told (file ∷ files) [] = ⊥
+AreNetFiles told (file ∷ files) (circuit ∷ circuits) = IsNetFile told file circuit × AreNetFiles told files circuits
+
+-- what the files of a lot say
 pub record Inputs : Type 0 where
-  pub thin : ThinText
+  pub code : Program
   pub rows : List Row
-  pub circuit : Circuit
+  pub circuits : List Circuit
 
--- the three files say this
+-- the program, the plan and the netlists that the plan names, in its order, say this
 pub record AreInputs (told : Option Files) (program plan : List ℕ) (inputs : Inputs) : Type 0 where
-  pub text : IsTextFile told program inputs.thin
+  pub code : IsProgramFile told program inputs.code
   pub rows : IsPlanFile told plan inputs.rows
-  pub net : IsNetFile told (net_file inputs.rows) inputs.circuit
+  pub nets : AreNetFiles told (files_of inputs.rows) inputs.circuits
 
--- the plan, bound to a program and to the netlist
-abbrev pub bound_of : Inputs → Program → Bound
-bound_of inputs code = record { rows = inputs.rows; program = code; circuits = inputs.circuit ∷ [] }
+-- the plan, bound to the program and to the netlists
+abbrev pub bound_of : Inputs → Bound
+bound_of inputs = record { rows = inputs.rows; program = inputs.code; circuits = inputs.circuits }
 
 -- a file isn't loaded: its load failed, or it is too long, or there is no memory
 abbrev pub IsUnread : Option Files → ℕ → ℕ → List ℕ → Refusal → Type 0
 IsUnread told before now name NoMemory = Unit {0}
 IsUnread told before now name (ReadFault file) = (file ≡ name) × LoadFailed told before now name
 IsUnread told before now name (TooLong file) = (file ≡ name) × TellsFile told name IsTooLong
-IsUnread told before now name NotThin = ⊥
+IsUnread told before now name (Stil fault) = ⊥
+IsUnread told before now name (SavedRefusal fault) = ⊥
 IsUnread told before now name (Net file fault) = ⊥
 IsUnread told before now name (Plan fault) = ⊥
-IsUnread told before now name NotOneDie = ⊥
-IsUnread told before now name NoSocket = ⊥
+IsUnread told before now name (TooFewSockets sites have) = ⊥
 
--- why the program's text is refused
-pub data IsTextRefused (told : Option Files) (before now : ℕ) (name : List ℕ) (r : Refusal) : Type 0 where
-  unread : IsUnread told before now name r → IsTextRefused told before now name r
-  not_thin : (bytes : List ℕ) → IsFile told name bytes → ((thin : ThinText) → IsThin bytes thin → ⊥) → r ≡ NotThin
-      → IsTextRefused told before now name r
+-- why the program is refused: the first fault of a text, or of a saved program
+pub data IsProgramRefused (told : Option Files) (before now : ℕ) (name : List ℕ) (r : Refusal) : Type 0 where
+  no_memory : status_of r ≡ OutOfMemory → IsProgramRefused told before now name r
+  unread : IsUnread told before now name r → IsProgramRefused told before now name r
+  of_text : (bytes : List ℕ) → IsFile told name bytes → is_saved bytes ≡ false → (fault : StilFault)
+      → IsTextFault bytes (Some fault) → r ≡ Stil fault → IsProgramRefused told before now name r
+  of_saved : (bytes : List ℕ) → IsFile told name bytes → is_saved bytes ≡ true → (fault : SavedFault)
+      → load_of bytes ≡ Err fault → r ≡ SavedRefusal fault → IsProgramRefused told before now name r
 
--- why the plan is refused: its first fault, or that it isn't one of one try of one die
+-- why the plan is refused
 pub data IsPlanRefused (told : Option Files) (before now : ℕ) (name : List ℕ) (r : Refusal) : Type 0 where
   no_memory : status_of r ≡ OutOfMemory → IsPlanRefused told before now name r
   unread : IsUnread told before now name r → IsPlanRefused told before now name r
   faulty : (bytes : List ℕ) → IsFile told name bytes → (fault : PlanFault) → plans.IsFault bytes fault → r ≡ Plan fault
       → IsPlanRefused told before now name r
-  not_one : (bytes : List ℕ) → IsFile told name bytes → (rows : List Row) → plans.IsPlan bytes rows
-      → is_one_die rows ≡ false → r ≡ NotOneDie → IsPlanRefused told before now name r
 
--- why the netlist is refused
+-- why a netlist is refused
 pub data IsNetRefused (told : Option Files) (before now : ℕ) (name : List ℕ) (r : Refusal) : Type 0 where
   no_memory : status_of r ≡ OutOfMemory → IsNetRefused told before now name r
   unread : IsUnread told before now name r → IsNetRefused told before now name r
   faulty : (bytes : List ℕ) → IsFile told name bytes → (fault : NetFault) → nets.IsFault bytes fault
       → r ≡ Net name fault → IsNetRefused told before now name r
 
--- why a lot isn't run, in the order in which it is met: the text, the plan, the netlist, the binding, the sockets. Want
--- of memory may come at any time
+-- why the netlists of these files are refused: one of them is, and those before it are accepted
+pub data AreNetsRefused (told : Option Files) (before now : ℕ) (files : List (List ℕ)) (r : Refusal) : Type 0 where
+  no_memory : status_of r ≡ OutOfMemory → AreNetsRefused told before now files r
+  of_file : (front later : List (List ℕ)) (file : List ℕ) → files ≡ front ++ file ∷ later → (circuits : List Circuit)
+      → AreNetFiles told front circuits → IsNetRefused told before now file r → AreNetsRefused told before now files r
+
+-- how many of so many sockets a lot can have
+abbrev pub usable : ℕ → ℕ
+usable sockets = min sockets 16
+
+-- why a lot isn't run, in the order in which it is met: the program, the plan, the netlists, the binding, the sockets.
+-- Want of memory may come at any time
 pub data IsRefused (told : Option Files) (before now sockets : ℕ) (program plan : List ℕ) (r : Refusal) : Type 0 where
   no_memory : status_of r ≡ OutOfMemory → IsRefused told before now sockets program plan r
-  of_text : IsTextRefused told before now program r → IsRefused told before now sockets program plan r
-  of_plan : (thin : ThinText) → IsTextFile told program thin → IsPlanRefused told before now plan r
+  of_program : IsProgramRefused told before now program r → IsRefused told before now sockets program plan r
+  of_plan : (code : Program) → IsProgramFile told program code → IsPlanRefused told before now plan r
       → IsRefused told before now sockets program plan r
-  of_net : (thin : ThinText) → IsTextFile told program thin → (rows : List Row) → IsPlanFile told plan rows
-      → IsNetRefused told before now (net_file rows) r → IsRefused told before now sockets program plan r
-  unbound : (inputs : Inputs) → AreInputs told program plan inputs → (code : Program) → IsCodeOf inputs.thin code
-      → (fault : PlanFault) → refusal (bound_of inputs code) ≡ Some fault → r ≡ Plan fault
+  of_nets : (code : Program) → IsProgramFile told program code → (rows : List Row) → IsPlanFile told plan rows
+      → AreNetsRefused told before now (files_of rows) r → IsRefused told before now sockets program plan r
+  unbound : (inputs : Inputs) → AreInputs told program plan inputs → (fault : PlanFault)
+      → refusal (bound_of inputs) ≡ Some fault → r ≡ Plan fault → IsRefused told before now sockets program plan r
+  few_sockets : (inputs : Inputs) → AreInputs told program plan inputs → refusal (bound_of inputs) ≡ None
+      → usable sockets < sites_of inputs.rows → r ≡ TooFewSockets (sites_of inputs.rows) (usable sockets)
       → IsRefused told before now sockets program plan r
-  no_socket : (inputs : Inputs) → AreInputs told program plan inputs → (code : Program) → IsCodeOf inputs.thin code
-      → refusal (bound_of inputs code) ≡ None → sockets ≡ 0 → r ≡ NoSocket
-      → IsRefused told before now sockets program plan r
 
--- how many faults the first socket has counted
-abbrev pub first_count : {S : Type 0} → (S → Told) → List S → ℕ
-first_count told [] = 0
-first_count told (socket ∷ sockets) = (told socket).count
+-- a tester's sockets, how many stops its desk has said for each site, and whether the desk was asked
+pub record Floor (S : Type 0) : Type 0 where
+  pub sockets : List S
+  pub stops : ℕ → ℕ
+  pub asked : Bool
 
--- what is recorded of the die
-abbrev pub record_of : Trial → Record
-record_of trial = record { site = 0; die = 0; trials = trial ∷ [] }
+-- A book of the lot of a bound plan that was run between these floors: it has at each site the site's whole list, a
+-- sound record of each planned die, in order, as the plan makes it with the cuts that the records tell. Each site's
+-- live stops rise from above 0 and are no more than the desk said for it here; contact was lost no more often than its
+-- socket's count of faults rose by.
+pub record IsBook {S : Type 0} (tells : S → Told) (bound : Bound) (old new : Floor S) (book : List SiteRecords)
+    : Type 0 where
+  pub asked : new.asked ≡ true
+  pub all : length book ≡ sites_of bound.rows
+  pub records : AreOfLot tells bound (said_since old.stops new.stops) old.sockets new.sockets book
+  pub left : AreLeft tells bound old.sockets new.sockets
 
--- The one try of the die by a code, with the skews of its site. The text written is the datalog of what was recorded;
--- contact is lost only where the socket's count of faults has risen.
-pub record IsTried (code : Program) (bound : Bound) (faults faults' : ℕ) (text : List ℕ) (trial : Trial) : Type 0 where
-  pub tried : IsTrial code (site_skews bound 0) (image_of bound 0 0 1) (lot_of bound.rows).keep trial
-  pub contact : IsContact trial.verdict → HasRisen faults faults'
-  pub written : text ≡ lot_text code bound ((record_of trial ∷ []) ∷ [])
+-- the text is the datalog of such a book
+pub record IsLot {S : Type 0} (tells : S → Told) (bound : Bound) (old new : Floor S) (text : List ℕ) : Type 0 where
+  pub book : List SiteRecords
+  pub is : IsBook tells bound old new book
+  pub written : text ≡ lot_text bound.program bound (records_of book)
 
--- the lot was run by a code that stands for the text
-pub record IsRun (told : Option Files) (faults faults' : ℕ) (program plan text : List ℕ) : Type 0 where
+-- the lot of what the files say was run
+pub record IsRun {S : Type 0} (tells : S → Told) (told : Option Files) (program plan : List ℕ) (old new : Floor S)
+    (text : List ℕ) : Type 0 where
   pub inputs : Inputs
   pub are : AreInputs told program plan inputs
-  pub code : Program
-  pub compiled : IsCodeOf inputs.thin code
-  pub accepted : refusal (bound_of inputs code) ≡ None
-  pub trial : Trial
-  pub tried : IsTried code (bound_of inputs code) faults faults' text trial
+  pub accepted : refusal (bound_of inputs) ≡ None
+  pub enough : sites_of inputs.rows ≤ usable (length old.sockets)
+  pub lot : IsLot tells (bound_of inputs) old new text
 
 -- a refusal, with its status and its line
 pub record IsRefusal (told : Option Files) (before now sockets : ℕ) (program plan : List ℕ) (status : Status)
@@ -158,32 +188,24 @@ pub record IsRefusal (told : Option Files) (before now sockets : ℕ) (program p
   pub line : text ≡ line_of refused
 
 -- what must be so for a status of a bound lot, with what is written then
-abbrev pub RunWants : Program → Bound → ℕ → ℕ → Status → List ℕ → Type 0
-RunWants code bound faults faults' Done text = (trial : Trial) × IsTried code bound faults faults' text trial
-RunWants code bound faults faults' OutOfMemory text = text ≡ memory_line
-RunWants code bound faults faults' _ text = ⊥
+abbrev pub RunWants : {S : Type 0} → (S → Told) → Bound → Floor S → Floor S → Status → List ℕ → Type 0
+RunWants tells bound old new Done text = IsLot tells bound old new text
+RunWants tells bound old new OutOfMemory text = text ≡ memory_line
+RunWants tells bound old new _ text = ⊥
 
--- what must be so for a status of `lot`, with what is written then
-pub data LotWants (told : Option Files) (before now sockets faults faults' : ℕ) (program plan : List ℕ)
-    (status : Status) (text : List ℕ) : Type 0 where
-  is_run : status ≡ Done → IsRun told faults faults' program plan text
-      → LotWants told before now sockets faults faults' program plan status text
-  is_refused : IsRefusal told before now sockets program plan status text
-      → LotWants told before now sockets faults faults' program plan status text
+-- What must be so for a status of `lot`, with what is written then. A lot that is refused, but for want of memory,
+-- leaves its floor as it was.
+pub data LotWants {S : Type 0} (tells : S → Told) (told : Option Files) (before now : ℕ) (old new : Floor S)
+    (program plan : List ℕ) (status : Status) (text : List ℕ) : Type 0 where
+  is_run : status ≡ Done → IsRun tells told program plan old new text
+      → LotWants tells told before now old new program plan status text
+  is_refused : IsRefusal told before now (length old.sockets) program plan status text
+      → ((status ≡ OutOfMemory → ⊥) → new ≡ old) → LotWants tells told before now old new program plan status text
 
--- the same of words: those of `lot`, or those of a command that needs no tester
-pub data TesterWants (words : List (List ℕ)) (told : Option Files) (before now sockets faults faults' : ℕ)
-    (status : Status) (text : List ℕ) : Type 0 where
-  of_lot : (program plan : List ℕ) → AreLot words program plan
-      → LotWants told before now sockets faults faults' program plan status text
-      → TesterWants words told before now sockets faults faults' status text
-  of_other : ((program plan : List ℕ) → AreLot words program plan → ⊥) → Wants words told before now status text
-      → TesterWants words told before now sockets faults faults' status text
-
--- a code and a bound plan are those of what the three files say, and nothing refuses them
+-- a code and a bound plan are those of what the files say, and nothing refuses them
 pub record IsReady (told : Option Files) (program plan : List ℕ) (code : Program) (bound : Bound) : Type 0 where
   pub inputs : Inputs
   pub are : AreInputs told program plan inputs
-  pub compiled : IsCodeOf inputs.thin code
-  pub is : bound ≡ bound_of inputs code
-  pub accepted : refusal (bound_of inputs code) ≡ None
+  pub code_is : code ≡ inputs.code
+  pub is : bound ≡ bound_of inputs
+  pub accepted : refusal (bound_of inputs) ≡ None

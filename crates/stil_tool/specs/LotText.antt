@@ -3,13 +3,17 @@ use Rattle.std.specs.Prelude.{ℕ, List, ◌++◌, codes, decimal}
 use Rattle.tester_types.specs.Printing.{printed_name}
 use Rattle.bench_net.specs.declared.fault.NetFault.{NetFault}
 use Rattle.bench_net.specs.declared.fault.NetFault.TheVariants as net
+use Rattle.stil_ast.specs.declared.fault.StilRefusal.{StilRefusal}
+use Rattle.stil_ast.specs.declared.fault.StilRefusal.TheVariants as stil
+use Rattle.page_code.specs.declared.fault.SavedFault.{SavedFault}
+use Rattle.page_code.specs.declared.fault.SavedFault.TheVariants as saved
 use Rattle.plan_rows.specs.declared.fault.PlanFault.{PlanFault}
 use Rattle.plan_rows.specs.declared.fault.PlanFault.TheVariants as plan
 use Rattle.stil_tool.specs.declared.status.Status.{Status}
-use Rattle.stil_tool.specs.declared.status.Status.TheVariants.{ReadFault, RefusedStil, RefusedNet, RefusedPlan, TooFewSockets, OutOfMemory, TooLong}
+use Rattle.stil_tool.specs.declared.status.Status.TheVariants.{ReadFault, RefusedStil, RefusedNet, RefusedPlan, TooFewSockets, OutOfMemory, TooLong, RefusedSaved}
 use Rattle.stil_tool.specs.declared.refusal.Refusal.{Refusal}
 use Rattle.stil_tool.specs.declared.refusal.Refusal.TheVariants as refusal
-use Rattle.stil_tool.specs.Offline.{read_fault_line, too_long_line, refused_thin_line, memory_line}
+use Rattle.stil_tool.specs.Offline.{read_fault_line, too_long_line, refused_line, memory_line}
 
 -- a netlist that is refused: its file, the kind of its fault, and the line or the net, `-` where there is neither
 abbrev pub net_fault_line : List ℕ → List ℕ → List ℕ → List ℕ
@@ -59,24 +63,59 @@ plan_status (plan.OutOfRange row) = RefusedPlan
 plan_status (plan.SkewOutside row) = RefusedPlan
 plan_status (plan.Unbound signal) = RefusedPlan
 
+-- a text that is refused, or want of memory
+abbrev pub stil_status : StilRefusal → Status
+stil_status stil.NoMemory = OutOfMemory
+stil_status (stil.Fault fault) = RefusedStil
+
+-- the line of either
+abbrev pub stil_line : StilRefusal → List ℕ
+stil_line stil.NoMemory = memory_line
+stil_line (stil.Fault fault) = refused_line fault
+
+-- bytes that are no saved program: the kind of their fault, and its place
+abbrev pub saved_fault_line : List ℕ → ℕ → List ℕ
+saved_fault_line kind place = codes "refused saved " ++ kind ++ decimal place ++ codes "\n"
+
+-- the same by its fault: the magic stands at 0, and the version at 4
+abbrev pub saved_line : SavedFault → List ℕ
+saved_line saved.NoMemory = memory_line
+saved_line saved.BadMagic = saved_fault_line (codes "BadMagic ") 0
+saved_line saved.BadVersion = saved_fault_line (codes "BadVersion ") 4
+saved_line (saved.Torn place) = saved_fault_line (codes "Torn ") place
+saved_line (saved.BadCode place) = saved_fault_line (codes "BadCode ") place
+
+-- they are refused, but for want of memory
+abbrev pub saved_status : SavedFault → Status
+saved_status saved.NoMemory = OutOfMemory
+saved_status saved.BadMagic = RefusedSaved
+saved_status saved.BadVersion = RefusedSaved
+saved_status (saved.Torn place) = RefusedSaved
+saved_status (saved.BadCode place) = RefusedSaved
+
+-- fewer sockets than sites
+abbrev pub few_sockets_line : ℕ → ℕ → List ℕ
+few_sockets_line sites have =
+    codes "too few sockets " ++ decimal sites ++ codes " " ++ decimal have ++ codes "\n"
+
 -- the status of a refusal
 abbrev pub status_of : Refusal → Status
 status_of refusal.NoMemory = OutOfMemory
 status_of (refusal.ReadFault file) = ReadFault
 status_of (refusal.TooLong file) = TooLong
-status_of refusal.NotThin = RefusedStil
+status_of (refusal.Stil fault) = RefusedStil
+status_of (refusal.Saved fault) = saved_status fault
 status_of (refusal.Net file fault) = net_status fault
 status_of (refusal.Plan fault) = plan_status fault
-status_of refusal.NotOneDie = RefusedPlan
-status_of refusal.NoSocket = TooFewSockets
+status_of (refusal.TooFewSockets sites have) = TooFewSockets
 
 -- the line of a refusal
 abbrev pub line_of : Refusal → List ℕ
 line_of refusal.NoMemory = memory_line
 line_of (refusal.ReadFault file) = read_fault_line file
 line_of (refusal.TooLong file) = too_long_line file
-line_of refusal.NotThin = refused_thin_line
+line_of (refusal.Stil fault) = refused_line fault
+line_of (refusal.Saved fault) = saved_line fault
 line_of (refusal.Net file fault) = net_line file fault
 line_of (refusal.Plan fault) = plan_line fault
-line_of refusal.NotOneDie = codes "refused plan Shape 1\n"
-line_of refusal.NoSocket = codes "too few sockets 1 0\n"
+line_of (refusal.TooFewSockets sites have) = few_sockets_line sites have

@@ -2,14 +2,17 @@
 
 ghost use Rattle.std.specs.Prelude.{◌≡◌, ◌≤◌, ◌++◌, codes, decimal};
 ghost use Rattle.tester_types.specs.Printing.{printed_name};
-ghost use Rattle.stil_tool.specs.declared.status.Status.TheVariants.{RefusedNet, RefusedPlan};
-ghost use Rattle.stil_tool.specs.Offline.{Ends};
-ghost use Rattle.stil_tool.specs.LotText.{status_of, line_of, net_status, net_line, net_fault_line, plan_status, plan_line, plan_fault_line};
+ghost use Rattle.stil_tool.specs.declared.status.Status.TheVariants.{RefusedNet, RefusedPlan, RefusedSaved, RefusedStil, TooFewSockets};
+ghost use Rattle.stil_tool.specs.Offline.{Ends, refused_line};
+ghost use Rattle.stil_tool.specs.LotText.{status_of, line_of, net_status, net_line, net_fault_line, plan_status, plan_line, plan_fault_line, few_sockets_line};
+ghost use Rattle.stil_tool.specs.LotText.{stil_status, stil_line, saved_status, saved_line, saved_fault_line};
 
 use crate::ending::{ended, no_memory};
 use crate::status::Status;
 use bench_net::NetFault;
+use page_code::SavedFault;
 use plan_rows::PlanFault;
+use stil_ast::{StilFault, StilRefusal};
 use tester_types::{Piece, Sink, Text};
 
 /// Why a lot isn't run.
@@ -20,16 +23,16 @@ pub enum Refusal {
     ReadFault(Text),
     /// The file of this name has more bytes than a file may have.
     TooLong(Text),
-    /// The program's text isn't thin.
-    NotThin,
+    /// The program is a STIL text with this first fault.
+    Stil(StilFault),
+    /// The program begins as a saved one, and isn't one.
+    Saved(SavedFault),
     /// The netlist in this file is refused.
     Net(Text, NetFault),
     /// The plan is refused.
     Plan(PlanFault),
-    /// The plan isn't that of one try of one die.
-    NotOneDie,
-    /// There is no socket for the die.
-    NoSocket,
+    /// There are so many sites, and fewer sockets, of which a lot has 16 at most.
+    TooFewSockets(u8, u8),
 }
 
 /// Puts the line of a refusal, and answers its status.
@@ -47,20 +50,90 @@ pub(crate) fn put_refusal<K: Sink>(out: &mut K, refusal: &Refusal) -> Status
             Status::ReadFault,
         ),
         Refusal::TooLong(file) => put_named(out, b"too long ", file.as_slice(), Status::TooLong),
-        Refusal::NotThin => put_line(out, b"refused stil LeftOut - - 1\n", Status::RefusedStil),
+        Refusal::Stil(fault) => put_fault(out, fault),
+        Refusal::Saved(fault) => put_saved_fault(out, *fault),
         Refusal::Net(file, fault) => put_net(out, file.as_slice(), fault),
         Refusal::Plan(fault) => put_plan(out, fault),
-        Refusal::NotOneDie => put_line(out, b"refused plan Shape 1\n", Status::RefusedPlan),
-        Refusal::NoSocket => put_line(out, b"too few sockets 1 0\n", Status::TooFewSockets),
+        Refusal::TooFewSockets(sites, have) => put_too_few(out, *sites, *have),
     }
 }
 
-/// Puts a line as it is.
-fn put_line<K: Sink>(out: &mut K, line: &[u8], status: Status) -> Status
-    ensures ends { Ends (K.told out.old) (K.faults out.old) status line.now result (K.told out.new) (K.faults out.new) }
+/// Puts the line of a text's refusal, and answers its status.
+pub(crate) fn put_stil<K: Sink>(out: &mut K, refusal: &StilRefusal) -> Status
+    ensures ends { Ends (K.told out.old) (K.faults out.old)
+        (stil_status refusal.now) (stil_line refusal.now) result (K.told out.new) (K.faults out.new) }
     ensures puts { K.faults out.old ≤ K.faults out.new }
 {
-    ended(out, &[Piece::Text(line)], status)
+    match refusal {
+        StilRefusal::NoMemory => no_memory(out),
+        StilRefusal::Fault(fault) => put_fault(out, fault),
+    }
+}
+
+/// Puts the line of a text's fault.
+fn put_fault<K: Sink>(out: &mut K, fault: &StilFault) -> Status
+    ensures ends { Ends (K.told out.old) (K.faults out.old)
+        RefusedStil (refused_line fault.now) result (K.told out.new) (K.faults out.new) }
+    ensures puts { K.faults out.old ≤ K.faults out.new }
+{
+    let line = [
+        Piece::Text(b"refused stil "),
+        Piece::Text(fault.kind.name().as_bytes()),
+        Piece::Text(b" "),
+        Piece::Title(fault.block.as_slice()),
+        Piece::Text(b" "),
+        Piece::Title(fault.name.as_slice()),
+        Piece::Text(b" "),
+        Piece::Number(u128::from(fault.line)),
+        Piece::Text(b"\n"),
+    ];
+    ended(out, &line, Status::RefusedStil)
+}
+
+/// Puts the line of bytes that are no saved program.
+fn put_saved_fault<K: Sink>(out: &mut K, fault: SavedFault) -> Status
+    ensures ends { Ends (K.told out.old) (K.faults out.old)
+        (saved_status fault) (saved_line fault) result (K.told out.new) (K.faults out.new) }
+    ensures puts { K.faults out.old ≤ K.faults out.new }
+{
+    match fault {
+        SavedFault::NoMemory => no_memory(out),
+        SavedFault::BadMagic => put_bad_saved(out, b"BadMagic ", 0),
+        SavedFault::BadVersion => put_bad_saved(out, b"BadVersion ", 4),
+        SavedFault::Torn(place) => put_bad_saved(out, b"Torn ", place),
+        SavedFault::BadCode(place) => put_bad_saved(out, b"BadCode ", place),
+    }
+}
+
+/// Puts the line of a fault of this kind at a place of a saved program.
+fn put_bad_saved<K: Sink>(out: &mut K, kind: &[u8], place: u64) -> Status
+    ensures ends { Ends (K.told out.old) (K.faults out.old)
+        RefusedSaved (saved_fault_line kind.now place) result (K.told out.new) (K.faults out.new) }
+    ensures puts { K.faults out.old ≤ K.faults out.new }
+{
+    let line = [
+        Piece::Text(b"refused saved "),
+        Piece::Text(kind),
+        Piece::Number(u128::from(place)),
+        Piece::Text(b"\n"),
+    ];
+    ended(out, &line, Status::RefusedSaved)
+}
+
+/// Puts the line of a lot with fewer sockets than sites.
+fn put_too_few<K: Sink>(out: &mut K, sites: u8, have: u8) -> Status
+    ensures ends { Ends (K.told out.old) (K.faults out.old)
+        TooFewSockets (few_sockets_line sites have) result (K.told out.new) (K.faults out.new) }
+    ensures puts { K.faults out.old ≤ K.faults out.new }
+{
+    let line = [
+        Piece::Text(b"too few sockets "),
+        Piece::Number(u128::from(sites)),
+        Piece::Text(b" "),
+        Piece::Number(u128::from(have)),
+        Piece::Text(b"\n"),
+    ];
+    ended(out, &line, Status::TooFewSockets)
 }
 
 /// Puts a line that ends with the name of a file.

@@ -1,25 +1,33 @@
-//! The public call of the program: the commands that need no tester, and the lot.
+//! The public call of the program: the commands that need no tester, the lot and the drill.
 
-ghost use Rattle.std.specs.Prelude.{◌≡◌, ◌≤◌, ℕ, List, length, IfSome, IfNone};
-ghost use Rattle.stil_tool.specs.Offline.{Answers, words_seen};
-ghost use Rattle.stil_tool.specs.Lot.{AreLot, TesterWants, first_count};
+ghost use Rattle.std.specs.Prelude.{◌≡◌, ◌≤◌, ℕ, List, IfSome, IfNone, length};
+ghost use Rattle.stil_tool.specs.Offline.{Answers, IsFine, IsDone, words_seen};
+ghost use Rattle.stil_tool.specs.Lot.{AreLot};
+ghost use Rattle.stil_tool.specs.Drill.{AreDrill};
+ghost use Rattle.stil_tool.specs.Tester.{NeedTester, TesterWants};
+ghost use Rattle.stil_tool.specs.Jobs.{IsJob};
+ghost use Rattle.stil_tool.specs.FineLot.{IsFineLot};
 
 use crate::commands::offline;
+use crate::drill::drill;
 use crate::lot::lot;
 use crate::status::Status;
 use die_sim::{Socket, SocketBox};
+use drill_texts::read_number;
 use std::alloc::Global;
 use std::sync::Wait;
 use std::thread::Threads;
 use tester_types::{Desk, Gate, Shelf, Sink};
 
-/// Runs a command: `cycles FILE` prints the dated cycles of a STIL text, and `lot PROGRAM PLAN` runs the lot of the plan
-/// on the program and prints its datalog. The words, the files and their contents decide the answer, and with each
+/// Runs a command: those of `offline`; `lot PROGRAM PLAN`, which runs the lot of the plan on the program, a STIL text or a
+/// saved program, and prints its datalog; and `drill N`, which runs a lot of texts of its own at four sites, and prints how
+/// many looks failed and how many dies each bin has. The words, the files and their contents decide the answer, and with each
 /// answer comes its line or its text; a put that fails or takes nothing is answered as a write fault. Want of memory may
 /// come at any time.
 ///
-/// A lot is one try of one die at the first socket so far: a plan that asks for more is refused by its shape. The desk
-/// isn't asked yet, and the gate isn't passed.
+/// A lot runs each site of its plan at the socket of its number, beside the others. While they run the desk is asked for
+/// stops, and each site passes the gate before each batch; so a lot may wait. Every other command leaves the sockets and the
+/// desk as they were.
 pub fn tester<F: Shelf, K: Sink, D: Desk, G: Gate, R: Threads + Wait + Sync>(
     rt: &R,
     alloc: Global,
@@ -30,22 +38,48 @@ pub fn tester<F: Shelf, K: Sink, D: Desk, G: Gate, R: Threads + Wait + Sync>(
     gate: &G,
     out: &mut K,
 ) -> Status
-    ensures answers { Answers (TesterWants (words_seen words.now) (F.told shelf.old) (F.faults shelf.old)
-        (F.faults shelf.new) (length sockets.old.items) (first_count ⟦<SocketBox as Socket>⟧.told sockets.old.items)
-        (first_count ⟦<SocketBox as Socket>⟧.told sockets.new.items))
+    ensures answers { Answers (TesterWants ⟦<SocketBox as Socket>⟧.told (words_seen words.now)
+        (F.told shelf.old) (F.faults shelf.old) (F.faults shelf.new)
+        (record { sockets = sockets.old.items; stops = D.stops desk.old; asked = D.asked desk.old })
+        (record { sockets = sockets.new.items; stops = D.stops desk.new; asked = D.asked desk.new }))
         (K.told out.old) (K.faults out.old) result (K.told out.new) (K.faults out.new) }
-    ensures sockets { length sockets.new.items ≡ length sockets.old.items }
-    ensures desk { desk.new ≡ desk.old }
+    ensures others { (NeedTester (words_seen words.now) → ⊥) → (sockets.new ≡ sockets.old) × (desk.new ≡ desk.old) }
+    ensures complete { IsFine (words_seen words.now) (F.told shelf.old) (F.faults shelf.old) (F.faults shelf.new)
+        (K.faults out.old) (K.faults out.new) → IsDone result }
+    ensures complete_lot { IsFineLot (words_seen words.now) (F.told shelf.old) (F.faults shelf.old) (F.faults shelf.new)
+        (K.faults out.old) (K.faults out.new) (length sockets.old.items) → IsDone result }
     ensures kept { F.told shelf.new ≡ F.told shelf.old }
     ensures counts { F.faults shelf.old ≤ F.faults shelf.new }
     ensures puts { K.faults out.old ≤ K.faults out.new }
 {
-    let _rt = rt;
-    let _gate = gate;
-    let _desk = &*desk;
+    match job_of(words) {
+        Job::Lot(program, plan) => lot(rt, alloc, program, plan, shelf, sockets, desk, gate, out),
+        Job::Drill(number) => drill(rt, alloc, number, sockets, desk, gate, out),
+        Job::Offline => offline(alloc, words, shelf, out),
+    }
+}
+
+/// What words ask for.
+#[derive(Clone, Copy)]
+enum Job<'a> {
+    /// The lot of these files, a program and a plan.
+    Lot(&'a str, &'a str),
+    /// The drill of this number.
+    Drill(u8),
+    /// A command that needs no tester, or none.
+    Offline,
+}
+
+/// What words ask for.
+fn job_of(words: &[String]) -> Job<'_>
+    ensures { IsJob (words_seen words.now) result }
+{
     match lot_files(words) {
-        Some((program, plan)) => lot(alloc, program, plan, shelf, sockets, out),
-        None => offline(alloc, words, shelf, out),
+        Some((program, plan)) => Job::Lot(program, plan),
+        None => match drill_number(words) {
+            Some(number) => Job::Drill(number),
+            None => Job::Offline,
+        },
     }
 }
 
@@ -59,6 +93,17 @@ fn lot_files(words: &[String]) -> Option<(&str, &str)>
             program.as_str(),
             plan.as_str(),
         )),
+        _ => None,
+    }
+}
+
+/// The number of the words `drill N`.
+fn drill_number(words: &[String]) -> Option<u8>
+    ensures found { IfSome result (AreDrill (words_seen words.now)) }
+    ensures none { IfNone result ((number : ℕ) → AreDrill (words_seen words.now) number → ⊥) }
+{
+    match words {
+        [command, number] if command.as_str() == "drill" => read_number(number.as_str()),
         _ => None,
     }
 }

@@ -7,7 +7,9 @@ use std::fmt;
 use std::sync::Wait;
 use std::thread::Threads;
 use stil_tool::{Status, offline, tester};
-use tester_types::{Desk, ListDesk, MemShelf, MemSink, NoMemory, OpenGate, SilentDesk};
+use tester_types::{
+    Desk, ListDesk, MemShelf, MemSink, NoMemory, OpenGate, Shelf, SilentDesk, Sink,
+};
 
 /// A public call of `stil_tool`.
 #[derive(Clone, Copy, Debug, PartialEq, Eq)]
@@ -51,14 +53,16 @@ fn sink(alloc: Global, case: &Case) -> Result<MemSink, NoMemory> {
     MemSink::new(alloc, room, case.most.max(1), failing, empty)
 }
 
-/// Runs a case through `tester`, with this desk. A socket loses contact at the call of its number; never where it is 0.
-fn run_with<R: AllocGlobal + Threads + Wait + Sync, D: Desk>(
+/// Runs the command of a case through `tester`. A socket loses contact at the call of its number; never where it is 0. The
+/// gate is open.
+fn run_words<R: Threads + Wait + Sync, F: Shelf, D: Desk, K: Sink>(
     rt: &R,
+    alloc: Global,
     case: &Case,
+    shelf: &mut F,
     desk: &mut D,
-) -> Result<Answer, NoMemory> {
-    let alloc = rt.alloc();
-    let (mut shelf, mut sink) = (shelf(alloc, case)?, sink(alloc, case)?);
+    sink: &mut K,
+) -> Result<Status, NoMemory> {
     let mut sockets: Vec<SocketBox> = Vec::new(alloc);
     for call in case.sockets.as_slice() {
         let socket: SocketBox = if *call == 0 {
@@ -68,16 +72,27 @@ fn run_with<R: AllocGlobal + Threads + Wait + Sync, D: Desk>(
         };
         sockets.push(socket)?;
     }
-    let status = tester(
+    Ok(tester(
         rt,
         alloc,
         case.words.as_slice(),
-        &mut shelf,
+        shelf,
         &mut sockets,
         desk,
         &OpenGate,
-        &mut sink,
-    );
+        sink,
+    ))
+}
+
+/// Runs a case through `tester`, with this desk.
+fn run_with<R: AllocGlobal + Threads + Wait + Sync, D: Desk>(
+    rt: &R,
+    case: &Case,
+    desk: &mut D,
+) -> Result<Answer, NoMemory> {
+    let alloc = rt.alloc();
+    let (mut shelf, mut sink) = (shelf(alloc, case)?, sink(alloc, case)?);
+    let status = run_words(rt, alloc, case, &mut shelf, desk, &mut sink)?;
     Ok(Answer { status, sink })
 }
 
@@ -112,19 +127,19 @@ pub fn run<R: AllocGlobal + Threads + Wait + Sync>(
     }
 }
 
-/// Whether the words are those of a lot, which only the tester runs.
-fn is_lot(case: &Case) -> bool {
+/// Whether the words are those of a lot or a drill, which only the tester runs.
+fn needs_tester(case: &Case) -> bool {
     match case.words.first() {
-        Some(word) => word.as_str() == "lot",
+        Some(word) => word.as_str() == "lot" || word.as_str() == "drill",
         None => false,
     }
 }
 
-/// The calls of a case: both, but the tester alone for a lot, and `offline` alone where the case says so.
+/// The calls of a case: both, but the tester alone for a lot or a drill, and `offline` alone where the case says so.
 pub fn calls(case: &Case) -> &'static [Call] {
     if case.is_offline {
         &[Call::Offline]
-    } else if is_lot(case) {
+    } else if needs_tester(case) {
         &[Call::Tester]
     } else {
         &[Call::Tester, Call::Offline]

@@ -3,7 +3,7 @@ use Rattle.std.proofs.lemmas.List.{get_or_default}
 use Rattle.std.proofs.lemmas.Result.{err_from_is_err_and}
 use Rattle.tester_types.proofs.OutsideLemmas.{each_stops}
 use Rattle.datalog.specs.DatalogText.{fail_line}
-use Rattle.datalog.proofs.SequenceLemmas.{each_goes_on}
+use Rattle.code_listing.proofs.SequenceLemmas.{each_goes_on}
 use Rattle.datalog.proofs.fails.put_fails.Goals as goal
 
 pub returns-in_err-put_fail-clause-puts : goal.returns-in_err-put_fail-clause-puts

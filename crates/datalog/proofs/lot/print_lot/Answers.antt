@@ -2,7 +2,6 @@ use Rattle.std.proofs.lemmas.Result.{err_from_is_err_and}
 use Rattle.tester_types.proofs.OutsideLemmas.{front_more, puts_last}
 use Rattle.tester_types.specs.Records.{records_of}
 use Rattle.datalog.specs.DatalogText.{site_text, numbered, bins_of, totals_text}
-use Rattle.datalog.proofs.CountLemmas.{counts-are-totals}
 use Rattle.datalog.proofs.LotLemmas.{numbered-filed}
 use Rattle.datalog.proofs.lot.print_lot.Goals as goal
 
@@ -13,12 +12,12 @@ returns-in_err-put_sites-clause-puts g c =
     (front_more _ _ (numbered (site_text c.args.code.now c.args.plan.now) 0 (records_of c.args.sites.now))
     (totals_text (bins_of c.args.plan.now (records_of c.args.sites.now))) (rw (numbered-filed c.args.code.now c.args.plan.now 0 c.args.sites.now) at c.in_err-put_sites.ensures.puts))
 
-pub counts_of-requires-clause-tried : goal.counts_of-requires-clause-tried
-counts_of-requires-clause-tried g c = λ site none within k entry there. (c.requires.each site none within k entry there).printable.tried
+pub print_totals-requires-clause-tried : goal.print_totals-requires-clause-tried
+print_totals-requires-clause-tried g c = λ site none within k entry there. (c.requires.each site none within k entry there).printable.tried
 
 pub returns-clause-puts : goal.returns-clause-puts
 returns-clause-puts g c =
     puts_last (g.K.Sink.told c.args.sink.now) (g.K.Sink.told c.put_sites.new.sink) _
     (numbered (site_text c.args.code.now c.args.plan.now) 0 (records_of c.args.sites.now)) (totals_text (bins_of c.args.plan.now (records_of c.args.sites.now))) _
     (rw (numbered-filed c.args.code.now c.args.plan.now 0 c.args.sites.now) at c.in_ok-put_sites.ensures.puts)
-    (rw (counts-are-totals (bins_of c.args.plan.now (records_of c.args.sites.now)) c.counts_of.result c.counts_of.ensures) at c.put_totals.ensures.puts)
+    c.print_totals.ensures.puts

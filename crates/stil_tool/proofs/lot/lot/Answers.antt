@@ -1,8 +1,7 @@
-use Rattle.std.proofs.Common.{◌<◌, length, sym, arith}
-use Rattle.std.proofs.lemmas.Bool.{eqb-true}
-use Rattle.stil_tool.specs.declared.refusal.Refusal.TheVariants.{NoSocket}
+use Rattle.std.proofs.Common.{length, arith}
+use Rattle.stil_tool.specs.declared.refusal.Refusal.TheVariants.{TooFewSockets}
 use Rattle.stil_tool.specs.LotText.{status_of, line_of}
-use Rattle.stil_tool.proofs.LotLemmas.{refused_wants, no_socket_wants, run_wants, run_at_first, some_of}
+use Rattle.stil_tool.proofs.LotLemmas.{refused_wants, few_sockets_refused, run_wants}
 use Rattle.stil_tool.proofs.lot.lot.Goals as goal
 
 pub returns-in-Err-clause-answers : goal.returns-in-Err-clause-answers
@@ -13,26 +12,25 @@ returns-in-Err-clause-answers g c = record {
   ends = c.put_refusal.ensures.ends;
 }
 
-pub returns-then-is_empty-clause-answers : goal.returns-then-is_empty-clause-answers
-returns-then-is_empty-clause-answers g c = record {
-  status = status_of NoSocket;
-  text = line_of NoSocket;
-  wanted = refused_wants _ _ _ _ _ _ _ NoSocket (no_socket_wants _ _ _ (length c.args.sockets.now.items) _ _ c.in-Ok.lot.code
-      c.in-Ok.lot.plan c.in-Ok.ensures.ready
-      (omega (arith, c.args.sockets.now.ok, eqb-true c.args.sockets.now.len 0 (sym c.if-is_empty.ensures))));
-  ends = c.put_refusal-then-is_empty.ensures.ends;
+pub returns-then-sites-have-clause-answers : goal.returns-then-sites-have-clause-answers
+returns-then-sites-have-clause-answers g c = record {
+  status = status_of (TooFewSockets c.sites-sites.result c.usable-have.result);
+  text = line_of (TooFewSockets c.sites-sites.result c.usable-have.result);
+  wanted = refused_wants _ _ _ _ _ _ _ (TooFewSockets c.sites-sites.result c.usable-have.result)
+      (few_sockets_refused _ _ _ (length c.args.sockets.now.items) _ _ c.in-Ok.lot.code c.in-Ok.lot.plan c.sites-sites.result
+      c.usable-have.result c.in-Ok.ensures.ready c.sites-sites.ensures.count
+      (omega (arith, c.usable-have.ensures, c.len.ensures, c.args.sockets.now.ok)) (omega (arith, c.if-sites-have.true)));
+  ends = c.put_refusal-then-sites-have.ensures.ends;
 }
 
 pub returns-clause-answers : goal.returns-clause-answers
 returns-clause-answers g c =
     let a = c.run.ensures.answers in
-    let some : 0 < length c.args.sockets.now.items =
-    omega (arith, c.args.sockets.now.ok, some_of c.args.sockets.now.len c.if-is_empty.ensures) in
     record {
       status = a.status;
       text = a.text;
       wanted = run_wants _ _ _ _ _ _ _ _ c.in-Ok.lot.code c.in-Ok.lot.plan a.status a.text c.in-Ok.ensures.ready
-          (run_at_first g.S.Socket.told c.args.sockets.now.items c.index_mut.result.now c.run.new.socket c.in-Ok.lot.code
-          c.in-Ok.lot.plan a.status a.text c.index_mut.ensures.value some a.wanted);
+          (omega (arith, c.if-sites-have.false, c.sites-sites.ensures.count, c.usable-have.ensures, c.len.ensures, c.args.sockets.now.ok))
+          a.wanted;
       ends = a.ends;
     }

@@ -1,12 +1,36 @@
-use Rattle.stil_tool.specs.Lot.TesterWants.{of_lot}
+use Rattle.stil_tool.specs.Tester.TesterWants.{of_lot, of_drill, of_other}
+use Rattle.stil_tool.proofs.FineLotLemmas.{lot_completes}
 use Rattle.stil_tool.proofs.top_call.tester.Goals as goal
 
-pub returns-in-Some-clause-answers : goal.returns-in-Some-clause-answers
-returns-in-Some-clause-answers g c =
+pub returns-in-Lot-clause-answers : goal.returns-in-Lot-clause-answers
+returns-in-Lot-clause-answers g c =
     let a = c.lot.ensures.answers in
     record {
       status = a.status;
       text = a.text;
-      wanted = of_lot c.in-Some.program.now c.in-Some.plan.now c.in-Some.ensures.found a.wanted;
+      wanted = of_lot c.in-Lot.program.now c.in-Lot.plan.now c.in-Lot.ensures a.wanted;
+      ends = a.ends;
+    }
+
+pub returns-in-Lot-clause-complete_lot : goal.returns-in-Lot-clause-complete_lot
+returns-in-Lot-clause-complete_lot g c = λ fine. lot_completes _ _ _ _ _ _ _ _ _ _ _ _ (returns-in-Lot-clause-answers g c) fine
+
+pub returns-in-Drill-clause-answers : goal.returns-in-Drill-clause-answers
+returns-in-Drill-clause-answers g c =
+    let a = c.drill.ensures.answers in
+    record {
+      status = a.status;
+      text = a.text;
+      wanted = of_drill c.in-Drill.number c.in-Drill.ensures a.wanted;
+      ends = a.ends;
+    }
+
+pub returns-in-Offline-clause-answers : goal.returns-in-Offline-clause-answers
+returns-in-Offline-clause-answers g c =
+    let a = c.offline.ensures.answers in
+    record {
+      status = a.status;
+      text = a.text;
+      wanted = of_other c.in-Offline.ensures a.wanted;
       ends = a.ends;
     }

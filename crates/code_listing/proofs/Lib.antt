@@ -1,0 +1,3 @@
+pub mod SequenceLemmas
+pub mod LineLemmas
+pub mod ListingLemmas

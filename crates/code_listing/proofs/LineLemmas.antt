@@ -1,0 +1,95 @@
+-- Texts that end their last line, and what a sink holds where one of several isn't put whole.
+use Rattle.std.proofs.Common.{◌≡◌, ◌⊎◌, ℕ, List, [], ◌∷◌, ◌++◌, Option, Result, Ok, Err, inl, inr, refl, sym, ap, ◌∙◌, subst, append_assoc}
+use Rattle.std.proofs.lemmas.List.{append-nil}
+use Rattle.std.specs.Prelude.{map}
+use Rattle.std.specs.List.{flat_map}
+use Rattle.tester_types.specs.Outside.{HasRisen, gained, GainsFront, Puts}
+use Rattle.tester_types.specs.declared.outside.SinkFault.{SinkFault}
+use Rattle.tester_types.proofs.OutsideLemmas.{gained-gained, gained-none, gained_both, front_more, front_behind, puts_stops}
+use Rattle.tester_types.specs.declared.cycle.Moment.{Moment}
+use Rattle.code_listing.specs.declared.fault.ListFault.{ListFault}
+use Rattle.code_listing.specs.declared.fault.ListFault.TheVariants.{NoMemory, Sink}
+use Rattle.code_listing.specs.Lines.{AreLines, AreFirstLines, GainsLines, Lists, ListsWhole, IsFor, HasRoom}
+
+-- ---- whole lines
+
+-- a text that ends with a line feed, behind another
+pub ends_behind : (a b : List ℕ) → ((front : List ℕ) × (b ≡ front ++ 10 ∷ [])) → (front : List ℕ) × (a ++ b ≡ front ++ 10 ∷ [])
+ends_behind a b (front, is) = (a ++ front, ap (λ t. a ++ t) is ∙ sym (append_assoc a front (10 ∷ [])))
+
+-- whole lines behind whole lines
+pub lines_both : (a b : List ℕ) → AreLines a → AreLines b → AreLines (a ++ b)
+lines_both a b first (inr ends) = inr (ends_behind a b ends)
+lines_both a b first (inl none) = subst AreLines (sym (ap (λ t. a ++ t) none ∙ append-nil a)) first
+
+-- texts that are each whole lines
+pub lines_all : {X : Type 0} (text : X → List ℕ) (items : List X) → ((x : X) → AreLines (text x)) → AreLines (flat_map text items)
+lines_all text [] each = inl refl
+lines_all text (x ∷ items) each = lines_both (text x) (flat_map text items) (each x) (lines_all text items each)
+
+-- ---- texts that are put one after another
+
+-- the first lines of a text are those of a longer one
+lines_more : (held now : Option (List ℕ)) (a b : List ℕ) → GainsLines held a now → GainsLines held (a ++ b) now
+lines_more held now a b (lines, first, is) = (
+  lines,
+  record {
+    rest = first.rest ++ b;
+    is = ap (λ t. t ++ b) first.is ∙ append_assoc lines first.rest b;
+    whole = first.whole;
+  },
+  is,
+)
+
+-- whole lines, and the first lines of what comes behind them
+lines_behind : (held before now : Option (List ℕ)) (a b : List ℕ) → AreLines a → before ≡ gained held a → GainsLines before b now
+    → GainsLines held (a ++ b) now
+lines_behind held before now a b whole so_far (lines, first, is) = (
+  a ++ lines,
+  record {
+    rest = first.rest;
+    is = ap (λ t. a ++ t) first.is ∙ sym (append_assoc a lines first.rest);
+    whole = lines_both a lines whole first.whole;
+  },
+  is ∙ ap (λ was. gained was lines) so_far ∙ gained-gained held a lines,
+)
+
+-- the last of two texts ends as it ends
+pub lists_last : {A : Type 0} (held before now : Option (List ℕ)) (a b : List ℕ) (r : Result A ListFault) → AreLines a
+    → before ≡ gained held a → Lists before b r now → Lists held (a ++ b) r now
+lists_last held before now a b (Ok done) whole so_far is = is ∙ ap (λ was. gained was b) so_far ∙ gained-gained held a b
+lists_last held before now a b (Err (Sink fault)) whole so_far front =
+    front_behind held now a b (subst (λ (was : Option (List ℕ)). GainsFront was b now) so_far front)
+lists_last held before now a b (Err NoMemory) whole so_far lines = lines_behind held before now a b whole so_far lines
+
+-- a text that isn't put whole, before another
+pub lists_more : (A B : Type 0) (held now : Option (List ℕ)) (a b : List ℕ) (e : ListFault) → Lists {A = A} held a (Err e) now
+    → Lists {A = B} held (a ++ b) (Err e) now
+lists_more A B held now a b (Sink fault) front = front_more held now a b front
+lists_more A B held now a b NoMemory lines = lines_more held now a b lines
+
+-- a text that isn't put whole, among others
+pub lists_stops : (A B : Type 0) (held before now : Option (List ℕ)) (whole done text rest : List ℕ) (e : ListFault)
+    → whole ≡ done ++ (text ++ rest) → AreLines done → before ≡ gained held done → Lists {A = A} before text (Err e) now
+    → Lists {A = B} held whole (Err e) now
+lists_stops A B held before now whole done text rest (Sink fault) is lines so_far front =
+    subst (λ (all : List ℕ). GainsFront held all now) (sym is) (puts_stops held before now done text rest so_far front)
+lists_stops A B held before now whole done text rest NoMemory is lines so_far got =
+    subst (λ (all : List ℕ). GainsLines held all now) (sym is)
+    (lines_behind held before now done (text ++ rest) lines so_far (lines_more before now text rest got))
+
+-- what a put of a sink is, as a listing
+pub puts_lists : (A : Type 0) (held now : Option (List ℕ)) (text : List ℕ) (fault : SinkFault) → GainsFront held text now
+    → Lists {A = A} held text (Err (Sink fault)) now
+puts_lists A held now text fault front = front
+
+-- nothing was put yet
+pub none_lists : (A : Type 0) (held : Option (List ℕ)) (text : List ℕ) → Lists {A = A} held text (Err NoMemory) held
+none_lists A held text = ([], record { rest = text; is = refl; whole = inl refl }, sym (gained-none held))
+
+-- where memory isn't wanting, a listing is whole
+pub lists_whole : (held now : Option (List ℕ)) (text : List ℕ) (r : Result (Unit {0}) ListFault) → HasRoom r → Lists held text r now
+    → ListsWhole held text r now
+lists_whole held now text (Ok done) room is = is
+lists_whole held now text (Err (Sink fault)) room front = front
+lists_whole held now text (Err NoMemory) room lines = absurd room

@@ -1,0 +1,57 @@
+//! Why a listing isn't put whole.
+
+ghost use Rattle.std.specs.Prelude.{◌≡◌};
+ghost use Rattle.code_listing.specs.declared.fault.ListFault.TheVariants as fault;
+
+use std::alloc::AllocError;
+use std::error::Error;
+use std::fmt;
+use tester_types::{NoMemory, SinkFault};
+
+/// Why a listing isn't put whole.
+#[derive(Clone, Copy, Debug, PartialEq, Eq)]
+pub enum ListFault {
+    NoMemory,
+    /// A put failed or took nothing.
+    Sink(SinkFault),
+}
+
+impl fmt::Display for ListFault {
+    ghost use Rattle.std.specs.Prelude.{Some};
+    ghost use Rattle.code_listing.specs.FaultText.{fault_text};
+
+    ghost output = { λ fault. Some (fault_text fault) };
+
+    fn fmt<W: fmt::Write>(&self, f: &mut fmt::Formatter<W>) -> fmt::Result {
+        match *self {
+            ListFault::NoMemory => write!(f, "out of memory"),
+            ListFault::Sink(_) => write!(f, "the listing couldn't be written"),
+        }
+    }
+}
+
+impl Error for ListFault {}
+
+impl From<SinkFault> for ListFault {
+    ghost from_gives = { λ f e. e ≡ fault.Sink f };
+
+    fn from(fault: SinkFault) -> ListFault {
+        ListFault::Sink(fault)
+    }
+}
+
+impl From<AllocError> for ListFault {
+    ghost from_gives = { λ _ e. e ≡ fault.NoMemory };
+
+    fn from(_error: AllocError) -> ListFault {
+        ListFault::NoMemory
+    }
+}
+
+impl From<NoMemory> for ListFault {
+    ghost from_gives = { λ _ e. e ≡ fault.NoMemory };
+
+    fn from(_want: NoMemory) -> ListFault {
+        ListFault::NoMemory
+    }
+}

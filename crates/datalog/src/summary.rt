@@ -1,0 +1,60 @@
+//! What a lot comes to in all: how many looks failed, and how many dies each bin has.
+
+ghost use Rattle.std.specs.Prelude.{◌≡◌, ◌+◌, ◌<◌, ◌≤◌, All, OnErr, length, min, sum_by};
+ghost use Rattle.tester_types.specs.Outside.{HasRisen, Puts};
+ghost use Rattle.tester_types.specs.Records.{records_of};
+ghost use Rattle.datalog.specs.DatalogText.{bins_of, totals_text};
+ghost use Rattle.datalog.specs.Summary.{most_fails, trial_fails, record_fails, fails_among};
+
+use crate::totals::{counts_of, put_totals};
+use lot_plan::BoundPlan;
+use tester_types::{Record, RecordList, Sink, SinkFault, Trial};
+
+/// Puts how many dies each bin has, for each bin that a die has.
+pub fn print_totals<K: Sink>(
+    plan: &BoundPlan,
+    sites: &[RecordList],
+    sink: &mut K,
+) -> Result<(), SinkFault>
+    requires few { length sites.now ≤ 64 }
+    requires tried { All (All (λ entry. 0 < length entry.trials)) (records_of sites.now) }
+    ensures puts { Puts (K.told sink.old) (totals_text (bins_of plan.now (records_of sites.now))) result
+        (K.told sink.new) }
+    ensures count { K.faults sink.old ≤ K.faults sink.new }
+    ensures cause { OnErr result (HasRisen (K.faults sink.old) (K.faults sink.new)) }
+{
+    put_totals(sink, &counts_of(plan, sites))
+}
+
+/// How many looks failed in all tries of a lot, up to the largest number of 128 bits.
+pub fn fail_count(sites: &[RecordList]) -> u128
+    ensures { result ≡ fails_among (records_of sites.now) }
+{
+    let mut fails = 0;
+    for entries in sites {
+        fails = with_records(fails, entries.as_slice());
+    }
+    fails
+}
+
+/// So many fails and those of records.
+fn with_records(fails: u128, entries: &[Record]) -> u128
+    ensures { result ≡ min (fails + sum_by record_fails entries.now) most_fails }
+{
+    let mut fails = fails;
+    for entry in entries {
+        fails = with_trials(fails, entry.trials.as_slice());
+    }
+    fails
+}
+
+/// So many fails and those of tries.
+fn with_trials(fails: u128, trials: &[Trial]) -> u128
+    ensures { result ≡ min (fails + sum_by trial_fails trials.now) most_fails }
+{
+    let mut fails = fails;
+    for trial in trials {
+        fails = fails.saturating_add(u128::from(trial.fails));
+    }
+    fails
+}

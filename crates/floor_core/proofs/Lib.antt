@@ -1,0 +1,11 @@
+pub mod BookLemmas
+pub mod ListLemmas
+pub mod WaitingLemmas
+pub mod WorldLemmas
+pub mod AloneLemmas
+pub mod HistoryLemmas
+pub mod JournalLemmas
+pub mod DieLemmas
+pub mod TotalLemmas
+pub mod FilingLemmas
+pub mod StandardFacts

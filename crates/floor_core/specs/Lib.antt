@@ -1,0 +1,4 @@
+pub mod Book
+pub mod World
+pub mod Interleavings
+pub mod Filing

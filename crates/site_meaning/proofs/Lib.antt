@@ -1,0 +1,21 @@
+mod StandardFacts
+pub mod AllLemmas
+pub mod PlayedLemmas
+pub mod TriedLemmas
+pub mod ReachedLemmas
+pub mod InstantLemmas
+pub mod PeriodLemmas
+pub mod TimeLemmas
+pub mod UnderwayLemmas
+pub mod BatchLemmas
+pub mod EndLemmas
+pub mod PollLemmas
+pub mod TellLemmas
+pub mod SeatLemmas
+pub mod TouchdownLemmas
+pub mod RiseLemmas
+pub mod RowLemmas
+pub mod PartLemmas
+pub mod SkewLemmas
+pub mod StepsLemmas
+pub mod CountLemmas

@@ -1,0 +1,22 @@
+mod StandardFacts
+pub mod DriveLemmas
+pub mod SocketLemmas
+pub mod StepLemmas
+pub mod MomentLemmas
+pub mod ScheduleLemmas
+pub mod CycleLemmas
+pub mod BenchLemmas
+pub mod BatchLemmas
+pub mod HitLemmas
+pub mod RunLemmas
+pub mod TapeLemmas
+pub mod MoveLemmas
+pub mod PolledLemmas
+pub mod ArrivalLemmas
+pub mod SiteLemmas
+pub mod PlanLemmas
+pub mod BeforeLemmas
+pub mod GoLemmas
+pub mod StepsLemmas
+pub mod SoFarLemmas
+pub mod TouchdownLemmas

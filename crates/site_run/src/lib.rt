@@ -1,0 +1,28 @@
+//! Everything that one site of a tester does: cycles at its socket, batches of them, tries and touchdowns.
+#![tactic(auto)]
+
+mod arrival;
+mod batch;
+mod bench;
+mod cycle;
+mod dated;
+mod drives;
+mod fault;
+mod laws;
+mod moments;
+mod place;
+mod run;
+mod sensing;
+mod signals;
+mod site;
+mod state;
+mod stop;
+mod trial;
+
+pub use fault::SiteFault;
+pub use laws::polls_are_taped;
+pub use site::{BatchEnd, Site};
+pub use state::SiteState;
+
+#[cfg(test)]
+mod tests;

@@ -1,0 +1,78 @@
+//! The command that the command line names, run.
+
+use die_sim::{SimSocket, SocketBox};
+use host_files::{FileShelf, WriterSink};
+use std::alloc::Global;
+use std::io::BufWriter;
+use std::rt::{Env, Files};
+use std::sync::Wait;
+use std::thread::Threads;
+use std::{env, io};
+use stil_tool::{Status, no_memory, tester};
+use tester_types::{Desk, OpenGate, Shelf, Sink};
+
+/// How many sockets with simulated dies there are, one for each site.
+const SITES: usize = 16;
+
+/// How many bytes of output are written at a time.
+const HELD_BACK: usize = 65_536;
+
+/// The words behind the program's name.
+fn words<R: Env + AllocGlobal>(rt: &R) -> io::Result<Vec<String>> {
+    env::args(rt)?
+        .skip(1)
+        .collect(rt.alloc())
+        .map_err(io::Error::from)
+}
+
+/// Runs the command of these words at sockets with simulated dies, one for each site. The gate is open.
+fn run_words<R: Threads + Wait + Sync, F: Shelf, D: Desk, K: Sink>(
+    rt: &R,
+    alloc: Global,
+    words: &[String],
+    shelf: &mut F,
+    desk: &mut D,
+    sink: &mut K,
+) -> Status {
+    let mut sockets: Vec<SocketBox> = Vec::new(alloc);
+    for _ in 0..SITES {
+        let Ok(socket) = Box::new(alloc, SimSocket::new(alloc)) else {
+            return no_memory(sink);
+        };
+        let socket: SocketBox = socket;
+        if sockets.push(socket).is_err() {
+            return no_memory(sink);
+        }
+    }
+    tester(rt, alloc, words, shelf, &mut sockets, desk, &OpenGate, sink)
+}
+
+/// Runs the command that the command line names, over a sink. There are no words where one of them is no text.
+fn run_over<R: Files + Env + AllocGlobal + Threads + Wait + Sync, D: Desk, K: Sink>(
+    rt: &R,
+    desk: &mut D,
+    sink: &mut K,
+) -> Status {
+    let alloc = rt.alloc();
+    let words = words(rt).unwrap_or_else(|_| Vec::new(alloc));
+    let mut shelf = FileShelf::new(rt);
+    run_words(rt, alloc, words.as_slice(), &mut shelf, desk, sink)
+}
+
+/// Runs the command that the command line names, with this desk. Output is held back and written in large pieces; where its
+/// end can't be written, that is a write fault.
+pub fn run<R: Files + Env + Print + AllocGlobal + Threads + Wait + Sync, D: Desk>(
+    rt: &R,
+    desk: &mut D,
+) -> Status {
+    let alloc = rt.alloc();
+    let Ok(writer) = BufWriter::with_capacity(alloc, HELD_BACK, io::writer(rt)) else {
+        return no_memory(&mut WriterSink::new(io::writer(rt)));
+    };
+    let mut sink = WriterSink::new(writer);
+    let status = run_over(rt, desk, &mut sink);
+    match sink.finish() {
+        Ok(()) => status,
+        Err(_) => Status::WriteFault,
+    }
+}

@@ -1,0 +1,4 @@
+pub mod ExecLemmas
+pub mod FaultLemmas
+pub mod AnswerLemmas
+pub mod ProgramLemmas

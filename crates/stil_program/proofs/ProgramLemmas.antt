@@ -1,0 +1,99 @@
+-- The code of blocks has their executives, each with its name, chains, tables and cycles.
+use Rattle.std.proofs.Common.{◌≡◌, ℕ, ◌+◌, ◌<◌, ◌≤◌, List, ◌∷◌, ◌++◌, Some, length, map, take, drop, sym, ap, subst, ◌∙◌, arith}
+use Rattle.std.specs.Prelude.{slice_get}
+use Rattle.std.specs.List.{AllByRecursion, flat_map, enumerate_from}
+use Rattle.std.proofs.lemmas.List.{length-map, take-append-drop}
+use Rattle.std.proofs.lemmas.List.FromFn.{length-enumerate_from}
+use Rattle.std.proofs.lemmas.Option.{slice_get_within}
+use Rattle.std.proofs.lemmas.List.{length-take-le}
+use Rattle.tester_types.specs.declared.wave.Table.{Table}
+use Rattle.tester_types.specs.declared.cycle.Cycle.{Cycle}
+use Rattle.stil_ast.specs.Faults.FrontFaults.{cycle_count}
+use Rattle.stil_ast.specs.Meaning.Cycles.{Dated, dated, starts_at}
+use Rattle.stil_ast.specs.Meaning.Executive.{table_list, chain_list, cycles, exec_vectors}
+use Rattle.stil_ast.specs.Meaning.ExecutiveData.{tables_of, vector_period}
+use Rattle.stil_ast.specs.Meaning.Signals.{names_of}
+use Rattle.stil_ast.specs.Meaning.State.{Vector}
+use Rattle.stil_ast.specs.declared.blocks.Blocks.{Blocks}
+use Rattle.stil_ast.specs.declared.executive.ExecDecl.{ExecDecl}
+use Rattle.page_meaning.specs.Meaning.{Means}
+use Rattle.page_code.specs.Program.{Program}
+use Rattle.page_code.specs.Cycles.{exec_of, cycles_of}
+use Rattle.time_expr.specs.TimesOf.{times_of}
+use Rattle.burst_exec.specs.Executives.{AreExecutives}
+use Rattle.burst_exec.proofs.ListLemmas.{drop_next}
+use Rattle.cycle_comp.specs.Compiled.{chain_of, read_cycle, read_cycles, IsExecOf}
+use Rattle.stil_program.specs.Program.{IsBlocksCode}
+use Rattle.stil_program.proofs.ExecLemmas.{as_many, tables_are as tables_of_all, cut_of}
+use Rattle.page_code.proofs.WalkLemmas.{length-timed}
+
+-- what an executive of the code has, where the tables of the code from number `first` on are its own
+pub record HasExec (blocks : Blocks) (code : Program) (first number : ℕ) (d : ExecDecl) : Type 0 where
+  pub name_is : (exec_of code number).name ≡ d.name
+  pub chains_are : (exec_of code number).chains ≡ map chain_of (chain_list blocks d)
+  pub cycles_are : read_cycles first code number ≡ cycles times_of blocks d
+  pub count_is : length (Means (exec_of code number).instrs) ≡ cycle_count blocks d
+  pub inside : AllByRecursion (λ (c : Cycle). (first ≤ c.table) × (c.table < first + length (table_list times_of blocks d)))
+      (cycles_of code number)
+
+-- as many cycles as vectors
+dated_length : (period : Vector → ℕ) (vectors : List Vector) → length (dated period vectors) ≡ length vectors
+dated_length period vectors =
+    let made : ℕ × Vector → Dated =
+    λ v. record { number = v.0; start = starts_at period vectors v.0; vector = v.1 } in
+    length-map (enumerate_from 0 vectors) made ∙ length-enumerate_from 0 vectors
+
+-- a list at a place
+at_place : {A : Type 0} (xs : List A) (n : ℕ) (x : A) → slice_get xs n ≡ Some x → xs ≡ take n xs ++ x ∷ drop (n + 1) xs
+at_place {A} xs n x at =
+    sym (take-append-drop n xs) ∙ ap (λ (l : List A). take n xs ++ l) (drop_next xs n x at)
+
+module _ (blocks : Blocks) (code : Program) (is : IsBlocksCode blocks code) where
+  -- there are as many executives
+  pub execs_are : length code.execs ≡ length blocks.executives
+  execs_are = is.code_is.count ∙ as_many blocks blocks.executives is.executives is.are
+
+  -- the tables are those of the executives, one after another
+  pub tables_are : code.tables ≡ flat_map (table_list times_of blocks) blocks.executives
+  tables_are = is.code_is.tables ∙ tables_of_all blocks blocks.executives is.executives is.are
+
+  -- an executive behind others
+  pub exec_behind : (before after : List ExecDecl) (d : ExecDecl) → blocks.executives ≡ before ++ d ∷ after
+      → HasExec blocks code (length (flat_map (table_list times_of blocks) before)) (length before) d
+  exec_behind before after d cut =
+      let all = subst (λ (ds : List ExecDecl). AreExecutives blocks ds is.executives) cut is.are in
+      let h = cut_of blocks before after d is.executives all in
+      let its : IsExecOf (length (names_of blocks).signals) (length (tables_of h.front)) h.here code (length h.front) =
+      is.code_is.each h.front h.back h.here h.cut in
+      let moved : IsExecOf (length (names_of blocks).signals) (length (flat_map (table_list times_of blocks) before)) h.here code
+      (length before) =
+      subst (λ (n : ℕ). IsExecOf (length (names_of blocks).signals) (length (flat_map (table_list times_of blocks) before)) h.here
+      code n) (as_many blocks before h.front h.are)
+      (subst (λ (ts : List Table). IsExecOf (length (names_of blocks).signals) (length ts) h.here code (length h.front))
+      (tables_of_all blocks before h.front h.are) its) in
+      let first = length (flat_map (table_list times_of blocks) before) in
+      let number = length before in
+      let read : read_cycles first code number ≡ cycles times_of blocks d = moved.cycles ∙ h.is.cycles_are in
+      let long : length (read_cycles first code number) ≡ length (Means (exec_of code number).instrs) =
+      length-map (enumerate_from 0 (cycles_of code number)) (read_cycle first code.rows)
+      ∙ (length-enumerate_from 0 (cycles_of code number) ∙ length-timed code.tables 0 (Means (exec_of code number).instrs)) in
+      record {
+        name_is = moved.name ∙ h.is.name_is;
+        chains_are = moved.chains ∙ ap (map chain_of) h.is.chains_are;
+        cycles_are = read;
+        inside =
+            subst (λ (ts : List Table). AllByRecursion (λ (c : Cycle). (first ≤ c.table) × (c.table < first + length ts))
+            (cycles_of code number)) h.is.tables_are moved.inside;
+        count_is =
+            sym long ∙ (ap length read
+            ∙ dated_length (vector_period (table_list times_of blocks d)) (exec_vectors blocks d));
+      }
+
+  -- the executive of a number
+  pub exec_at : (n : ℕ) (d : ExecDecl) → slice_get blocks.executives n ≡ Some d
+      → HasExec blocks code (length (flat_map (table_list times_of blocks) (take n blocks.executives))) n d
+  exec_at n d at =
+      let within = slice_get_within blocks.executives n d at in
+      subst (λ (k : ℕ). HasExec blocks code (length (flat_map (table_list times_of blocks) (take n blocks.executives))) k d)
+      (length-take-le n blocks.executives (omega (arith, within)))
+      (exec_behind (take n blocks.executives) (drop (n + 1) blocks.executives) d (at_place blocks.executives n d at))

@@ -1,0 +1,51 @@
+-- The first fault of a text over all passes, or the code of a text without a fault (IEEE 1450-1999, clauses 6 to 24).
+use Rattle.std.specs.Prelude.{◌≡◌, ℕ, List, map, Option, Some, None}
+use Rattle.stil_ast.specs.Faults.FrontFaults.{IsFaultOf}
+use Rattle.stil_ast.specs.Faults.TextFaults.{blocks_fault}
+use Rattle.stil_ast.specs.Meaning.Signals.{names_of}
+use Rattle.stil_ast.specs.Meaning.ExecutiveData.{Executive}
+use Rattle.stil_ast.specs.declared.blocks.Blocks.{Blocks}
+use Rattle.stil_ast.specs.declared.executive.ExecDecl.{ExecDecl}
+use Rattle.stil_ast.specs.declared.fault.StilFault.{StilFault}
+use Rattle.stil_ast.specs.declared.fault.StilRefusal.{StilRefusal}
+use Rattle.stil_ast.specs.declared.fault.StilRefusal.TheVariants as refusal
+use Rattle.page_code.specs.Program.{Program}
+use Rattle.text_front.specs.Front.{IsReadAs, IsFront}
+use Rattle.time_expr.specs.TimesOf.{times_of}
+use Rattle.burst_exec.specs.Executives.{AreAllOf}
+use Rattle.cycle_comp.specs.Compiled.{IsCodeOf}
+
+-- The first fault of a text, or none: that of its tokens, statements and blocks, which reading finds; else that of its
+-- signals and groups, of its executives, or of what they are compiled to.
+abbrev pub IsTextFault : List ℕ → Option StilFault → Type 0
+IsTextFault bytes fault = IsFaultOf times_of IsFront bytes fault
+
+-- the text has these blocks, and no fault
+pub record IsTextOf (bytes : List ℕ) (blocks : Blocks) : Type 0 where
+  pub read : IsReadAs bytes blocks
+  pub fine : blocks_fault times_of blocks ≡ None
+
+-- the code is that of these blocks: of executives that are all those of the blocks, over the signals of the blocks
+pub record IsBlocksCode (blocks : Blocks) (code : Program) : Type 0 where
+  pub executives : List Executive
+  pub are : AreAllOf blocks executives
+  pub code_is : IsCodeOf (names_of blocks) executives code
+
+-- the code is that of a text without a fault
+pub record IsProgramOf (bytes : List ℕ) (code : Program) : Type 0 where
+  pub blocks : Blocks
+  pub text : IsTextOf bytes blocks
+  pub compiled : IsBlocksCode blocks code
+
+-- the same, with the line of each of its executives in text order
+pub record IsCompiledText (bytes : List ℕ) (code : Program) (lines : List ℕ) : Type 0 where
+  pub blocks : Blocks
+  pub text : IsTextOf bytes blocks
+  pub compiled : IsBlocksCode blocks code
+  pub lines_are : lines ≡ map (λ (e : ExecDecl). e.line) blocks.executives
+
+-- a refusal is for the first fault of the text
+pub record IsRefusal (bytes : List ℕ) (r : StilRefusal) : Type 0 where
+  pub fault : StilFault
+  pub is : r ≡ refusal.Fault fault
+  pub first : IsTextFault bytes (Some fault)

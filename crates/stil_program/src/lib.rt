@@ -1,0 +1,14 @@
+//! From the bytes of a STIL text to its code, or its first fault over all passes: tokens, statements, blocks, signals and
+//! groups, executives, and what they are compiled to.
+#![tactic(auto)]
+
+mod coding;
+mod laws;
+mod text;
+
+pub use coding::{compiled, program};
+pub use laws::one_text_fault;
+pub use text::CompiledText;
+
+#[cfg(test)]
+mod tests;

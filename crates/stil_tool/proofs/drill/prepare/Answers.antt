@@ -1,0 +1,53 @@
+use Rattle.std.proofs.Common.{◌≡◌, ℕ, List, length, map, refl, sym, ap, ◌∙◌, arith}
+use Rattle.std.specs.Arc.{arc_value}
+use Rattle.std.proofs.lemmas.List.{length-map}
+use Rattle.bench_net.specs.Circuit.{Circuit}
+use Rattle.stil_tool.specs.Lot.{Inputs}
+use Rattle.stil_tool.proofs.DrillLemmas.{unbound_refused}
+use Rattle.stil_tool.proofs.drill.prepare.Goals as goal
+
+pub bind-requires : goal.bind-requires
+bind-requires c =
+    let one : length c.in-Ok-shared.nets.items ≡ 1 =
+    sym (length-map c.in-Ok-shared.nets.items arc_value) ∙ ap (λ (l : List Circuit). length l) c.in-Ok-shared.ensures in
+    omega (arith, one, c.if-len-ne1.false, c.len.ensures, ap (λ (l : List (List ℕ)). length l) c.files.ensures.files)
+
+pub returns-in-Ok-bind-clause-ready : goal.returns-in-Ok-bind-clause-ready
+returns-in-Ok-bind-clause-ready c =
+    let inputs : Inputs = record {
+      code = c.in-Ok.code;
+      rows = c.in-Ok-plan.plan;
+      circuits = map arc_value c.in-Ok-shared.nets.items;
+    } in
+    record {
+      inputs = inputs;
+      are = record {
+        code = c.in-Ok.ensures.found;
+        rows = c.in-Ok-plan.ensures.found;
+        circuit = c.in-Ok-net.net;
+        one = c.in-Ok-shared.ensures;
+        net = c.in-Ok-net.ensures.found.0;
+        whole = c.in-Ok-net.ensures.found.1;
+      };
+      code_is = refl;
+      is = c.in-Ok-bind.ensures.0;
+      accepted = c.in-Ok-bind.ensures.1;
+    }
+
+pub returns-in-Err-bind-clause-refused : goal.returns-in-Err-bind-clause-refused
+returns-in-Err-bind-clause-refused c =
+    let inputs : Inputs = record {
+      code = c.in-Ok.code;
+      rows = c.in-Ok-plan.plan;
+      circuits = map arc_value c.in-Ok-shared.nets.items;
+    } in
+    unbound_refused c.args.number inputs c.in-Err-bind.fault
+    (record {
+      code = c.in-Ok.ensures.found;
+      rows = c.in-Ok-plan.ensures.found;
+      circuit = c.in-Ok-net.net;
+      one = c.in-Ok-shared.ensures;
+      net = c.in-Ok-net.ensures.found.0;
+      whole = c.in-Ok-net.ensures.found.1;
+    })
+    c.in-Err-bind.ensures

@@ -1,0 +1,22 @@
+use Rattle.std.proofs.lemmas.Result.{err_from_is_err_and}
+use Rattle.tester_types.proofs.OutsideLemmas.{front_more, puts_last}
+use Rattle.tester_types.specs.Records.{records_of}
+use Rattle.datalog.specs.DatalogText.{bins_of, totals_text}
+use Rattle.stil_tool.specs.Drill.{drill_line}
+use Rattle.stil_tool.proofs.drill.put_summary.Goals as goal
+
+pub returns-in_err-put_counts-clause-puts : goal.returns-in_err-put_counts-clause-puts
+returns-in_err-put_counts-clause-puts g c =
+    let p = err_from_is_err_and c.from_residual.result c.from_residual.ensures.1 in
+    rw p.1
+    (front_more _ _ (drill_line c.args.number (records_of c.args.sites.now)) (totals_text (bins_of c.args.plan.now (records_of c.args.sites.now)))
+    c.in_err-put_counts.ensures.puts)
+
+pub print_totals-requires-clause-tried : goal.print_totals-requires-clause-tried
+print_totals-requires-clause-tried g c = λ site none within k entry there. (c.requires.each site none within k entry there).printable.tried
+
+pub returns-clause-puts : goal.returns-clause-puts
+returns-clause-puts g c =
+    puts_last (g.K.Sink.told c.args.out.now) (g.K.Sink.told c.put_counts.new.out) _
+    (drill_line c.args.number (records_of c.args.sites.now)) (totals_text (bins_of c.args.plan.now (records_of c.args.sites.now))) _
+    c.in_ok-put_counts.ensures.puts c.print_totals.ensures.puts

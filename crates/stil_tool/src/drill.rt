@@ -1,0 +1,212 @@
+//! `drill`: a lot of which the program makes all texts itself.
+
+ghost use Rattle.std.specs.Prelude.{◌≡◌, ◌≤◌, ◌∷◌, [], IfOk, IfErr, OnErr, length, map};
+ghost use Rattle.std.specs.Arc.{arc_value};
+ghost use Rattle.text_bytes.specs.Limits.{most_bytes};
+ghost use Rattle.tester_types.specs.Outside.{HasRisen, Puts};
+ghost use Rattle.tester_types.specs.Records.{records_of};
+ghost use Rattle.bench_net.specs.Circuit.{IsWhole};
+ghost use Rattle.bench_net.specs.Net.{IsNet};
+ghost use Rattle.plan_rows.specs.Plan.{IsPlan};
+ghost use Rattle.plan_rows.specs.Rows.{sites_of};
+ghost use Rattle.datalog.specs.Printable.{ArePrintable};
+ghost use Rattle.drill_texts.specs.Texts.{stil_text, net_text, plan_text};
+ghost use Rattle.stil_program.specs.Program.{IsProgramOf};
+ghost use Rattle.stil_tool.specs.Offline.{Answers};
+ghost use Rattle.stil_tool.specs.Lot.{usable};
+ghost use Rattle.stil_tool.specs.Drill.{IsTextRefused, IsDrillReady, DrillRunWants, DrillWants, drill_line, drill_text};
+
+use crate::ending::no_memory;
+use crate::floor::{ReadyLot, test, usable};
+use crate::refusal::{Refusal, put_refusal};
+use crate::status::Status;
+use bench_net::Netlist;
+use datalog::{fail_count, print_totals};
+use die_sim::{Socket, SocketBox};
+use drill_texts::{net_text, plan_text, stil_text};
+use lot_plan::{BoundPlan, Plan};
+use page_code::Code;
+use std::alloc::{AllocError, Global};
+use std::sync::{Arc, Wait};
+use std::thread::Threads;
+use stil_ast::StilRefusal;
+use stil_program::program;
+use tester_types::{Desk, Gate, Piece, RecordList, Sink, SinkFault, Text, put_each};
+
+/// The name of the netlist in the plan.
+const FILE: &[u8] = b"drill.bench";
+
+/// The code of the text.
+fn code(alloc: Global, number: u8) -> Result<Code, Refusal>
+    ensures found { IfOk result (IsProgramOf (stil_text number)) }
+    ensures refused { IfErr result (IsTextRefused number) }
+{
+    let Ok(text) = stil_text(alloc, number) else {
+        return Err(Refusal::NoMemory);
+    };
+    match program(alloc, text.as_slice()) {
+        Ok(code) => Ok(code),
+        Err(StilRefusal::NoMemory) => Err(Refusal::NoMemory),
+        Err(StilRefusal::Fault(fault)) => Err(Refusal::Stil(fault)),
+    }
+}
+
+/// The plan.
+fn plan(alloc: Global, number: u8) -> Result<Plan, Refusal>
+    ensures found { IfOk result (IsPlan (plan_text number)) }
+    ensures refused { IfErr result (IsTextRefused number) }
+{
+    let Ok(text) = plan_text(alloc, number) else {
+        return Err(Refusal::NoMemory);
+    };
+    match Plan::read(alloc, text.as_slice()) {
+        Ok(plan) => Ok(plan),
+        Err(fault) => Err(Refusal::Plan(fault)),
+    }
+}
+
+/// The netlist of each die.
+fn net(alloc: Global, number: u8) -> Result<Netlist, Refusal>
+    ensures found { IfOk result (λ net. IsNet (net_text number) net.net × IsWhole net) }
+    ensures refused { IfErr result (IsTextRefused number) }
+{
+    let Ok(name) = Vec::from_slice(alloc, FILE) else {
+        return Err(Refusal::NoMemory);
+    };
+    let Ok(text) = net_text(alloc, number) else {
+        return Err(Refusal::NoMemory);
+    };
+    match Netlist::read(alloc, text.as_slice()) {
+        Ok(net) => Ok(net),
+        Err(fault) => Err(Refusal::Net(Text::from_vec(name), fault)),
+    }
+}
+
+/// A netlist in a list of one.
+fn shared(alloc: Global, net: Netlist) -> Result<Vec<Arc<Netlist>>, AllocError>
+    ensures { IfOk result (λ nets. map arc_value nets.items ≡ net ∷ []) }
+{
+    let mut nets = Vec::with_capacity(alloc, 1)?;
+    nets.push(Arc::new(alloc, net)?)?;
+    Ok(nets)
+}
+
+/// Reads the three texts, and binds the plan. A plan of other than one file would be answered as want of memory.
+fn prepare(alloc: Global, number: u8) -> Result<ReadyLot, Refusal>
+    ensures ready { IfOk result (λ lot. IsDrillReady number lot.code lot.plan) }
+    ensures refused { IfErr result (IsTextRefused number) }
+{
+    let code = match code(alloc, number) {
+        Ok(code) => code,
+        Err(refusal) => return Err(refusal),
+    };
+    let plan = match plan(alloc, number) {
+        Ok(plan) => plan,
+        Err(refusal) => return Err(refusal),
+    };
+    let net = match net(alloc, number) {
+        Ok(net) => net,
+        Err(refusal) => return Err(refusal),
+    };
+    if plan.files().len() != 1 {
+        return Err(Refusal::NoMemory);
+    }
+    let Ok(nets) = shared(alloc, net) else {
+        return Err(Refusal::NoMemory);
+    };
+    match plan.bind(alloc, &code, nets) {
+        Ok(plan) => Ok(ReadyLot { code, plan }),
+        Err(fault) => Err(Refusal::Plan(fault)),
+    }
+}
+
+/// Puts how many vectors there are and how many looks failed.
+fn put_counts<K: Sink>(number: u8, sites: &[RecordList], out: &mut K) -> Result<(), SinkFault>
+    ensures puts { Puts (K.told out.old) (drill_line number (records_of sites.now)) result (K.told out.new) }
+    ensures count { K.faults out.old ≤ K.faults out.new }
+    ensures cause { OnErr result (HasRisen (K.faults out.old) (K.faults out.new)) }
+{
+    let line = [
+        Piece::Text(b"drill "),
+        Piece::Number(u128::from(number)),
+        Piece::Text(b" vectors "),
+        Piece::Number(500 * u128::from(number)),
+        Piece::Text(b" fails "),
+        Piece::Number(fail_count(sites)),
+        Piece::Text(b"\n"),
+    ];
+    put_each(out, &line)
+}
+
+/// Puts what a lot comes to: its vectors, how many looks failed, and how many dies each bin has.
+fn put_summary<K: Sink>(
+    number: u8,
+    plan: &BoundPlan,
+    sites: &[RecordList],
+    out: &mut K,
+) -> Result<(), SinkFault>
+    requires { ArePrintable plan.now.program plan.now (records_of sites.now) }
+    ensures puts { Puts (K.told out.old) (drill_text number plan.now (records_of sites.now)) result (K.told out.new) }
+    ensures count { K.faults out.old ≤ K.faults out.new }
+    ensures cause { OnErr result (HasRisen (K.faults out.old) (K.faults out.new)) }
+{
+    put_counts(number, sites, out)?;
+    print_totals(plan, sites, out)
+}
+
+/// Runs the lot, and prints what it comes to.
+fn run<R: Threads + Wait + Sync, D: Desk, G: Gate, K: Sink>(
+    rt: &R,
+    alloc: Global,
+    number: u8,
+    lot: ReadyLot,
+    sockets: &mut Vec<SocketBox>,
+    desk: &mut D,
+    gate: &G,
+    out: &mut K,
+) -> Status
+    requires program { lot.plan.program ≡ lot.code }
+    requires enough { sites_of lot.plan.rows ≤ usable (length sockets.old.items) }
+    ensures answers { Answers (DrillRunWants ⟦<SocketBox as Socket>⟧.told number lot.plan
+        (record { sockets = sockets.old.items; stops = D.stops desk.old; asked = D.asked desk.old })
+        (record { sockets = sockets.new.items; stops = D.stops desk.new; asked = D.asked desk.new }))
+        (K.told out.old) (K.faults out.old) result (K.told out.new) (K.faults out.new) }
+    ensures puts { K.faults out.old ≤ K.faults out.new }
+{
+    let Ok(tested) = test(rt, alloc, lot, sockets, desk, gate) else {
+        return no_memory(out);
+    };
+    let _bound = tested.plan.sites();
+    match put_summary(number, &tested.plan, tested.book.sites(), out) {
+        Ok(()) => Status::Done,
+        Err(_) => Status::WriteFault,
+    }
+}
+
+/// Makes the texts of a number, runs the lot, and prints what it comes to, or the line of the first refusal.
+pub(crate) fn drill<K: Sink, D: Desk, G: Gate, R: Threads + Wait + Sync>(
+    rt: &R,
+    alloc: Global,
+    number: u8,
+    sockets: &mut Vec<SocketBox>,
+    desk: &mut D,
+    gate: &G,
+    out: &mut K,
+) -> Status
+    ensures answers { Answers (DrillWants ⟦<SocketBox as Socket>⟧.told number
+        (record { sockets = sockets.old.items; stops = D.stops desk.old; asked = D.asked desk.old })
+        (record { sockets = sockets.new.items; stops = D.stops desk.new; asked = D.asked desk.new }))
+        (K.told out.old) (K.faults out.old) result (K.told out.new) (K.faults out.new) }
+    ensures puts { K.faults out.old ≤ K.faults out.new }
+{
+    let lot = match prepare(alloc, number) {
+        Ok(lot) => lot,
+        Err(refusal) => return put_refusal(out, &refusal),
+    };
+    let sites = lot.plan.sites();
+    let have = usable(sockets.len());
+    if sites > have {
+        return put_refusal(out, &Refusal::TooFewSockets(sites, have));
+    }
+    run(rt, alloc, number, lot, sockets, desk, gate, out)
+}

@@ -1,0 +1,5 @@
+pub mod Work
+pub mod Turn
+pub mod Asking
+pub mod Jobs
+pub mod Lot

@@ -1,0 +1,4 @@
+pub mod Places
+pub mod TokenFaults
+pub mod StatementFaults
+pub mod Front

@@ -1,9 +1,0 @@
-pub mod HoldsLemmas
-pub mod ListLemmas
-pub mod SaidLemmas
-pub mod OrderLemmas
-pub mod RowLemmas
-pub mod RunLemmas
-pub mod CompileLemmas
-pub mod VectorLemmas
-pub mod StandardFacts
