@@ -3,7 +3,7 @@
 callgrind, which counts those of each function with all that it calls, and prints their shares of the run.
 
 Usage: bench/split.py [PROGRAM] [N]; without a program it is crates/stil/out/stil, and N is 120. A part that the compiler put
-into its caller shows as nothing."""
+into its caller shows as nothing; what polls and asks are is so."""
 import os, re, subprocess, sys, tempfile
 
 here = os.path.dirname(os.path.abspath(__file__))

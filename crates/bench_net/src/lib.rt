@@ -41,6 +41,3 @@ pub fn read(alloc: Global, bytes: &[u8]) -> Result<Netlist, NetFault>
 {
     Netlist::read(alloc, bytes)
 }
-
-#[cfg(test)]
-mod tests;

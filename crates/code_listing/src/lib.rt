@@ -13,6 +13,3 @@ pub use check::{cycle_total, put_check};
 pub use fault::ListFault;
 pub use letters::look_letter;
 pub use listing::{put_cycles, put_events};
-
-#[cfg(test)]
-mod tests;

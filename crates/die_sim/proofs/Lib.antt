@@ -6,7 +6,6 @@ pub mod BitLemmas
 pub mod PendingLemmas
 pub mod WalkLemmas
 pub mod StepLemmas
-pub mod OwnLemmas
 pub mod SettledLemmas
 pub mod SettlingLemmas
 pub mod SteppedLemmas

@@ -8,4 +8,3 @@ pub mod Walk
 pub mod Socket
 pub mod Tape
 pub mod Taping
-pub mod Own

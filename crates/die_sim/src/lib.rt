@@ -25,10 +25,3 @@ pub use socket::{Contact, Socket, SocketBox, SocketFault};
 pub use steps::Steps;
 pub use tape::Tape;
 pub use tape_socket::TapeSocket;
-
-#[cfg(test)]
-mod fixture;
-#[cfg(test)]
-mod socket_tests;
-#[cfg(test)]
-mod tests;

@@ -11,8 +11,6 @@ mod inside;
 mod laws;
 mod moments;
 mod schedules;
-#[cfg(test)]
-mod tests;
 mod waves;
 
 pub use inside::{keep_inside, stays_inside};

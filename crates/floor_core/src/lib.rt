@@ -7,8 +7,3 @@ mod laws;
 
 pub use book::BookState;
 pub use laws::{alone_law, book_law, records_law, totals_law};
-
-#[cfg(test)]
-mod sample;
-#[cfg(test)]
-mod tests;

@@ -83,7 +83,9 @@ impl Book {
         Ok(shares)
     }
 
-    /// Files a record with a share. It waits until it has the turn. It takes no memory.
+    /// Files a record with a share. It waits until it has the turn. It takes no memory. It is called once a die, and stands
+    /// as a function of its own so that a profile tells what it takes.
+    #[inline(never)]
     pub fn file<R: Wait>(&self, rt: &R, share: &mut SiteShare, entry: Record)
         requires book { share.old.book ≡ self.now }
         requires site { entry.site ≡ share.old.site }

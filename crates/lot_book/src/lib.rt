@@ -10,8 +10,3 @@ mod view;
 
 pub use book::Book;
 pub use shares::{Closer, ShareList, SiteShare};
-
-#[cfg(test)]
-mod sample;
-#[cfg(test)]
-mod tests;

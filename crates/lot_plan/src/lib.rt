@@ -18,8 +18,3 @@ mod skews;
 
 pub use bound_plan::BoundPlan;
 pub use plan::{FileList, Plan};
-
-#[cfg(test)]
-mod plan_tests;
-#[cfg(test)]
-mod tests;

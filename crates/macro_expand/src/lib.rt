@@ -26,6 +26,3 @@ pub use bodies::Bodies;
 pub use expanding::expand;
 pub use refusing::fault_of;
 pub use scope::{BlockTitles, PatternScope};
-
-#[cfg(test)]
-mod tests;

@@ -37,6 +37,3 @@ pub use rows::RowList;
 pub use saving::{save, save_old, saved_len};
 pub use tester_types::Direction;
 pub use walker::Walk;
-
-#[cfg(test)]
-mod tests;

@@ -16,6 +16,3 @@ pub use fault::DataFault;
 pub use laws::bodies_have_form;
 pub use reader::{BodyPlace, read_body, read_written};
 pub use refusal::refused;
-
-#[cfg(test)]
-mod tests;

@@ -16,6 +16,3 @@ pub use laws::{one_next, one_whole};
 pub use memory::{PassList, PatternMem, PoolPass};
 pub use pool::{Fetched, PoolState};
 pub use window::Window;
-
-#[cfg(test)]
-mod tests;

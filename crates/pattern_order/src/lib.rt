@@ -16,6 +16,3 @@ pub use bursts::BurstNames;
 pub use order::play_order;
 pub use places::{Places, add_place, place_of};
 pub use playing::{PlayOrder, PlayedPattern};
-
-#[cfg(test)]
-mod tests;

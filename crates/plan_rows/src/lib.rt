@@ -16,6 +16,3 @@ pub use fault::PlanFault;
 pub use laws::{first_refused, no_fault_in_plan, one_record_list};
 pub use read::read_rows;
 pub use row::{BinRow, BindRow, DieRow, Ending, FaultRow, LotRow, PlanRows, Row, SkewRow, StopRow};
-
-#[cfg(test)]
-mod tests;

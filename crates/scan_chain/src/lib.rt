@@ -14,6 +14,3 @@ pub use building::build;
 pub use chain::{Chains, ScanChain};
 pub use laws::chains_are_short;
 pub use shift::{ColumnList, column, column_place, passes};
-
-#[cfg(test)]
-mod tests;

@@ -22,6 +22,3 @@ pub use building::build;
 pub use fault::RefFault;
 pub use items::{index_at, index_count, indexed};
 pub use table::{SignalList, SignalTable};
-
-#[cfg(test)]
-mod tests;

@@ -23,6 +23,3 @@ pub use fault::SiteFault;
 pub use laws::polls_are_taped;
 pub use site::{BatchEnd, Site};
 pub use state::SiteState;
-
-#[cfg(test)]
-mod tests;

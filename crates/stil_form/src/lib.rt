@@ -21,6 +21,3 @@ pub use source::{Source, body, first_part, head};
 pub use steps::{StepForm, read_steps, read_unskipped_steps};
 pub use word::{is_word, name_of};
 pub use words::Words;
-
-#[cfg(test)]
-mod tests;

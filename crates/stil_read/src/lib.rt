@@ -36,6 +36,3 @@ pub use signals::read_signals_block;
 pub use text::read_blocks;
 pub use timings::read_timing_block;
 pub use variables::read_spec_block;
-
-#[cfg(test)]
-mod tests;

@@ -13,6 +13,3 @@ mod tally;
 
 pub use checker::Checker;
 pub use laws::{sensed_levels_decide, window_extent};
-
-#[cfg(test)]
-mod tests;

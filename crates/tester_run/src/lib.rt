@@ -10,14 +10,3 @@ mod working;
 
 pub use lot::run_lot;
 pub use work::site_work;
-
-#[cfg(test)]
-mod event_tests;
-#[cfg(test)]
-mod gates;
-#[cfg(test)]
-mod lot_tests;
-#[cfg(test)]
-mod sample;
-#[cfg(test)]
-mod tests;

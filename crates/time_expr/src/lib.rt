@@ -37,6 +37,3 @@ pub use read::read_expr;
 pub use time::{TimeFault, time_of};
 pub use unit::Unit;
 pub use vars::Vars;
-
-#[cfg(test)]
-mod tests;

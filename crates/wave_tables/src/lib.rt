@@ -22,8 +22,3 @@ mod waves;
 pub use building::build;
 pub use laws::waves_are_counted;
 pub use set::WaveSet;
-
-#[cfg(test)]
-mod staged;
-#[cfg(test)]
-mod tests;

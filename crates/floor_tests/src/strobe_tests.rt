@@ -1,0 +1,299 @@
+//! Whole cycles: known ones, and random-looking ones beside a slow program of the definition.
+
+use std::alloc::Global;
+use std::test::Fail as Failure;
+use strobe_check::*;
+use tester_types::{Fail, FailList, Level, Look, LookList, Moment, NoMemory, PushList};
+
+const ZERO: Level = Level::Zero;
+
+const ONE: Level = Level::One;
+
+const X: Level = Level::X;
+
+const Z: Level = Level::Z;
+
+/// An instant, its looks, and the levels of three signals after it.
+type Shown<'a> = (u64, &'a [(u16, Look)], [Level; 3]);
+
+/// All three signals are bound.
+const ALL: [bool; 3] = [true, true, true];
+
+fn moment(alloc: Global, at: u64, looks: &[(u16, Look)]) -> Result<Moment, NoMemory> {
+    Ok(Moment {
+        at: u128::from(at),
+        drives: PushList::from_vec(Vec::new(alloc)),
+        looks: LookList::from_slice(alloc, looks)?,
+    })
+}
+
+/// A checker that was shown these entries of cycle 7 of executive 0.
+fn shown(
+    alloc: Global,
+    bound: [bool; 3],
+    keep: u16,
+    entries: &[Shown],
+) -> Result<Checker, NoMemory> {
+    let mut checker = Checker::make(alloc, &bound, keep)?;
+    for (at, looks, levels) in entries {
+        let moment = moment(alloc, *at, looks)?;
+        checker.look(0, 7, 0, &moment, levels);
+    }
+    Ok(checker)
+}
+
+fn fail(at: u64, signal: u16, want: Look, seen: Level) -> Fail {
+    Fail {
+        exec: 0,
+        cycle: 7,
+        at: u128::from(at),
+        signal,
+        want,
+        seen,
+        mark: 0,
+    }
+}
+
+/// Whether these entries give these fails, the other signals being at 0 all the time.
+fn gives(alloc: Global, entries: &[Shown], fails: &[Fail]) -> Result<bool, NoMemory> {
+    let checker = shown(alloc, ALL, 100, entries)?;
+    let total = checker.total();
+    Ok(total == fails.len() as u64 && checker.kept().as_slice() == fails)
+}
+
+#[test]
+fn window_fails_where_a_drive_changes_the_level(rt: HostRuntime) -> Result<(), Failure> {
+    let high = [ONE, ZERO, ZERO];
+    let low = [ZERO, ZERO, ZERO];
+    assert!(rt;
+        gives(
+            rt.alloc(),
+            &[
+                (0, &[], high),
+                (20_000_000, &[(0, Look::HighWindow)], high),
+                (30_000_000, &[], low),
+                (60_000_000, &[(0, Look::Close)], low),
+            ],
+            &[fail(30_000_000, 0, Look::HighWindow, ZERO)],
+        )?
+    );
+    assert!(rt;
+        gives(
+            rt.alloc(),
+            &[
+                (0, &[], high),
+                (20_000_000, &[(0, Look::High)], high),
+                (30_000_000, &[], low),
+            ],
+            &[],
+        )?
+    );
+    Ok(())
+}
+
+#[test]
+fn window_that_is_closed_at_once_is_never_looked_at(rt: HostRuntime) -> Result<(), Failure> {
+    let zero = [ZERO, X, X];
+    let one = [ONE, X, X];
+    let low: &[(u16, Look)] = &[(0, Look::HighWindow), (0, Look::LowWindow)];
+    let edge: &[(u16, Look)] = &[(0, Look::HighWindow), (0, Look::High)];
+    let close: &[(u16, Look)] = &[(0, Look::HighWindow), (0, Look::Close)];
+    assert!(rt; gives(rt.alloc(), &[(5, low, zero), (9, &[], zero)], &[])?);
+    assert!(rt;
+        gives(
+            rt.alloc(),
+            &[(5, low, zero), (9, &[], one)],
+            &[fail(9, 0, Look::LowWindow, ONE)],
+        )?
+    );
+    assert!(rt;
+        gives(
+            rt.alloc(),
+            &[(5, edge, zero), (9, &[], zero)],
+            &[fail(5, 0, Look::High, ZERO)],
+        )?
+    );
+    assert!(rt; gives(rt.alloc(), &[(5, close, zero), (9, &[], zero)], &[])?);
+    Ok(())
+}
+
+#[test]
+fn window_fails_once_and_ends_with_its_cycle(rt: HostRuntime) -> Result<(), Failure> {
+    let mut checker = shown(
+        rt.alloc(),
+        ALL,
+        100,
+        &[
+            (1, &[(2, Look::OffWindow)], [X, X, Z]),
+            (2, &[], [X, X, ONE]),
+            (3, &[], [X, X, ZERO]),
+            (4, &[(1, Look::OffWindow)], [X, Z, Z]),
+        ],
+    )?;
+    checker.close_cycle();
+    let next = moment(rt.alloc(), 9, &[(0, Look::Off)])?;
+    assert!(rt; checker.wanted(&next, 0));
+    assert!(rt; !checker.wanted(&next, 1));
+    assert_eq!(rt; checker.total(), 1);
+    assert!(rt; checker.kept().as_slice() == [fail(2, 2, Look::OffWindow, ONE)].as_slice());
+    Ok(())
+}
+
+#[test]
+fn counts_what_it_does_not_keep(rt: HostRuntime) -> Result<(), Failure> {
+    let looks: &[(u16, Look)] = &[
+        (0, Look::Low),
+        (0, Look::High),
+        (0, Look::Off),
+        (1, Look::Low),
+    ];
+    let checker = shown(
+        rt.alloc(),
+        ALL,
+        2,
+        &[(1, looks, [X, X, X]), (2, looks, [Z, Z, Z])],
+    )?;
+    assert_eq!(rt; checker.total(), 7);
+    let kept = checker.kept();
+    assert!(rt;
+        kept.as_slice() == [fail(1, 0, Look::Low, X), fail(1, 0, Look::High, X)].as_slice()
+    );
+    Ok(())
+}
+
+/// Whether the level is what the look wants, by the table of the acts.
+fn slow_meets(look: Look, level: Level) -> bool {
+    matches!(
+        (look, level),
+        (Look::Low | Look::LowWindow, Level::Zero)
+            | (Look::High | Look::HighWindow, Level::One)
+            | (Look::Off | Look::OffWindow, Level::Z)
+            | (Look::Close, _)
+    )
+}
+
+fn slow_is_window(look: Look) -> bool {
+    look == Look::LowWindow || look == Look::HighWindow || look == Look::OffWindow
+}
+
+/// The last look at a signal in an entry.
+fn slow_last(entry: &Shown, signal: u16) -> Option<Look> {
+    let mut last = None;
+    for (of, look) in entry.1 {
+        if *of == signal {
+            last = Some(*look);
+        }
+    }
+    last
+}
+
+/// The window look that has the last of these entries inside its extent, where it meets all before.
+fn slow_window(entries: &[Shown], signal: u16) -> Option<Look> {
+    let mut start = entries.len();
+    for (place, entry) in entries.iter().enumerate() {
+        if slow_last(entry, signal).is_some() {
+            start = place;
+        }
+    }
+    let look = slow_last(entries.get(start)?, signal)?;
+    if !slow_is_window(look) {
+        return None;
+    }
+    for (place, entry) in entries.iter().enumerate() {
+        if start <= place
+            && place + 1 < entries.len()
+            && !slow_meets(look, entry.2[usize::from(signal) % 3])
+        {
+            return None;
+        }
+    }
+    Some(look)
+}
+
+/// The fails of a signal at the last of these entries.
+fn slow_fails(entries: &[Shown], signal: u16, fails: &mut Vec<Fail>) -> Result<(), NoMemory> {
+    let Some(entry) = entries.last() else {
+        return Ok(());
+    };
+    let seen = entry.2[usize::from(signal) % 3];
+    for (of, look) in entry.1 {
+        if *of == signal && !slow_is_window(*look) && !slow_meets(*look, seen) {
+            fails.push(fail(entry.0, signal, *look, seen))?;
+        }
+    }
+    if let Some(look) = slow_window(entries, signal)
+        && !slow_meets(look, seen)
+    {
+        fails.push(fail(entry.0, signal, look, seen))?;
+    }
+    Ok(())
+}
+
+/// Whether the checker finds what the slow program finds: the fails, and at each moment what is sensed.
+fn agrees(alloc: Global, bound: [bool; 3], entries: &[Shown]) -> Result<bool, NoMemory> {
+    let mut fails = Vec::new(alloc);
+    for count in 0..entries.len() {
+        let upto = &entries[..count + 1];
+        for signal in 0..3u16 {
+            if bound[usize::from(signal)] {
+                slow_fails(upto, signal, &mut fails)?;
+            }
+        }
+    }
+    let checker = shown(alloc, bound, 1_000, entries)?;
+    Ok(checker.total() == fails.len() as u64 && checker.kept().as_slice() == fails.as_slice())
+}
+
+/// Whether the checker senses at the last of these entries what the slow program senses.
+fn senses(alloc: Global, bound: [bool; 3], entries: &[Shown]) -> Result<bool, NoMemory> {
+    let Some((last, before)) = entries.split_last() else {
+        return Ok(true);
+    };
+    let checker = shown(alloc, bound, 0, before)?;
+    let next = moment(alloc, last.0, last.1)?;
+    for signal in 0..3u16 {
+        let edge = last.1.iter().any(|(of, look)| {
+            *of == signal && (*look == Look::Low || *look == Look::High || *look == Look::Off)
+        });
+        let wanted = bound[usize::from(signal)] && (edge || slow_window(entries, signal).is_some());
+        if checker.wanted(&next, signal) != wanted {
+            return Ok(false);
+        }
+    }
+    Ok(true)
+}
+
+/// A cycle with looks and levels in no particular order.
+const MIXED: [Shown<'static>; 8] = [
+    (
+        0,
+        &[(0, Look::LowWindow), (1, Look::High), (1, Look::HighWindow)],
+        [ZERO, ONE, Z],
+    ),
+    (3, &[(2, Look::OffWindow)], [ZERO, ONE, Z]),
+    (4, &[(0, Look::Close), (2, Look::Low)], [ONE, X, Z]),
+    (8, &[], [ONE, ONE, X]),
+    (
+        9,
+        &[(0, Look::Off), (0, Look::OffWindow), (2, Look::LowWindow)],
+        [Z, ZERO, X],
+    ),
+    (15, &[(1, Look::LowWindow), (1, Look::Low)], [Z, ZERO, ZERO]),
+    (
+        16,
+        &[(1, Look::OffWindow), (2, Look::HighWindow)],
+        [X, Z, ONE],
+    ),
+    (22, &[], [Z, ONE, Z]),
+];
+
+#[test]
+fn agrees_with_the_slow_program(rt: HostRuntime) -> Result<(), Failure> {
+    assert!(rt; agrees(rt.alloc(), ALL, &MIXED)?);
+    assert!(rt; agrees(rt.alloc(), [true, false, true], &MIXED)?);
+    assert!(rt; agrees(rt.alloc(), [false, true, false], &MIXED)?);
+    for count in 0..MIXED.len() {
+        assert!(rt; senses(rt.alloc(), ALL, &MIXED[..count + 1])?);
+    }
+    Ok(())
+}
