@@ -245,18 +245,19 @@ fn three_pages_with_a_loop_across_a_border(rt: HostRuntime) -> Result<(), Fail> 
 }
 
 #[test]
-fn a_page_is_read_as_it_was_packed(rt: HostRuntime) -> Result<(), Fail> {
+fn a_page_has_its_instructions_packed(rt: HostRuntime) -> Result<(), Fail> {
     let bytes = long_program(rt.alloc(), &FRONT)?;
     let code = load(rt.alloc(), &bytes).ok().ok_or("the bytes are a code")?;
     assert!(rt; code.execs() == 1);
     assert!(rt; code.instrs(0) == 559);
     assert_eq!(rt; code.page_of(0, 558), 2);
-    let pages = pack(rt.alloc(), &code)?;
-    assert!(rt; pages.len() == 3);
-    let mut window = Vec::new(rt.alloc());
-    read_page(&pages, 2, &mut window)?;
-    assert_eq!(rt; window.len(), 47);
-    assert!(rt; window.last() == Some(&Instr::Done));
+    assert_eq!(rt; code.pages(), 3);
+    let page = code.page(2);
+    assert_eq!(rt; page.len(), 47);
+    let last = page.last().ok_or("a page has instructions")?.instr();
+    assert!(rt; last == Instr::Done);
+    let packed = pack(rt.alloc(), &[last])?;
+    assert!(rt; packed.len() == 1);
     Ok(())
 }
 

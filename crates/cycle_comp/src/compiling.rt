@@ -25,7 +25,7 @@ use crate::sizes::checked_measure;
 use crate::tables::add_tables;
 use burst_exec::{Exec, ExecList};
 use instr_writer::write;
-use page_code::{Code, CodeExec, CodeExecList, InstrList, RowList};
+use page_code::{Code, CodeExec, CodeExecList, InstrList, RowList, pack};
 use signal_groups::SignalTable;
 use std::alloc::{AllocError, Global};
 use stil_ast::{StilKind, StilRefusal};
@@ -64,7 +64,7 @@ fn check_rows(alloc: Global, signals: u16, exec: &Exec, rows: &RowList) -> Resul
     Ok(())
 }
 
-/// Puts what was made of an executive behind those before it. Its instructions are looked at once more.
+/// Puts what was made of an executive behind those before it. Its instructions are looked at once more, and packed.
 fn put_exec(
     alloc: Global,
     exec: &Exec,
@@ -82,7 +82,8 @@ fn put_exec(
     )?;
     let name = Text::from_slice(alloc, exec.name())?;
     let chains = copy_chains(alloc, exec.chains())?;
-    building.execs.push(CodeExec::new(name, chains, instrs))?;
+    let packed = pack(alloc, instrs.as_slice())?;
+    building.execs.push(CodeExec::new(name, chains, packed))?;
     add_tables(alloc, exec.tables(), &mut building.tables)?;
     Ok(())
 }

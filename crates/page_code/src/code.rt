@@ -9,6 +9,7 @@ ghost use Rattle.page_code.specs.Program.{code_of};
 ghost use Rattle.page_code.specs.Cycles.{exec_of, pages_of, pages_of_exec, page_count, page_of as the_page_of, offset_of};
 
 use crate::exec::{CodeExec, CodeExecList};
+use crate::packed::PackedInstr;
 use crate::parts::{CodeChainList, CodeSignal, CodeSignalList};
 use crate::rows::RowList;
 use page_meaning::Instr;
@@ -143,8 +144,8 @@ impl Code {
         self.exec(exec).chains()
     }
 
-    /// The instructions of an executive, in order.
-    pub fn instructions(&self, exec: u16) -> &[Instr]
+    /// The instructions of an executive, in order, packed.
+    pub fn instructions(&self, exec: u16) -> &[PackedInstr]
         requires { exec < length self.now.execs }
         ensures { result.now ≡ (exec_of self.now exec).instrs }
     {
@@ -165,7 +166,7 @@ impl Code {
         requires place { place < length (exec_of self.now exec).instrs }
         ensures { slice_get (exec_of self.now exec).instrs place ≡ Some result }
     {
-        self.instructions(exec)[place as usize]
+        self.instructions(exec)[place as usize].instr()
     }
 
     /// How many cycles an executive has.
@@ -237,8 +238,8 @@ impl Code {
         self.pages_before(exec as usize) + place / PAGE as u32
     }
 
-    /// The instructions of a page, in order: 256, or fewer where it is the last of its executive.
-    pub fn page(&self, page: u32) -> &[Instr]
+    /// The instructions of a page, in order, packed: 256, or fewer where it is the last of its executive.
+    pub fn page(&self, page: u32) -> &[PackedInstr]
         requires { page < length (pages_of self.now) }
         ensures { slice_get (pages_of self.now) page ≡ Some result.now }
     {
@@ -255,7 +256,7 @@ impl Code {
 }
 
 /// The page of a number, of an executive with these instructions.
-fn piece(instrs: &[Instr], page: usize) -> &[Instr]
+fn piece(instrs: &[PackedInstr], page: usize) -> &[PackedInstr]
     requires { page < page_count (length instrs.now) }
     ensures { result.now ≡ take 256 (drop (256 * page) instrs.now) }
 {

@@ -4,17 +4,18 @@ ghost use Rattle.std.specs.Prelude.{◌≡◌, ◌≤◌, ◌^◌, false};
 ghost use Rattle.page_meaning.specs.Meaning.{cycle_count};
 ghost use Rattle.page_meaning.specs.Whole.{IsWhole, IsRest};
 
-use crate::parts::{CodeChainList, InstrList};
-use page_meaning::{Instr, cycles};
+use crate::counting::cycles;
+use crate::packed::{PackedInstr, PackedInstrList};
+use crate::parts::CodeChainList;
 use std::marker::Model;
 use tester_types::{Items, Text};
 
-/// An executive: its name, empty where it has none, its scan chains, and its instructions.
+/// An executive: its name, empty where it has none, its scan chains, and its instructions, which it keeps packed.
 #[derive(Drop)]
 pub struct CodeExec {
     name: Text,
     chains: CodeChainList,
-    instrs: InstrList,
+    instrs: PackedInstrList,
     cycles: u64,
 }
 
@@ -35,7 +36,7 @@ pub type CodeExecList = Items<CodeExec>;
 
 impl CodeExec {
     /// The executive of these parts.
-    pub fn new(name: Text, chains: CodeChainList, instrs: InstrList) -> CodeExec
+    pub fn new(name: Text, chains: CodeChainList, instrs: PackedInstrList) -> CodeExec
         requires { IsWhole instrs }
         ensures { result ≡ record { name = name; chains = chains; instrs = instrs } }
     {
@@ -63,7 +64,7 @@ impl CodeExec {
     }
 
     /// Its instructions in order.
-    pub fn instrs(&self) -> &[Instr]
+    pub fn instrs(&self) -> &[PackedInstr]
         ensures { result.now ≡ self.now.instrs }
     {
         self.instrs.as_slice()

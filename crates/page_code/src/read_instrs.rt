@@ -13,11 +13,12 @@ ghost use Rattle.page_meaning.specs.declared.instr.Instr.TheVariants.{Done};
 ghost use Rattle.page_code.specs.Nest.{IsNest, depth_after, begins};
 
 use crate::accepted::{Accepted, has_waves_for};
+use crate::counting::cycles;
 use crate::fault::ReadError;
 use crate::fields::{bad, piece};
-use crate::parts::InstrList;
+use crate::packed::{PackedInstr, PackedInstrList};
 use crate::rows::RowList;
-use page_meaning::{Instr, cycles};
+use page_meaning::Instr;
 use std::alloc::{AllocError, Global};
 use tester_types::Table;
 use text_bytes::{DEEPEST_LOOPS, MOST_CYCLES, MOST_PASSES};
@@ -183,7 +184,7 @@ fn may_stand(
 }
 
 /// Whether these instructions run few enough cycles, where the last of them is a `Done`.
-fn is_within(instrs: &[Instr], last: Instr) -> bool
+fn is_within(instrs: &[PackedInstr], last: Instr) -> bool
     requires { last ≡ Done → IsRest 0 false instrs.now }
     ensures { (before : List Instr) → instrs.now ≡ before ++ last ∷ [] → result ≡ is_bounded before last }
 {
@@ -193,7 +194,7 @@ fn is_within(instrs: &[Instr], last: Instr) -> bool
     }
 }
 
-/// An instruction behind those before it, which is put at their end.
+/// An instruction behind those before it, which is put at their end, packed.
 #[tactic(auto, unfolding(crate::specs::Reading::instr_with))]
 fn instr<'a>(
     tables: &[Table],
@@ -201,7 +202,7 @@ fn instr<'a>(
     accepted: &mut Accepted,
     is_last: bool,
     nest: Nest,
-    instrs: &mut Vec<Instr>,
+    instrs: &mut Vec<PackedInstr>,
     bytes: &'a [u8],
 ) -> Result<(Instr, &'a [u8]), ReadError>
     requires rising { AllByRecursion (λ table. IsRising table.waves) tables.now }
@@ -218,7 +219,7 @@ fn instr<'a>(
     if !may_stand(tables, rows, accepted, is_last, nest, instr)? {
         return Err(bad(bytes));
     }
-    instrs.push(instr)?;
+    instrs.push(PackedInstr::new(instr))?;
     if !is_within(instrs, instr) {
         return Err(bad(bytes));
     }
@@ -233,7 +234,7 @@ pub(crate) fn instrs<'a>(
     accepted: &mut Accepted,
     count: u32,
     bytes: &'a [u8],
-) -> Result<(InstrList, &'a [u8]), ReadError>
+) -> Result<(PackedInstrList, &'a [u8]), ReadError>
     requires rising { AllByRecursion (λ table. IsRising table.waves) tables.now }
     requires accepted { AreAccepted tables.now rows.now accepted.old.keys }
     ensures accepted { AreAccepted tables.now rows.now accepted.new.keys }
@@ -241,7 +242,8 @@ pub(crate) fn instrs<'a>(
         (items_at (instr_at tables.now rows.now count) count [] bytes.now) }
     ensures whole { IfOk result (λ x. 0 < count → IsWhole x.0) }
 {
-    let mut instrs = Vec::new(alloc);
+    let room = (count as usize).min(bytes.len() / 16);
+    let mut instrs = Vec::with_capacity(alloc, room)?;
     let mut nest = Nest::new();
     let mut rest = bytes;
     for place in 0..count {
@@ -250,5 +252,5 @@ pub(crate) fn instrs<'a>(
         nest = nest.after(last);
         rest = after;
     }
-    Ok((InstrList::from_vec(instrs), rest))
+    Ok((PackedInstrList::from_vec(instrs), rest))
 }

@@ -12,6 +12,7 @@ ghost use Rattle.page_code.specs.declared.version.Version.TheVariants.{One, Two}
 
 use crate::code::Code;
 use crate::exec::CodeExec;
+use crate::packed::PackedInstr;
 use crate::parts::{CodeChain, CodeSignal};
 use crate::saving_rows::Rows;
 use crate::spelled::{
@@ -276,15 +277,15 @@ pub(crate) fn instr_bytes(instr: Instr) -> [u8; 16]
     }
 }
 
-impl Spelled for Instr {
+impl Spelled for PackedInstr {
     ghost spelling = { spell.instr };
 
     fn put<K: Sink>(&self, sink: &mut K) -> Result<(), SinkFault> {
-        put_all(sink, &instr_bytes(*self))
+        put_all(sink, self.bytes())
     }
 
     fn size(&self) -> u64 {
-        instr_bytes(*self).len() as u64
+        self.bytes().len() as u64
     }
 }
 
@@ -300,7 +301,7 @@ fn exec_parts(
     exec: &CodeExec,
 ) -> Then<
     Then<Count16, Bytes<'_>>,
-    Then<Count16, Then<Each<'_, CodeChain>, Then<Count32, Each<'_, Instr>>>>,
+    Then<Count16, Then<Each<'_, CodeChain>, Then<Count32, Each<'_, PackedInstr>>>>,
 >
     ensures { (number w16 result.first.first.count ++ result.first.second.bytes.now)
         ++ (number w16 result.second.first.count ++ (flat_map spell.chain result.second.second.first.items.now

@@ -1,11 +1,13 @@
 //! A walk over the cycles of an executive.
 
 ghost use Rattle.std.specs.Prelude.{◌≡◌, ◌^◌, ◌<◌, ◌++◌, [], IfNone, IfSome, option_to_list, length};
+ghost use Rattle.page_meaning.specs.Course.{coming, IsOn};
 ghost use Rattle.page_code.specs.Walk.{IsOf, IsOver, cycles_left};
 ghost use Rattle.page_code.specs.Cycles.{cycles_of};
 
 use crate::code::Code;
-use page_meaning::Course;
+use crate::packed::PackedInstr;
+use page_meaning::{Course, Entry, Step};
 use tester_types::Cycle;
 
 /// A place in the cycles of an executive. It keeps its open loops, at most 64, in place.
@@ -26,7 +28,7 @@ impl Walk {
         ensures named { IfSome result (λ cycle. IsOf code.now cycle.table cycle.row) }
         ensures early { IfSome result (λ cycle. cycle.start < 2 ^ 88) }
     {
-        let entry = self.course.next(code.instructions(self.exec))?;
+        let entry = next_entry(&mut self.course, code.instructions(self.exec))?;
         let start = self.start;
         self.start += u128::from(code.table(entry.table).period);
         Some(Cycle {
@@ -49,5 +51,22 @@ impl Walk {
             start: 0,
             course: Course::new(),
         }
+    }
+}
+
+/// What the next cycle of these instructions runs, or `None` where the cycles are used up.
+fn next_entry(course: &mut Course, code: &[PackedInstr]) -> Option<Entry>
+    requires { IsOn code.now course.old }
+    ensures on { IsOn code.now course.new }
+    ensures given { coming code.now course.old ≡ option_to_list result ++ coming code.now course.new }
+    ensures none { IfNone result (coming code.now course.new ≡ []) }
+{
+    let mut step = course.step(code[course.place()].instr());
+    while matches!(step, Step::Moved) {
+        step = course.step(code[course.place()].instr());
+    }
+    match step {
+        Step::Gave(entry) => Some(entry),
+        _ => None,
     }
 }

@@ -1,23 +1,23 @@
-//! How many cycles instructions run, without unrolling them.
+//! How many cycles instructions run, without unrolling them: a count that begins at their end.
 
-ghost use Rattle.std.specs.Prelude.{◌≡◌, ◌+◌, ◌<◌, ◌≤◌, [], ◌∷◌, List, length, drop, map, min, false, slice_index_or};
-ghost use Rattle.text_bytes.specs.Limits.{most_cycles};
-ghost use Rattle.page_meaning.specs.Meaning.{cycle_count, body_counts};
-ghost use Rattle.page_meaning.specs.Whole.{IsRest};
+ghost use Rattle.std.specs.Prelude.{◌≡◌, ◌<◌, [], ◌∷◌, List, length, map, slice_index_or};
+ghost use Rattle.page_meaning.specs.Meaning.{body_counts};
 ghost use Rattle.page_meaning.specs.Count.{HasRoom, capped, capped_on_top, capped_closed};
 
 use crate::instr::Instr;
 use std::marker::Model;
 use text_bytes::MOST_CYCLES;
 
-/// The numbers of cycles of the bodies that stand one in the other at a place, the innermost last.
+/// The numbers of cycles of the bodies that stand one in the other at a place, from there to their ends. Instructions are
+/// put in front of it, the last one first. No number goes above one more than the most that an executive may run.
+/// Contracts see it as these numbers, that of the innermost body first.
 #[derive(Drop)]
-struct Sums {
+pub struct CycleSums {
     sums: [u64; 65],
     height: usize,
 }
 
-impl Model for Sums {
+impl Model for CycleSums {
     ghost use Rattle.std.specs.Prelude.{◌≡◌, ℕ, List, ◌≤◌, length};
     ghost use Rattle.page_meaning.specs.Count.{stack};
 
@@ -28,19 +28,19 @@ impl Model for Sums {
     ghost invariant = { λ s. (s.height ≤ 65) × (length s.sums ≡ 65) };
 }
 
-impl Sums {
+impl CycleSums {
     /// One body without a cycle.
-    fn new() -> Sums
+    pub fn new() -> CycleSums
         ensures { result ≡ 0 ∷ [] }
     {
-        Sums {
+        CycleSums {
             sums: [0; 65],
             height: 1,
         }
     }
 
-    /// The number on top, 0 where there is none.
-    fn top(&self) -> u64
+    /// The number of the innermost body.
+    pub fn top(&self) -> u64
         requires { 0 < length self.now }
         ensures { result ≡ slice_index_or self.now 0 0 }
     {
@@ -76,8 +76,8 @@ impl Sums {
         self.sums[self.height - 1] = at_most(times.saturating_mul(body).saturating_add(after));
     }
 
-    /// What the instruction in front makes of them.
-    fn put(&mut self, instr: Instr)
+    /// Puts an instruction in front.
+    pub fn put(&mut self, instr: Instr)
         requires { HasRoom instr (length self.old) }
         ensures { (rest : List Instr) → self.old ≡ map capped (body_counts rest)
             → self.new ≡ map capped (body_counts (instr ∷ rest)) }
@@ -86,23 +86,9 @@ impl Sums {
             Instr::Run { times, .. } => self.run(times),
             Instr::Loop { times } => self.close(times),
             Instr::End => self.open(),
-            Instr::Done => *self = Sums::new(),
+            Instr::Done => *self = CycleSums::new(),
         }
     }
-}
-
-/// How many cycles the instructions of an executive run, or one more than the most where they are more.
-pub fn cycles(code: &[Instr]) -> u64
-    requires { IsRest 0 false code.now }
-    ensures { result ≡ min (cycle_count code.now) (most_cycles + 1) }
-{
-    let mut sums = Sums::new();
-    let mut at = code.len();
-    while at > 0 {
-        at -= 1;
-        sums.put(code[at]);
-    }
-    sums.top()
 }
 
 /// The number, or one more than the most cycles of an executive where it is above.

@@ -1,6 +1,6 @@
 //! A walk over instructions, which gives their cycles one by one.
 
-ghost use Rattle.std.specs.Prelude.{◌≡◌, ◌<◌, ◌++◌, List, [], length, false, IfNone, option_to_list};
+ghost use Rattle.std.specs.Prelude.{◌≡◌, ◌<◌, List, length, false};
 ghost use Rattle.page_meaning.specs.declared.instr.Instr.TheVariants.{Run, Loop, End};
 ghost use Rattle.page_meaning.specs.Meaning.{Means};
 ghost use Rattle.page_meaning.specs.Whole.{IsRest};
@@ -122,22 +122,5 @@ impl Course {
         };
         self.at = innermost.start;
         Step::Moved
-    }
-
-    /// The next cycle, or `None` where they are used up.
-    pub fn next(&mut self, code: &[Instr]) -> Option<Entry>
-        requires { IsOn code.now self.old }
-        ensures on { IsOn code.now self.new }
-        ensures given { coming code.now self.old ≡ option_to_list result ++ coming code.now self.new }
-        ensures none { IfNone result (coming code.now self.new ≡ []) }
-    {
-        let mut step = self.step(code[self.at]);
-        while matches!(step, Step::Moved) {
-            step = self.step(code[self.at]);
-        }
-        match step {
-            Step::Gave(entry) => Some(entry),
-            _ => None,
-        }
     }
 }

@@ -7,7 +7,7 @@ mod course;
 mod instr;
 mod laws;
 
-pub use count::cycles;
+pub use count::CycleSums;
 pub use course::{Course, Step};
 pub use instr::{Entry, Instr};
 pub use laws::{count_is_length, meaning_is_nesting};

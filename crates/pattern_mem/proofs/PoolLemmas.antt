@@ -128,7 +128,7 @@ on_err (Ok _) p = tt
 on_err (Err _) p = p
 
 -- what is read of a page's number is the code's page
-pub page_made : (code : Program) (page : ℕ) (pages : List (List Instr)) (instrs : List Instr) → pages ≡ pages_of code
-    → slice_get pages page ≡ Some instrs → instrs ≡ page_at code page
-page_made code page pages instrs are reads =
-    sym (get_or_from_slice_get (pages_of code) page instrs [] (ap (λ (ps : List (List Instr)). slice_get ps page) (sym are) ∙ reads))
+pub page_made : (code read : Program) (page : ℕ) (instrs : List Instr) → read ≡ code → slice_get (pages_of read) page ≡ Some instrs
+    → instrs ≡ page_at code page
+page_made code read page instrs is reads =
+    sym (get_or_from_slice_get (pages_of code) page instrs [] (ap (λ (p : Program). slice_get (pages_of p) page) (sym is) ∙ reads))

@@ -8,7 +8,7 @@ ghost use Rattle.pattern_mem.specs.Pool.{new_pool, page_at, is_held, answered, a
 
 use crate::window::{PAGE, Window};
 use lru::LruCache;
-use page_code::{Code, Instr, PackedPages, pack, read_page};
+use page_code::{Code, Instr};
 use std::alloc::{AllocError, Global};
 use std::marker::Model;
 use std::num::NonZeroUsize;
@@ -24,27 +24,24 @@ pub enum Fetched {
     Miss,
 }
 
-/// The pages of a code, packed, and those of them that were asked for last, decoded, at most as many as it has frames.
+/// A code and those of its pages that were asked for last, decoded, at most as many as it has frames.
 /// Contracts see it as its code, its entries with the last first, and its frames.
 #[derive(Drop)]
 pub struct PoolState {
     alloc: Global,
     code: Arc<Code>,
-    pages: PackedPages,
     cache: LruCache<u32, Items<Instr>>,
 }
 
 impl Model for PoolState {
-    ghost use Rattle.std.specs.Prelude.{◌≡◌};
     ghost use Rattle.std.specs.Arc.{arc_value};
-    ghost use Rattle.page_code.specs.Cycles.{pages_of};
     ghost use Rattle.pattern_mem.specs.Pool.{Pool, pool_of, IsPool};
 
     ghost Value = { Pool };
 
     ghost view = { λ p. pool_of (arc_value p.code) p.cache };
 
-    ghost invariant = { λ p. (p.pages ≡ pages_of (arc_value p.code)) × IsPool (pool_of (arc_value p.code) p.cache) };
+    ghost invariant = { λ p. IsPool (pool_of (arc_value p.code) p.cache) };
 }
 
 impl PoolState {
@@ -57,15 +54,9 @@ impl PoolState {
         let Some(room) = NonZeroUsize::new(usize::from(frames)) else {
             unreachable!()
         };
-        let pages = pack(alloc, &code)?;
         let cache = LruCache::new(alloc, room)?;
         let _valid = cache.len();
-        Ok(PoolState {
-            alloc,
-            code,
-            pages,
-            cache,
-        })
+        Ok(PoolState { alloc, code, cache })
     }
 
     /// Shows a page in the window, decoded. The page is then first among the entries; where it wasn't among them and there
@@ -102,7 +93,7 @@ impl PoolState {
             let _valid = self.cache.len();
             return Ok(Fetched::Hit);
         }
-        let instrs = decoded(self.alloc, &self.pages, page)?;
+        let instrs = decoded(self.alloc, &self.code, page)?;
         self.cache.put(page, instrs)?;
         let _valid = self.cache.len();
         Ok(Fetched::Miss)
@@ -119,12 +110,14 @@ impl PoolState {
     }
 }
 
-/// A page, decoded.
-fn decoded(alloc: Global, pages: &PackedPages, page: u32) -> Result<Items<Instr>, AllocError>
-    requires { page < length pages.now }
-    ensures { IfOk result (λ instrs. slice_get pages.now page ≡ Some instrs) }
+/// A page of a code, decoded.
+fn decoded(alloc: Global, code: &Code, page: u32) -> Result<Items<Instr>, AllocError>
+    requires { page < length (pages_of code.now) }
+    ensures { IfOk result (λ instrs. slice_get (pages_of code.now) page ≡ Some instrs) }
 {
     let mut instrs = Vec::with_capacity(alloc, PAGE)?;
-    read_page(pages, page, &mut instrs)?;
+    for packed in code.page(page) {
+        instrs.push(packed.instr())?;
+    }
     Ok(Items::from_vec(instrs))
 }

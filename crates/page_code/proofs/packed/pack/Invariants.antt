@@ -1,6 +1,5 @@
 use Rattle.std.proofs.Common.{◌≡◌, take}
-use Rattle.page_code.specs.Cycles.{pages_of}
 use Rattle.page_code.proofs.packed.pack.Given as goal
 
-abbrev pub invariant-loop-number : goal.invariant-loop-number
-invariant-loop-number l = l.pages.items ≡ take l.number (pages_of l.code)
+abbrev pub invariant-loop-instr : goal.invariant-loop-instr
+invariant-loop-instr l = l.list.items ≡ take l.instr-index l.instrs

@@ -11,7 +11,7 @@ use Rattle.page_code.proofs.read_instrs.instrs.Goals as goal
 
 pub returns-in_err-last-clause-read : goal.returns-in_err-last-clause-read
 returns-in_err-last-clause-read c =
-    let p = err_from_is_err_and c.from_residual.result c.from_residual.ensures.1 in
+    let p = err_from_is_err_and c.from_residual-in_err-last.result c.from_residual-in_err-last.ensures.1 in
     let one = instr_at c.args.tables.now c.args.rows.now c.args.count in
     rw (p.1, p.2)
     (stops c.in_err-last.field-0.0 one c.loop-place.instrs.items c.args.count c.loop-place.place c.loop-place.rest.now

@@ -7,7 +7,7 @@ use Rattle.page_code.proofs.walker.Walk.next.Goals as goal
 pub returns-clause-over : goal.returns-clause-over
 returns-clause-over c =
     let is = c.instructions.ensures in
-    goes_on_over c.args.code.now c.args.self.now c.in_ok-entry.entry c.next.new.self c.from.result c.requires
+    goes_on_over c.args.code.now c.args.self.now c.in_ok-entry.entry c.next_entry.new.course c.from.result c.requires
     (subst (λ (n : ℕ). n ≤ 1000000000000) (sym c.from.ensures) c.table.ensures.period.1)
-    (subst (λ (code : List Instr). IsOn code c.next.new.self) is c.in_ok-entry.ensures.on)
-    (subst (λ (code : List Instr). coming code c.args.self.now.course ≡ c.in_ok-entry.entry ∷ coming code c.next.new.self) is c.in_ok-entry.ensures.given)
+    (subst (λ (code : List Instr). IsOn code c.next_entry.new.course) is c.in_ok-entry.ensures.on)
+    (subst (λ (code : List Instr). coming code c.args.self.now.course ≡ c.in_ok-entry.entry ∷ coming code c.next_entry.new.course) is c.in_ok-entry.ensures.given)

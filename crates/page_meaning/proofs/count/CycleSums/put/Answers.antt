@@ -3,7 +3,7 @@ use Rattle.page_meaning.specs.declared.instr.Instr.{Instr}
 use Rattle.page_meaning.specs.Meaning.{body_counts}
 use Rattle.page_meaning.specs.Count.{capped, HasRoom}
 use Rattle.page_meaning.proofs.CountLemmas.{run_put, loop_put, end_put, done_put}
-use Rattle.page_meaning.proofs.count.Sums.put.Goals as goal
+use Rattle.page_meaning.proofs.count.CycleSums.put.Goals as goal
 
 pub returns-in-Run : goal.returns-in-Run
 returns-in-Run c = λ rest is.

@@ -1,7 +1,7 @@
 use Rattle.std.proofs.Common.{arith, ◌+◌, ◌-◌, get_or, ◌≡◌}
 use Rattle.page_meaning.specs.Count.{capped}
 use Rattle.page_meaning.proofs.CountLemmas.{runs}
-use Rattle.page_meaning.proofs.count.Sums.run.Goals as goal
+use Rattle.page_meaning.proofs.count.CycleSums.run.Goals as goal
 
 pub returns : goal.returns
 returns c =

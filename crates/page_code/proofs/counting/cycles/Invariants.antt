@@ -1,7 +1,7 @@
 use Rattle.std.proofs.Common.{◌≡◌, ◌≤◌, length, drop, map}
 use Rattle.page_meaning.specs.Meaning.{body_counts}
 use Rattle.page_meaning.specs.Count.{capped}
-use Rattle.page_meaning.proofs.count.cycles.Given as goal
+use Rattle.page_code.proofs.counting.cycles.Given as goal
 
 abbrev pub invariant-loop-at : goal.invariant-loop-at
 invariant-loop-at l = (l.at ≤ length l.code) × (l.sums ≡ map capped (body_counts (drop l.at l.code)))

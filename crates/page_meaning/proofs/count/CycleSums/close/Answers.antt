@@ -1,7 +1,7 @@
 use Rattle.std.proofs.Common.{arith, ◌+◌, ◌-◌, ◌*◌, get_or, ◌≡◌}
 use Rattle.page_meaning.specs.Count.{capped}
 use Rattle.page_meaning.proofs.CountLemmas.{closes}
-use Rattle.page_meaning.proofs.count.Sums.close.Goals as goal
+use Rattle.page_meaning.proofs.count.CycleSums.close.Goals as goal
 
 pub returns : goal.returns
 returns c =
