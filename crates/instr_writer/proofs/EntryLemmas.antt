@@ -9,7 +9,7 @@ use Rattle.instr_writer.specs.Entries.{AreEntries}
 use Rattle.instr_writer.specs.Working.{often}
 
 -- a row has its number with more rows behind
-slice_get-more : {A : Type 0} (xs more : List A) (i : ℕ) (x : A) → slice_get xs i ≡ Some x → slice_get (xs ++ more) i ≡ Some x
+pub slice_get-more : {A : Type 0} (xs more : List A) (i : ℕ) (x : A) → slice_get xs i ≡ Some x → slice_get (xs ++ more) i ≡ Some x
 slice_get-more [] more i x e = absurd cc
 slice_get-more (y ∷ xs) more zero x e = e
 slice_get-more (y ∷ xs) more (suc i) x e = slice_get-more xs more i x e

@@ -3,6 +3,7 @@ pub mod BodyLemmas
 pub mod StandLemmas
 pub mod EntryLemmas
 pub mod RowLemmas
+pub mod KnownLemmas
 pub mod FaultLemmas
 pub mod TimesLemmas
 pub mod EffectLemmas

@@ -1,7 +1,8 @@
 -- Rows, each once.
-use Rattle.std.proofs.Common.{◌≡◌, ℕ, zero, suc, Bool, true, false, cond, ◌||◌, List, [], ◌∷◌, ◌++◌, refl, sym, ap, ◌∙◌, append_assoc}
+use Rattle.std.proofs.Common.{◌≡◌, ℕ, zero, suc, Bool, true, false, cond, ◌||◌, List, [], ◌∷◌, ◌++◌, Some, refl, sym, ap, ◌∙◌, append_assoc}
 use Rattle.std.proofs.lemmas.List.{append-nil}
 use Rattle.std.proofs.lemmas.List.Folds.{list_any-append}
+use Rattle.std.specs.Prelude.{slice_get}
 use Rattle.std.specs.List.{AllByRecursion}
 use Rattle.std.specs.Cmp.Lexicographic.{bytes_decides}
 use Rattle.stil_ast.specs.Data.Texts.{same, has_name}
@@ -82,6 +83,18 @@ there-adds_none : (there rows : List (List ℕ)) → AreThere there rows → dis
 there-adds_none there [] are = refl
 there-adds_none there (row ∷ rows) are =
     ap (λ (b : Bool). distinct_rows (cond b there (there ++ row ∷ [])) rows) are.0 ∙ there-adds_none there rows are.1
+
+-- nor does a row that has a number
+has_row-at : (rows : List (List ℕ)) (n : ℕ) (row : List ℕ) → slice_get rows n ≡ Some row → has_name rows row ≡ true
+has_row-at [] n row e = absurd cc
+has_row-at (r ∷ rows) zero row e =
+    let own : row ≡ r = cc in
+    or-left (same row r) (has_name rows row) (ap (same row) (sym own) ∙ same-refl row)
+has_row-at (r ∷ rows) (suc n) row e = or-right (same row r) (has_name rows row) (has_row-at rows n row e)
+
+pub numbered-adds_none : (rows : List (List ℕ)) (n : ℕ) (row : List ℕ) → slice_get rows n ≡ Some row
+    → distinct_rows rows (row ∷ []) ≡ rows
+numbered-adds_none rows n row e = there-adds_none rows (row ∷ []) (has_row-at rows n row e, tt)
 
 -- the same rows so often again
 again-adds_none : (n : ℕ) (there rows : List (List ℕ)) → distinct_rows there rows ≡ there

@@ -1,6 +1,7 @@
 -- Read Entries first (what a cycle of the code runs for a vector), then Written (what is written of flat trees, and
--- how a fault is told). Counting has the number of vectors; Working has what the code computes on its way.
+-- how a fault is told). Counting has the number of vectors; Known and Working have what the code computes on its way.
 pub mod Entries
 pub mod Counting
 pub mod Written
+pub mod Known
 pub mod Working

@@ -6,7 +6,7 @@ ghost use Rattle.stil_ast.specs.Faults.CodeFaults.{has_wave, have_waves};
 use wave_tables::WaveSet;
 
 /// Whether the table defines the character of a signal, if it has one.
-fn has_wave(tables: &WaveSet, table: u16, signal: u16, letter: Option<u8>) -> bool
+pub(crate) fn has_wave(tables: &WaveSet, table: u16, signal: u16, letter: Option<u8>) -> bool
     ensures { result ≡ has_wave (slice_get tables.now table) signal letter }
 {
     match letter {

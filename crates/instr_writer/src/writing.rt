@@ -1,19 +1,19 @@
 //! What a flat tree runs, as instructions.
 
-ghost use Rattle.std.specs.Prelude.{◌≡◌, ◌∷◌, [], ◌*◌, ◌+◌, IfErr, IfOk, OnOk};
+ghost use Rattle.std.specs.Prelude.{◌≡◌, ◌∷◌, [], ◌*◌, ◌+◌, IfErr, OnOk};
 ghost use Rattle.stil_ast.specs.Meaning.Running.{times};
 ghost use Rattle.stil_ast.specs.Meaning.Flat.{done, flat_run, measure, repeat, save};
 ghost use Rattle.flat_tree.specs.Items.{item_front};
+ghost use Rattle.instr_writer.specs.Known.{IsKnown};
 ghost use Rattle.instr_writer.specs.Working.{Walked, Wrote, IsStopped, made_at};
 
 use crate::counting::list_cycles;
 use crate::output::{put_cycle, put_loop};
 use crate::state::State;
 use crate::trouble::Trouble;
-use crate::waves::have_waves;
 use flat_tree::{FlatItem, FlatList, Origin};
 use page_code::{Entry, Instr, RowList};
-use std::alloc::{AllocError, Global};
+use std::alloc::Global;
 use stil_ast::StilKind;
 use wave_tables::WaveSet;
 
@@ -25,39 +25,39 @@ pub(crate) struct Source<'a> {
     pub(crate) first: u16,
 }
 
-/// The number of a row, if 32 bits have room for it.
-fn row_number(number: usize) -> Result<u32, AllocError>
-    ensures { IfOk result (λ row. row ≡ number) }
-{
-    match u32::try_from(number) {
-        Ok(row) => Ok(row),
-        Err(_) => Err(AllocError),
-    }
-}
-
-/// Writes a vector of this state, if it can run.
+/// Writes a vector of this state, if it can run. The state knows what needn't be looked for again.
 fn write_vector(
     source: &Source,
-    state: &State,
+    state: &mut State,
     mark: u32,
     place: Origin,
     code: &mut Vec<Instr>,
     rows: &mut RowList,
 ) -> Result<(), Trouble>
-    ensures done { OnOk result (Wrote source.now.tables.now source.now.first (made_at state.now mark place ∷ []) 1
+    requires known { IsKnown source.now.tables.now rows.old state.old }
+    ensures done { OnOk result (Wrote source.now.tables.now source.now.first (made_at state.old.told mark place ∷ []) 1
         code.old.items code.new.items rows.old rows.new) }
-    ensures stopped { IfErr result (IsStopped source.now.tables.now (made_at state.now mark place ∷ [])) }
+    ensures here { OnOk result (state.new.told ≡ state.old.told) }
+    ensures known { OnOk result (IsKnown source.now.tables.now rows.new state.new) }
+    ensures stopped { IfErr result (IsStopped source.now.tables.now (made_at state.old.told mark place ∷ [])) }
 {
     let Some(table) = state.table() else {
         return Err(Trouble::At(place, StilKind::NoTable));
     };
-    if !have_waves(source.tables, table, state.letters()) {
+    if !state.has_waves(source.tables, table) {
         return Err(Trouble::At(place, StilKind::NoWave));
     }
-    let number = rows.add(state.row()?)?;
-    let row = row_number(number)?;
-    let table = source.first.saturating_add(table);
-    put_cycle(code, Entry { table, row, mark })?;
+    let row = state.number(rows)?;
+    let code_table = source.first.saturating_add(table);
+    put_cycle(
+        code,
+        Entry {
+            table: code_table,
+            row,
+            mark,
+        },
+    )?;
+    state.know(table, row);
     Ok(())
 }
 
@@ -71,9 +71,13 @@ pub(crate) fn write_list(
     code: &mut Vec<Instr>,
     rows: &mut RowList,
 ) -> Result<(), Trouble>
-    ensures done { OnOk result (Walked source.now.tables.now source.now.first (flat_run list.now base.now state.old)
-        (measure list.now) code.old.items code.new.items rows.old rows.new state.new) }
-    ensures stopped { IfErr result (IsStopped source.now.tables.now (flat_run list.now base.now state.old).made) }
+    requires known { IsKnown source.now.tables.now rows.old state.old }
+    ensures done { OnOk result (Walked source.now.tables.now source.now.first
+        (flat_run list.now base.now.told state.old.told) (measure list.now)
+        code.old.items code.new.items rows.old rows.new state.new.told) }
+    ensures known { OnOk result (IsKnown source.now.tables.now rows.new state.new) }
+    ensures stopped { IfErr result (IsStopped source.now.tables.now
+        (flat_run list.now base.now.told state.old.told).made) }
 {
     for item in list.as_slice() {
         match write_item(source, item, base, state, code, rows) {
@@ -94,11 +98,13 @@ fn write_item(
     code: &mut Vec<Instr>,
     rows: &mut RowList,
 ) -> Result<(), Trouble>
+    requires known { IsKnown source.now.tables.now rows.old state.old }
     ensures done { OnOk result (Walked source.now.tables.now source.now.first
-        (flat_run (item_front item.now done) base.now state.old) (measure (item_front item.now done))
-        code.old.items code.new.items rows.old rows.new state.new) }
+        (flat_run (item_front item.now done) base.now.told state.old.told) (measure (item_front item.now done))
+        code.old.items code.new.items rows.old rows.new state.new.told) }
+    ensures known { OnOk result (IsKnown source.now.tables.now rows.new state.new) }
     ensures stopped { IfErr result (IsStopped source.now.tables.now
-        (flat_run (item_front item.now done) base.now state.old).made) }
+        (flat_run (item_front item.now done) base.now.told state.old.told).made) }
 {
     match item {
         FlatItem::Table(table) => {
@@ -130,11 +136,13 @@ fn write_loop(
     code: &mut Vec<Instr>,
     rows: &mut RowList,
 ) -> Result<(), Trouble>
+    requires known { IsKnown source.now.tables.now rows.old state.old }
     ensures done { OnOk result (Walked source.now.tables.now source.now.first
-        (times count (flat_run body.now base.now) state.old) (2 * measure body.now + 2)
-        code.old.items code.new.items rows.old rows.new state.new) }
+        (times count (flat_run body.now base.now.told) state.old.told) (2 * measure body.now + 2)
+        code.old.items code.new.items rows.old rows.new state.new.told) }
+    ensures known { OnOk result (IsKnown source.now.tables.now rows.new state.new) }
     ensures stopped { IfErr result (IsStopped source.now.tables.now
-        (times count (flat_run body.now base.now) state.old).made) }
+        (times count (flat_run body.now base.now.told) state.old.told).made) }
 {
     if count == 0 {
         return Ok(());
@@ -168,11 +176,13 @@ fn write_save(
     code: &mut Vec<Instr>,
     rows: &mut RowList,
 ) -> Result<(), Trouble>
+    requires known { IsKnown source.now.tables.now rows.old state.old }
     ensures done { OnOk result (Walked source.now.tables.now source.now.first
-        (flat_run (save putting body.now done) state.old state.old) (measure body.now)
-        code.old.items code.new.items rows.old rows.new state.new) }
+        (flat_run (save putting body.now done) state.old.told state.old.told) (measure body.now)
+        code.old.items code.new.items rows.old rows.new state.new.told) }
+    ensures known { OnOk result (IsKnown source.now.tables.now rows.new state.new) }
     ensures stopped { IfErr result (IsStopped source.now.tables.now
-        (flat_run body.now state.old state.old).made) }
+        (flat_run body.now state.old.told state.old.told).made) }
 {
     let held = state.copy()?;
     match write_list(source, body, &held, state, code, rows) {

@@ -1,17 +1,25 @@
+use Rattle.std.proofs.Common.{ap}
 use Rattle.stil_ast.specs.Meaning.State.{start_of}
+use Rattle.instr_writer.specs.Known.{Known}
+use Rattle.instr_writer.proofs.KnownLemmas.{known-nothing}
 use Rattle.instr_writer.proofs.WalkedLemmas.{walked-still}
 use Rattle.instr_writer.proofs.ListLemmas.{walked-tree}
 use Rattle.instr_writer.proofs.trees.write_trees.Goals as goal
 
 pub loop-number-init : goal.loop-number-init
-loop-number-init c =
-    walked-still c.args.source.now.tables.now c.args.source.now.first 0 c.args.code.now.items c.args.rows.now
-    (start_of c.args.signals) c.in_ok-state.state c.in_ok-state.ensures
+loop-number-init c = (
+  walked-still c.args.source.now.tables.now c.args.source.now.first 0 c.args.code.now.items c.args.rows.now
+      (start_of c.args.signals) c.in_ok-state.state.told (ap (λ (k : Known). k.told) c.in_ok-state.ensures),
+  known-nothing c.args.source.now.tables.now c.args.rows.now (start_of c.args.signals) c.in_ok-state.state
+      c.in_ok-state.ensures,
+)
 
 pub loop-number-preserved : goal.loop-number-preserved
-loop-number-preserved c =
-    walked-tree c.args.source.now.tables.now c.args.source.now.first c.args.trees.now c.loop-number.number
-    c.index-trees-number.result c.in_ok-outside.outside (start_of c.args.signals) c.args.code.now.items
-    c.loop-number.code.items c.write_list.new.code.items c.args.rows.now c.loop-number.rows c.write_list.new.rows
-    c.loop-number.state c.write_list.new.state c.index-trees-number.is c.loop-number-test.true c.in_ok-outside.ensures
-    c.loop-number.invariant c.in-Ok.ensures.done
+loop-number-preserved c = (
+  walked-tree c.args.source.now.tables.now c.args.source.now.first c.args.trees.now c.loop-number.number
+      c.index-trees-number.result c.in_ok-outside.outside.told (start_of c.args.signals) c.args.code.now.items
+      c.loop-number.code.items c.write_list.new.code.items c.args.rows.now c.loop-number.rows c.write_list.new.rows
+      c.loop-number.state.told c.write_list.new.state.told c.index-trees-number.is c.loop-number-test.true
+      (ap (λ (k : Known). k.told) c.in_ok-outside.ensures) c.loop-number.invariant.0 c.in-Ok.ensures.done,
+  c.in-Ok.ensures.known,
+)

@@ -1,9 +1,11 @@
 use Rattle.std.proofs.Common.{take}
 use Rattle.stil_ast.specs.Meaning.State.{start_of}
+use Rattle.instr_writer.specs.Known.{IsKnown}
 use Rattle.instr_writer.specs.Working.{flats_run, flats_measure, Walked}
 use Rattle.instr_writer.proofs.trees.write_trees.Given as goal
 
 abbrev pub invariant-loop-number : goal.invariant-loop-number
 invariant-loop-number l =
     Walked l.source.tables.now l.source.first (flats_run (take l.number l.trees) (start_of l.signals))
-    (flats_measure (take l.number l.trees)) l.fn.code.items l.code.items l.fn.rows l.rows l.state
+    (flats_measure (take l.number l.trees)) l.fn.code.items l.code.items l.fn.rows l.rows l.state.told
+    × IsKnown l.source.tables.now l.rows l.state

@@ -1,6 +1,7 @@
 use Rattle.std.proofs.Common.{◌≡◌, ◌+◌, ◌*◌, take}
 use Rattle.stil_ast.specs.Meaning.Flat.{done, flat_run, measure}
 use Rattle.flat_tree.specs.Items.{item_front, items_flat, body_count}
+use Rattle.instr_writer.specs.Known.{IsKnown}
 use Rattle.instr_writer.specs.Working.{Walked}
 use Rattle.instr_writer.proofs.writing.+writing.Given as goal
 
@@ -19,5 +20,7 @@ decreases-write_save l = 3 * body_count l.body.now + 2
 abbrev pub invariant-write_list-loop-item : goal.invariant-write_list-loop-item
 invariant-write_list-loop-item l =
     (items_flat l.item-items ≡ l.list)
-    × Walked l.source.tables.now l.source.first (flat_run (items_flat (take l.item-index l.item-items)) l.base l.fn.state)
-    (measure (items_flat (take l.item-index l.item-items))) l.fn.code.items l.code.items l.fn.rows l.rows l.state
+    × Walked l.source.tables.now l.source.first
+    (flat_run (items_flat (take l.item-index l.item-items)) l.base.told l.fn.state.told)
+    (measure (items_flat (take l.item-index l.item-items))) l.fn.code.items l.code.items l.fn.rows l.rows l.state.told
+    × IsKnown l.source.tables.now l.rows l.state
