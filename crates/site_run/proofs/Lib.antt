@@ -18,5 +18,6 @@ pub mod PlanLemmas
 pub mod BeforeLemmas
 pub mod GoLemmas
 pub mod StepsLemmas
+pub mod ContactLemmas
 pub mod SoFarLemmas
 pub mod TouchdownLemmas

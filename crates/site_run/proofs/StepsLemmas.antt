@@ -26,7 +26,8 @@ use Rattle.site_run.specs.Taped.{calls_of_step, calls_of_poll, IsTaped}
 use Rattle.site_run.specs.Seat.{running_of, without_cycles, contact_by}
 use Rattle.site_run.proofs.SocketLemmas.{with-none}
 use Rattle.site_run.proofs.TapeLemmas.{before_zero, poll_calls}
-use Rattle.site_run.specs.Site.{seat_of, try_of, IsSeatOf, IsOutcome, Advances, Steps, KeepsRest, IsPolled}
+use Rattle.site_run.specs.Contact.{EndsAtContact, IsLostInPoll}
+use Rattle.site_run.specs.Site.{seat_of, try_of, IsSeatOf, IsOutcome, HasLost, Advances, Steps, KeepsRest, IsPolled}
 
 -- a count that has risen from a later number has risen from an earlier one
 pub risen_from : (a b c : ℕ) → a ≤ b → b ≤ c → HasRisen b c → HasRisen a c
@@ -99,6 +100,7 @@ steps_running plan stops site other told told' run end taken runs some a taken_i
     record {
       contact = a.contact;
       cause = a.cause;
+      lost = a.lost;
       steps = λ part same.
           subst (λ (s : Step). IsOutcome told' end (stepped_try part a.contact seat s))
           (sym (arrived_running part a.contact seat (running_of told run) running))
@@ -123,6 +125,7 @@ module _ (plan : Bound) (stops : ℕ) (site : Site) (told mid told' : Told) (end
   steps_goes run comes a taken_is low up kept = record {
     contact = a.contact;
     cause = risen_if a.contact told.count mid.count told'.count low up a.cause;
+    lost = a.lost;
     steps = λ part same. by part same (cases_Bool (is_at_load a.contact));
     tape = λ part same.
         let seat = seat_of stops told site in
@@ -179,6 +182,7 @@ steps_ends plan stops site told told' end none fails risen comes kept = by (cont
     by None is = record {
       contact = None;
       cause = tt;
+      lost = tt;
       steps = λ part same.
           subst (λ (s : Step). IsOutcome told' (outcome.Ends (without_cycles (try_of site) end)) (stepped_try part None (seat_of stops told site) s))
           (sym (arrived_loading part None (seat_of stops told site) false none_runs' refl ∙ comes part same is)) refl;
@@ -195,6 +199,7 @@ steps_ends plan stops site told told' end none fails risen comes kept = by (cont
         record {
           contact = Some 0;
           cause = subst (λ (o : Option ℕ). IfSome o (λ n. HasRisen told.count told'.count)) is risen;
+          lost = zero_is;
           steps = λ part same.
               subst (λ (s : Step). IsOutcome told' (outcome.Ends (without_cycles (try_of site) end)) (stepped_try part (Some 0) (seat_of stops told site) s))
               (sym (arrived_loading part (Some 0) (seat_of stops told site) true none_runs' refl))
@@ -222,6 +227,21 @@ unfolding poll
 poll_on part contact seat none planned =
     ap (λ (b : Bool). cond b seat (polled_from part contact seat (arrived part contact seat))) (rests_not part seat none planned)
 
+-- a try that goes on has lost no contact
+none_lost : (o : Option ℕ) (run : Run) (P : ℕ → Type 0) → IfSome o (HasLost (outcome.Goes run)) → IfSome o P
+none_lost None run P lost = tt
+none_lost (Some at) run P lost = absurd lost
+
+-- a try that ends with contact lost does so in a poll
+lost_there : (o : Option ℕ) (part : Part) (seat : Seat) (trial : Trial) → rests part seat ≡ false
+    → stepped_try part o seat (arrived part o seat) ≡ ends trial → IfSome o (HasLost (outcome.Ends trial))
+    → IfSome o (IsLostInPoll part seat)
+lost_there None part seat trial works steps lost = tt
+lost_there (Some at) part seat trial works steps lost = record {
+  works = works;
+  ends_there = subst (λ (s : Step). EndsAtContact s at) (sym steps) lost;
+}
+
 -- a try goes on
 pub polled_goes : (plan : Bound) (stops : ℕ) (old mid new : Site) (told told' : Told) (run : Run) → old.waiting ≡ None
     → old.die < length (dies_at old.site plan.rows) → Steps plan stops old told told' (outcome.Goes run) mid.state.taken → KeepsRest old mid
@@ -236,6 +256,7 @@ polled_goes plan stops old mid new told told' run none planned s rest running ta
     record {
       contact = s.contact;
       cause = s.cause;
+      lost = none_lost s.contact run (IsLostInPoll part seat) s.lost;
       tape = subst (λ (calls : Calls). IsTaped s.contact calls told.tape told'.tape)
           (sym (poll_calls part seat (rests_not part seat none (omega (arith, dies, planned))))) (s.tape part refl);
       polled =
@@ -274,6 +295,7 @@ polled_ends plan stops old mid new told told' last trial none planned s rest run
     record {
       contact = s.contact;
       cause = risen_more s.contact told.count told'.count last.count up s.cause;
+      lost = lost_there s.contact part seat trial (rests_not part seat none (omega (arith, dies, planned))) steps s.lost;
       tape = subst (λ (t : Option Calls). IsTaped s.contact (calls_of_poll part seat) told.tape t) (sym kept)
           (subst (λ (calls : Calls). IsTaped s.contact calls told.tape told'.tape)
           (sym (poll_calls part seat (rests_not part seat none (omega (arith, dies, planned))))) (s.tape part refl));

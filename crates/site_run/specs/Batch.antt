@@ -24,6 +24,7 @@ pub record Between : Type 0 where
   pub time : ℕ
   pub number : ℕ
 
+-- it is at this point, and the next cycle starts at this time and has this number
 abbrev pub between_at : Point → ℕ → ℕ → Between
 between_at point time number = record { point = point; time = time; number = number }
 

@@ -17,6 +17,7 @@ pub record Point : Type 0 where
   pub last : List Drive
   pub told : Told
 
+-- the point of these
 abbrev pub point_at : Held → List Drive → Told → Point
 point_at held last told = record { held = held; last = last; told = told }
 

@@ -4,5 +4,6 @@ pub mod Batch
 pub mod Taped
 pub mod Step
 pub mod Seat
+pub mod Contact
 pub mod Site
 pub mod Touchdown

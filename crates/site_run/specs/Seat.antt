@@ -83,13 +83,14 @@ IsMove number told run move.More step = step ≡ goes (running_of told run)
 IsMove number told run move.Next step = step ≡ goes (running_of told run)
 IsMove number told run (move.Ends verdict) step = step ≡ ends (ended_now number (running_of told run) verdict)
 
--- the instant at which contact was lost, if it was
+-- the instant at which a verdict tells that contact was lost, if it does
 abbrev pub contact_by : Verdict → Option ℕ
 contact_by verdict.Pass = None
 contact_by (verdict.Fail exec) = None
 contact_by (verdict.Stopped batch by) = None
 contact_by (verdict.Contact at) = Some at
 
+-- the instant at which a move lost contact, if it did
 abbrev pub contact_of : Move → Option ℕ
 contact_of move.More = None
 contact_of move.Next = None

@@ -11,6 +11,7 @@ use Rattle.lot_plan.specs.Skews.{site_skews}
 use Rattle.site_meaning.specs.Polls.{Running, Seat, Step, goes, ends, unloaded, before_batch, arrived, stepped_try, taken_at, poll}
 use Rattle.site_meaning.specs.Part.{Part, part_of}
 use Rattle.tester_types.specs.Outside.{HasRisen}
+use Rattle.tester_types.specs.declared.record.Verdict.TheVariants as verdict
 use Rattle.site_run.specs.declared.trial.Outcome.{Outcome}
 use Rattle.site_run.specs.declared.trial.Outcome.TheVariants as outcome
 use Rattle.site_run.specs.declared.run.Run.{Run}
@@ -21,6 +22,7 @@ use Rattle.site_run.specs.declared.site.BatchEnd.{BatchEnd}
 use Rattle.site_run.specs.declared.site.BatchEnd.TheVariants as end
 use Rattle.site_run.specs.Step.{HoldsSchedules}
 use Rattle.site_run.specs.Taped.{IsTaped, calls_of_next, calls_of_step, calls_of_poll}
+use Rattle.site_run.specs.Contact.{IsLostInPoll}
 use Rattle.site_run.specs.Seat.{running_of, IsRunOn}
 
 -- the site as a poll sees it, with this word, at a socket that tells this
@@ -68,6 +70,11 @@ abbrev pub IsOutcome : Told → Outcome → Step → Type 0
 IsOutcome told (outcome.Goes run) step = step ≡ goes (running_of told run)
 IsOutcome told (outcome.Ends trial) step = step ≡ ends trial
 
+-- the try has ended with contact lost at this instant
+abbrev pub HasLost : Outcome → ℕ → Type 0
+HasLost (outcome.Goes run) at = ⊥
+HasLost (outcome.Ends trial) at = trial.verdict ≡ verdict.Contact at
+
 -- a site as a poll sees it, but for the try that runs
 pub record IsSeatOf (word : ℕ) (site : Site) (seat : Seat) : Type 0 where
   pub word_is : seat.word ≡ word
@@ -86,6 +93,7 @@ pub record Advances (plan : Bound) (stops : ℕ) (site : Site) (told told' : Tol
         → IsOutcome told' come (before_batch part contact seat (running_of told run))
     pub tape : (part : Part) (seat : Seat) → part ≡ part_of plan site.site → IsSeatOf stops site seat
         → IsTaped contact (calls_of_next part seat (running_of told run)) told.tape told'.tape
+    pub lost : IfSome contact (HasLost come)
     pub none : contact ≡ Some 0
         → (come ≡ outcome.Ends (unloaded (try_of site))) × (nat_lt site.state.taken stops ≡ false)
     pub late : IfSome contact (λ at. run.way.time ≤ at)
@@ -96,6 +104,7 @@ pub record Steps (plan : Bound) (stops : ℕ) (site : Site) (told told' : Told) 
   where
     pub contact : Option ℕ
     pub cause : IfSome contact (λ at. HasRisen told.count told'.count)
+    pub lost : IfSome contact (HasLost come)
     pub steps : (part : Part) → part ≡ part_of plan site.site
         → IsOutcome told' come
         (stepped_try part contact (seat_of stops told site) (arrived part contact (seat_of stops told site)))
@@ -119,11 +128,12 @@ pub record KeepsRest (old new : Site) : Type 0 where
   pub waiting : new.waiting ≡ old.waiting
   pub spent : new.spent ≡ old.spent
 
--- A site is seen behind a poll, with contact lost only where the count of faults has risen. A tape that the socket
--- tells has the calls of the poll, up to a contact.
+-- A site is seen behind a poll, with contact lost only where the count of faults has risen, at an instant to which the
+-- poll comes. A tape that the socket tells has the calls of the poll, up to a contact.
 pub record IsPolled (plan : Bound) (stops : ℕ) (old new : Site) (told told' : Told) : Type 0 where
   pub contact : Option ℕ
   pub cause : IfSome contact (λ at. HasRisen told.count told'.count)
+  pub lost : IfSome contact (IsLostInPoll (part_of plan old.site) (seat_of stops told old))
   pub polled : seat_of stops told' new ≡ poll (part_of plan old.site) contact (seat_of stops told old)
   pub tape : IsTaped contact (calls_of_poll (part_of plan old.site) (seat_of stops told old)) told.tape told'.tape
 

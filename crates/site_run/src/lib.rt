@@ -20,6 +20,6 @@ mod stop;
 mod trial;
 
 pub use fault::SiteFault;
-pub use laws::polls_are_taped;
+pub use laws::{contacts_are_in_batches, polls_are_taped};
 pub use site::{BatchEnd, Site};
 pub use state::SiteState;

@@ -468,15 +468,17 @@ work_begins_at part facts told seat entries is none =
     subst (λ (s : Seat). IsUnderway part facts told s facts told entries) (sym is)
     (subst (IsUnderway part facts told (with_word first_seat facts.seen) facts told) (sym none) (work_begins part facts told))
 
--- a die that is unloaded behind the work leaves it as it is
-pub unloads : {E : Type 0} (part : Part) (begun facts : SiteFacts) (began told told' : Told) (entries : List Record) (done : Result Unit E)
+-- a die that is unloaded behind the work, and a seat that finishes, leave it as it is
+pub unloads : {E : Type 0} (part : Part) (begun facts ended : SiteFacts) (began told told' : Told) (entries : List Record)
+    (done : Result Unit E) → ended ≡ record facts { finished = true }
     → OnOk done (IsWork part begun facts began told entries) → told.count ≤ told'.count → told'.tape ≡ told.tape
-    → OnOk done (IsWork part begun facts began told' entries)
-unloads part begun facts began told told' entries (Err e) work up same = tt
-unloads part begun facts began told told' entries (Ok u) work up same = record {
-  records_are = work.records_are;
-  lives = work.lives;
-  contacts = let risen = work.contacts in omega (arith, risen, up);
-  polls = work.polls;
-  taped = λ quiet. same ∙ work.taped (quiet_before began.count told.count told'.count up quiet);
-}
+    → OnOk done (IsWork part begun ended began told' entries)
+unloads part begun facts ended began told told' entries (Err e) finished work up same = tt
+unloads part begun facts ended began told told' entries (Ok u) finished work up same =
+    subst (λ (f : SiteFacts). IsWork part begun f began told' entries) (sym finished) (record {
+      records_are = work.records_are;
+      lives = record { last = work.lives.last; rise = work.lives.rise; within = work.lives.within; caught = work.lives.caught };
+      contacts = let risen = work.contacts in omega (arith, risen, up);
+      polls = work.polls;
+      taped = λ quiet. same ∙ work.taped (quiet_before began.count told.count told'.count up quiet);
+    })

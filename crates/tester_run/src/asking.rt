@@ -1,7 +1,8 @@
 //! The asking of the desk, while the sites work.
 
 ghost use Rattle.std.specs.Prelude.{◌≡◌, ◌+◌, ◌≤◌, ◌<◌, ℕ, true, replicate, slice_index};
-ghost use Rattle.tester_run.specs.Asking.{IsPassedOn};
+ghost use Rattle.tester_types.specs.Desk.{Says};
+ghost use Rattle.tester_run.specs.Asking.{IsPassedOn, after_answer};
 
 use std::sync::Wait;
 use std::thread::yield_now;
@@ -57,7 +58,23 @@ fn pass_on<D: Desk>(
     ensures counts { seat.new.asked ≡ asked.new }
     ensures passed { IsPassedOn (D.stops desk.old) (D.stops desk.new) seat.old.asked seat.new.asked }
 {
-    match desk.next() {
+    let answer = desk.next();
+    heed(board, seat, asked, answer, sites);
+}
+
+/// Asks for the stop that the desk answered, where it is for one of so many sites.
+fn heed(board: &Board, seat: &mut DeskSeat, asked: &mut [u64; SITES], answer: Ask, sites: u8)
+    requires board { seat.old.board ≡ board.now }
+    requires sites { (seat.old.sites ≡ sites) × (sites ≤ 16) }
+    requires counts { seat.old.asked ≡ asked.old }
+    ensures heeded { seat.new.asked ≡ after_answer sites answer seat.old.asked }
+    ensures board { seat.new.board ≡ seat.old.board }
+    ensures sites { seat.new.sites ≡ seat.old.sites }
+    ensures counts { seat.new.asked ≡ asked.new }
+    ensures passed { (before now : ℕ → ℕ) → Says answer before now
+        → IsPassedOn before now seat.old.asked seat.new.asked }
+{
+    match answer {
         Ask::Nothing => {}
         Ask::Stop(site) => {
             let place = usize::from(site);

@@ -58,7 +58,8 @@ pub fn site_work<R: Threads + Wait + Sync, G: Gate>(
     )
 }
 
-/// The work of a site at a socket of any kind.
+/// The work of a site at a socket of any kind: it runs the site until it is done or memory runs out, leaves no die in its
+/// socket, and finishes the seat.
 pub(crate) fn work_at<R: Threads + Wait + Sync, K: Socket, G: Gate>(
     rt: &R,
     alloc: Global,
@@ -87,45 +88,11 @@ pub(crate) fn work_at<R: Threads + Wait + Sync, K: Socket, G: Gate>(
     ensures later { seat.old.seen ≤ seat.new.seen }
     ensures count { (K.told socket.old).count ≤ (K.told socket.new).count }
 {
-    let done = work_once(
-        rt, alloc, mem, pass, plan, book, share, board, seat, socket, gate,
-    );
-    seat.finish(board);
-    done
-}
-
-/// Runs a site until it is done or memory runs out, and leaves no die in its socket.
-fn work_once<R: Threads + Wait + Sync, K: Socket, G: Gate>(
-    rt: &R,
-    alloc: Global,
-    mem: &PatternMem,
-    pass: PoolPass,
-    plan: &BoundPlan,
-    book: &Book,
-    share: &mut SiteShare,
-    board: &Board,
-    seat: &mut SiteSeat,
-    socket: &mut K,
-    gate: &G,
-) -> Result<(), SiteFault>
-    requires one_program { plan.now.program ≡ mem.now.code }
-    requires pass { pass ≡ mem.now }
-    requires book { book.now.places ≡ planned plan.now.rows }
-    requires share { share.old ≡ new_share book.now share.old.site }
-    requires site { share.old.site < sites_of plan.now.rows }
-    requires board { seat.old.board ≡ board.now }
-    ensures work { OnOk result (IsWork (part_of plan.now share.old.site) seat.old seat.new
-        (K.told socket.old) (K.told socket.new) share.new.records) }
-    ensures unloaded { (K.told socket.new).loaded ≡ None }
-    ensures share { share.new ≡ record share.old { records = share.new.records } }
-    ensures seat { seat.new ≡ record seat.old { seen = seat.new.seen; polls = seat.new.polls } }
-    ensures later { seat.old.seen ≤ seat.new.seen }
-    ensures count { (K.told socket.old).count ≤ (K.told socket.new).count }
-{
     let done = work(
         rt, alloc, mem, pass, plan, book, share, board, seat, socket, gate,
     );
     socket.unload();
+    seat.finish(board);
     done
 }
 
