@@ -210,6 +210,17 @@ fn long_program(alloc: Global, front: &[u8]) -> Result<Vec<u8>, AllocError> {
     behind_front(alloc, front, 559, &[RUN; 254], &rest)
 }
 
+/// The code of a program with one executive.
+fn code_of(alloc: Global, bytes: &[u8]) -> Result<Code, Fail>
+    ensures { IfOk result (λ code. 0 < length code.execs) }
+{
+    let code = load(alloc, bytes).ok().ok_or("the bytes are a code")?;
+    if code.execs() != 1 {
+        return Err(Fail::from("one executive"));
+    }
+    Ok(code)
+}
+
 /// Whether the saved form of a code is these bytes, written in puts of at most 7.
 fn is_saved_as(alloc: Global, code: &Code, bytes: &[u8]) -> Result<bool, NoMemory> {
     let none = Vec::new(alloc);
@@ -229,15 +240,21 @@ fn is_old_form(alloc: Global, code: &Code, bytes: &[u8]) -> Result<bool, NoMemor
 }
 
 #[test]
-fn three_pages_with_a_loop_across_a_border(rt: HostRuntime) -> Result<(), Fail> {
+fn a_loop_goes_across_the_border_of_a_page(rt: HostRuntime) -> Result<(), Fail> {
     let bytes = long_program(rt.alloc(), &FRONT_TWO)?;
-    let code = load(rt.alloc(), &bytes).ok().ok_or("the bytes are a code")?;
-    assert!(rt; code.execs() == 1);
+    let code = code_of(rt.alloc(), &bytes)?;
     assert_eq!(rt; code.pages(), 3);
     let cycles = walked(rt.alloc(), &code, 2000)?;
     assert_eq!(rt; cycles.len(), 762 + 12 + 900);
     let last = cycles.last().ok_or("there are cycles")?;
     assert_eq!(rt; last.start, 167_300_000_000);
+    Ok(())
+}
+
+#[test]
+fn three_pages_are_saved_in_both_versions(rt: HostRuntime) -> Result<(), Fail> {
+    let bytes = long_program(rt.alloc(), &FRONT_TWO)?;
+    let code = code_of(rt.alloc(), &bytes)?;
     assert!(rt; is_saved_as(rt.alloc(), &code, &bytes)?);
     let old = long_program(rt.alloc(), &FRONT)?;
     assert!(rt; is_old_form(rt.alloc(), &code, &old)?);
@@ -247,8 +264,7 @@ fn three_pages_with_a_loop_across_a_border(rt: HostRuntime) -> Result<(), Fail> 
 #[test]
 fn a_page_has_its_instructions_packed(rt: HostRuntime) -> Result<(), Fail> {
     let bytes = long_program(rt.alloc(), &FRONT)?;
-    let code = load(rt.alloc(), &bytes).ok().ok_or("the bytes are a code")?;
-    assert!(rt; code.execs() == 1);
+    let code = code_of(rt.alloc(), &bytes)?;
     assert!(rt; code.instrs(0) == 559);
     assert_eq!(rt; code.page_of(0, 558), 2);
     assert_eq!(rt; code.pages(), 3);
@@ -280,7 +296,7 @@ fn nine(alloc: Global, second: &[u8]) -> Result<Vec<u8>, AllocError> {
 #[test]
 fn a_row_is_what_it_changes(rt: HostRuntime) -> Result<(), Fail> {
     let bytes = nine(rt.alloc(), &[1, 1, 0, 2, 0, 0x30])?;
-    let code = load(rt.alloc(), &bytes).ok().ok_or("the bytes are a code")?;
+    let code = code_of(rt.alloc(), &bytes)?;
     assert!(rt; code.rows() == 2);
     assert!(rt; code.row(1) == b"P100000XX".as_slice());
     assert!(rt; is_saved_as(rt.alloc(), &code, &bytes)?);
@@ -293,7 +309,7 @@ fn a_row_is_what_it_changes(rt: HostRuntime) -> Result<(), Fail> {
 #[test]
 fn what_is_saved_was_loaded(rt: HostRuntime) -> Result<(), Fail> {
     let bytes = program(rt.alloc(), 2, &[RUN, DONE], &[])?;
-    let code = load(rt.alloc(), &bytes).ok().ok_or("the bytes are a code")?;
+    let code = code_of(rt.alloc(), &bytes)?;
     assert_eq!(rt; saved_len(&code), 107);
     assert!(rt; is_old_form(rt.alloc(), &code, &bytes)?);
     Ok(())
@@ -310,8 +326,7 @@ fn loops_in_loops_are_walked_without_unrolling(rt: HostRuntime) -> Result<(), Fa
     if let Some(times) = bytes.get_mut(117) {
         *times = 1;
     }
-    let code = load(rt.alloc(), &bytes).ok().ok_or("the bytes are a code")?;
-    assert!(rt; code.execs() == 1);
+    let code = code_of(rt.alloc(), &bytes)?;
     assert_eq!(rt; code.cycles(0), 281_474_976_710_656);
     assert_eq!(rt; walked(rt.alloc(), &code, 1000)?.len(), 1000);
     Ok(())
@@ -320,7 +335,7 @@ fn loops_in_loops_are_walked_without_unrolling(rt: HostRuntime) -> Result<(), Fa
 #[test]
 fn a_code_crosses_threads(rt: HostRuntime) -> Result<(), Fail> {
     let bytes = program(rt.alloc(), 2, &[RUN, DONE], &[])?;
-    let code = load(rt.alloc(), &bytes).ok().ok_or("the bytes are a code")?;
+    let code = code_of(rt.alloc(), &bytes)?;
     let (pages, rows) = thread::join(&rt, || code.pages(), || code.rows());
     assert_eq!(rt; pages, 1);
     assert_eq!(rt; rows, 2);

@@ -10,10 +10,14 @@ use tester_types::NoMemory;
 /// The bytes of a signal: its direction and its name.
 pub(crate) type Signal = (u8, u8);
 
-/// The saved program of these signals and of tables with their number before them, with one executive that does nothing.
+/// The saved program of these signals, of which there are few, and of tables with their number before them, with one
+/// executive that does nothing.
 fn program(alloc: Global, signals: &[Signal], tables: &[u8]) -> Result<Vec<u8>, NoMemory> {
+    let Ok(count) = u16::try_from(signals.len()) else {
+        return Err(NoMemory);
+    };
     let mut bytes = Vec::from_slice(alloc, &[0xD7, b'S', b'T', b'P', 1, 0, 0, 0])?;
-    bytes.extend_from_slice(&(signals.len() as u16).to_le_bytes())?;
+    bytes.extend_from_slice(&count.to_le_bytes())?;
     for (direction, name) in signals {
         bytes.extend_from_slice(&[*direction, 1, 0, *name])?;
     }

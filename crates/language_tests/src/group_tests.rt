@@ -99,21 +99,44 @@ fn blocks(alloc: Global, last: &[u8]) -> Result<Blocks, AllocError> {
     blocks_of(alloc, signals, groups)
 }
 
-#[test]
-fn references_are_resolved(rt: HostRuntime) -> Result<(), Fail> {
-    let alloc = rt.alloc();
+/// The table of the blocks.
+fn table(alloc: Global) -> Result<SignalTable, Fail> {
     let blocks = blocks(alloc, b"bus - bus[1] + \"bus[0]\"")?;
     let table = build(alloc, &blocks).map_err(|_| "build")?;
+    Ok(table)
+}
+
+/// A reference to this name.
+fn named(alloc: Global, name: &[u8]) -> Result<SigRef, AllocError> {
+    Ok(SigRef::Name(NameRef {
+        name: text(alloc, name)?,
+        range: None,
+    }))
+}
+
+#[test]
+fn signals_are_numbered(rt: HostRuntime) -> Result<(), Fail> {
+    let table = table(rt.alloc())?;
     assert!(rt; table.count() == 4);
     assert!(rt; table.number(b"bus[0]") == Some(3));
-    let name = SigRef::Name(NameRef {
-        name: text(alloc, b"first")?,
-        range: None,
-    });
-    let found = table.resolve(alloc, &name).map_err(|_| "name")?;
+    Ok(())
+}
+
+#[test]
+fn a_reference_stands_for_signals(rt: HostRuntime) -> Result<(), Fail> {
+    let table = table(rt.alloc())?;
+    let name = named(rt.alloc(), b"first")?;
+    let found = table.resolve(rt.alloc(), &name).map_err(|_| "name")?;
     assert!(rt; found.as_slice() == [3u16, 0].as_slice());
-    let unknown = SigRef::Group(quoted(alloc, b"bus[0..9]")?);
-    assert!(rt; table.resolve(alloc, &unknown).err() == Some(RefFault::UnknownName));
+    Ok(())
+}
+
+#[test]
+fn a_reference_may_be_unknown(rt: HostRuntime) -> Result<(), Fail> {
+    let table = table(rt.alloc())?;
+    let unknown = SigRef::Group(quoted(rt.alloc(), b"bus[0..9]")?);
+    let fault = table.resolve(rt.alloc(), &unknown).err();
+    assert!(rt; fault == Some(RefFault::UnknownName));
     Ok(())
 }
 
