@@ -2,7 +2,8 @@
 use Rattle.std.proofs.Common.{◌≡◌, ℕ, zero, suc, ◌+◌, Bool, true, false, ◌&&◌, ◌||◌, List, [], ◌∷◌, map, eqb, get_or, Option, Some, None, refl, sym, ap, subst, ◌∙◌, arith, ◌⊎◌, inl, inr}
 use Rattle.std.specs.Prelude.{slice_get}
 use Rattle.std.specs.List.{list_all}
-use Rattle.std.proofs.lemmas.Bool.{cases_Bool, and_parts, eqb-true}
+use Rattle.std.specs.Cmp.{both_ways}
+use Rattle.std.proofs.lemmas.Bool.{cases_Bool, and_from, and_parts, eqb-true}
 use Rattle.tester_types.specs.declared.wave.Table.{Table}
 use Rattle.stil_ast.specs.Meaning.State.{State}
 use Rattle.stil_ast.specs.Meaning.Dealing.{has_signal}
@@ -29,16 +30,12 @@ waves_at t k (c ∷ letters) e (suc x) =
     ap (λ (s : ℕ). has_wave t s (get_or letters x None)) next
     ∙ waves_at t (k + 1) letters (and_parts (has_wave t k c) (have_waves t (k + 1) letters) e).1 x
 
-and_both : (b c : Bool) → b ≡ true → c ≡ true → (b && c) ≡ true
-and_both true c e f = f
-and_both false c e f = absurd cc
-
 waves_from : (t : Option Table) (k : ℕ) (letters : List (Option ℕ))
     → ((x : ℕ) → has_wave t (k + x) (get_or letters x None) ≡ true) → have_waves t k letters ≡ true
 waves_from t k [] each = refl
 waves_from t k (c ∷ letters) each =
     let here : k ≡ k + zero = omega arith in
-    and_both (has_wave t k c) (have_waves t (k + 1) letters) (ap (λ (s : ℕ). has_wave t s c) here ∙ each zero)
+    and_from (has_wave t k c) (have_waves t (k + 1) letters) (ap (λ (s : ℕ). has_wave t s c) here ∙ each zero)
     (waves_from t (k + 1) letters (λ x.
     let next : k + 1 + x ≡ k + suc x = omega arith in
     ap (λ (s : ℕ). has_wave t s (get_or letters x None)) next ∙ each (suc x)))
@@ -72,13 +69,7 @@ all-has p (s ∷ signals) x e has =
 -- and where each signal passes, so does a list
 all-each : (p : ℕ → Bool) (signals : List ℕ) → ((x : ℕ) → p x ≡ true) → list_all p signals ≡ true
 all-each p [] each = refl
-all-each p (s ∷ signals) each = and_both (p s) (list_all p signals) (each s) (all-each p signals each)
-
--- two tests that say the same
-same_truth : (a b : Bool) → (a ≡ true → b ≡ true) → (b ≡ true → a ≡ true) → a ≡ b
-same_truth true b there back = sym (there refl)
-same_truth false true there back = back refl
-same_truth false false there back = refl
+all-each p (s ∷ signals) each = and_from (p s) (list_all p signals) (each s) (all-each p signals each)
 
 -- ---- a vector
 
@@ -90,7 +81,7 @@ changed_judged tables s l e judged =
     let t = slice_get tables l.table in
     let letters = s.told.letters in
     let p = has_wave_at tables l.table letters in
-    same_truth (list_all p s.changed) (have_waves t 0 letters)
+    both_ways (list_all p s.changed) (have_waves t 0 letters)
     (λ all. waves_all t letters (λ x. each x all (cases_Bool (has_signal s.changed x))))
     (λ all. all-each p s.changed (λ x. waves_each t letters all x))
   where

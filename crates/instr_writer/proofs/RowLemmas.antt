@@ -5,6 +5,7 @@ use Rattle.std.proofs.lemmas.List.Folds.{list_any-append}
 use Rattle.std.specs.Prelude.{slice_get}
 use Rattle.std.specs.List.{AllByRecursion}
 use Rattle.std.specs.Cmp.Lexicographic.{bytes_decides}
+use Rattle.text_bytes.proofs.BoolLemmas.{or_left, or_right}
 use Rattle.stil_ast.specs.Data.Texts.{same, has_name}
 use Rattle.stil_ast.specs.Meaning.ExecutiveData.{distinct_rows}
 use Rattle.instr_writer.specs.Working.{often}
@@ -40,23 +41,15 @@ distinct_rows-append before [] more = refl
 distinct_rows-append before (row ∷ rows) more = distinct_rows-append (with_row before row) rows more
 
 -- a row that is there stays
-or-left : (b c : Bool) → b ≡ true → (b || c) ≡ true
-or-left true c e = refl
-or-left false c e = absurd cc
-
 has_row-extends : (before after : List (List ℕ)) (row : List ℕ) → Extends before after → has_name before row ≡ true
     → has_name after row ≡ true
 has_row-extends before after row x e =
     ap (λ (rows : List (List ℕ)). has_name rows row) x.are
-    ∙ (list_any-append (same row) before x.more ∙ or-left (has_name before row) (has_name x.more row) e)
+    ∙ (list_any-append (same row) before x.more ∙ or_left (has_name before row) (has_name x.more row) e)
 
 -- a row is itself
 same-refl : (row : List ℕ) → same row row ≡ true
 same-refl row = (bytes_decides row row).1 refl
-
-or-right : (b c : Bool) → c ≡ true → (b || c) ≡ true
-or-right true c e = refl
-or-right false c e = e
 
 -- and is there once it was put
 has_row-cond : (b : Bool) (before : List (List ℕ)) (row : List ℕ) → has_name before row ≡ b
@@ -64,7 +57,7 @@ has_row-cond : (b : Bool) (before : List (List ℕ)) (row : List ℕ) → has_na
 has_row-cond true before row e = e
 has_row-cond false before row e =
     list_any-append (same row) before (row ∷ [])
-    ∙ or-right (has_name before row) (has_name (row ∷ []) row) (or-left (same row row) false (same-refl row))
+    ∙ or_right (has_name before row) (has_name (row ∷ []) row) (or_left (same row row) false (same-refl row))
 
 -- all rows are there
 abbrev AreThere : List (List ℕ) → List (List ℕ) → Type 0
@@ -89,8 +82,8 @@ has_row-at : (rows : List (List ℕ)) (n : ℕ) (row : List ℕ) → slice_get r
 has_row-at [] n row e = absurd cc
 has_row-at (r ∷ rows) zero row e =
     let own : row ≡ r = cc in
-    or-left (same row r) (has_name rows row) (ap (same row) (sym own) ∙ same-refl row)
-has_row-at (r ∷ rows) (suc n) row e = or-right (same row r) (has_name rows row) (has_row-at rows n row e)
+    or_left (same row r) (has_name rows row) (ap (same row) (sym own) ∙ same-refl row)
+has_row-at (r ∷ rows) (suc n) row e = or_right (same row r) (has_name rows row) (has_row-at rows n row e)
 
 pub numbered-adds_none : (rows : List (List ℕ)) (n : ℕ) (row : List ℕ) → slice_get rows n ≡ Some row
     → distinct_rows rows (row ∷ []) ≡ rows

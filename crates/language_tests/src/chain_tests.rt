@@ -1,5 +1,6 @@
 //! What no contract says, and each public call once.
 
+use crate::no_blocks::no_blocks;
 use scan_chain::*;
 use signal_groups::SignalTable;
 use std::alloc::{AllocError, Global};
@@ -107,19 +108,16 @@ fn executives(alloc: Global) -> Result<Items<ExecDecl>, AllocError> {
 
 /// The signals i and o, these chains, and an executive that uses them.
 fn blocks(alloc: Global, chains: Vec<ChainDecl>) -> Result<Blocks, AllocError> {
-    Ok(Blocks {
-        signals: signals(alloc)?,
-        groups: Items::from_vec(Vec::new(alloc)),
-        specs: Items::from_vec(Vec::new(alloc)),
-        selectors: Items::from_vec(Vec::new(alloc)),
-        timings: Items::from_vec(Vec::new(alloc)),
-        scans: scans(alloc, chains)?,
-        macros: Items::from_vec(Vec::new(alloc)),
-        procedures: Items::from_vec(Vec::new(alloc)),
-        patterns: Items::from_vec(Vec::new(alloc)),
-        bursts: bursts(alloc)?,
-        executives: executives(alloc)?,
-    })
+    let signals = signals(alloc)?;
+    let scans = scans(alloc, chains)?;
+    let bursts = bursts(alloc)?;
+    let executives = executives(alloc)?;
+    let mut blocks = no_blocks(alloc);
+    blocks.signals = signals;
+    blocks.scans = scans;
+    blocks.bursts = bursts;
+    blocks.executives = executives;
+    Ok(blocks)
 }
 
 /// The table of signals, and the chains or why they are refused.

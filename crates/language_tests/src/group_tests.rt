@@ -1,5 +1,6 @@
 //! What no contract says, and each public call once.
 
+use crate::no_blocks::no_blocks;
 use signal_groups::*;
 use std::alloc::{AllocError, Global};
 use std::test::Fail;
@@ -73,30 +74,14 @@ fn groups(alloc: Global, last: &[u8]) -> Result<Items<GroupBlock>, AllocError> {
     )
 }
 
-fn blocks_of(
-    alloc: Global,
-    signals: Items<SignalDecl>,
-    groups: Items<GroupBlock>,
-) -> Result<Blocks, AllocError> {
-    Ok(Blocks {
-        signals,
-        groups,
-        specs: Items::from_vec(Vec::new(alloc)),
-        selectors: Items::from_vec(Vec::new(alloc)),
-        timings: Items::from_vec(Vec::new(alloc)),
-        scans: Items::from_vec(Vec::new(alloc)),
-        macros: Items::from_vec(Vec::new(alloc)),
-        procedures: Items::from_vec(Vec::new(alloc)),
-        patterns: Items::from_vec(Vec::new(alloc)),
-        bursts: Items::from_vec(Vec::new(alloc)),
-        executives: Items::from_vec(Vec::new(alloc)),
-    })
-}
-
+/// The blocks of a text of these signals and groups.
 fn blocks(alloc: Global, last: &[u8]) -> Result<Blocks, AllocError> {
     let signals = signals(alloc)?;
     let groups = groups(alloc, last)?;
-    blocks_of(alloc, signals, groups)
+    let mut blocks = no_blocks(alloc);
+    blocks.signals = signals;
+    blocks.groups = groups;
+    Ok(blocks)
 }
 
 /// The table of the blocks.
@@ -179,7 +164,8 @@ fn range_fault(alloc: Global, length: usize, first: u32, last: u32) -> Option<(S
     }
     let decl = signal(alloc, name.as_slice(), Some(IndexRange { first, last })).ok()?;
     let signals = Items::of_one(alloc, decl).ok()?;
-    let blocks = blocks_of(alloc, signals, Items::from_vec(Vec::new(alloc))).ok()?;
+    let mut blocks = no_blocks(alloc);
+    blocks.signals = signals;
     fault_of(alloc, &blocks)
 }
 

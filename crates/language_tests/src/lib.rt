@@ -8,6 +8,8 @@ mod group_tests;
 #[cfg(test)]
 mod macro_tests;
 #[cfg(test)]
+mod no_blocks;
+#[cfg(test)]
 mod order_tests;
 #[cfg(test)]
 mod time_tests;

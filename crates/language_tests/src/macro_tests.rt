@@ -1,5 +1,6 @@
 //! Known patterns, each by its flat tree or by its fault.
 
+use crate::no_blocks::no_blocks;
 use flat_tree::{FlatItem, FlatList};
 use macro_expand::*;
 use signal_groups::SignalTable;
@@ -32,19 +33,9 @@ fn signals(alloc: Global) -> Result<Blocks, AllocError> {
     signals.push(signal(alloc, b"b", Direction::In)?)?;
     signals.push(signal(alloc, b"y", Direction::Out)?)?;
     signals.push(signal(alloc, b"z", Direction::Out)?)?;
-    Ok(Blocks {
-        signals: Items::from_vec(signals),
-        groups: Items::from_vec(Vec::new(alloc)),
-        specs: Items::from_vec(Vec::new(alloc)),
-        selectors: Items::from_vec(Vec::new(alloc)),
-        timings: Items::from_vec(Vec::new(alloc)),
-        scans: Items::from_vec(Vec::new(alloc)),
-        macros: Items::from_vec(Vec::new(alloc)),
-        procedures: Items::from_vec(Vec::new(alloc)),
-        patterns: Items::from_vec(Vec::new(alloc)),
-        bursts: Items::from_vec(Vec::new(alloc)),
-        executives: Items::from_vec(Vec::new(alloc)),
-    })
+    let mut blocks = no_blocks(alloc);
+    blocks.signals = Items::from_vec(signals);
+    Ok(blocks)
 }
 
 /// Characters, `#` and `%`.

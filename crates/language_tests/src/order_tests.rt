@@ -2,6 +2,7 @@
 
 ghost use Rattle.std.specs.Prelude.{◌<◌, length};
 
+use crate::no_blocks::no_blocks;
 use pattern_order::*;
 use std::alloc::{AllocError, Global};
 use std::test::Fail;
@@ -104,19 +105,16 @@ fn executives(alloc: Global) -> Result<Items<ExecDecl>, AllocError> {
 
 /// These bursts, and an executive of the burst `a`.
 fn blocks(alloc: Global, words: &[&[u8]]) -> Result<Blocks, AllocError> {
-    Ok(Blocks {
-        signals: Items::from_vec(Vec::new(alloc)),
-        groups: Items::from_vec(Vec::new(alloc)),
-        specs: Items::from_vec(Vec::new(alloc)),
-        selectors: Items::from_vec(Vec::new(alloc)),
-        timings: Items::from_vec(Vec::new(alloc)),
-        scans: Items::from_vec(Vec::new(alloc)),
-        macros: macros(alloc)?,
-        procedures: Items::from_vec(Vec::new(alloc)),
-        patterns: patterns(alloc)?,
-        bursts: bursts(alloc, words)?,
-        executives: executives(alloc)?,
-    })
+    let macros = macros(alloc)?;
+    let patterns = patterns(alloc)?;
+    let bursts = bursts(alloc, words)?;
+    let executives = executives(alloc)?;
+    let mut blocks = no_blocks(alloc);
+    blocks.macros = macros;
+    blocks.patterns = patterns;
+    blocks.bursts = bursts;
+    blocks.executives = executives;
+    Ok(blocks)
 }
 
 /// Patterns in words of pattern and MacroDefs.

@@ -7,113 +7,16 @@ ghost use Rattle.die_sim.specs.Socket.{Told, failing_told, taping_told};
 ghost use Rattle.site_run.specs.Site.{IsSiteOf};
 ghost use Rattle.site_run.specs.Touchdown.{IsIdle};
 
-use bench_net::{Netlist, read};
+use crate::sample::{bound, code_of};
 use die_sim::{FailingSocket, Socket, TapeSocket};
-use lot_plan::{BoundPlan, Plan};
-use page_code::{Code, load};
+use lot_plan::BoundPlan;
+use page_code::Code;
 use pattern_mem::{PatternMem, PoolPass};
 use site_run::*;
 use std::alloc::{AllocError, Global};
 use std::sync::{Arc, Wait};
 use std::test::Fail as Failure;
 use tester_types::{By, Record, Trial, Verdict};
-
-/// The signals a, y and c, and a table w of 100 ns up to the count of its waves.
-const HEAD: [u8; 39] = [
-    0xD7, 0x53, 0x54, 0x50, 1, 0, 0, 0, 3, 0, 0, 1, 0, b'a', 1, 1, 0, b'y', 0, 1, 0, b'c', 1, 0, 1,
-    0, b'w', 0x00, 0xE1, 0xF5, 0x05, 0, 0, 0, 0, 4, 0, 0, 0,
-];
-
-/// At 0 a is driven down or up; at 40 ns y is wanted high or low.
-const WAVES: [[u8; 13]; 4] = [
-    [0, 0, b'0', 1, 0, 0, 0, 0, 0, 0, 0, 0, 1],
-    [0, 0, b'1', 1, 0, 0, 0, 0, 0, 0, 0, 0, 2],
-    [1, 0, b'H', 1, 0x00, 0x5A, 0x62, 0x02, 0, 0, 0, 0, 7],
-    [1, 0, b'L', 1, 0x00, 0x5A, 0x62, 0x02, 0, 0, 0, 0, 6],
-];
-
-/// Two rows, and an executive of three instructions: the rows in turn, five times each, and the end.
-const REST: [u8; 68] = [
-    2, 0, 0, 0, b'0', b'H', 0, b'1', b'L', 0, 1, 0, 0, 0, 0, 0, 3, 0, 0, 0, 1, 0, 0, 0, 0, 0, 0, 0,
-    0, 0, 0, 0, 5, 0, 0, 0, 1, 0, 0, 0, 1, 0, 0, 0, 0, 0, 0, 0, 5, 0, 0, 0, 4, 0, 0, 0, 0, 0, 0, 0,
-    0, 0, 0, 0, 0, 0, 0, 0,
-];
-
-/// The saved program of ten cycles.
-fn program(alloc: Global) -> Result<Vec<u8>, AllocError> {
-    let mut bytes = Vec::from_slice(alloc, &HEAD)?;
-    for wave in WAVES {
-        bytes.extend_from_slice(&wave)?;
-    }
-    bytes.extend_from_slice(&REST)?;
-    Ok(bytes)
-}
-
-/// The netlist of an inverter.
-const NET: &[u8] = b"INPUT(a)\nOUTPUT(y)\ny = NOT(a)\n";
-
-/// A list of the one netlist of a text.
-fn nets_of(alloc: Global, text: &[u8]) -> Result<Vec<Arc<Netlist>>, Failure>
-    requires { length text.now ≤ most_bytes }
-    ensures { IfOk result (λ nets. length nets.items ≡ 1) }
-{
-    let Ok(net) = read(alloc, text) else {
-        return Err("there is a netlist".into());
-    };
-    let mut nets = Vec::with_capacity(alloc, 1)?;
-    nets.push(Arc::new(alloc, net)?)?;
-    Ok(nets)
-}
-
-/// The plan of a text with one file.
-fn planned(alloc: Global, text: &[u8]) -> Result<Plan, Failure>
-    requires { length text.now ≤ most_bytes }
-    ensures { IfOk result (λ plan. length (files_of plan) ≡ 1) }
-{
-    let Ok(plan) = Plan::read(alloc, text) else {
-        return Err("the text is a plan".into());
-    };
-    if plan.files().len() == 1 {
-        Ok(plan)
-    } else {
-        Err("there is one file".into())
-    }
-}
-
-/// A plan that is bound to a code and to netlists.
-fn bound(
-    alloc: Global,
-    code: &Code,
-    plan: Plan,
-    nets: Vec<Arc<Netlist>>,
-) -> Result<BoundPlan, Failure>
-    requires { length nets.items ≡ length (files_of plan) }
-    ensures { IfOk result (λ bound. bound.program ≡ code.now) }
-{
-    match plan.bind(alloc, code, nets) {
-        Ok(bound) => Ok(bound),
-        Err(_) => Err("the plan fits".into()),
-    }
-}
-
-/// The plan of a text, bound to a code and the inverter.
-fn at_inverter(alloc: Global, code: &Code, text: &[u8]) -> Result<BoundPlan, Failure>
-    requires { length text.now ≤ most_bytes }
-    ensures { IfOk result (λ plan. plan.program ≡ code.now) }
-{
-    let nets = nets_of(alloc, NET)?;
-    let plan = planned(alloc, text)?;
-    bound(alloc, code, plan, nets)
-}
-
-/// The code of the program.
-fn code_of(alloc: Global) -> Result<Code, Failure> {
-    let bytes = program(alloc)?;
-    match load(alloc, &bytes) {
-        Ok(code) => Ok(code),
-        Err(_) => Err("the bytes are a code".into()),
-    }
-}
 
 /// A memory of a code, with a pass.
 fn memory_of(alloc: Global, code: Code) -> Result<(PatternMem, PoolPass), Failure>
@@ -135,7 +38,7 @@ fn started(alloc: Global, text: &[u8]) -> Result<(PatternMem, BoundPlan, Site), 
     ensures spent { IfOk result (λ made. made.2.spent ≡ false) }
 {
     let code = code_of(alloc)?;
-    let plan = at_inverter(alloc, &code, text)?;
+    let plan = bound(alloc, &code, text)?;
     if plan.sites() == 0 {
         return Err("there is a site".into());
     }
