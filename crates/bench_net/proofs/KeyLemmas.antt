@@ -6,10 +6,11 @@ use Rattle.std.specs.Str.{bytes_eq}
 use Rattle.std.specs.Cmp.Lexicographic.{bytes_decides}
 use Rattle.std.proofs.lemmas.List.{map-append, take_rest}
 use Rattle.std.proofs.lemmas.List.Folds.{list_any-append}
-use Rattle.text_bytes.proofs.BoolLemmas.{or_false}
+use Rattle.std.proofs.Math.Bool.{or-false}
+use Rattle.text_bytes.specs.Texts.{added}
 use Rattle.bench_net.specs.declared.line.Line.{Line}
 use Rattle.bench_net.specs.Line.{Form}
-use Rattle.bench_net.specs.Net.{added, used, shown}
+use Rattle.bench_net.specs.Net.{used, shown}
 use Rattle.bench_net.specs.Givers.{ShowsLine}
 use Rattle.bench_net.specs.Views.{form_of}
 
@@ -104,7 +105,7 @@ any-inserted f keys keys' k name put =
           ∙ ap (λ b. cond b keys (keys ++ k ∷ [])) e)
           ∙ ap (list_any (bytes_eq name)) (map-append f keys (k ∷ []))
           ∙ list_any-append (bytes_eq name) (map f keys) (f k ∷ [])
-          ∙ ap (λ b. list_any (bytes_eq name) (map f keys) || b) (or_false (bytes_eq name (f k)))
+          ∙ ap (λ b. list_any (bytes_eq name) (map f keys) || b) (or-false (bytes_eq name (f k)))
     ]
   where
     there : list_any (bytes_eq (f k)) (map f keys) ≡ true
@@ -116,7 +117,7 @@ any-inserted f keys keys' k name put =
           ((bytes_decides name (f k)).0 e) ∙ h in
           ap (λ b. b || bytes_eq name (f k)) same ∙ sym same
       | inr e ↦ ap (λ b. list_any (bytes_eq name) (map f keys) || b) e
-          ∙ or_false (list_any (bytes_eq name) (map f keys))
+          ∙ or-false (list_any (bytes_eq name) (map f keys))
     ]
 
 -- an output that is put among the keys shows its line

@@ -9,13 +9,13 @@ use Rattle.std.proofs.lemmas.List.{get_or_append_left, get_or_at}
 use Rattle.std.proofs.lemmas.List.Elements.{All-nil, All-cons, All-head, All-tail}
 use Rattle.std.proofs.lemmas.List.Folds.{list_any-append, position_or_len_push}
 use Rattle.std.proofs.lemmas.Option.{slice_get_past}
-use Rattle.std.proofs.lemmas.Bool.{cases_Bool, cases_lt, eq-eqb, ne_eqb, lt-ltb, le-ltb}
-use Rattle.text_bytes.proofs.BoolLemmas.{or_left}
+use Rattle.std.proofs.lemmas.Bool.{cases_Bool, cases_lt, eq-eqb, ne_eqb, lt-ltb, le-ltb, or_left}
+use Rattle.text_bytes.specs.Texts.{added}
 use Rattle.bench_net.specs.declared.gate.Driver.{Driver}
 use Rattle.bench_net.specs.declared.gate.Driver.TheVariants.{Input}
 use Rattle.bench_net.specs.Line.{Form, nothing, input, output, gate}
 use Rattle.bench_net.specs.Circuit.{number}
-use Rattle.bench_net.specs.Net.{named, added, names, driven, drives, driver_of, driver_for}
+use Rattle.bench_net.specs.Net.{named, names, driven, drives, driver_of, driver_for}
 use Rattle.bench_net.specs.Givers.{places_from, given_driver}
 
 number_there : (ks : List (List ℕ)) (n : List ℕ) → list_any (bytes_eq n) ks ≡ true

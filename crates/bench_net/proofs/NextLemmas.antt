@@ -7,7 +7,8 @@ use Rattle.std.proofs.lemmas.List.Sums.{sum_by-cons, sum_by-set, sum_by-append}
 use Rattle.std.proofs.lemmas.List.Folds.{list_any-append, list_any_none}
 use Rattle.std.proofs.lemmas.List.Elements.{All-from_get_or}
 use Rattle.std.proofs.lemmas.Bool.{cases_Bool, cases_lt, cases_eq, eqb-true, eq-eqb, ne_eqb, and_parts}
-use Rattle.text_bytes.proofs.BoolLemmas.{or_true, at_most_one}
+use Rattle.std.proofs.Math.Bool.{or-true}
+use Rattle.text_bytes.proofs.BoolLemmas.{at_most_one}
 use Rattle.bench_net.specs.declared.gate.Driver.{Driver}
 use Rattle.bench_net.specs.Wiring.{gate_at, pins_at, driver_at, is_settled, AreReaders}
 use Rattle.bench_net.specs.Sorting.{AreWithin, times, waiting, is_ready, IsSorted, lowered, joined, walked, CanSettle}
@@ -51,7 +52,7 @@ pin_settled drivers front net p g none =
         let behind : list_any (λ h. eqb h net) (front ++ net ∷ []) ≡ true =
         list_any-append (λ h. eqb h net) front (net ∷ [])
         ∙ ap (λ b. list_any (λ h. eqb h net) front || (b || false)) (eq-eqb net net refl)
-        ∙ or_true (list_any (λ h. eqb h net) front) in
+        ∙ or-true (list_any (λ h. eqb h net) front) in
         let after : is_settled drivers (front ++ net ∷ []) net
         ≡ true = ap (λ b. not b || list_any (λ h. eqb h net) (front ++ net ∷ [])) g ∙ behind in
         ap (λ b. cond {A = ℕ} (not b) 1 0) before

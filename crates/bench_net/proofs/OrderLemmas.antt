@@ -6,10 +6,10 @@ use Rattle.std.proofs.lemmas.List.{get_or-take, length-take-le}
 use Rattle.std.proofs.lemmas.List.Elements.{All-from_get_or, All-head, All-tail}
 use Rattle.std.proofs.lemmas.List.Sums.{sum_by-cons}
 use Rattle.std.proofs.lemmas.Bool.{cases_Bool, cases_lt, eqb-true, eq-eqb, ne_eqb, and_from, or_cases, not-true}
+use Rattle.std.proofs.Math.Bool.{and-true}
 use Rattle.bench_net.specs.declared.gate.Driver.{Driver}
 use Rattle.bench_net.specs.Wiring.{gate_at, pins_at, is_settled, IsClosed, IsReached, IsUnreached, IsOrder}
 use Rattle.bench_net.specs.Sorting.{AreWithin, times, is_ready, IsSorted}
-use Rattle.text_bytes.proofs.BoolLemmas.{and_true}
 use Rattle.bench_net.proofs.SortLemmas.{times-cons, times-there, gate_within}
 
 -- a net among those in front of a place, all of which are in a set, is in it
@@ -187,6 +187,6 @@ reached_from_order drivers order within o n in' =
       within = within;
       placed = λ k l. placed_gate (gate_at drivers (get_or order k 0)) true
           (times (get_or order k 0) order) (times-there order k l) (o.gates (get_or order k 0)
-          ∙ ap (λ b. cond {A = ℕ} b 1 0) (sym (and_true (gate_at drivers (get_or order k 0)))));
+          ∙ ap (λ b. cond {A = ℕ} b 1 0) (sym (and-true (gate_at drivers (get_or order k 0)))));
       after = o.after;
     }) n in' (λ e. omega (arith, o.gates n ∙ ap (λ b. cond {A = ℕ} b 1 0) e))

@@ -1,18 +1,13 @@
 -- The readers of nets, gate after gate.
-use Rattle.std.proofs.Common.{◌≡◌, ℕ, ◌+◌, ◌<◌, ◌≤◌, Bool, true, false, ◌&&◌, cond, List, [], length, get_or, take, refl, sym, ap, ◌∙◌, arith, inl, inr, eqb, ltb, replicate}
+use Rattle.std.proofs.Common.{◌≡◌, ℕ, ◌+◌, ◌<◌, ◌≤◌, ◌&&◌, cond, List, [], length, get_or, take, sym, ap, ◌∙◌, arith, inl, inr, eqb, ltb, replicate}
 use Rattle.std.proofs.lemmas.List.{get_or-replicate, length-replicate, get_or_past}
 use Rattle.std.proofs.lemmas.List.Sums.{sum_by_more}
 use Rattle.std.proofs.lemmas.Bool.{cases_Bool, cases_order, cases_lt, eq-eqb, ne_eqb, lt-ltb, le-ltb}
-use Rattle.text_bytes.proofs.BoolLemmas.{and_true}
+use Rattle.std.proofs.Math.Bool.{and-true, and-false}
 use Rattle.bench_net.specs.declared.gate.Driver.{Driver}
 use Rattle.bench_net.specs.declared.gate.Driver.TheVariants.{Input}
 use Rattle.bench_net.specs.Wiring.{pins_of, pins_at, driver_at, AreReaders}
 use Rattle.bench_net.specs.Sorting.{reads, times, AddsReader, AddsReaders}
-
--- nothing and something is nothing
-pub and_false : (b : Bool) → (b && false) ≡ false
-and_false true = refl
-and_false false = refl
 
 -- one more of the nets is taken
 pub AddsReaders-more : (old mid new : List (List ℕ)) (pins : List ℕ) (i gate : ℕ) → i < length pins
@@ -40,7 +35,7 @@ AddsReaders-more old mid new pins i gate l h s = record {
               let b' : reads new n g ≡ reads mid n g + cond {A = ℕ}
               (eqb (get_or pins i 0) n) 1 0 = b
               ∙ ap (λ c. reads mid n g + cond {A = ℕ} c 1 0)
-              (ap (λ b. eqb (get_or pins i 0) n && b) e ∙ and_true (eqb (get_or pins i 0) n)) in
+              (ap (λ b. eqb (get_or pins i 0) n && b) e ∙ and-true (eqb (get_or pins i 0) n)) in
               let goal' : reads new n g
               ≡ reads old n g + times n (take (i + 1) pins) = omega (arith, a', b', t) in
               goal' ∙ ap (λ b. reads old n g + cond {A = ℕ} b (times n (take (i + 1) pins)) 0)
@@ -50,7 +45,7 @@ AddsReaders-more old mid new pins i gate l h s = record {
               ∙ ap (λ b. reads old n g + cond {A = ℕ} b (times n (take i pins)) 0) e in
               let b' : reads new n g ≡ reads mid n g + 0 = b
               ∙ ap (λ c. reads mid n g + cond {A = ℕ} c 1 0)
-              (ap (λ b. eqb (get_or pins i 0) n && b) e ∙ and_false (eqb (get_or pins i 0) n))
+              (ap (λ b. eqb (get_or pins i 0) n && b) e ∙ and-false (eqb (get_or pins i 0) n))
               in
               let goal' : reads new n g ≡ reads old n g + 0 = omega (arith, a', b') in
               goal' ∙ ap (λ b. reads old n g + cond {A = ℕ} b (times n (take (i + 1) pins)) 0)

@@ -6,11 +6,10 @@ use Rattle.std.proofs.lemmas.List.{get_or-set_same, get_or-set_other, get_or_pas
 use Rattle.std.proofs.lemmas.List.Sums.{sum_by-cons, sum_by_push, get_or-le-sum_by}
 use Rattle.std.proofs.lemmas.List.Elements.{All-head, All-tail}
 use Rattle.std.proofs.lemmas.Bool.{cases_Bool, cases_order, cases_lt, cases_eq, eq-eqb, ne_eqb, lt-ltb, le-ltb, both_ways}
+use Rattle.std.proofs.Math.Bool.{and-true, and-false}
 use Rattle.bench_net.specs.declared.gate.Driver.{Driver}
 use Rattle.bench_net.specs.declared.gate.Driver.TheVariants.{Input, Dff, Gate}
 use Rattle.bench_net.specs.Wiring.{is_gate, pins_of, gate_at}
-use Rattle.bench_net.proofs.ReaderLemmas.{and_false}
-use Rattle.text_bytes.proofs.BoolLemmas.{and_true}
 use Rattle.bench_net.specs.Sorting.{AreWithin, times, is_ready, with_ready, AreReadyBelow, lowered, joined, walked, CanSettle}
 
 -- of each net once more
@@ -75,7 +74,7 @@ AreReadyBelow-more drivers left order order' n h e = record { once = λ g. once 
               (is_ready drivers left n) 1 0 = s
               ∙ ap (λ b. times g order + cond {A = ℕ} b 1 0)
               (ap (λ b. is_ready drivers left n && b) (eq-eqb n g (sym q))
-              ∙ and_true (is_ready drivers left n)) in
+              ∙ and-true (is_ready drivers left n)) in
               let s'' : times g order' ≡ cond {A = ℕ} (is_ready drivers left g) 1 0 = omega
               (arith, a', s') ∙ ap (λ k. cond {A = ℕ} (is_ready drivers left k) 1 0) (sym q) in
               s'' ∙ ap (λ b. cond {A = ℕ} (b && is_ready drivers left g) 1 0)
@@ -87,7 +86,7 @@ AreReadyBelow-more drivers left order order' n h e = record { once = λ g. once 
               (ne_eqb n g (λ q. elim o [
                 | inl l ↦ absurd (omega arith)
                 | inr l ↦ absurd (omega arith)
-              ])) ∙ and_false (is_ready drivers left n)) in
+              ])) ∙ and-false (is_ready drivers left n)) in
               let s'' : times g order' ≡ times g order = omega (arith, s') in
               elim o [
                 | inl l ↦ s'' ∙ a ∙ ap (λ b. cond {A = ℕ} (b && is_ready drivers left g) 1 0)

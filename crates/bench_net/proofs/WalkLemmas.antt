@@ -8,10 +8,10 @@ use Rattle.std.proofs.lemmas.List.Sums.{sum_by-cons}
 use Rattle.std.proofs.lemmas.List.Folds.{list_any-append}
 use Rattle.std.proofs.lemmas.List.Elements.{All-nil, All-cons, All-head, All-tail, All-weaker}
 use Rattle.std.proofs.lemmas.Bool.{cases_Bool, cases_lt, cases_eq, eqb-true, eqb-false, eq-eqb, ne_eqb, lt-ltb, le-ltb, and_parts, not-false}
+use Rattle.std.proofs.Math.Bool.{and-false}
 use Rattle.bench_net.specs.declared.gate.Driver.{Driver}
 use Rattle.bench_net.specs.Wiring.{gate_at, pins_at, is_settled}
 use Rattle.bench_net.specs.Sorting.{AreWithin, times, waiting, is_ready, AreCounts, AreReadyBelow, lowered, joined, walked}
-use Rattle.bench_net.proofs.ReaderLemmas.{and_false}
 use Rattle.bench_net.proofs.SortLemmas.{times-cons, times_push, times-there, gate_within}
 
 -- none of a list passes where none is counted
@@ -175,7 +175,7 @@ Walk-settle drivers left order front g rest w = record {
         let z : eqb (slice_index left g) 0
         ≡ false = ne_eqb (slice_index left g) 0 (λ q. absurd (omega (arith, left_g, q))) in
         w.ready g ∙ ap (λ b. cond {A = ℕ} (gate_at drivers g && b) 1 0) z
-        ∙ ap (λ b. cond {A = ℕ} b 1 0) (and_false (gate_at drivers g))
+        ∙ ap (λ b. cond {A = ℕ} b 1 0) (and-false (gate_at drivers g))
 
     ready_g : times g (joined left order g) ≡ cond {A = ℕ} (is_ready drivers (lowered left g) g) 1 0
     ready_g = elim (cases_Bool (eqb (slice_index left g) 1)) [
@@ -198,7 +198,7 @@ Walk-settle drivers left order front g rest w = record {
           ≡ false = ne_eqb (slice_index (lowered left g) g) 0
           (λ q. more (omega (arith, lowered_g, left_g, q))) in
           a ∙ none_yet ∙ sym (ap (λ t. cond {A = ℕ} (gate_at drivers g && t) 1 0) c
-          ∙ ap (λ t. cond {A = ℕ} t 1 0) (and_false (gate_at drivers g)))
+          ∙ ap (λ t. cond {A = ℕ} t 1 0) (and-false (gate_at drivers g)))
     ]
 
     same_times : (h : ℕ) → (g ≡ h → ⊥) → times h (joined left order g) ≡ times h order

@@ -1,7 +1,7 @@
 -- What contracts see of a netlist, from its fields.
 use Rattle.bench_net.specs.declared.netlist.Netlist.TheInside.{Inside}
 use Rattle.bench_net.specs.Circuit.{Circuit}
-use Rattle.bench_net.specs.Views.{key_texts}
+use Rattle.text_bytes.specs.Texts.{key_texts}
 
 -- the circuit that the fields hold
 abbrev pub circuit_of : Inside → Circuit

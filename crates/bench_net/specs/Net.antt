@@ -4,6 +4,7 @@ use Rattle.std.specs.List.{list_any, flat_map, filter_map, find, AllZip}
 use Rattle.std.specs.Option.{option_map_or}
 use Rattle.std.specs.Str.{bytes_eq}
 use Rattle.std.specs.Str.Lines.{lines}
+use Rattle.text_bytes.specs.Texts.{added}
 use Rattle.text_bytes.specs.Limits.{most_nets, most_inputs}
 use Rattle.bench_net.specs.declared.gate.Function.{Function}
 use Rattle.bench_net.specs.declared.gate.Function.TheVariants.{Logic, Register}
@@ -24,10 +25,6 @@ named nothing = []
 named (input n) = n ∷ []
 named (output n) = n ∷ []
 named (gate n f pins) = n ∷ pins
-
--- a name goes behind those before it, unless it is one of them
-abbrev pub added : List (List ℕ) → List ℕ → List (List ℕ)
-added names n = if list_any (bytes_eq n) names then names else names ++ n ∷ []
 
 -- the nets' names in the order in which the text first names them; a net's number is its place
 abbrev pub names : List Form → List (List ℕ)

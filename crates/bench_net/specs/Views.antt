@@ -1,6 +1,5 @@
 -- The code's parts and lines, without where they lie in memory.
-use Rattle.std.specs.Prelude.{ℕ, Vec, List, map}
-use Rattle.std.specs.declared.alloc.Global.{Global}
+use Rattle.std.specs.Prelude.{ℕ, List, map}
 use Rattle.std.specs.Borrow.{Bor}
 use Rattle.bench_net.specs.declared.line.Delimiter.{Delimiter}
 use Rattle.bench_net.specs.declared.line.Part.{Part}
@@ -37,7 +36,3 @@ form_of lines.Nothing = nothing
 form_of (lines.Input n) = input n.now
 form_of (lines.Output n) = output n.now
 form_of (lines.Gate n f pins) = gate n.now f (texts pins.items)
-
--- the texts that own their bytes
-abbrev pub key_texts : List (Vec ℕ Global) → List (List ℕ)
-key_texts keys = map (λ k. k.items) keys

@@ -3,12 +3,13 @@ ghost use Rattle.std.specs.Prelude.{◌≡◌, ◌==◌, ℕ, not, slice_index, 
 ghost use Rattle.std.specs.Option.{option_map};
 ghost use Rattle.std.specs.List.{find, filter_map, list_any, flat_map};
 ghost use Rattle.std.specs.Str.{bytes_eq};
+ghost use Rattle.text_bytes.specs.Texts.{added, key_texts};
 ghost use Rattle.text_bytes.specs.Limits.{most_nets};
 ghost use Rattle.bench_net.specs.Wiring.{is_single};
-ghost use Rattle.bench_net.specs.Net.{takes_not, named, added, names, driven, used, shown, wrong_arity, first_repeat, arity_fault, twice_fault, missing_fault};
+ghost use Rattle.bench_net.specs.Net.{takes_not, named, names, driven, used, shown, wrong_arity, first_repeat, arity_fault, twice_fault, missing_fault};
 ghost use Rattle.bench_net.specs.Givers.{is_no, GivesLine, GivesTwice, AreGivers, IsTwiceFault, ShowsLine, AreShown, looped, loop_fault};
 ghost use Rattle.bench_net.specs.Circuit.{number};
-ghost use Rattle.bench_net.specs.Views.{form_of, texts, key_texts};
+ghost use Rattle.bench_net.specs.Views.{form_of, texts};
 ghost use Rattle.bench_net.specs.declared.fault.NetFault.TheVariants.{NoMemory, Twice};
 
 use crate::fault::{NetFault, NetName};

@@ -1,12 +1,13 @@
 //! The netlist that a text names.
 ghost use Rattle.std.specs.Prelude.{◌≡◌, ℕ, ◌<◌, ◌≤◌, ◌≢◌, ◌↔◌, ◌⊎◌, [], length, IsTrue, IfSome, IfNone, IfOk, IfErr, MatchResult, Some, None, true, slice_get, slice_index_or, map, All};
+ghost use Rattle.text_bytes.specs.Texts.{key_texts};
 ghost use Rattle.text_bytes.specs.Limits.{most_bytes};
 ghost use Rattle.bench_net.specs.Wiring.{driver_at};
 ghost use Rattle.bench_net.specs.Circuit.{Circuit, Net, IsWhole};
 ghost use Rattle.bench_net.specs.Net.{names, net_of, IsDriven, IsNet};
 ghost use Rattle.bench_net.specs.Fault.{IsFault, IsRefusal};
 ghost use Rattle.bench_net.specs.Givers.{HasPins, IsNetOf, IsChecked};
-ghost use Rattle.bench_net.specs.Views.{form_of, texts, key_texts};
+ghost use Rattle.bench_net.specs.Views.{form_of, texts};
 ghost use Rattle.bench_net.specs.declared.gate.Driver.{Driver};
 ghost use Rattle.bench_net.specs.declared.gate.Driver.TheVariants.{Input};
 ghost use Rattle.bench_net.specs.declared.fault.NetFault.{NetFault};

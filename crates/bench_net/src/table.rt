@@ -3,12 +3,13 @@ ghost use Rattle.std.specs.Prelude.{◌≡◌, ℕ, ◌<◌, ◌≤◌, None, So
 ghost use Rattle.std.specs.Option.{option_and_then};
 ghost use Rattle.std.specs.List.{position, list_any};
 ghost use Rattle.std.specs.Str.{bytes_eq};
+ghost use Rattle.text_bytes.specs.Texts.{key_texts};
 ghost use Rattle.text_bytes.specs.Limits.{most_nets};
 ghost use Rattle.bench_net.specs.Circuit.{number};
 ghost use Rattle.bench_net.specs.Net.{function_driver, driver_of};
 ghost use Rattle.bench_net.specs.Givers.{given_driver};
 ghost use Rattle.bench_net.specs.declared.gate.Function.TheVariants.{Register};
-ghost use Rattle.bench_net.specs.Views.{form_of, texts, key_texts};
+ghost use Rattle.bench_net.specs.Views.{form_of, texts};
 
 use crate::build::is_among;
 use crate::gate::{Driver, Function};

@@ -1,11 +1,12 @@
 -- The four clauses of an answer, from one fact.
 use Rattle.std.proofs.Common.{◌≡◌, Option, Some, None, refl, sym, ap, ◌∙◌, inl, inr, ◌⊎◌}
 use Rattle.std.specs.Prelude.{Result, Ok, Err, IfOk, IfErr, MatchResult}
+use Rattle.stil_ast.specs.Faults.Found.{IsRefusal}
 use Rattle.stil_ast.specs.declared.fault.StilFault.{StilFault}
 use Rattle.stil_ast.specs.declared.fault.StilRefusal.{StilRefusal}
 use Rattle.stil_ast.specs.declared.fault.StilRefusal.TheVariants as refusal
 use Rattle.stil_ast.proofs.FoundLemmas.{not_both, one_fault}
-use Rattle.burst_exec.specs.Finding.{IsRefusal, Finds}
+use Rattle.burst_exec.specs.Finding.{Finds}
 
 -- want of memory is never wrong
 pub no_memory : (o : Option StilFault) (r : StilRefusal) → r ≡ refusal.NoMemory → IsRefusal o r

@@ -5,7 +5,7 @@ use Rattle.std.proofs.Math.Nat.{min-eq_left}
 use Rattle.std.proofs.Math.Seq.{take-length, drop-length}
 use Rattle.text_bytes.specs.Limits.{most_waves}
 use Rattle.stil_ast.specs.Faults.ExecutiveFaults.{exec_waves, exec_walked, execs_fault, checked_fault, fifth_fault}
-use Rattle.stil_ast.specs.Faults.Found.{or_else}
+use Rattle.stil_ast.specs.Faults.Found.{or_else, IsRefusal}
 use Rattle.stil_ast.specs.Meaning.Bursts.{played}
 use Rattle.stil_ast.specs.Meaning.Cycles.{dated}
 use Rattle.stil_ast.specs.Meaning.Executive.{parts, tree_of, exec_vectors, table_list}
@@ -23,7 +23,7 @@ use Rattle.tester_types.specs.declared.wave.Table.{Table}
 use Rattle.time_expr.specs.TimesOf.{times_of}
 use Rattle.burst_exec.specs.Carried.{drafted, HasRun}
 use Rattle.burst_exec.specs.Executives.{IsExecutive, AreExecutives, AreAllOf, IsExecFault}
-use Rattle.burst_exec.specs.Finding.{IsRefusal, Finds}
+use Rattle.burst_exec.specs.Finding.{Finds}
 use Rattle.burst_exec.specs.Gathered.{text_fault, rest_fault, IsTaken, IsGathering}
 use Rattle.burst_exec.specs.Patterns.{ArePlayed, played_fault}
 use Rattle.burst_exec.specs.Staged.{staged_fault, patterns_fault, whole_fault, order_of, tables_of, waves_of, chains_of, IsStageOf}

@@ -1,22 +1,17 @@
 -- Joined bodies: what is found under a number stays there.
-use Rattle.std.proofs.Common.{◌≡◌, ℕ, zero, suc, Bool, true, false, List, [], ◌∷◌, ◌++◌, Option, Some, None, refl, sym, ap, ◌∙◌, subst, length, cond}
+use Rattle.std.proofs.Common.{◌≡◌, ℕ, Bool, true, false, List, [], ◌∷◌, ◌++◌, Option, Some, None, refl, sym, ap, ◌∙◌, subst, length, cond}
 use Rattle.std.specs.Prelude.{slice_get}
 use Rattle.std.specs.Option.{option_or}
 use Rattle.std.specs.Str.{bytes_eq}
 use Rattle.std.proofs.lemmas.Option.{none-some, slice_get_within}
 use Rattle.std.proofs.lemmas.Slice.Eq.{bytes_eq-Decides}
+use Rattle.text_bytes.proofs.ListLemmas.{slice_get-more}
 use Rattle.stil_ast.specs.Meaning.Resolved.{bodies_named}
 use Rattle.stil_ast.specs.declared.blocks.BodyDef.{BodyDef}
 use Rattle.stil_ast.specs.declared.blocks.DefBlock.{DefBlock}
 use Rattle.pattern_order.specs.Numbers.{place_in}
 use Rattle.burst_exec.specs.Joined.{AreJoined, HasJoined}
 use Rattle.burst_exec.specs.declared.joined.JoinedBodies.{JoinedBodies}
-
-slice_get-more : {A : Type 0} (xs more : List A) (i : ℕ) (x : A) → slice_get xs i ≡ Some x
-    → slice_get (xs ++ more) i ≡ Some x
-slice_get-more [] more i x e = absurd cc
-slice_get-more (y ∷ xs) more zero x e = e
-slice_get-more (y ∷ xs) more (suc i) x e = slice_get-more xs more i x e
 
 pub slice_get-end : {A : Type 0} (xs : List A) (x : A) → slice_get (xs ++ x ∷ []) (length xs) ≡ Some x
 slice_get-end [] x = refl

@@ -4,6 +4,7 @@ use Rattle.std.proofs.Math.Seq.{drop-cons}
 use Rattle.std.proofs.Math.ListN.{drop_of_length-le}
 use Rattle.std.proofs.lemmas.List.{drop-map}
 use Rattle.std.specs.Prelude.{Ok}
+use Rattle.stil_ast.specs.Faults.Found.{IsRefusal}
 use Rattle.stil_ast.specs.Data.Places.{Body, of_pattern}
 use Rattle.stil_ast.specs.Data.Written.{Written, no_more, single, looped, shifted}
 use Rattle.stil_ast.specs.Faults.AssignmentFaults.{Walked, Checked, fine, refused}
@@ -25,7 +26,6 @@ use Rattle.stil_ast.specs.declared.fault.StilRefusal.TheVariants as refusal
 use Rattle.pattern_order.specs.Held.{played_by, played_in}
 use Rattle.pattern_order.specs.declared.playing.PlayedPattern.{PlayedPattern}
 use Rattle.burst_exec.specs.Carried.{drafted, HasExpanded, IsRunning, HasRun, RunsNext}
-use Rattle.burst_exec.specs.Finding.{IsRefusal}
 use Rattle.burst_exec.specs.Patterns.{has_stop, pattern_fault, IsExpanded, played_fault, ArePlayed, IsPlaying}
 use Rattle.burst_exec.specs.declared.progress.Progress.{Progress}
 use Rattle.burst_exec.specs.declared.trees.Draft.{Draft}

@@ -2,7 +2,7 @@
 use Rattle.std.proofs.Common.{◌≡◌, ℕ, ◌+◌, ◌-◌, ◌^◌, ◌≤◌, List, length, take, Option, Some, None, refl, sym, ap, ◌∙◌, subst, inl, inr, ◌⊎◌, arith}
 use Rattle.std.specs.Prelude.{Result, Ok, Err, IfOk, IfErr, min, slice_get, sum_by}
 use Rattle.text_bytes.specs.Limits.{most_waves}
-use Rattle.stil_ast.specs.Faults.Found.{or_else}
+use Rattle.stil_ast.specs.Faults.Found.{or_else, IsRefusal}
 use Rattle.stil_ast.specs.Faults.BurstFaults.{exec_names_fault}
 use Rattle.stil_ast.specs.Faults.ExecutiveFaults.{timed_of, exec_waves, exec_walked, exec_fault, check_patterns, checked_fault}
 use Rattle.stil_ast.specs.Faults.TableFaults.{tables_fault}
@@ -24,7 +24,7 @@ use Rattle.pattern_order.specs.Answer.{IsNamesFault}
 use Rattle.scan_chain.specs.Fault.{chain_list_fault, IsChainFault}
 use Rattle.wave_tables.proofs.CountLemmas.{waves_counted}
 use Rattle.wave_tables.specs.Waves.{waves_at}
-use Rattle.burst_exec.specs.Finding.{IsRefusal, Finds}
+use Rattle.burst_exec.specs.Finding.{Finds}
 use Rattle.burst_exec.specs.Staged.{names_fault, values_fault, waves_fault, ends_fault, staged_fault, patterns_fault, whole_fault, order_of, AreValues, tables_of, waves_of, chains_of}
 use Rattle.burst_exec.proofs.ListLemmas.{sum_next}
 use Rattle.burst_exec.proofs.WaveLemmas.{few_waves}

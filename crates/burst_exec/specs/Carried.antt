@@ -1,12 +1,12 @@
 -- What is carried from one pattern and from one executive to the next.
 use Rattle.std.specs.Prelude.{◌≡◌, true, false, Bool, List, Result, Ok, Err}
+use Rattle.stil_ast.specs.Faults.Found.{IsRefusal}
 use Rattle.stil_ast.specs.Meaning.Bursts.{Played}
 use Rattle.stil_ast.specs.Meaning.ExecutiveData.{Tree}
 use Rattle.stil_ast.specs.Meaning.Flat.{Flat}
 use Rattle.stil_ast.specs.declared.blocks.Blocks.{Blocks}
 use Rattle.stil_ast.specs.declared.executive.ExecDecl.{ExecDecl}
 use Rattle.stil_ast.specs.declared.fault.StilRefusal.{StilRefusal}
-use Rattle.burst_exec.specs.Finding.{IsRefusal}
 use Rattle.burst_exec.specs.Held.{trees_in}
 use Rattle.burst_exec.specs.Joined.{AreJoined}
 use Rattle.burst_exec.specs.Patterns.{IsExpanded, played_fault, ArePlayed, IsPlaying}

@@ -1,13 +1,9 @@
 -- What is answered where the first fault refuses.
-use Rattle.std.specs.Prelude.{◌≡◌, Option, Some, None, Result, Ok, Err}
+use Rattle.std.specs.Prelude.{◌≡◌, Option, None, Result, Ok, Err}
+use Rattle.stil_ast.specs.Faults.Found.{IsRefusal}
 use Rattle.stil_ast.specs.declared.fault.StilFault.{StilFault}
 use Rattle.stil_ast.specs.declared.fault.StilRefusal.{StilRefusal}
 use Rattle.stil_ast.specs.declared.fault.StilRefusal.TheVariants as refusal
-
--- a refusal has the fault that is there, or memory was short
-abbrev pub IsRefusal : Option StilFault → StilRefusal → Type 0
-IsRefusal fault refusal.NoMemory = Unit {0}
-IsRefusal fault (refusal.Fault first) = fault ≡ Some first
 
 -- what is wanted where there is no fault, else the fault, or want of memory
 abbrev pub Finds : {A : Type 0} → Option StilFault → (A → Type 0) → Result A StilRefusal → Type 0

@@ -1,6 +1,7 @@
 //! The executives of a text, or their first fault (IEEE 1450-1999, clauses 16 to 18 and 23).
 
 ghost use Rattle.std.specs.Prelude.{◌≡◌, ◌⊎◌, ◌<◌, ◌+◌, ℕ, Some, None, length, slice_get, IfOk, IfErr, OnOk, MatchResult};
+ghost use Rattle.stil_ast.specs.Faults.Found.{IsRefusal};
 ghost use Rattle.signal_groups.specs.Table.{table_of};
 ghost use Rattle.stil_ast.specs.Data.OneText.{AreOfOneText};
 ghost use Rattle.stil_ast.specs.Faults.ExecutiveFaults.{fifth_fault};
@@ -12,7 +13,7 @@ ghost use Rattle.stil_ast.specs.declared.fault.StilRefusal.TheVariants as refusa
 ghost use Rattle.time_expr.specs.TimesOf.{times_of};
 ghost use Rattle.burst_exec.specs.Carried.{IsCarried, HasRun};
 ghost use Rattle.burst_exec.specs.Executives.{AreAllOf, IsExecFault};
-ghost use Rattle.burst_exec.specs.Finding.{IsRefusal, Finds};
+ghost use Rattle.burst_exec.specs.Finding.{Finds};
 ghost use Rattle.burst_exec.specs.Gathered.{text_fault, IsTaken, IsGathering};
 ghost use Rattle.burst_exec.specs.Held.{trees_in, AreEven};
 ghost use Rattle.burst_exec.specs.Patterns.{played_fault};

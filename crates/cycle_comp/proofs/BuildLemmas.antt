@@ -9,7 +9,7 @@ use Rattle.std.proofs.lemmas.Grind.{flat_map-append}
 use Rattle.std.proofs.lemmas.Simd.{map-map}
 use Rattle.text_bytes.specs.Limits.{most_measure, most_cycles, most_row_characters}
 use Rattle.tester_types.specs.declared.wave.Table.{Table}
-use Rattle.stil_ast.specs.Faults.Found.{fault_at, unless, or_else}
+use Rattle.stil_ast.specs.Faults.Found.{fault_at, unless, or_else, IsRefusal}
 use Rattle.stil_ast.specs.Faults.BurstFaults.{exec_place}
 use Rattle.stil_ast.specs.Faults.CodeFaults.{trees_fault, compile_fault, compile_faults}
 use Rattle.stil_ast.specs.Meaning.ExecutiveData.{Tree, Executive, tree_run, trees_run, vectors_of, measure_of, rows_of, distinct_rows, row_of, tables_of}
@@ -31,7 +31,6 @@ use Rattle.instr_writer.specs.Written.{IsWritten}
 use Rattle.page_meaning.specs.declared.instr.Instr.{Instr}
 use Rattle.stil_ast.specs.declared.fault.StilRefusal.{StilRefusal}
 use Rattle.stil_ast.specs.declared.fault.StilRefusal.TheVariants as refusal
-use Rattle.burst_exec.specs.Finding.{IsRefusal}
 use Rattle.cycle_comp.specs.Compiled.{chain_of}
 use Rattle.cycle_comp.specs.Working.{size_fault, rows_fault, IsSized, IsInside, IsMade, AreMade, IsBuilt}
 use Rattle.cycle_comp.specs.declared.building.Building.{Building}

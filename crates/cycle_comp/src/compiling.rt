@@ -1,6 +1,7 @@
 //! The code of executives.
 
 ghost use Rattle.std.specs.Prelude.{◌≡◌, ◌<◌, ◌≤◌, ◌^◌, ◌++◌, ◌∷◌, [], All, IfErr, IfOk, List, MatchResult, None, OnOk, Some, length};
+ghost use Rattle.stil_ast.specs.Faults.Found.{IsRefusal};
 ghost use Rattle.stil_ast.specs.Meaning.ExecutiveData.{Executive, tables_of};
 ghost use Rattle.stil_ast.specs.Meaning.Signals.{Names};
 ghost use Rattle.stil_ast.specs.Faults.CodeFaults.{compile_fault, compile_faults, trees_fault};
@@ -11,7 +12,7 @@ ghost use Rattle.signal_groups.specs.Table.{table_of};
 ghost use Rattle.text_bytes.specs.Limits.{most_measure};
 ghost use Rattle.page_meaning.specs.Whole.{IsWhole};
 ghost use Rattle.instr_writer.specs.Written.{IsWritten};
-ghost use Rattle.burst_exec.specs.Finding.{Finds, IsRefusal};
+ghost use Rattle.burst_exec.specs.Finding.{Finds};
 ghost use Rattle.cycle_comp.specs.Compiled.{IsCodeOf, code_fault};
 ghost use Rattle.cycle_comp.specs.OfText.{AreOfText};
 ghost use Rattle.cycle_comp.specs.Working.{HasPut, IsBuilt, IsFit, rows_fault};

@@ -1,13 +1,12 @@
 //! What is told of executives that can't be compiled.
 
 ghost use Rattle.std.specs.Prelude.{◌≡◌, ◌<◌, IfOk, Some, length};
-ghost use Rattle.stil_ast.specs.Faults.Found.{fault_at};
+ghost use Rattle.stil_ast.specs.Faults.Found.{fault_at, IsRefusal};
 ghost use Rattle.stil_ast.specs.Faults.BurstFaults.{exec_place};
 ghost use Rattle.stil_ast.specs.Faults.CodeFaults.{trees_fault};
 ghost use Rattle.stil_ast.specs.Meaning.State.{start_of};
 ghost use Rattle.stil_ast.specs.declared.fault.StilFault.{StilFault};
 ghost use Rattle.instr_writer.specs.Written.{IsTold, IsFaulty};
-ghost use Rattle.burst_exec.specs.Finding.{IsRefusal};
 
 use burst_exec::Exec;
 use instr_writer::{VectorFault, WriteError};

@@ -2,7 +2,7 @@
 use Rattle.std.specs.Prelude.{ℕ, zero, suc, ◌+◌, ◌-◌, ◌==◌, Option, Some, None, List, [], ◌∷◌, ◌++◌, length, map, slice_get, count_by, codes, decimal}
 use Rattle.std.specs.List.{find, flat_map, range_with_len}
 use Rattle.std.specs.Option.{option_map, option_map_or, option_and_then}
-use Rattle.tester_types.specs.Cells.{marked_cell}
+use Rattle.tester_types.specs.Cells.{marked_cell, Cell}
 use Rattle.tester_types.specs.Printing.{printed_name}
 use Rattle.tester_types.specs.declared.level.Level.{Level}
 use Rattle.tester_types.specs.declared.level.Level.TheVariants as level
@@ -35,11 +35,6 @@ signal_name code signal = option_map_or (λ s. s.name) (slice_get code.signals s
 -- the first chain of an executive whose scan-out signal this is
 abbrev pub chain_at : Program → ℕ → ℕ → Option CodeChain
 chain_at code exec signal = find (λ chain. chain.out == signal) (exec_of code exec).chains
-
--- a cell of a chain, by their names
-pub record Cell : Type 0 where
-  pub chain : List ℕ
-  pub name : List ℕ
 
 -- the cell of a chain that a mark means
 abbrev pub cell_in : ℕ → CodeChain → Option Cell

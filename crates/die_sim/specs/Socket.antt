@@ -1,6 +1,7 @@
 -- What a socket tells of itself: what is loaded, the die's state, the tape of its drives if it keeps one, and the
 -- count of its faults.
-use Rattle.std.specs.Prelude.{◌≡◌, ◌≢◌, ◌+◌, ◌-◌, ◌^◌, ◌≤◌, min, ℕ, true, Option, Some, None, List, [], ◌∷◌, ◌++◌, ◌⊎◌, length}
+use Rattle.std.specs.Prelude.{◌≡◌, ◌≢◌, ◌+◌, ◌≤◌, ℕ, true, Option, Some, None, List, [], ◌∷◌, ◌++◌, ◌⊎◌, length}
+use Rattle.tester_types.specs.Memory.{one_more}
 use Rattle.tester_types.specs.declared.level.Level.{Level}
 use Rattle.tester_types.specs.declared.level.Level.TheVariants.{X}
 use Rattle.tester_types.specs.declared.level.Drive.{Drive}
@@ -66,10 +67,6 @@ Moves (Some d) old new drives = IsStep d old new drives
 abbrev pub Shows : Option Device → State → ℕ → Level → Type 0
 Shows None state signal level = ⊥
 Shows (Some d) state signal level = level ≡ level_of d state signal
-
--- one more, as far as that fits
-abbrev pub one_more : ℕ → ℕ
-one_more n = min (n + 1) (2 ^ 64 - 1)
 
 -- what a socket with a tape holds
 pub record Taping : Type 0 where

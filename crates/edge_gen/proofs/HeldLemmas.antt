@@ -1,5 +1,5 @@
 -- What a cache holds once the numbers of a table and a row were asked for.
-use Rattle.std.proofs.Common.{◌≡◌, ℕ, ◌-◌, Bool, true, false, cond, List, [], ◌∷◌, take, is_some, IfSome, Result, Ok, Err, OnErr, Some, None, refl, sym, ap, ◌∙◌}
+use Rattle.std.proofs.Common.{◌≡◌, ℕ, ◌-◌, Bool, true, false, cond, List, [], ◌∷◌, take, is_some, IfSome, Some, None, refl, sym, ap, ◌∙◌}
 use Rattle.std.proofs.lemmas.Bool.{and_parts, eqb-true, cond-true, cond-false, false≢true}
 use Rattle.std.specs.Map.{lookup, lookup_entry, remove_entry}
 use Rattle.std.specs.Option.{option_map_or}
@@ -72,8 +72,3 @@ put-asked held pair moments none =
     ap (λ o. lru_cache (option_map_or (λ e. (e.0, moments) ∷ remove_entry (is_pair pair) held.entries) o ((pair, moments) ∷ front)) held.cap)
     (no_entry pair held.entries none)
     ∙ ap (λ es. lru_cache ((pair, moments) ∷ es) held.cap) (sym (cond-false _ (remove_entry (is_pair pair) held.entries) front none))
-
--- a fact is a fact after an error, too
-pub on_err : {T E P : Type 0} (r : Result T E) → P → OnErr r P
-on_err (Ok _) p = tt
-on_err (Err _) p = p

@@ -7,9 +7,10 @@ use Rattle.std.proofs.lemmas.List.Sums.{list_all-from_AllPass}
 use Rattle.std.proofs.lemmas.List.Folds.{list_all-append}
 use Rattle.std.specs.List.{All, find, list_all, slice_index}
 use Rattle.std.specs.Option.{IfSome, option_map_or}
+use Rattle.tester_types.specs.Waves.{is_wave}
 use Rattle.tester_types.specs.declared.wave.Wave.{Wave}
 use Rattle.tester_types.specs.declared.wave.Table.{Table}
-use Rattle.edge_gen.specs.Signals.{is_wave, wave_of, skew_of, no_skews, stays_inside, stay_inside, is_inside, keeps_inside, FitSkews}
+use Rattle.edge_gen.specs.Signals.{wave_of, skew_of, no_skews, stays_inside, stay_inside, is_inside, keeps_inside, FitSkews}
 use Rattle.edge_gen.proofs.SignalLemmas.{wave_of-signal}
 
 -- ---- what each of a list passes, one that is found passes

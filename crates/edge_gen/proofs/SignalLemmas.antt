@@ -10,12 +10,13 @@ use Rattle.std.specs.List.{All, find, enumerate_from, flat_map, slice_get, slice
 use Rattle.std.specs.Option.{IfSome, option_map_or}
 use Rattle.std.specs.Int.{w64, FitsUnsigned}
 use Rattle.std.specs.Int.RustNames.{int_le, int_lt}
+use Rattle.tester_types.specs.Waves.{is_wave}
 use Rattle.tester_types.specs.declared.wave.Event.{Event}
 use Rattle.tester_types.specs.declared.wave.Wave.{Wave}
 use Rattle.tester_types.specs.declared.wave.Table.{Table}
 use Rattle.text_bytes.proofs.ListLemmas.{suc-plus, plus-suc}
 use Rattle.edge_gen.specs.declared.dated.Dated.{Dated}
-use Rattle.edge_gen.specs.Signals.{is_wave, wave_of, events_of, moved, skew_of, signals_of, stays_inside, FitSkews}
+use Rattle.edge_gen.specs.Signals.{wave_of, events_of, moved, skew_of, signals_of, stays_inside, FitSkews}
 use Rattle.edge_gen.specs.Step.{ArePlaces, Fits, events_at, dated, dated_at, dated_in}
 
 -- an event of a signal

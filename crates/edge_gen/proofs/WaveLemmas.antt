@@ -3,8 +3,9 @@ use Rattle.std.proofs.Common.{◌≡◌, ℕ, ◌<◌, false, cond, eqb, List, [
 use Rattle.std.proofs.lemmas.Bool.{cases_Bool, cases_eq, and_from, and_left, and_parts, eq-eqb, ne_eqb, eqb-true, cond-true, cond-false}
 use Rattle.std.proofs.lemmas.List.{reverse-append, length-set, get_or-set_same, get_or-set_other}
 use Rattle.std.specs.List.{find, slice_get}
+use Rattle.tester_types.specs.Waves.{is_wave}
 use Rattle.tester_types.specs.declared.wave.Wave.{Wave}
-use Rattle.edge_gen.specs.Signals.{is_wave, wave_of}
+use Rattle.edge_gen.specs.Signals.{wave_of}
 use Rattle.edge_gen.specs.Step.{ArePlaces, IsUsed}
 
 -- one more wave: it is the signal's, or it changes nothing

@@ -3,13 +3,10 @@
 use Rattle.std.specs.Prelude.{◌≡◌, ℕ, ◌<◌, ◌==◌, ℤ, pos, ◌+ℤ◌, int_le, int_lt, unsigned_abs, Bool, true, ◌&&◌, if◌then◌else◌, List, [], map, length, replicate, reverse, slice_index, slice_index_or, Option, None}
 use Rattle.std.specs.List.{find, list_all, enumerate_from}
 use Rattle.std.specs.Option.{option_map_or}
+use Rattle.tester_types.specs.Waves.{is_wave}
 use Rattle.tester_types.specs.declared.wave.Event.{Event}
 use Rattle.tester_types.specs.declared.wave.Wave.{Wave}
 use Rattle.tester_types.specs.declared.wave.Table.{Table}
-
--- the wave is that of this signal and this character
-abbrev pub is_wave : ℕ → ℕ → Wave → Bool
-is_wave signal letter wave = wave.signal == signal && wave.letter == letter
 
 -- the wave of a signal with this character, which is 0 where it has none; of several waves that are listed for the two
 -- it is the last, since a later definition replaces an earlier one

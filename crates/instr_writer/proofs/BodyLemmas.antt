@@ -1,17 +1,13 @@
 -- What instructions without an open loop put in front of the cycles behind them.
 use Rattle.std.proofs.Common.{◌≡◌, ℕ, zero, suc, ◌+◌, List, [], ◌∷◌, ◌++◌, replicate, refl, sym, ap, ◌∙◌, append_assoc}
 use Rattle.std.proofs.lemmas.List.{append-nil}
+use Rattle.page_meaning.proofs.NestingLemmas.{on_top-none}
 use Rattle.text_bytes.proofs.ListLemmas.{suc-plus}
 use Rattle.page_meaning.specs.declared.instr.Entry.{Entry}
 use Rattle.page_meaning.specs.declared.instr.Instr.{Instr}
 use Rattle.page_meaning.specs.declared.instr.Instr.TheVariants.{Run, Loop, End, Done}
 use Rattle.page_meaning.specs.Meaning.{repeated, top, on_top, closed, bodies, Means}
 use Rattle.instr_writer.specs.Working.{Puts, looped}
-
--- no cycles run first
-on_top-none : (bs : List (List Entry)) → on_top [] bs ≡ bs
-on_top-none [] = refl
-on_top-none (body ∷ more) = refl
 
 -- some cycles run first, and behind them others
 on_top-append : (some more : List Entry) (bs : List (List Entry)) → on_top (some ++ more) bs ≡ on_top some (on_top more bs)

@@ -1,18 +1,12 @@
 -- Entries that run vectors.
-use Rattle.std.proofs.Common.{◌≡◌, ℕ, zero, suc, List, [], ◌∷◌, ◌++◌, map, Some, refl, ap, ◌∙◌}
-use Rattle.std.specs.Prelude.{slice_get}
+use Rattle.std.proofs.Common.{◌≡◌, ℕ, zero, suc, List, [], ◌∷◌, ◌++◌, map, refl, ap, ◌∙◌}
 use Rattle.std.proofs.lemmas.List.{map-append}
+use Rattle.text_bytes.proofs.ListLemmas.{slice_get-more}
 use Rattle.stil_ast.specs.Meaning.State.{Vector}
 use Rattle.page_meaning.specs.declared.instr.Entry.{Entry}
 use Rattle.page_meaning.specs.Meaning.{repeated}
 use Rattle.instr_writer.specs.Entries.{AreEntries}
 use Rattle.instr_writer.specs.Working.{often}
-
--- a row has its number with more rows behind
-pub slice_get-more : {A : Type 0} (xs more : List A) (i : ℕ) (x : A) → slice_get xs i ≡ Some x → slice_get (xs ++ more) i ≡ Some x
-slice_get-more [] more i x e = absurd cc
-slice_get-more (y ∷ xs) more zero x e = e
-slice_get-more (y ∷ xs) more (suc i) x e = slice_get-more xs more i x e
 
 pub entries-more : (first : ℕ) (rows more : List (List ℕ)) (vectors : List Vector) (entries : List Entry)
     → AreEntries first rows vectors entries → AreEntries first (rows ++ more) vectors entries

@@ -1,9 +1,10 @@
 -- What is known of a latest vector, and that it stays so.
-use Rattle.std.proofs.Common.{◌≡◌, ℕ, zero, suc, ◌+◌, Bool, true, false, ◌&&◌, ◌||◌, List, [], ◌∷◌, map, eqb, get_or, Option, Some, None, refl, sym, ap, subst, ◌∙◌, arith, ◌⊎◌, inl, inr}
+use Rattle.std.proofs.Common.{◌≡◌, ℕ, zero, suc, ◌+◌, Bool, true, false, ◌||◌, List, [], ◌∷◌, map, eqb, get_or, Option, Some, None, refl, sym, ap, subst, ◌∙◌, arith, ◌⊎◌, inl, inr}
 use Rattle.std.specs.Prelude.{slice_get}
 use Rattle.std.specs.List.{list_all}
 use Rattle.std.specs.Cmp.{both_ways}
 use Rattle.std.proofs.lemmas.Bool.{cases_Bool, and_from, and_parts, eqb-true}
+use Rattle.text_bytes.proofs.ListLemmas.{slice_get-more}
 use Rattle.tester_types.specs.declared.wave.Table.{Table}
 use Rattle.stil_ast.specs.Meaning.State.{State}
 use Rattle.stil_ast.specs.Meaning.Dealing.{has_signal}
@@ -13,7 +14,6 @@ use Rattle.stil_ast.specs.Faults.CodeFaults.{has_wave, have_waves}
 use Rattle.instr_writer.specs.declared.state.Latest.{Latest}
 use Rattle.instr_writer.specs.Known.{Known, unknown, known, row_of_letters, has_wave_at, AreJudged, IsKnown}
 use Rattle.instr_writer.specs.Working.{row_in}
-use Rattle.instr_writer.proofs.EntryLemmas.{slice_get-more}
 use Rattle.instr_writer.proofs.RowLemmas.{distinct_rows-extends}
 
 -- ---- the waves of all signals, and those of each

@@ -1,11 +1,11 @@
 -- Rows, each once.
-use Rattle.std.proofs.Common.{◌≡◌, ℕ, zero, suc, Bool, true, false, cond, ◌||◌, List, [], ◌∷◌, ◌++◌, Some, refl, sym, ap, ◌∙◌, append_assoc}
+use Rattle.std.proofs.Common.{◌≡◌, ℕ, zero, suc, Bool, true, false, cond, List, [], ◌∷◌, ◌++◌, Some, refl, sym, ap, ◌∙◌, append_assoc}
 use Rattle.std.proofs.lemmas.List.{append-nil}
 use Rattle.std.proofs.lemmas.List.Folds.{list_any-append}
 use Rattle.std.specs.Prelude.{slice_get}
 use Rattle.std.specs.List.{AllByRecursion}
-use Rattle.std.specs.Cmp.Lexicographic.{bytes_decides}
-use Rattle.text_bytes.proofs.BoolLemmas.{or_left, or_right}
+use Rattle.std.proofs.lemmas.Bool.{or_left, or_right}
+use Rattle.stil_ast.proofs.TextLemmas.{same-refl}
 use Rattle.stil_ast.specs.Data.Texts.{same, has_name}
 use Rattle.stil_ast.specs.Meaning.ExecutiveData.{distinct_rows}
 use Rattle.instr_writer.specs.Working.{often}
@@ -46,10 +46,6 @@ has_row-extends : (before after : List (List ℕ)) (row : List ℕ) → Extends 
 has_row-extends before after row x e =
     ap (λ (rows : List (List ℕ)). has_name rows row) x.are
     ∙ (list_any-append (same row) before x.more ∙ or_left (has_name before row) (has_name x.more row) e)
-
--- a row is itself
-same-refl : (row : List ℕ) → same row row ≡ true
-same-refl row = (bytes_decides row row).1 refl
 
 -- and is there once it was put
 has_row-cond : (b : Bool) (before : List (List ℕ)) (row : List ℕ) → has_name before row ≡ b

@@ -3,10 +3,11 @@ use Rattle.std.proofs.Common.{◌≡◌, ℕ, Bool, true, false, cond, ◌||◌,
 use Rattle.std.specs.Prelude.{slice_get}
 use Rattle.std.specs.Option.{option_map, is_some}
 use Rattle.std.specs.List.{find, list_any}
+use Rattle.tester_types.specs.Waves.{is_wave}
 use Rattle.tester_types.specs.declared.wave.Wave.{Wave}
 use Rattle.tester_types.specs.declared.wave.Table.{Table}
 use Rattle.stil_ast.specs.Faults.CodeFaults.{is_defined}
-use Rattle.wave_tables.specs.Waves.{is_wave, waves_at, wave_in}
+use Rattle.wave_tables.specs.Waves.{waves_at, wave_in}
 
 is_some-map : {A B : Type 0} (f : A → B) (o : Option A) → is_some (option_map f o) ≡ is_some o
 is_some-map f None = refl

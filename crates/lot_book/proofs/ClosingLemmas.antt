@@ -5,6 +5,7 @@ use lib.ListN.{get_elem?}
 use Rattle.std.proofs.lemmas.List.{get_or-append-add, get_or-map, length-map, map-append}
 use Rattle.std.proofs.lemmas.List.Sums.{sum_by-cons, sum_by_push, sum_by-le, sum_by-le-sum_by}
 use Rattle.std.proofs.lemmas.List.Elements.{All-push}
+use Rattle.text_bytes.proofs.SumLemmas.{sum_by-set_there}
 use Rattle.atomic_table.specs.Table.{State, Me, Joins, Final, Seen}
 use Rattle.atomic_table.proofs.Lists.{at_set}
 use Rattle.tester_types.specs.Records.{SiteRecords}
@@ -16,7 +17,6 @@ use Rattle.lot_book.specs.declared.view.View.{View}
 use Rattle.lot_book.specs.declared.view.View.TheVariants.{Opener, Share, Spent}
 use Rattle.lot_book.specs.declared.view.OpenerView.{OpenerView}
 use Rattle.lot_book.specs.declared.view.ShareView.{ShareView}
-use Rattle.lot_book.proofs.SumLemmas.{sum_by-set_there}
 use Rattle.lot_book.proofs.RuleLemmas.{state, holders, behind_opener, still_no_opener, opener_place, cond-le-one}
 
 -- the opener with one more view that came back

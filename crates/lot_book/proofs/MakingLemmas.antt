@@ -1,9 +1,8 @@
 -- A new book keeps the rule, and so does the making of a share.
-use Rattle.std.proofs.Common.{◌≡◌, ℕ, zero, suc, ◌+◌, ◌<◌, ◌≤◌, List, [], ◌∷◌, ◌++◌, None, cond, ◌==◌, nat_lt, map, length, set, sym, refl, ap, ◌∙◌, subst, inl, ⊎_elim, arith, lt-ltb, le-ltb, eq-eqb, ne_eqb}
+use Rattle.std.proofs.Common.{◌≡◌, ℕ, zero, suc, ◌+◌, List, [], ◌∷◌, ◌++◌, None, map, length, set, sym, refl, ap, ◌∙◌, subst, inl, ⊎_elim, arith}
 use mathlib.Core.Option.{some, some-ne-none}
-use mathlib.Core.Logic.{dite}
-use native.Mathlib.Decide.{ℕ_discrete, dec_le}
 use Rattle.std.proofs.lemmas.List.Sums.{sum_by_push}
+use Rattle.text_bytes.proofs.BoolLemmas.{below_no, below_one_more}
 use Rattle.atomic_table.specs.Table.{Me, Splits, opening}
 use Rattle.atomic_table.proofs.Lists.{at_snoc}
 use Rattle.tester_types.specs.Records.{SiteRecords}
@@ -17,25 +16,6 @@ use Rattle.lot_book.specs.declared.view.View.TheVariants.{Opener, Share}
 use Rattle.lot_book.specs.declared.view.OpenerView.{OpenerView}
 use Rattle.lot_book.specs.declared.view.ShareView.{ShareView}
 use Rattle.lot_book.proofs.RuleLemmas.{state, share-injective, opener_place}
-
-below_yes : (a b : ℕ) → a < b → cond {A = ℕ} (nat_lt a b) 1 0 ≡ 1
-below_yes a b h = ap (λ x. cond {A = ℕ} x 1 0) (lt-ltb a b h)
-
-pub below_no : (a b : ℕ) → b ≤ a → cond {A = ℕ} (nat_lt a b) 1 0 ≡ 0
-below_no a b h = ap (λ x. cond {A = ℕ} x 1 0) (le-ltb a b h)
-
--- the sites below made, and made, are the sites below one more
-pub below_one_more : (site made : ℕ)
-    → cond {A = ℕ} (nat_lt site made) 1 0 + cond {A = ℕ} (made == site) 1 0 ≡ cond {A = ℕ} (nat_lt site (made + 1)) 1 0
-below_one_more site made =
-    dite (ℕ_discrete made site)
-    (λ e.
-    let it : cond {A = ℕ} (made == site) 1 0 ≡ 1 = ap (λ x. cond {A = ℕ} x 1 0) (eq-eqb made site e) in
-    omega (arith, below_no site made (omega arith), below_yes site (made + 1) (omega arith)))
-    (λ ne.
-    let other : cond {A = ℕ} (made == site) 1 0 ≡ 0 = ap (λ x. cond {A = ℕ} x 1 0) (ne_eqb made site ne) in
-    dite (dec_le made site) (λ above. omega (arith, below_no site made above, below_no site (made + 1) (omega arith)))
-    (λ below. omega (arith, below_yes site made (omega arith), below_yes site (made + 1) (omega arith))))
 
 -- a book without records has the places that it was made with
 places_in-empty : (places : List ℕ) → places_in (map empty_site places) ≡ places

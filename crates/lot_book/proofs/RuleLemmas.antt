@@ -5,6 +5,7 @@ use mathlib.Core.Logic.{dite}
 use native.Mathlib.Decide.{dec_le}
 use lib.ListN.{get_elem?}
 use Rattle.std.proofs.lemmas.List.Sums.{get_or-le-sum_by}
+use Rattle.text_bytes.proofs.SumLemmas.{sum_by-set_there, term-le-sum_by}
 use Rattle.atomic_table.specs.Table.{State}
 use Rattle.atomic_table.proofs.Lists.{at_set}
 use Rattle.tester_types.specs.Records.{SiteRecords}
@@ -14,7 +15,7 @@ use Rattle.lot_book.specs.declared.view.View.{View}
 use Rattle.lot_book.specs.declared.view.View.TheVariants.{Opener, Share}
 use Rattle.lot_book.specs.declared.view.OpenerView.{OpenerView}
 use Rattle.lot_book.specs.declared.view.ShareView.{ShareView}
-use Rattle.lot_book.proofs.SumLemmas.{sum_by-set_there, term-le-sum_by, terms-le-sum_by}
+use Rattle.lot_book.proofs.SumLemmas.{terms-le-sum_by}
 
 -- where the slots of a table are: a book, or none where it is out
 abbrev pub Homes : Type 0

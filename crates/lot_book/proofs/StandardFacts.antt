@@ -1,5 +1,6 @@
 -- Known states of a book of two sites, which the rule must allow or refuse.
 use Rattle.std.proofs.Common.{◌≡◌, ℕ, suc, zero, List, [], ◌∷◌, ◌≤◌, Some, None, cond, nat_lt, length, sym, refl, ap, ◌∙◌, subst, inl, inr, arith}
+use Rattle.text_bytes.proofs.BoolLemmas.{below_no, below_one_more}
 use mathlib.Core.Option.{none, some, some-injective, some-ne-none}
 use lib.ListN.{get_elem?}
 use Rattle.atomic_table.specs.Table.{State}
@@ -12,7 +13,6 @@ use Rattle.lot_book.specs.declared.view.View.TheVariants.{Opener, Share}
 use Rattle.lot_book.specs.declared.view.OpenerView.{OpenerView}
 use Rattle.lot_book.specs.declared.view.ShareView.{ShareView}
 use Rattle.lot_book.proofs.RuleLemmas.{Homes, state, share-injective, turn_is}
-use Rattle.lot_book.proofs.MakingLemmas.{below_no, below_one_more}
 
 -- a record of site 0
 abbrev entry : Record

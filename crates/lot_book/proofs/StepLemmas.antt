@@ -4,6 +4,7 @@ use mathlib.Core.Option.{none, some}
 use lib.ListN.{get_elem?}
 use prog.Atomic.{either}
 use Rattle.std.proofs.lemmas.List.{set-get_or}
+use Rattle.text_bytes.proofs.SumLemmas.{term-le-sum_by}
 use Rattle.atomic_table.specs.Table.{State, Me, Act, keeps, takes, gives, step, Valid, stepped, carried_after, Allows}
 use Rattle.atomic_table.proofs.Lists.{set_again, exchanged}
 use Rattle.tester_types.specs.Records.{SiteRecords}
@@ -12,7 +13,7 @@ use Rattle.lot_book.specs.Steps.{resting, holding, given_back, DiffersAt, IsShar
 use Rattle.lot_book.specs.declared.view.View.{View}
 use Rattle.lot_book.specs.declared.view.View.TheVariants.{Share}
 use Rattle.lot_book.specs.declared.view.ShareView.{ShareView}
-use Rattle.lot_book.proofs.SumLemmas.{term-le-sum_by, terms-le-sum_by}
+use Rattle.lot_book.proofs.SumLemmas.{terms-le-sum_by}
 use Rattle.lot_book.specs.Rule.{of_share}
 use Rattle.lot_book.proofs.RuleLemmas.{Homes, state, holders, turn_is, share_place, site_made, two_sites, other_site_ended, share_moves}
 

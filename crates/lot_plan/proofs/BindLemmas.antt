@@ -14,12 +14,12 @@ use Rattle.plan_rows.specs.declared.fault.PlanFault.TheVariants as refused
 use Rattle.lot_plan.specs.declared.pin.Pin.{Pin}
 use Rattle.lot_plan.specs.declared.pin.Role.{Role}
 use Rattle.lot_plan.specs.declared.pin.Role.TheVariants as role
-use Rattle.text_bytes.proofs.BoolLemmas.{or_false}
 use Rattle.lot_plan.specs.Needs.{PinNeed}
 use Rattle.lot_plan.specs.Binds.{is_open, is_input, is_output, drives, as_input, as_output, bind_as, bind_to, is_driven, bound_or, binds_from, binds_of, list_of, unbound_in, IsMarkable, Marks}
 use Rattle.lot_plan.specs.Refusal.{first_unbound, binding_by}
 use Rattle.die_sim.specs.declared.image.Binding.{Binding}
 use Rattle.std.proofs.lemmas.List.Elements.{All-cons}
+use Rattle.std.proofs.Math.Bool.{or-false}
 
 -- what a read past the last pin counts as
 abbrev pub no_pin : Pin
@@ -141,7 +141,7 @@ pub driven-more : (old new : List Bool) (before : List Bind) (b : Bind) (n : ℕ
     get_or old n false ≡ is_driven before n →
     get_or new n false ≡ is_driven (before ++ b ∷ []) n
 driven-more old new before b n marks is =
-    marks.each n ∙ ap (λ x. x || drives n b) is ∙ ap (λ x. is_driven before n || x) (sym (or_false (drives n b)))
+    marks.each n ∙ ap (λ x. x || drives n b) is ∙ ap (λ x. is_driven before n || x) (sym (or-false (drives n b)))
     ∙ sym (list_any-append (drives n) before (b ∷ []))
 
 -- one more circuit is whole, and its signals are bound

@@ -5,16 +5,16 @@ use Rattle.std.specs.Borrow.{Bor}
 use Rattle.std.specs.List.{list_any}
 use Rattle.std.specs.Str.{bytes_eq}
 use Rattle.std.specs.Cmp.Lexicographic.{bytes_decides}
-use Rattle.text_bytes.proofs.BoolLemmas.{or_false}
 use Rattle.text_bytes.proofs.ListLemmas.{drop-item}
 use Rattle.std.proofs.lemmas.Bool.{cases_Bool}
 use Rattle.std.proofs.lemmas.List.{get_or-map, length-map}
 use Rattle.std.proofs.lemmas.List.Folds.{list_any-append}
+use Rattle.std.proofs.Math.Bool.{or-false}
+use Rattle.text_bytes.specs.Texts.{behind}
 use Rattle.page_code.specs.declared.parts.CodeSignal.{CodeSignal}
 use Rattle.plan_rows.specs.declared.row.DieRow.{DieRow}
 use Rattle.plan_rows.specs.Rows.{with_file}
 use Rattle.lot_plan.specs.Needs.{has_name}
-use Rattle.lot_plan.specs.Views.{behind}
 
 -- a name that isn't there goes behind the others
 pub with_file-new : (files made : List (List ℕ)) (name : List ℕ) → false ≡ list_any (bytes_eq name) files →
@@ -37,7 +37,7 @@ any-with_file files file name =
           (λ same. ap (λ (n : List ℕ). list_any (bytes_eq n) files) ((bytes_decides name file).0 same) ∙ e)
       | inr e ↦ ap (λ b. list_any (bytes_eq name) (cond b files (files ++ file ∷ []))) e
           ∙ list_any-append (bytes_eq name) files (file ∷ [])
-          ∙ ap (λ b. list_any (bytes_eq name) files || b) (or_false (bytes_eq name file))
+          ∙ ap (λ b. list_any (bytes_eq name) files || b) (or-false (bytes_eq name file))
     ]
 
 or_assoc : (a b c : Bool) → ((a || b) || c) ≡ (a || (b || c))

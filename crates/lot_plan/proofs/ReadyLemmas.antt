@@ -5,7 +5,7 @@ use Rattle.std.specs.List.{list_any, position_or_len}
 use Rattle.std.specs.Option.{option_or, option_map, option_map_or, option_and_then}
 use Rattle.std.specs.Str.{bytes_eq}
 use Rattle.std.specs.Cmp.Lexicographic.{bytes_decides}
-use Rattle.std.proofs.lemmas.Bool.{cases_Bool, and_parts, eqb-true, ltb-true}
+use Rattle.std.proofs.lemmas.Bool.{cases_Bool, and_parts, eqb-true, ltb-true, or_left, or_right}
 use Rattle.std.proofs.lemmas.List.{get_or-map, length-map}
 use Rattle.std.proofs.lemmas.Option.{slice_get-get_or}
 use Rattle.bench_net.specs.Circuit.{Circuit, number, IsWhole}
@@ -20,7 +20,6 @@ use Rattle.plan_rows.specs.declared.row.SkewRow.{SkewRow}
 use Rattle.plan_rows.specs.declared.fault.PlanFault.{PlanFault}
 use Rattle.lot_plan.specs.declared.bound_die.BoundDie.{BoundDie}
 use Rattle.lot_plan.specs.declared.bound_die.DieFault.{DieFault}
-use Rattle.text_bytes.proofs.BoolLemmas.{or_left, or_right}
 use Rattle.lot_plan.specs.Needs.{PinNeed, needs_of, clock_of}
 use Rattle.lot_plan.specs.Binds.{binds_of, list_of, unbound_in}
 use Rattle.lot_plan.specs.Bound.{Bound, signals_of, no_circuit, die_at, file_of, circuit_of, binding_to, binding_of, numbered, is_active, active_at, faults_of, loaded}

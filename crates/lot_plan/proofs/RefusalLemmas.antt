@@ -3,6 +3,7 @@ use Rattle.std.proofs.Common.{◌≡◌, ℕ, ◌+◌, Bool, true, false, List, 
 use Rattle.std.specs.Prelude.{All}
 use Rattle.std.specs.Option.{option_or, option_map}
 use Rattle.std.proofs.lemmas.List.Elements.{All-nil, All-cons, All-head, All-tail}
+use Rattle.text_bytes.proofs.OptionLemmas.{or_none}
 use Rattle.bench_net.specs.Circuit.{Circuit}
 use Rattle.plan_rows.specs.declared.fault.PlanFault.{PlanFault}
 use Rattle.plan_rows.specs.declared.fault.PlanFault.TheVariants as refused
@@ -15,16 +16,12 @@ use Rattle.lot_plan.specs.Needs.{PinNeed}
 use Rattle.lot_plan.specs.Binds.{binds_of, unbound_in}
 use Rattle.lot_plan.specs.Refusal.{unless, is_net, row_refusal, rows_refusal, first_unbound}
 
-none_first : {X : Type 0} (a b : Option X) → option_or a b ≡ None → a ≡ None
-none_first None b is = refl
-none_first (Some x) b is = cc
-
 none_second : {X : Type 0} (a b : Option X) → option_or a b ≡ None → b ≡ None
 none_second None b is = is
 none_second (Some x) b is = cc
 
 pub none_both : {X : Type 0} (a b : Option X) → option_or a b ≡ None → (a ≡ None) × (b ≡ None)
-none_both a b is = (none_first a b is, none_second a b is)
+none_both a b is = (or_none a b is, none_second a b is)
 
 holds : (t : Bool) (e : PlanFault) → unless t e ≡ None → t ≡ true
 holds true e is = refl
@@ -38,7 +35,7 @@ faults-accepted known skewed execs circuit [] n is = All-nil (λ (f : FaultRow).
 faults-accepted known skewed execs circuit (row.Fault f ∷ rows) n is =
     All-cons (λ (f : FaultRow). is_net (circuit f.site f.die) f.net ≡ true) f (each_of as_fault rows)
     (holds (is_net (circuit f.site f.die) f.net) (refused.UnknownName n)
-    (none_first _ (rows_refusal known skewed execs circuit (n + 1) rows) is))
+    (or_none _ (rows_refusal known skewed execs circuit (n + 1) rows) is))
     (faults-accepted known skewed execs circuit rows (n + 1) (none_second (row_refusal known skewed execs circuit n (row.Fault f)) _ is))
 faults-accepted known skewed execs circuit (row.Lot x ∷ rows) n is = faults-accepted known skewed execs circuit rows (n + 1) is
 faults-accepted known skewed execs circuit (row.Clock x ∷ rows) n is =
@@ -101,7 +98,7 @@ pub each-bound : (needs : List PinNeed) (circuits : List Circuit) → first_unbo
 each-bound needs [] is = All-nil (λ (c : Circuit). unbound_in (binds_of c needs) ≡ None)
 each-bound needs (c ∷ circuits) is =
     All-cons (λ (c : Circuit). unbound_in (binds_of c needs) ≡ None) c circuits
-    (none_first (unbound_in (binds_of c needs)) (first_unbound needs circuits) is)
+    (or_none (unbound_in (binds_of c needs)) (first_unbound needs circuits) is)
     (each-bound needs circuits (none_second (unbound_in (binds_of c needs)) (first_unbound needs circuits) is))
 
 pub none-mapped : {X Y : Type 0} (f : X → Y) (o : Option X) → option_map f o ≡ None → o ≡ None

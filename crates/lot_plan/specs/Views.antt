@@ -1,5 +1,5 @@
 -- The code's parts without where they lie in memory.
-use Rattle.std.specs.Prelude.{ℕ, Option, List, map}
+use Rattle.std.specs.Prelude.{ℕ, Option, List}
 use Rattle.std.specs.Borrow.{Bor}
 use Rattle.std.specs.Option.{option_copied}
 use Rattle.lot_plan.specs.declared.pin.Pin.{Pin}
@@ -11,10 +11,6 @@ use Rattle.lot_plan.specs.Needs.{PinNeed}
 -- what a pin needs
 abbrev pub needed_by : Pin → PinNeed
 needed_by p = record { name = p.name.now; role = p.role; net = option_copied p.net }
-
--- what the references point to
-abbrev pub behind : {X : Type 0} → List (Bor X) → List X
-behind items = map (λ b. b.now) items
 
 -- the row that is stored for a name
 abbrev pub row_in : {S : Type 0} → IndexMap (Bor (List ℕ)) (Bor BindRow) S → List ℕ → Option BindRow

@@ -1,10 +1,10 @@
 //! The dies of a plan with all that their tries load.
 ghost use Rattle.std.specs.Prelude.{◌≡◌, ◌<◌, ℕ, map, length, slice_index_or, IfOk};
 ghost use Rattle.std.specs.Arc.{arc_value};
+ghost use Rattle.text_bytes.specs.Texts.{behind};
 ghost use Rattle.die_sim.specs.Die.{IsSound};
 ghost use Rattle.lot_plan.specs.Bound.{numbered, is_active, active_at, loaded};
 ghost use Rattle.lot_plan.specs.Building.{AreImages, circuit_no, binding_no, IsReady, IsBuilt, IsSiteReady, IsSiteBuilt, AreReady, AreBuilt};
-ghost use Rattle.lot_plan.specs.Views.{behind};
 
 use crate::bindings::net_number;
 use crate::bound_die::{BoundDie, DieFault};

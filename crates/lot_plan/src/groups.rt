@@ -2,11 +2,11 @@
 ghost use Rattle.std.specs.Prelude.{◌≡◌, ℕ, ◌<◌, List, [], ◌∷◌, ◌++◌, length, slice_set, replicate, fold, All, IfOk, OnOk};
 ghost use Rattle.std.specs.List.{position_or_len};
 ghost use Rattle.std.specs.Str.{bytes_eq};
+ghost use Rattle.text_bytes.specs.Texts.{behind};
 ghost use Rattle.plan_rows.specs.declared.row.DieRow.{DieRow};
 ghost use Rattle.bench_net.specs.Views.{texts};
 ghost use Rattle.plan_rows.specs.Rows.{AreKept, dies_of, sites_of, files_of};
 ghost use Rattle.lot_plan.specs.Groups.{DieRows, with_fault, with_stop, rows_of, put_die, put_fault, put_stop, IsThere, HasShape, AreGroups};
-ghost use Rattle.lot_plan.specs.Views.{behind};
 
 use crate::names::file_number;
 use crate::rows::{copies_of, each_of};
@@ -26,7 +26,7 @@ pub(crate) struct DieGroup<'a> {
 
 impl<'a> Model for DieGroup<'a> {
     ghost use Rattle.lot_plan.specs.Groups.{DieRows};
-    ghost use Rattle.lot_plan.specs.Views.{behind};
+    ghost use Rattle.text_bytes.specs.Texts.{behind};
 
     ghost Value = { DieRows };
 

@@ -2,10 +2,10 @@
 ghost use Rattle.std.specs.Prelude.{◌≡◌, ◌<◌, ℕ, List, [], map, fold, length, IfOk, IfSome, OnOk};
 ghost use Rattle.std.specs.List.{list_any, position, position_or_len};
 ghost use Rattle.std.specs.Str.{bytes_eq};
+ghost use Rattle.text_bytes.specs.Texts.{behind};
 ghost use Rattle.bench_net.specs.Views.{texts};
 ghost use Rattle.plan_rows.specs.Rows.{with_file};
 ghost use Rattle.lot_plan.specs.Refusal.{is_signal};
-ghost use Rattle.lot_plan.specs.Views.{behind};
 
 use indexmap::IndexSet;
 use page_code::CodeSignal;

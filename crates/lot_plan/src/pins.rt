@@ -3,9 +3,10 @@ ghost use Rattle.std.specs.Prelude.{◌≡◌, ◌<◌, ◌≤◌, ℕ, List, No
 ghost use Rattle.std.specs.Option.{option_copied, option_map_or, option_or, option_and_then};
 ghost use Rattle.std.specs.List.{find, position};
 ghost use Rattle.std.specs.Str.{bytes_eq};
+ghost use Rattle.text_bytes.specs.Texts.{behind};
 ghost use Rattle.indexmap.specs.IndexMap.{get_by};
 ghost use Rattle.lot_plan.specs.Needs.{clock_of, has_name, is_clock_name, role_of, needs_of};
-ghost use Rattle.lot_plan.specs.Views.{needed_by, behind, row_in};
+ghost use Rattle.lot_plan.specs.Views.{needed_by, row_in};
 
 use crate::pin::{Pin, Role};
 use crate::rows::{clock_of, each_of};

@@ -1,9 +1,9 @@
 //! The rows of a plan by their kinds.
 ghost use Rattle.std.specs.Prelude.{◌≡◌, ◌+◌, ◌≤◌, All, IfOk, fold, max, slice_get};
 ghost use Rattle.std.specs.Option.{option_copied};
+ghost use Rattle.text_bytes.specs.Texts.{behind};
 ghost use Rattle.plan_rows.specs.Rows.{as_clock, each_of, lot_of};
 ghost use Rattle.lot_plan.specs.Readings.{first_of};
-ghost use Rattle.lot_plan.specs.Views.{behind};
 
 use plan_rows::{BinRow, BindRow, DieRow, FaultRow, LotRow, Row, SkewRow, StopRow};
 use std::alloc::{AllocError, Global};

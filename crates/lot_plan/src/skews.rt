@@ -2,9 +2,9 @@
 
 ghost use Rattle.std.specs.Prelude.{◌≡◌, ◌==◌, ◌≤◌, if◌then◌else◌, Some, None, map, filter, length, IfOk};
 ghost use Rattle.std.specs.List.{list_all, range_with_len};
+ghost use Rattle.text_bytes.specs.Texts.{behind};
 ghost use Rattle.plan_rows.specs.Rows.{skews_at};
 ghost use Rattle.plan_rows.specs.declared.fault.PlanFault.TheVariants.{SkewOutside};
-ghost use Rattle.lot_plan.specs.Views.{behind};
 ghost use Rattle.lot_plan.specs.Skews.{wave_stays, waves_stay, skew_refusal, skew_by, skews_of};
 
 use crate::pins::place_of;

@@ -1,5 +1,5 @@
 -- A Loop leaves the arguments as they are, since no `#` and no Shift stands in it, and bodies that are named have their own.
-use Rattle.std.proofs.Common.{◌≡◌, ℕ, ◌&&◌, Bool, true, false, not, List, [], ◌∷◌, refl, ap, ◌∙◌, nat_lt}
+use Rattle.std.proofs.Common.{◌≡◌, ℕ, Bool, true, not, List, [], ◌∷◌, refl, ap, ◌∙◌, nat_lt}
 use Rattle.stil_ast.specs.Data.Places.{of_pattern, of_macro, of_procedure}
 use Rattle.stil_ast.specs.Data.Texts.{has_name}
 use Rattle.stil_ast.specs.Data.Written.{Written, no_more, single, looped, shifted}
@@ -7,6 +7,7 @@ use Rattle.stil_ast.specs.Meaning.Arguments.{Argument}
 use Rattle.stil_ast.specs.Meaning.Dealing.{deal}
 use Rattle.stil_ast.specs.Meaning.Resolved.{Scope, resolved_assign, resolved_assigns, outs_of, origin, setting_of}
 use Rattle.std.proofs.lemmas.Bool.{and_from}
+use Rattle.stil_ast.proofs.SteadyLemmas.{not_both}
 use Rattle.stil_ast.specs.Meaning.Flattening.{no_piece}
 use Rattle.stil_ast.specs.Meaning.Laws.{no_hashes}
 use Rattle.stil_ast.specs.Meaning.Statements.{Assign, finish, condition}
@@ -38,11 +39,6 @@ deal-same : (sc : Scope) (assigns : List Assign) (args : List Argument) → no_h
 deal-same sc assigns args e =
     steady-same (setting_of sc []) (λ _ spot. no_piece spot) (condition assigns finish) (and_from (no_hashes assigns) true e refl)
     (record { args = args; place = origin of_pattern 0 })
-
-not_both : (a b c : Bool) → b ≡ true → ((a && not b) && c) ≡ true → ⊥
-not_both true true c e f = cc
-not_both false true c e f = cc
-not_both a false c e f = cc
 
 module _ (sc : Scope) (inner : Standing → Written → Walked → Checked) where
   pub call-args : (s : Standing) (line : ℕ) (c : Callee) (assigns : List Assignment) (w v : Walked)

@@ -137,7 +137,7 @@ instr_again (Loop n) narrow = ap (λ (x : ℕ). Some (Loop x)) (from_le_bytes-to
 instr_again End narrow = refl
 instr_again Done narrow = refl
 
-instr_size : (i : Instr) → length (instr i) ≡ 16
+pub instr_size : (i : Instr) → length (instr i) ≡ 16
 unfolding number
 instr_size (Run t r m n) = refl
 instr_size (Loop n) = refl

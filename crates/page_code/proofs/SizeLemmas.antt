@@ -4,11 +4,11 @@ use Rattle.std.proofs.lemmas.Bool.{cases_Bool, and_parts, ltb-true}
 use Rattle.std.specs.List.{AllByRecursion, flat_map}
 use Rattle.std.specs.Int.{w8, w16, w32, w64}
 use Rattle.std.proofs.lemmas.List.{length-append}
+use Rattle.page_code.proofs.ExecLaws.{instr_size}
 use Rattle.tester_types.specs.declared.wave.Event.{Event}
 use Rattle.tester_types.specs.declared.wave.Wave.{Wave}
 use Rattle.tester_types.specs.declared.wave.Table.{Table}
 use Rattle.page_meaning.specs.declared.instr.Instr.{Instr}
-use Rattle.page_meaning.specs.declared.instr.Instr.TheVariants.{Run, Loop, End, Done}
 use Rattle.page_code.specs.declared.version.Version.{Version}
 use Rattle.page_code.specs.declared.version.Version.TheVariants.{One, Two}
 use Rattle.page_code.specs.declared.parts.CodeSignal.{CodeSignal}
@@ -149,16 +149,9 @@ length-chain signals before c fits =
       length-append (number w32 (length c.cells)) (flat_map text c.cells),
     )
 
-length-instr : (i : Instr) → length (instr i) ≡ 16
-unfolding number
-length-instr (Run table row mark times) = refl
-length-instr (Loop times) = refl
-length-instr End = refl
-length-instr Done = refl
-
 all_instrs : (is : List Instr) → AllByRecursion (λ i. length (instr i) ≤ 16) is
 all_instrs [] = tt
-all_instrs (i ∷ is) = (omega (arith, length-instr i), all_instrs is)
+all_instrs (i ∷ is) = (omega (arith, instr_size i), all_instrs is)
 
 length-exec : (signals : ℕ) (tables : List Table) (rows : List (List ℕ)) (before : List Exec) (e : Exec) → IsExec signals tables rows e
     → length (exec e) ≤ 2 ^ 40

@@ -9,7 +9,7 @@ use Rattle.page_meaning.specs.Nesting.{Runs, nothing, a_run, a_loop}
 use Rattle.page_meaning.specs.Whole.{IsRest}
 
 -- no cycles run first
-on_top-none : (bs : List (List Entry)) → on_top [] bs ≡ bs
+pub on_top-none : (bs : List (List Entry)) → on_top [] bs ≡ bs
 on_top-none [] = refl
 on_top-none (body ∷ more) = refl
 

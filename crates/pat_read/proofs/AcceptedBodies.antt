@@ -2,7 +2,7 @@
 use Rattle.std.proofs.Common.{◌≡◌, ℕ, zero, suc, ◌-◌, ◌<◌, Bool, true, false, ◌&&◌, cond, List, [], ◌∷◌, ◌++◌, length, take, drop, is_some, Option, Some, None, Result, Ok, Err, refl, subst, arith, nat_le}
 use Rattle.std.specs.List.{list_all}
 use Rattle.std.proofs.lemmas.Bool.{and_parts, and_from}
-use Rattle.text_bytes.specs.Numbers.{number_by}
+use Rattle.text_bytes.specs.Numbers.{number_by, is_within}
 use Rattle.text_bytes.specs.Limits.{most_passes}
 use Rattle.first_fault.specs.Reading.{and_then}
 use Rattle.stil_lex.specs.declared.token.Token.{Token}
@@ -17,7 +17,7 @@ use Rattle.stil_form.specs.Fronts.{Ref, reference_front}
 use Rattle.stil_form.specs.Reading.{is_skipped}
 use Rattle.stil_form.specs.Setting.{Setting, tokens_at, lexemes_at, line_at, at_statement, inner_of, unskipped}
 use Rattle.stil_ast.specs.Meaning.Statements.{Item}
-use Rattle.stil_ast.specs.Data.Texts.{is_name, within}
+use Rattle.stil_ast.specs.Data.Texts.{is_name}
 use Rattle.stil_ast.specs.Data.Forms.{is_line, is_sig_ref, is_item}
 use Rattle.stil_ast.specs.Data.Written.{Written}
 use Rattle.stil_ast.specs.Data.Bodies.{written_of}
@@ -149,7 +149,7 @@ FitsPlain top said.IddqTestPoint = Unit {0}
 -- the same of any statement
 abbrev FitsOutline : Bool → Outline → Type 0
 FitsOutline top (outline.Step one) = FitsPlain top one
-FitsOutline top (outline.Loop times) = within 1 most_passes times ≡ true
+FitsOutline top (outline.Loop times) = is_within 1 most_passes times ≡ true
 FitsOutline top outline.Shift = Unit {0}
 
 -- a statement that is said without a fault
@@ -282,7 +282,7 @@ step_fits top said.IddqTestPoint r found fits fit is =
 -- what a statement does, and a statement
 abbrev is_action : Bool → PatAction → Bool
 is_action top (action.Step one) = is_step top one
-is_action top (action.Loop times body) = within 1 most_passes times && is_body false body
+is_action top (action.Loop times body) = is_within 1 most_passes times && is_body false body
 is_action top (action.Shift body) = is_body false body
 
 abbrev is_stmt : Bool → PatStmt → Bool
@@ -310,7 +310,7 @@ fit_body top (stmt ∷ stmts) all =
     by_action line (action.Step one) lined fits rest =
         all_three (is_line line) (is_step top one) (is_body top (written_of stmts)) lined fits rest
     by_action line (action.Loop times body) lined fits rest =
-        all_four (is_line line) (within 1 most_passes times) (is_body false body) (is_body top (written_of stmts)) lined fits rest
+        all_four (is_line line) (is_within 1 most_passes times) (is_body false body) (is_body top (written_of stmts)) lined fits rest
     by_action line (action.Shift body) lined fits rest =
         all_three (is_line line) (is_body false body) (is_body top (written_of stmts)) lined fits rest
 
@@ -330,7 +330,7 @@ action_fits top (outline.Loop times) r inner does fits assigned fit is =
     let both = both_ok inner (λ stmts. Ok (action.Loop times (written_of stmts))) does is in
     let same : action.Loop times (written_of both.given) ≡ does = cc in
     subst (λ (x : PatAction). is_action top x ≡ true) same
-    (and_from (within 1 most_passes times) (is_body false (written_of both.given)) fits
+    (and_from (is_within 1 most_passes times) (is_body false (written_of both.given)) fits
     (fit_body false both.given (fit both.given both.met)))
 action_fits top outline.Shift r inner does fits assigned fit is =
     let both = both_ok inner (λ stmts. Ok (action.Shift (written_of stmts))) does is in

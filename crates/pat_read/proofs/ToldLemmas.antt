@@ -21,7 +21,7 @@ use Rattle.pat_read.specs.Refusal.{IsTold, IsFaultOf, IsBodyFault, BodyAnswers, 
 abbrev fault_by : StilKind → List ℕ → List ℕ → ℕ → StilFault
 fault_by kind block name line = record { kind = kind; block = block; name = name; line = line }
 
-same_fault : (k k' : StilKind) (b b' n n' : List ℕ) (l l' : ℕ) →
+pub same_fault : (k k' : StilKind) (b b' n n' : List ℕ) (l l' : ℕ) →
     k ≡ k' → b ≡ b' → n ≡ n' → l ≡ l' → fault_by k b n l ≡ fault_by k' b' n' l'
 same_fault k k' b b' n n' l l' kind block name line =
     ap (λ v. fault_by v b n l) kind ∙ ap (λ v. fault_by k' v n l) block ∙ ap (λ v. fault_by k' b' v l) name ∙ ap (fault_by k' b' n') line

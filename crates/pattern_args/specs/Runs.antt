@@ -1,6 +1,6 @@
 -- Characters as runs, each with the number of the characters up to its end.
-use Rattle.std.specs.Prelude.{ℕ, ◌-◌, ◌≤◌, List, [], ◌∷◌, ◌++◌, Option, Some, None, replicate}
-use Rattle.stil_ast.specs.Meaning.Arguments.{Entry, given, padding}
+use Rattle.std.specs.Prelude.{ℕ, ◌-◌, ◌≤◌, List, [], ◌∷◌, ◌++◌, replicate}
+use Rattle.stil_ast.specs.Meaning.Arguments.{Entry, given}
 use Rattle.pattern_args.specs.declared.characters.CharacterRun.{CharacterRun}
 
 -- the characters of runs, the first of which begins behind so many characters
@@ -17,8 +17,3 @@ end_of from (run ∷ runs) = end_of run.end runs
 abbrev pub RiseFrom : ℕ → List CharacterRun → Type 0
 RiseFrom from [] = Unit {0}
 RiseFrom from (run ∷ runs) = (from ≤ run.end) × RiseFrom run.end runs
-
--- an entry as the code names it: none is padding
-abbrev pub entry_of : Option ℕ → Entry
-entry_of None = padding
-entry_of (Some c) = given c

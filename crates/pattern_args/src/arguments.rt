@@ -3,9 +3,8 @@
 ghost use Rattle.std.specs.Prelude.{◌≡◌, ◌<◌, ◌-◌, ◌^◌, [], false, length, replicate, slice_index_or, IfOk, OnOk, OnErr};
 ghost use Rattle.std.specs.Option.{option_map};
 ghost use Rattle.stil_ast.specs.Data.Items.{items_of};
-ghost use Rattle.stil_ast.specs.Meaning.Arguments.{no_argument, argument_of, entries_of, dealt_out, next_entry, next_taken};
+ghost use Rattle.stil_ast.specs.Meaning.Arguments.{no_argument, argument_of, entries_of, dealt_out, next_entry, next_taken, entry_of};
 ghost use Rattle.stil_ast.specs.Meaning.Shift.{passes, with_column, columns};
-ghost use Rattle.pattern_args.specs.Runs.{entry_of};
 ghost use Rattle.pattern_args.specs.Lanes.{no_lane};
 
 use crate::characters::Characters;

@@ -2,9 +2,8 @@
 
 ghost use Rattle.std.specs.Prelude.{◌≡◌, ◌<◌, ◌≤◌, ◌-◌, ◌^◌, List, All, length, drop, slice_index_or, slice_set};
 ghost use Rattle.std.specs.Option.{option_map};
-ghost use Rattle.stil_ast.specs.Meaning.Arguments.{Entry, first_of, one_taken, dealt_out};
+ghost use Rattle.stil_ast.specs.Meaning.Arguments.{Entry, first_of, one_taken, dealt_out, entry_of};
 ghost use Rattle.stil_ast.specs.Meaning.Shift.{column};
-ghost use Rattle.pattern_args.specs.Runs.{entry_of};
 ghost use Rattle.pattern_args.specs.Lanes.{left_of, argument_in, arguments_in, given_left, lane_len, IsSound, Fits, no_lane};
 
 use crate::characters::Characters;

@@ -1,5 +1,5 @@
 -- What a pool holds once a page was asked for.
-use Rattle.std.proofs.Common.{◌≡◌, ℕ, ◌-◌, Bool, true, false, cond, List, [], ◌∷◌, take, slice_get, is_some, nat_eq, Contains, Result, Ok, Err, OnErr, Some, None, refl, sym, ap, subst, ◌∙◌, eqb-true, ⊎_elim}
+use Rattle.std.proofs.Common.{◌≡◌, ℕ, ◌-◌, Bool, true, false, cond, List, [], ◌∷◌, take, slice_get, is_some, nat_eq, Contains, Some, None, refl, sym, ap, subst, ◌∙◌, eqb-true, ⊎_elim}
 use Rattle.std.proofs.lemmas.Bool.{cond-true, cond-false, false≢true}
 use Rattle.std.proofs.lemmas.Option.{get_or_from_slice_get}
 use Rattle.std.specs.Map.{lookup, lookup_entry, remove_entry}
@@ -121,11 +121,6 @@ module _ (code : Program) (cache : LruCache ℕ (List Instr)) (page : ℕ) where
   put_first moved new instrs same made put =
       put ∙ ap (λ (k : LruCache ℕ (List Instr)). lru_cache (put_entries nat_eq k page instrs) k.cap) same
       ∙ ap (λ (m : List Instr). lru_cache (put_entries nat_eq cache page m) cache.cap) made
-
--- a fact is a fact after an error, too
-pub on_err : {T E P : Type 0} (r : Result T E) → P → OnErr r P
-on_err (Ok _) p = tt
-on_err (Err _) p = p
 
 -- what is read of a page's number is the code's page
 pub page_made : (code read : Program) (page : ℕ) (instrs : List Instr) → read ≡ code → slice_get (pages_of read) page ≡ Some instrs

@@ -1,10 +1,11 @@
 -- A new table keeps the pool's rule, and so do the making of a pass, a take and a give.
-use Rattle.std.proofs.Common.{◌≡◌, ℕ, zero, suc, ◌+◌, ◌≤◌, Bool, true, false, List, [], ◌∷◌, ◌++◌, cond, ◌==◌, set, slice_index, sum_by, sym, refl, ap, ◌∙◌, subst, ⊎_elim, arith, length-append, length-set}
+use Rattle.std.proofs.Common.{◌≡◌, ℕ, zero, suc, ◌+◌, ◌≤◌, Bool, true, false, List, [], ◌∷◌, ◌++◌, cond, ◌==◌, set, slice_index, sym, refl, ap, ◌∙◌, subst, ⊎_elim, arith, length-append, length-set}
 use mathlib.Core.Option.{Option, none, some, some-injective, some-ne-none}
 use lib.ListN.{get_elem?}
 use prog.Atomic.{either}
 use Rattle.std.proofs.lemmas.List.{set-get_or}
-use Rattle.std.proofs.lemmas.List.Sums.{sum_by-cons, sum_by_push}
+use Rattle.std.proofs.lemmas.List.Sums.{sum_by_push}
+use Rattle.text_bytes.proofs.SumLemmas.{sum_by-set_there, term-le-sum_by}
 use Rattle.atomic_table.specs.Table.{State, Me, Act, keeps, takes, gives, step, Valid, stepped, carried_after, Allows, Splits, opening}
 use Rattle.atomic_table.proofs.Lists.{at_set, at_snoc, set_again, exchanged}
 use Rattle.page_code.specs.Program.{Program}
@@ -17,21 +18,6 @@ use Rattle.pattern_mem.specs.declared.view.OpenerView.{OpenerView}
 use Rattle.pattern_mem.specs.declared.view.PassView.{PassView}
 
 -- ---- sums over views
-
--- where one item changes, a sum loses its term and gains the new one's
-sum_by-set_there : {A : Type 0} (f : A → ℕ) (l : List A) (j : ℕ) (v w : A) → get_elem? l j ≡ some v
-    → sum_by f (set l j w) + f v ≡ sum_by f l + f w
-sum_by-set_there f [] j v w e = absurd (some-ne-none v (sym e))
-sum_by-set_there f (x ∷ xs) zero v w e =
-    omega (arith, sum_by-cons f x xs, sum_by-cons f w xs, ap f (some-injective x v e))
-sum_by-set_there f (x ∷ xs) (suc j) v w e =
-    omega (arith, sum_by-cons f x xs, sum_by-cons f x (set xs j w), sum_by-set_there f xs j v w e)
-
--- a sum is at least each of its terms
-term-le-sum_by : {A : Type 0} (f : A → ℕ) (l : List A) (j : ℕ) (v : A) → get_elem? l j ≡ some v → f v ≤ sum_by f l
-term-le-sum_by f [] j v e = absurd (some-ne-none v (sym e))
-term-le-sum_by f (x ∷ xs) zero v e = omega (arith, sum_by-cons f x xs, ap f (some-injective x v e))
-term-le-sum_by f (x ∷ xs) (suc j) v e = omega (arith, sum_by-cons f x xs, term-le-sum_by f xs j v e)
 
 -- ---- where views stand
 

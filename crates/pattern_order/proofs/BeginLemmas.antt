@@ -5,6 +5,7 @@ use Rattle.std.specs.List.{AllByRecursion, count_by}
 use Rattle.std.proofs.lemmas.List.{append-nil}
 use Rattle.std.proofs.lemmas.List.Sums.{sum_by-cons}
 use Rattle.std.proofs.lemmas.Option.{same_Some}
+use Rattle.text_bytes.proofs.ListLemmas.{slice_get-there}
 use Rattle.stil_ast.specs.Faults.Found.{first_in}
 use Rattle.stil_ast.specs.Faults.BurstFaults.{Mention, mentions, cyclic_fault}
 use Rattle.stil_ast.specs.declared.blocks.Blocks.{Blocks}
@@ -18,7 +19,6 @@ use Rattle.pattern_order.specs.Walks.{IsBegun, Knows, IsAmong, Forwards, IsSilen
 use Rattle.pattern_order.specs.declared.walk.Frame.{Frame}
 use Rattle.pattern_order.specs.declared.walk.Mark.{Mark}
 use Rattle.pattern_order.specs.declared.walk.Mark.TheVariants.{Fresh, Open}
-use Rattle.pattern_order.proofs.PlaceLemmas.{at_place}
 use Rattle.pattern_order.proofs.MeetLemmas.{mentions-met}
 use Rattle.pattern_order.proofs.StandLemmas.{mark-test, stands-open}
 use Rattle.pattern_order.proofs.AheadLemmas.{ahead-open}
@@ -125,7 +125,7 @@ module _ (blocks : Blocks) where
       → ((b : Burst) → slice_get blocks.bursts number ≡ Some b → first_in cyclic_fault (mentions blocks (Some b)) ≡ None)
       → Plays blocks 0 marks fs
   play-begins number marks fs s is none =
-      let b = at_place blocks.bursts number is.within in
+      let b = slice_get-there blocks.bursts number is.within in
       let forward = begins-first cyclic_fault number marks fs s b.0 b.1 ∙ none b.0 b.1 in
       rw s.alone (record {
         stands = s.stands;

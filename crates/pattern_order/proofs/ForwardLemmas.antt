@@ -2,17 +2,15 @@
 use Rattle.std.proofs.Common.{◌≡◌, ℕ, suc, ◌<◌, ◌≤◌, ◌-◌, ◌==◌, Bool, true, false, List, [], ◌∷◌, length, Option, Some, None, take, sym, ap, ◌∙◌, subst, refl, true≢false, reverse}
 use Rattle.std.specs.Prelude.{Err, ◌||◌, slice_get, slice_set}
 use Rattle.std.specs.List.{AllByRecursion, list_any}
-use Rattle.std.proofs.lemmas.Bool.{eqb-true, eq-eqb, ne_eqb}
+use Rattle.std.proofs.lemmas.Bool.{eqb-true, eq-eqb, ne_eqb, or_right}
 use Rattle.std.proofs.lemmas.List.{length-set}
-use Rattle.std.proofs.lemmas.Option.{none-some, same_Some}
-use Rattle.text_bytes.proofs.BoolLemmas.{or_right}
+use Rattle.std.proofs.lemmas.Option.{same_Some}
 use Rattle.stil_ast.specs.Data.Texts.{same, has_name}
 use Rattle.stil_ast.specs.Faults.Found.{fault_at, refuse_if}
 use Rattle.stil_ast.specs.Faults.BurstFaults.{burst_place, burst_for, is_round, cyclic_fault}
 use Rattle.stil_ast.specs.declared.blocks.Blocks.{Blocks}
 use Rattle.stil_ast.specs.declared.executive.Burst.{Burst}
 use Rattle.stil_ast.specs.declared.executive.BurstItem.{BurstItem}
-use Rattle.stil_ast.specs.declared.fault.StilFault.{StilFault}
 use Rattle.stil_ast.specs.declared.fault.StilKind.TheVariants.{Cyclic}
 use Rattle.stil_ast.specs.declared.fault.StilRefusal.{StilRefusal}
 use Rattle.signal_groups.specs.Begun.{FirstTells}
@@ -309,8 +307,3 @@ module _ (blocks : Blocks) where
   forward-refused marks f fs s marks' fs' r h n t =
       goes-refused blocks cyclic_fault (Forwards blocks) marks f fs s marks' fs'
       (refuse_if s.leads_back (fault_at (burst_place s.burst.now s.item.now.line) Cyclic) None) r h.stands n refl t
-
--- what is not refused doesn't lead back
-pub forward-from : (back : Bool) (fault : StilFault) → refuse_if back fault None ≡ None → back ≡ false
-forward-from true fault h = absurd (none-some fault (sym h))
-forward-from false fault h = refl

@@ -2,10 +2,9 @@
 use Rattle.std.proofs.Common.{◌≡◌, ℕ, suc, ◌<◌, ◌≤◌, ◌==◌, Bool, true, false, List, ◌∷◌, length, ◌-◌, ◌⊎◌, Some, None, take, sym, ap, ◌∙◌, subst, inl, inr, refl, true≢false, reverse}
 use Rattle.std.specs.Prelude.{Err, slice_get, slice_set}
 use Rattle.std.specs.List.{AllByRecursion}
-use Rattle.std.proofs.lemmas.Bool.{cases_Bool, eqb-true}
+use Rattle.std.proofs.lemmas.Bool.{cases_Bool, eqb-true, or_right}
 use Rattle.std.proofs.lemmas.List.{length-set}
 use Rattle.std.proofs.lemmas.Option.{none-some, same_Some}
-use Rattle.text_bytes.proofs.BoolLemmas.{or_right}
 use Rattle.stil_ast.specs.Data.Texts.{same, has_name}
 use Rattle.stil_ast.specs.Faults.Found.{fault_at, unless}
 use Rattle.stil_ast.specs.Faults.BurstFaults.{burst_place, burst_for, is_round, unknown_fault}

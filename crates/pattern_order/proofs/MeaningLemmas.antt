@@ -5,6 +5,7 @@ use Rattle.std.proofs.lemmas.Bool.{cases_Bool, eq-eqb, eqb-true}
 use Rattle.std.proofs.lemmas.Option.{same_Some, slice_get-map, get_or_from_slice_get}
 use Rattle.std.specs.Option.{option_map}
 use Rattle.std.proofs.lemmas.Slice.Eq.{bytes_eq-Decides}
+use Rattle.text_bytes.proofs.ListLemmas.{slice_get-there}
 use Rattle.stil_ast.specs.Data.Texts.{same}
 use Rattle.stil_ast.specs.Meaning.Bursts.{pattern_named, burst_named, is_entry}
 use Rattle.stil_ast.specs.Faults.BurstFaults.{burst_place, has_block, burst_for, unknown_fault}
@@ -21,7 +22,7 @@ use Rattle.pattern_order.specs.Numbers.{pattern_number, burst_number, entry_mean
 use Rattle.pattern_order.specs.Walks.{is_known}
 use Rattle.pattern_order.specs.declared.meaning.Meaning.{Meaning}
 use Rattle.pattern_order.specs.declared.meaning.Meaning.TheVariants.{Unknown, Block, Pattern as APattern, Burst as ABurst}
-use Rattle.pattern_order.proofs.PlaceLemmas.{find-position, find-no_position, position-passes, at_place}
+use Rattle.pattern_order.proofs.PlaceLemmas.{find-position, find-no_position, position-passes}
 
 module _ (blocks : Blocks) where
   -- the pattern for which a name in a burst stands
@@ -60,7 +61,7 @@ module _ (blocks : Blocks) where
       → both (record { word = Entry; name = name; line = line }) (APattern k)
   named_pattern name line k h =
       let found = find-position (λ (p : Pattern). same p.name name) blocks.patterns k h in
-      let p = at_place blocks.patterns k found.1 in
+      let p = slice_get-there blocks.patterns k found.1 in
       let is : pattern_named blocks name ≡ Some p.0 = found.0 ∙ p.1 in
       ((rw is refl, found.0, found.1), rw is refl)
 
@@ -70,7 +71,7 @@ module _ (blocks : Blocks) where
   named_burst name line k none h =
       let nothing : pattern_named blocks name ≡ None = find-no_position (λ (p : Pattern). same p.name name) blocks.patterns none in
       let found = find-position (λ (b : Burst). same b.name name) blocks.bursts k h in
-      let b = at_place blocks.bursts k found.1 in
+      let b = slice_get-there blocks.bursts k found.1 in
       let is : burst_named blocks name ≡ Some b.0 = found.0 ∙ b.1 in
       let called : b.0.name ≡ name =
       (bytes_eq-Decides b.0.name name).0 (position-passes (λ (c : Burst). same c.name name) blocks.bursts k b.0 h b.1) in (
@@ -177,7 +178,7 @@ module _ (blocks : Blocks) where
       → (b : Burst) × (slice_get blocks.bursts k ≡ Some b) × (burst_named blocks name ≡ Some b)
   numbered-named name k h =
       let found = find-position (λ (b : Burst). same b.name name) blocks.bursts k h in
-      let b = at_place blocks.bursts k found.1 in (b.0, b.1, found.0 ∙ b.1)
+      let b = slice_get-there blocks.bursts k found.1 in (b.0, b.1, found.0 ∙ b.1)
 
   -- a number of a name is that of the burst's own name
   pub number-first : (name : List ℕ) (k : ℕ) → burst_number blocks name ≡ Some k → IsFirst blocks k

@@ -94,11 +94,3 @@ module _ {X : Type 0} (p : X → Bool) where
   -- what stands at the place passes
   pub position-passes : (xs : List X) (k : ℕ) (x : X) → position p xs ≡ Some k → slice_get xs k ≡ Some x → p x ≡ true
   position-passes xs k x h at = ap p (sym (get_or_from_slice_get xs k x x at)) ∙ (position-Some p xs k x h).1
-
--- the element at a place within
-pub at_place : {X : Type 0} (xs : List X) (k : ℕ) → k < length xs → (x : X) × (slice_get xs k ≡ Some x)
-at_place xs k lt =
-    elim (slice_get_cases xs k).1 [
-      | inl c ↦ (c.0, c.2)
-      | inr c ↦ absurd (omega (arith, c.0, lt))
-    ]

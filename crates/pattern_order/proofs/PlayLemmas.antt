@@ -2,11 +2,11 @@
 use Rattle.std.proofs.Common.{◌≡◌, ℕ, suc, ◌<◌, ◌≤◌, ◌+◌, ◌-◌, ◌==◌, Bool, true, false, cond, List, [], ◌∷◌, ◌++◌, length, map, Option, Some, None, take, sym, ap, ◌∙◌, subst, inl, inr, refl, arith, true≢false, reverse, append_assoc, length-append}
 use Rattle.std.specs.Prelude.{◌||◌, slice_get, slice_set}
 use Rattle.std.specs.List.{AllByRecursion, list_any, flat_map}
-use Rattle.std.proofs.lemmas.Bool.{cases_lt, lt-leb, le-leb, eqb-true, eqb-false, eq-eqb}
+use Rattle.std.proofs.lemmas.Bool.{cases_lt, lt-leb, le-leb, eqb-true, eqb-false, eq-eqb, or_right}
 use Rattle.std.proofs.lemmas.List.{length-set, append-nil, length-map}
 use Rattle.std.proofs.lemmas.List.Concat.{flat_map-append}
 use Rattle.std.proofs.lemmas.Option.{same_Some}
-use Rattle.text_bytes.proofs.BoolLemmas.{or_right}
+use Rattle.text_bytes.proofs.ListLemmas.{slice_get-there}
 use Rattle.stil_ast.specs.Meaning.Bursts.{Played}
 use Rattle.stil_ast.specs.Faults.Found.{fault_at, first_in}
 use Rattle.stil_ast.specs.Faults.BurstFaults.{burst_place, burst_for, is_round, cyclic_fault}
@@ -15,7 +15,7 @@ use Rattle.stil_ast.specs.declared.blocks.Pattern.{Pattern}
 use Rattle.stil_ast.specs.declared.fault.StilKind.TheVariants.{Cyclic}
 use Rattle.stil_ast.specs.declared.executive.Burst.{Burst}
 use Rattle.stil_ast.specs.declared.executive.BurstItem.{BurstItem}
-use Rattle.stil_ast.proofs.FoundLemmas.{or_else-none}
+use Rattle.stil_ast.proofs.FoundLemmas.{or_else-none, not_refused}
 use Rattle.pattern_order.specs.Walk.{Met, met_within, mention_of, pattern_played, played_at, names_of, ahead_in, met_by}
 use Rattle.pattern_order.specs.Numbers.{IsNumbered, meaning_of, played_as}
 use Rattle.pattern_order.specs.Marks.{mark_at, is_fresh, is_closed, fresh_of, moved_on, IsNext, IsOpened, Passes, Stands}
@@ -30,11 +30,10 @@ use Rattle.pattern_order.specs.declared.walk.Mark.{Mark}
 use Rattle.pattern_order.specs.declared.walk.Mark.TheVariants.{Fresh, Open, Closed}
 use Rattle.pattern_order.specs.declared.walk.Step.{Step}
 use Rattle.pattern_order.proofs.MeaningLemmas.{Means, means, played-as}
-use Rattle.pattern_order.proofs.PlaceLemmas.{at_place}
 use Rattle.pattern_order.proofs.MeetLemmas.{NoneBack, none-parts}
 use Rattle.pattern_order.proofs.StandLemmas.{within, innermost, stands-close, stands-move, stands-open}
 use Rattle.pattern_order.proofs.AheadLemmas.{inside, ahead-close, ahead-next, into-ahead, fresh-shut, GoesInto, NamesNone, Ways, ways, PassesIn, passes-in, less-close, less-next}
-use Rattle.pattern_order.proofs.ForwardLemmas.{closed-more, closed-same, open-shut, fresh-unclosed, forward-from}
+use Rattle.pattern_order.proofs.ForwardLemmas.{closed-more, closed-same, open-shut, fresh-unclosed}
 use Rattle.pattern_order.proofs.GoLemmas.{innermost-first}
 use Rattle.pattern_order.proofs.SkipLemmas.{StaysIn, all-met, all_mono, all_next, all_whole, all_none, leads-to, opened-numbered}
 
@@ -269,7 +268,7 @@ module _ (blocks : Blocks) where
       → length (played_as blocks macros procedures (APattern k)) ≡ 1
   runs_one macros procedures i k is =
       let what : Means blocks i (APattern k) = subst (Means blocks i) is (means blocks i) in
-      let p = at_place blocks.patterns k what.2 in
+      let p = slice_get-there blocks.patterns k what.2 in
       ap (λ o. length (pattern_played macros procedures o)) p.1
 
   -- the walk goes on behind a name
@@ -346,7 +345,7 @@ module _ (blocks : Blocks) where
 
     forward-here : s.leads_back ≡ false
     forward-here =
-        forward-from s.leads_back (fault_at (burst_place s.burst.now s.item.now.line) Cyclic)
+        not_refused s.leads_back (fault_at (burst_place s.burst.now s.item.now.line) Cyclic)
         (or_else-none (cyclic_fault (mention_of blocks (met_by s)))
         (first_in cyclic_fault (map (mention_of blocks) (inside blocks f fs s ++ ahead_in blocks (moved_on f ∷ fs))))
         (sym (ap (λ xs. first_in cyclic_fault (map (mention_of blocks) xs)) (ahead-next blocks marks f fs s h.stands n)) ∙ h.forward)).0

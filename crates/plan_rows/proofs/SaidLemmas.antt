@@ -1,10 +1,9 @@
 -- What rows say again, by their lists.
-use Rattle.std.proofs.Common.{◌≡◌, ℕ, Bool, true, false, cond, ◌||◌, ◌==◌, List, [], ◌∷◌, ◌++◌, map, filter, Option, Some, None, refl, sym, ap, ◌∙◌, inl, inr, ◌⊎◌}
+use Rattle.std.proofs.Common.{◌≡◌, ℕ, Bool, true, false, cond, ◌||◌, ◌==◌, List, [], ◌∷◌, ◌++◌, map, filter, Option, Some, None, refl, sym, ap, ◌∙◌, inl, inr}
 use Rattle.std.specs.List.{list_any}
 use Rattle.std.specs.Str.{bytes_eq}
 use Rattle.std.specs.Cmp.Lexicographic.{bytes_decides}
-use Rattle.std.proofs.lemmas.Bool.{eqb-true, or_cases, false_from_ne_true}
-use Rattle.text_bytes.proofs.BoolLemmas.{or_left, or_right}
+use Rattle.std.proofs.lemmas.Bool.{eqb-true, or_cases, false_from_ne_true, or_left, or_right}
 use Rattle.plan_rows.specs.Rows.{one, each_of, dies_of, as_clock, as_die, as_fault}
 use Rattle.plan_rows.specs.Judging.{names_at, says_again}
 use Rattle.plan_rows.specs.Subjects.{Subject, the_clock, the_name, the_net, subject_of, same_subject}

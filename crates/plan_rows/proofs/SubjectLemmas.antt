@@ -1,10 +1,10 @@
 -- What two rows are about is one thing exactly where their numbers are.
-use Rattle.std.proofs.Common.{◌≡◌, ℕ, Bool, true, ◌&&◌, ◌||◌, ◌==◌, List, [], ◌∷◌, map, refl, ap, ◌∙◌, eq-eqb}
+use Rattle.std.proofs.Common.{◌≡◌, ℕ, true, ◌&&◌, ◌||◌, ◌==◌, List, [], ◌∷◌, map, refl, ap, ◌∙◌, eq-eqb}
 use Rattle.std.specs.List.{list_any}
 use Rattle.std.specs.Str.{bytes_eq}
 use Rattle.std.specs.Cmp.Lexicographic.{bytes_decides}
 use Rattle.std.proofs.lemmas.Bool.{and_from}
-use Rattle.text_bytes.proofs.BoolLemmas.{and_true}
+use Rattle.std.proofs.Math.Bool.{and-true}
 use Rattle.plan_rows.specs.Subjects.{Subject, the_lot, the_clock, the_signal, the_name, the_net, the_try, the_ending, the_skew, subject_of, same_ending, same_subject}
 use Rattle.plan_rows.specs.Inside.{ending_key, subject_key, key_of}
 use Rattle.plan_rows.specs.declared.row.Row.{Row}
@@ -14,7 +14,7 @@ use Rattle.plan_rows.specs.declared.row.Ending.TheVariants.{Pass, Fail, Stopped,
 -- the numbers of two endings
 same_ending-key : (a b : Ending) → bytes_eq (ending_key a) (ending_key b) ≡ same_ending a b
 same_ending-key Pass Pass = refl
-same_ending-key (Fail e) (Fail f) = and_true (e == f)
+same_ending-key (Fail e) (Fail f) = and-true (e == f)
 same_ending-key Stopped Stopped = refl
 same_ending-key Contact Contact = refl
 same_ending-key Pass _ = refl
@@ -29,7 +29,7 @@ same_subject-key the_clock the_clock = refl
 same_subject-key (the_signal s) (the_signal t) = refl
 same_subject-key (the_name s n) (the_name t m) = refl
 same_subject-key (the_net s d n) (the_net t e m) = refl
-same_subject-key (the_try s d n) (the_try t e m) = ap (λ b. (s == t) && ((d == e) && b)) (and_true (n == m))
+same_subject-key (the_try s d n) (the_try t e m) = ap (λ b. (s == t) && ((d == e) && b)) (and-true (n == m))
 same_subject-key (the_ending a) (the_ending b) = same_ending-key a b
 same_subject-key (the_skew s n) (the_skew t m) = refl
 same_subject-key the_lot _ = refl

@@ -2,7 +2,7 @@
 use Rattle.std.proofs.Common.{◌≡◌, ℕ, Bool, true, false, cond, ◌&&◌, List, [], ◌∷◌, ◌++◌, Option, Some, None, length, refl, ap, ◌∙◌}
 use Rattle.std.specs.Prelude.{flat_map, nat_le, unwrap_or, ◌==◌}
 use Rattle.std.specs.List.{list_all, list_any}
-use Rattle.std.proofs.lemmas.Bool.{and_parts}
+use Rattle.std.proofs.lemmas.Bool.{and_parts, and_from}
 use Rattle.std.proofs.lemmas.List.Folds.{list_all-append}
 use Rattle.text_bytes.specs.Limits.{most_cells}
 use Rattle.stil_ast.specs.Data.Texts.{same, is_name}
@@ -19,9 +19,6 @@ use Rattle.stil_ast.proofs.FormLemmas.{length-cells_of}
 use Rattle.scan_chain.proofs.CellLemmas.{declared_chains}
 use Rattle.scan_chain.specs.Short.{is_short, ChainsAreShort}
 
-both : (a b : Bool) → a ≡ true → b ≡ true → (a && b) ≡ true
-both a b e f = ap (λ x. x && b) e ∙ f
-
 -- what is made of items that pass passes
 flat_map-all : {A B : Type 0} (q : A → Bool) (p : B → Bool) (f : A → List B)
     → ((x : A) → q x ≡ true → list_all p (f x) ≡ true) → (xs : List A) → list_all q xs ≡ true
@@ -30,7 +27,7 @@ flat_map-all q p f each [] all = refl
 flat_map-all q p f each (x ∷ xs) all =
     let parts = and_parts (q x) (list_all q xs) all in
     list_all-append p (f x) (flat_map f xs)
-    ∙ both _ _ (each x parts.0) (flat_map-all q p f each xs parts.1)
+    ∙ and_from _ _ (each x parts.0) (flat_map-all q p f each xs parts.1)
 
 -- chains that are told apart are among those that there are
 distinct_chains-all : (p : Chain → Bool) (chains before : List Chain) → list_all p before ≡ true → list_all p chains ≡ true
@@ -43,7 +40,7 @@ distinct_chains-all p (c ∷ chains) before front all =
   where
     either : (b : Bool) → p c ≡ true → list_all p (cond b before (before ++ c ∷ [])) ≡ true
     either true here = front
-    either false here = list_all-append p before (c ∷ []) ∙ both _ _ front (both _ _ here refl)
+    either false here = list_all-append p before (c ∷ []) ∙ and_from _ _ front (and_from _ _ here refl)
 
 -- the declarations of blocks that have their form have theirs
 named-all : (scans : List ScanBlock) (name : List ℕ) → list_all is_scan_block scans ≡ true
@@ -95,7 +92,7 @@ chain_with-short : (d : ChainDecl) (out : Option ℕ) → list_all is_chain_stmt
 chain_with-short d None all = refl
 chain_with-short d (Some out) all =
     let few = cells_in-short d.stmts all in
-    both _ _ (both _ _ (length_in-short d.stmts (length (cells_in d.stmts)) few all) few) refl
+    and_from _ _ (and_from _ _ (length_in-short d.stmts (length (cells_in d.stmts)) few all) few) refl
 
 stmts_of : (d : ChainDecl) → is_chain_decl d ≡ true → list_all is_chain_stmt d.stmts ≡ true
 stmts_of d h = (and_parts (is_name d.name) (list_all is_chain_stmt d.stmts) (and_parts _ _ (and_parts _ (is_line d.line) h).0).0).1

@@ -2,12 +2,7 @@
 use Rattle.std.specs.Prelude.{ℕ, ◌==◌, List, Option, find, option_map, option_and_then}
 use Rattle.std.specs.Borrow.{Bor}
 use Rattle.stil_ast.specs.Meaning.Chains.{Chain}
-use Rattle.tester_types.specs.Cells.{marked_cell}
-
--- a cell of a chain, by their names
-pub record Cell : Type 0 where
-  pub chain : List ℕ
-  pub name : List ℕ
+use Rattle.tester_types.specs.Cells.{marked_cell, Cell}
 
 -- the chain that ends at a signal
 abbrev pub chain_at : List Chain → ℕ → Option Chain

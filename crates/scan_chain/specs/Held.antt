@@ -2,14 +2,10 @@
 use Rattle.std.specs.Prelude.{ℕ, ◌==◌, Bool, List, [], ◌∷◌, Option, Some, None, map, max, slice_index_or}
 use Rattle.std.specs.List.{list_any}
 use Rattle.std.specs.Borrow.{Bor}
-use Rattle.stil_ast.specs.Meaning.Arguments.{Entry, given, padding}
+use Rattle.stil_ast.specs.Meaning.Arguments.{Entry, padding}
 use Rattle.stil_ast.specs.Meaning.Chains.{Chain, cells_of}
 use Rattle.stil_ast.specs.declared.scan.CellsDecl.{CellsDecl}
 use Rattle.scan_chain.specs.declared.chain.ScanChain.{ScanChain}
-
--- what references lead to
-abbrev pub behind : {T : Type 0} → List (Bor T) → List T
-behind references = map (λ r. r.now) references
 
 -- a chain that is held
 abbrev pub chain_in : ScanChain → Chain
@@ -32,11 +28,6 @@ cells_if (Some c) = cells_of c.now
 abbrev pub greatest : List ℕ → ℕ
 greatest [] = 0
 greatest (n ∷ ns) = max n (greatest ns)
-
--- an entry of a column that is held: a character, or none where it is padding
-abbrev pub entry_of : Option ℕ → Entry
-entry_of None = padding
-entry_of (Some c) = given c
 
 -- the entry at a place, which may be missing
 abbrev pub entry_at : List Entry → Option ℕ → Entry

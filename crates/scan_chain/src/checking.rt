@@ -2,6 +2,7 @@
 
 ghost use Rattle.std.specs.Prelude.{◌≡◌, ℕ, List, [], is_some, length, nat_le, IfOk};
 ghost use Rattle.std.specs.List.{list_all, list_any};
+ghost use Rattle.text_bytes.specs.Texts.{behind};
 ghost use Rattle.text_bytes.specs.Limits.{longest_name};
 ghost use Rattle.stil_ast.specs.Data.Texts.{same, indices, indexed, names_with};
 ghost use Rattle.stil_ast.specs.Faults.Found.{fault_at, first_in};
@@ -12,7 +13,6 @@ ghost use Rattle.stil_ast.specs.declared.scan.ChainDecl.{ChainDecl};
 ghost use Rattle.stil_ast.specs.declared.scan.ChainStmt.TheVariants as stmts;
 ghost use Rattle.signal_groups.specs.Table.{table_of};
 ghost use Rattle.signal_groups.specs.Begun.{Refuses, FirstTells};
-ghost use Rattle.scan_chain.specs.Held.{behind};
 
 use itoa::Buffer;
 use signal_groups::{SignalTable, index_at, index_count};

@@ -2,12 +2,12 @@
 
 ghost use Rattle.std.specs.Prelude.{◌≡◌, ◌++◌, find, IfOk, OnOk};
 ghost use Rattle.std.specs.Option.{option_copied};
+ghost use Rattle.text_bytes.specs.Texts.{behind};
 ghost use Rattle.stil_ast.specs.Data.Texts.{same};
 ghost use Rattle.stil_ast.specs.Meaning.Bursts.{scans_name, exec_scans};
 ghost use Rattle.stil_ast.specs.Meaning.Chains.{chains_named};
 ghost use Rattle.stil_ast.specs.Data.BlockForms.{is_scans_word};
 ghost use Rattle.stil_ast.specs.declared.executive.Burst.{Burst};
-ghost use Rattle.scan_chain.specs.Held.{behind};
 
 use std::alloc::{AllocError, Global};
 use stil_ast::{Blocks, Burst, BurstItem, BurstWord, ChainDecl, ExecDecl, ScanBlock};

@@ -2,11 +2,12 @@
 
 ghost use Rattle.std.specs.Prelude.{◌≡◌, ◌++◌, ℕ, List, [], ◌∷◌, Some, map, IfOk, OnOk};
 ghost use Rattle.std.specs.Option.{option_copied};
+ghost use Rattle.text_bytes.specs.Texts.{behind};
 ghost use Rattle.stil_ast.specs.Data.Texts.{indices, indexed, names_with};
 ghost use Rattle.stil_ast.specs.Meaning.Signals.{Names};
 ghost use Rattle.stil_ast.specs.Meaning.Chains.{Chain, cells_of, cells_in, length_in, out_in, scan_out_of, chain_with, distinct_chains, chains_of};
 ghost use Rattle.signal_groups.specs.Table.{table_of};
-ghost use Rattle.scan_chain.specs.Held.{behind, chain_in, chains_in, cells_if};
+ghost use Rattle.scan_chain.specs.Held.{chain_in, chains_in, cells_if};
 
 use crate::chain::ScanChain;
 use crate::outs::is_end;

@@ -1,9 +1,9 @@
 //! How often a Shift runs its body, and with which data (IEEE 1450-1999, clauses 21 and 24).
 
 ghost use Rattle.std.specs.Prelude.{◌≡◌, ◌<◌, ◌++◌, ℕ, List, map, replicate, length, slice_index_or, IfOk, IfSome, OnOk};
-ghost use Rattle.stil_ast.specs.Meaning.Arguments.{Argument, argument_of, Entry, given, padding};
+ghost use Rattle.stil_ast.specs.Meaning.Arguments.{Argument, argument_of, Entry, given, padding, entry_of};
 ghost use Rattle.stil_ast.specs.Meaning.Shift.{passes, column};
-ghost use Rattle.scan_chain.specs.Held.{greatest, entry_of, entry_at};
+ghost use Rattle.scan_chain.specs.Held.{greatest, entry_at};
 
 use std::alloc::{AllocError, Global};
 use tester_types::{Items, NoMemory};

@@ -6,10 +6,11 @@ use Rattle.std.proofs.lemmas.List.Elements.{All-nil, All-replicate}
 use Rattle.std.specs.List.{list_any, flat_map}
 use Rattle.std.proofs.lemmas.Bool.{ltb-true}
 use Rattle.std.proofs.lemmas.List.{map-append, length-map, length-replicate, append-nil}
+use Rattle.text_bytes.specs.Texts.{key_texts}
 use Rattle.text_bytes.proofs.ListLemmas.{list_any-map}
 use Rattle.first_fault.specs.Reading.{and_then, stepping}
 use Rattle.stil_ast.specs.Data.Texts.{same}
-use Rattle.stil_ast.specs.Faults.Found.{fault_at, unless, refuse_if}
+use Rattle.stil_ast.specs.Faults.Found.{fault_at, unless, refuse_if, IsRefusal}
 use Rattle.stil_ast.specs.Faults.SignalFaults.{signals_fault, groups_fault}
 use Rattle.stil_ast.specs.Meaning.Signals.{Signal, Group, declared}
 use Rattle.stil_ast.specs.declared.fault.StilFault.{StilFault}
@@ -18,9 +19,8 @@ use Rattle.stil_ast.specs.declared.signal.SignalDecl.{SignalDecl}
 use Rattle.stil_ast.specs.declared.fault.StilRefusal.{StilRefusal}
 use Rattle.stil_ast.specs.declared.fault.StilRefusal.TheVariants as refusal
 use Rattle.signal_groups.specs.declared.table.Declared.{Declared}
-use Rattle.signal_groups.specs.Memory.{key_texts}
 use Rattle.signal_groups.specs.Table.{IsSound}
-use Rattle.signal_groups.specs.Begun.{Begun, Tells, RefusesFor, begun_in, begun_of, with_signal, signal_said, group_said, decl_said}
+use Rattle.signal_groups.specs.Begun.{Begun, Tells, begun_in, begun_of, with_signal, signal_said, group_said, decl_said}
 
 -- items one after another, and then others
 stepping-append : {S E F : Type 0} (step : S → E → Result S F) (s : S) (xs ys : List E)
@@ -171,7 +171,7 @@ groups_few before (g ∷ groups) e few =
 
 -- a refusal has the fault of what was answered
 told_fault : {X : Type 0} (fault : Option StilFault) (x new : X) (e : StilRefusal) → Tells new (Err e) (answered fault x)
-    → RefusesFor fault e
+    → IsRefusal fault e
 told_fault fault x new refusal.NoMemory h = tt
 told_fault fault x new (refusal.Fault f) h = answered_err fault x f h
 
@@ -180,7 +180,7 @@ named_said : (keys : List (Vec ℕ Global)) (groups : List Group) → keys ≡ [
 named_said keys groups e = ap (λ ks. stepping group_said (key_texts ks) groups) e ∙ groups_said [] groups
 
 pub names_refused : (keys : List (Vec ℕ Global)) (groups : List Group) (new : List (List ℕ)) (e : StilRefusal) → keys ≡ []
-    → Tells new (Err e) (stepping group_said (key_texts keys) groups) → RefusesFor (groups_fault [] groups) e
+    → Tells new (Err e) (stepping group_said (key_texts keys) groups) → IsRefusal (groups_fault [] groups) e
 names_refused keys groups new e none h =
     told_fault (groups_fault [] groups) (map (λ (g : Group). g.name) groups) new e
     (subst (λ (w : Result (List (List ℕ)) StilFault). Tells new (Err e) w) (named_said keys groups none) h)
@@ -200,7 +200,7 @@ begun_said keys kept signals e f =
 
 pub signals_refused : (keys : List (Vec ℕ Global)) (kept : List Declared) (signals : List Signal) (new : Begun) (e : StilRefusal)
     → keys ≡ [] → kept ≡ [] → Tells new (Err e) (stepping signal_said (begun_in keys kept) signals)
-    → RefusesFor (signals_fault [] signals) e
+    → IsRefusal (signals_fault [] signals) e
 signals_refused keys kept signals new e none empty h =
     told_fault (signals_fault [] signals) (begun_of signals) new e
     (subst (λ (w : Result Begun StilFault). Tells new (Err e) w) (begun_said keys kept signals none empty) h)

@@ -1,7 +1,7 @@
 -- The answer on a text, from that on its declarations and that on the texts of its groups.
 use Rattle.std.proofs.Common.{◌≡◌, List, [], Option, Some, None, refl, sym, ap, ◌∙◌, inl, inr, ◌⊎◌}
 use Rattle.std.specs.Prelude.{Result, Ok, Err, IfOk, IfErr, MatchResult}
-use Rattle.stil_ast.specs.Faults.Found.{or_else, first_in}
+use Rattle.stil_ast.specs.Faults.Found.{or_else, first_in, IsRefusal}
 use Rattle.stil_ast.specs.Faults.SignalFaults.{signals_fault, groups_fault, group_fault, fourth_fault}
 use Rattle.stil_ast.specs.Meaning.Signals.{Group, Names, names_of}
 use Rattle.stil_ast.specs.declared.blocks.Blocks.{Blocks}
@@ -11,7 +11,6 @@ use Rattle.stil_ast.specs.declared.fault.StilRefusal.TheVariants as refusal
 use Rattle.stil_ast.proofs.FoundLemmas.{not_both, one_fault}
 use Rattle.signal_groups.specs.Table.{Table, table_of}
 use Rattle.signal_groups.specs.Fault.{IsFourth, Fourth}
-use Rattle.signal_groups.specs.Begun.{RefusesFor}
 use Rattle.signal_groups.specs.Settled.{IsBegun, Completes}
 
 behind_two : (a b c : Option StilFault) → a ≡ None → b ≡ None → or_else a (or_else b c) ≡ c
@@ -36,7 +35,7 @@ first_of (Some g) b c f e = e
 
 -- the declarations decide where they have a fault
 pub fourth-refused : (blocks : Blocks) (e : StilRefusal)
-    → RefusesFor (or_else (signals_fault [] (names_of blocks).signals) (groups_fault [] (names_of blocks).groups)) e
+    → IsRefusal (or_else (signals_fault [] (names_of blocks).signals) (groups_fault [] (names_of blocks).groups)) e
     → Fourth blocks (Err e)
 fourth-refused blocks refusal.NoMemory h = tt
 fourth-refused blocks (refusal.Fault f) h =

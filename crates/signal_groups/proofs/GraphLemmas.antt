@@ -1,13 +1,12 @@
 -- Which groups are needed by others, and within how many steps.
-use Rattle.std.proofs.Common.{◌≡◌, ℕ, zero, suc, ◌<◌, ◌≤◌, ◌+◌, ◌-◌, ◌==◌, ◌||◌, Bool, true, false, cond, List, [], ◌∷◌, ◌++◌, length, get_or, refl, sym, ap, ◌∙◌, subst, arith, inl, inr, ◌⊎◌, true≢false, length-append}
+use Rattle.std.proofs.Common.{◌≡◌, ℕ, zero, suc, ◌<◌, ◌≤◌, ◌+◌, ◌-◌, ◌==◌, ◌||◌, Bool, true, false, cond, List, [], ◌∷◌, ◌++◌, length, get_or, refl, sym, ap, ◌∙◌, subst, arith, inl, inr, true≢false, length-append}
 use Rattle.std.specs.Prelude.{All, slice_index}
 use Rattle.std.specs.List.{list_any}
 use Rattle.std.proofs.Math.Seq.{get_or-append_seam}
-use Rattle.std.proofs.lemmas.Bool.{cases_Bool, cases_lt, cases_order, eqb-true, eq-eqb, ne_eqb}
+use Rattle.std.proofs.lemmas.Bool.{cases_Bool, cases_lt, cases_order, eqb-true, eq-eqb, ne_eqb, or_left, or_right, or_from, or_cases}
 use Rattle.std.proofs.lemmas.List.{get_or_append_left}
 use Rattle.std.proofs.lemmas.List.Elements.{All-nil, All-cons, All-head, All-tail}
 use Rattle.std.proofs.lemmas.List.Folds.{list_any-append}
-use Rattle.text_bytes.proofs.BoolLemmas.{or_left, or_right}
 use Rattle.indexmap.proofs.IndexTableLemmas.Probe.{pigeonhole}
 use Rattle.stil_ast.specs.Meaning.Members.{added}
 use Rattle.signal_groups.specs.Graph.{needs_at, reaches, is_done, IsStuck, AreBelow, AreFound}
@@ -27,13 +26,6 @@ any-passes p q (x ∷ xs) e h =
       | inr n ↦ or_right (q x) (list_any q xs) (any-passes p q xs e (sym (ap (λ b. b || list_any p xs) n) ∙ h))
     ]
 
-none_of_both : (a b : Bool) → a ≡ false → b ≡ false → (a || b) ≡ false
-none_of_both a b e f = ap (λ x. x || b) e ∙ f
-
-one_of_both : (a b : Bool) → (a || b) ≡ true → (a ≡ true) ⊎ (b ≡ true)
-one_of_both true b h = inl refl
-one_of_both false b h = inr h
-
 -- what stands outside of a set that holds what its groups need is needed by none of it
 pub outside : (graph : List (List ℕ)) (set : ℕ → Bool) (target : ℕ)
     → ((h : ℕ) → set h ≡ true → All (λ k. set k ≡ true) (needs_at graph h)) → set target ≡ false
@@ -41,7 +33,7 @@ pub outside : (graph : List (List ℕ)) (set : ℕ → Bool) (target : ℕ)
 outside graph set target closed out zero from h = refl
 outside graph set target closed out (suc steps) from h =
     any-none (λ k. k == target || reaches graph steps (needs_at graph k) target) from
-    (λ k d lt. none_of_both _ _
+    (λ k d lt. or_from _ _
     (ne_eqb (get_or from k d) target (λ e. true≢false (sym (h k d lt) ∙ ap set e ∙ out)))
     (outside graph set target closed out steps (needs_at graph (get_or from k d)) (closed (get_or from k d) (h k d lt))))
 
@@ -52,7 +44,7 @@ reaches-suc graph zero from target h = absurd (true≢false (sym h))
 reaches-suc graph (suc steps) from target h =
     any-passes (λ k. k == target || reaches graph steps (needs_at graph k) target)
     (λ k. k == target || reaches graph (suc steps) (needs_at graph k) target) from
-    (λ k e. elim (one_of_both (k == target) (reaches graph steps (needs_at graph k) target) e) [
+    (λ k e. elim (or_cases (k == target) (reaches graph steps (needs_at graph k) target) e) [
       | inl y ↦ or_left (k == target) (reaches graph (suc steps) (needs_at graph k) target) y
       | inr y ↦ or_right (k == target) (reaches graph (suc steps) (needs_at graph k) target)
           (reaches-suc graph steps (needs_at graph k) target y)
@@ -77,7 +69,7 @@ reaches-further graph (suc steps) from u target h there =
     any-passes (λ k. k == u || reaches graph steps (needs_at graph k) u)
     (λ k. k == target || reaches graph (suc steps) (needs_at graph k) target) from
     (λ k e. or_right (k == target) (reaches graph (suc steps) (needs_at graph k) target)
-    (elim (one_of_both (k == u) (reaches graph steps (needs_at graph k) u) e) [
+    (elim (or_cases (k == u) (reaches graph steps (needs_at graph k) u) e) [
       | inl y ↦ any-passes (λ j. j == target) (λ j. j == target || reaches graph steps (needs_at graph j) target) (needs_at graph k)
           (λ j f. or_left (j == target) (reaches graph steps (needs_at graph j) target) f)
           (subst (λ (v : ℕ). list_any (λ j. j == target) (needs_at graph v) ≡ true) (sym (eqb-true k u y)) there)
@@ -311,7 +303,7 @@ pub record IsAt (xs : List ℕ) (t : ℕ) : Type 0 where
 place_of : (xs : List ℕ) (t : ℕ) → list_any (λ m. m == t) xs ≡ true → IsAt xs t
 place_of [] t h = absurd (true≢false (sym h))
 place_of (x ∷ xs) t h =
-    elim (one_of_both (x == t) (list_any (λ m. m == t) xs) h) [
+    elim (or_cases (x == t) (list_any (λ m. m == t) xs) h) [
       | inl e ↦ record { place = 0; within = omega arith; is = eqb-true x t e }
       | inr e ↦ let p = place_of xs t e in record { place = suc p.place; within = omega (arith, p.within); is = p.is }
     ]

@@ -9,8 +9,8 @@ use Rattle.std.proofs.lemmas.Bool.{cases_Bool, cases_lt}
 use Rattle.std.proofs.lemmas.List.Elements.{All-nil, All-cons}
 use Rattle.std.proofs.lemmas.List.Quantifiers.{position-Some}
 use Rattle.std.proofs.lemmas.List.{map-append, length-map, get_or_past}
+use Rattle.text_bytes.specs.Texts.{key_texts}
 use Rattle.stil_ast.specs.Data.Texts.{same, indices, indexed}
-use Rattle.signal_groups.specs.Memory.{key_texts}
 use Rattle.stil_ast.specs.Meaning.Members.{is_based_on}
 use Rattle.stil_ast.specs.declared.name.IndexRange.{IndexRange}
 use Rattle.stil_ast.specs.declared.name.NameRef.{NameRef}

@@ -1,19 +1,12 @@
 -- Signals that are gathered with marks are those of the definition.
-use Rattle.std.proofs.Common.{◌≡◌, ℕ, zero, suc, ◌<◌, ◌==◌, ◌||◌, ◌&&◌, Bool, true, false, not, cond, List, [], ◌∷◌, length, get_or, filter, refl, sym, ap, ◌∙◌, arith, inl, inr, true≢false}
+use Rattle.std.proofs.Common.{◌≡◌, ℕ, ◌<◌, ◌==◌, ◌||◌, ◌&&◌, Bool, true, false, not, cond, List, [], ◌∷◌, length, get_or, filter, refl, sym, ap, ◌∙◌, arith, inl, inr, true≢false}
 use Rattle.std.specs.Prelude.{All, slice_index_or}
 use Rattle.std.specs.List.{list_any}
-use Rattle.std.proofs.lemmas.Bool.{cases_Bool, cases_lt, eqb-true, eq-eqb}
+use Rattle.std.proofs.lemmas.Bool.{cases_Bool, cases_lt, eqb-true, eq-eqb, or_left, or_right}
 use Rattle.std.proofs.lemmas.List.{get_or_past}
-use Rattle.text_bytes.proofs.BoolLemmas.{or_left, or_right}
+use Rattle.signal_groups.proofs.GraphLemmas.{stands}
 use Rattle.stil_ast.specs.Meaning.Members.{removed}
 use Rattle.signal_groups.specs.Marks.{AreMarked}
-
--- what stands in a list is among it
-among : (xs : List ℕ) (k d : ℕ) → k < length xs → list_any (λ m. m == get_or xs k d) xs ≡ true
-among [] k d lt = absurd (omega arith)
-among (x ∷ xs) zero d lt = or_left (x == x) (list_any (λ m. m == x) xs) (eq-eqb x x refl)
-among (x ∷ xs) (suc k) d lt =
-    or_right (x == get_or xs k d) (list_any (λ m. m == get_or xs k d) xs) (among xs k d (omega arith))
 
 -- what is marked is one of the signals
 pub marked-within : (members : List ℕ) (marks : List Bool) (count : ℕ) → AreMarked members marks → length marks ≡ count
@@ -22,7 +15,7 @@ marked-within members marks count h e k d lt =
     let s = get_or members k d in
     elim (cases_lt s (length marks)) [
       | inl l ↦ omega (arith, l, e)
-      | inr l ↦ absurd (true≢false (sym (h.each s ∙ among members k d lt) ∙ get_or_past marks s false l))
+      | inr l ↦ absurd (true≢false (sym (h.each s ∙ stands members k d lt) ∙ get_or_past marks s false l))
     ]
 
 -- tests that agree on the items of a list keep the same items
@@ -42,7 +35,7 @@ removed-kept members gone before after h e =
     filter-same (λ m. slice_index_or after m false) (λ m. not (list_any (λ s. s == m) gone)) members
     (λ m there. e m ∙ ap (λ b. b && not (list_any (λ g. g == m) gone)) (h.each m ∙ there))
 
--- what is among the items that pass is among the items, and passes
+-- what is stands the items that pass is stands the items, and passes
 any-kept : (p : ℕ → Bool) (s : ℕ) (xs : List ℕ) → list_any (λ m. m == s) (filter p xs) ≡ (list_any (λ m. m == s) xs && p s)
 any-kept p s [] = refl
 any-kept p s (x ∷ xs) =

@@ -2,6 +2,7 @@
 use Rattle.std.specs.Prelude.{◌≡◌, ℕ, List, [], ◌∷◌, ◌++◌, Vec, Option, Some, None, Result, Ok, Err, nat_le, nat_lt, length, map, if◌then◌else◌}
 use Rattle.std.specs.List.{list_any}
 use Rattle.std.specs.declared.alloc.Global.{Global}
+use Rattle.text_bytes.specs.Texts.{key_texts}
 use Rattle.first_fault.specs.Reading.{stepping}
 use Rattle.stil_ast.specs.Data.Texts.{same}
 use Rattle.stil_ast.specs.Faults.Found.{fault_at}
@@ -13,7 +14,6 @@ use Rattle.stil_ast.specs.declared.fault.StilRefusal.TheVariants as refusal
 use Rattle.stil_ast.specs.declared.signal.SignalDecl.{SignalDecl}
 use Rattle.tester_types.specs.declared.signal.Direction.{Direction}
 use Rattle.signal_groups.specs.declared.table.Declared.{Declared}
-use Rattle.signal_groups.specs.Memory.{key_texts}
 
 -- what is known of signals
 pub record Begun : Type 0 where
@@ -83,8 +83,3 @@ abbrev pub FirstTells : Result (Unit {0}) StilRefusal → Option StilFault → T
 FirstTells (Ok done) wanted = wanted ≡ None
 FirstTells (Err refusal.NoMemory) wanted = Unit {0}
 FirstTells (Err (refusal.Fault fault)) wanted = wanted ≡ Some fault
-
--- a refusal has this fault, if it is one, or memory was short
-abbrev pub RefusesFor : Option StilFault → StilRefusal → Type 0
-RefusesFor wanted refusal.NoMemory = Unit {0}
-RefusesFor wanted (refusal.Fault fault) = wanted ≡ Some fault

@@ -1,13 +1,9 @@
 -- How the code holds what is known of signals and groups.
-use Rattle.std.specs.Prelude.{ℕ, Vec, List, map}
-use Rattle.std.specs.declared.alloc.Global.{Global}
+use Rattle.std.specs.Prelude.{map}
+use Rattle.text_bytes.specs.Texts.{key_texts}
 use Rattle.signal_groups.specs.declared.table.Declared.{Declared}
 use Rattle.signal_groups.specs.declared.table.SignalTable.TheInside.{Inside}
 use Rattle.signal_groups.specs.Table.{Table}
-
--- the texts that own their bytes
-abbrev pub key_texts : List (Vec ℕ Global) → List (List ℕ)
-key_texts keys = map (λ k. k.items) keys
 
 -- the table that is held
 abbrev pub table_in : Inside → Table

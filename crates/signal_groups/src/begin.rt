@@ -2,11 +2,11 @@
 
 ghost use Rattle.std.specs.Prelude.{◌≡◌, ℕ, List, [], None, length, map, replicate, IfOk, IfErr};
 ghost use Rattle.std.specs.List.{flat_map};
-ghost use Rattle.stil_ast.specs.Faults.Found.{or_else};
+ghost use Rattle.text_bytes.specs.Texts.{key_texts};
+ghost use Rattle.stil_ast.specs.Faults.Found.{or_else, IsRefusal};
 ghost use Rattle.stil_ast.specs.Faults.SignalFaults.{signals_fault, groups_fault};
 ghost use Rattle.stil_ast.specs.Meaning.Signals.{Group, declared, names_of};
-ghost use Rattle.signal_groups.specs.Memory.{key_texts};
-ghost use Rattle.signal_groups.specs.Begun.{begun_in, begun_of, RefusesFor};
+ghost use Rattle.signal_groups.specs.Begun.{begun_in, begun_of};
 ghost use Rattle.signal_groups.specs.Located.{group_at};
 ghost use Rattle.signal_groups.specs.Settled.{IsBegun};
 
@@ -24,7 +24,7 @@ fn signals_of(
 ) -> Result<(IndexSet<Vec<u8>>, Vec<Declared>), StilRefusal>
     ensures found { IfOk result (λ made. (signals_fault [] (flat_map declared decls.now) ≡ None)
         × (begun_in made.0.keys made.1.items ≡ begun_of (flat_map declared decls.now))) }
-    ensures fault { IfErr result (RefusesFor (signals_fault [] (flat_map declared decls.now))) }
+    ensures fault { IfErr result (IsRefusal (signals_fault [] (flat_map declared decls.now))) }
 {
     let mut texts = IndexSet::new(alloc);
     let mut kept = Vec::new(alloc);
@@ -38,7 +38,7 @@ fn signals_of(
 fn called(alloc: Global, groups: &[Located<'_>]) -> Result<IndexSet<Vec<u8>>, StilRefusal>
     ensures found { IfOk result (λ names. (groups_fault [] (map group_at groups.now) ≡ None)
         × (key_texts names.keys ≡ map (λ (g : Group). g.name) (map group_at groups.now))) }
-    ensures fault { IfErr result (RefusesFor (groups_fault [] (map group_at groups.now))) }
+    ensures fault { IfErr result (IsRefusal (groups_fault [] (map group_at groups.now))) }
 {
     let mut names = IndexSet::new(alloc);
     match take_names(alloc, &mut names, groups) {
@@ -69,7 +69,7 @@ pub(crate) fn begin(
     ensures groups { IfOk result (λ _. groups_fault [] (names_of blocks.now).groups ≡ None) }
     ensures begun { IfOk result (λ table. IsBegun (names_of blocks.now) (map group_at groups.now) table) }
     ensures members { IfOk result (λ table. length table.members ≡ length groups.now) }
-    ensures fault { IfErr result (RefusesFor (or_else (signals_fault [] (names_of blocks.now).signals)
+    ensures fault { IfErr result (IsRefusal (or_else (signals_fault [] (names_of blocks.now).signals)
         (groups_fault [] (names_of blocks.now).groups))) }
 {
     let (texts, declared) = signals_of(alloc, blocks.signals.as_slice())?;

@@ -2,12 +2,12 @@
 
 ghost use Rattle.std.specs.Prelude.{◌≡◌, ◌∷◌, [], ◌++◌, ℕ, List, Err, false, map, codes, IfOk, OnOk};
 ghost use Rattle.std.specs.List.{list_any, flat_map};
+ghost use Rattle.text_bytes.specs.Texts.{key_texts};
 ghost use Rattle.first_fault.specs.Reading.{stepping};
 ghost use Rattle.stil_ast.specs.Data.Texts.{same};
 ghost use Rattle.stil_ast.specs.Faults.Found.{fault_at};
 ghost use Rattle.stil_ast.specs.Meaning.Signals.{grouped, groups_place};
 ghost use Rattle.stil_ast.specs.declared.signal.GroupBlock.{GroupBlock};
-ghost use Rattle.signal_groups.specs.Memory.{key_texts};
 ghost use Rattle.signal_groups.specs.Begun.{group_said, Refuses, Tells};
 ghost use Rattle.signal_groups.specs.Located.{group_at};
 

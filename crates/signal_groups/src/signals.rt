@@ -2,11 +2,11 @@
 
 ghost use Rattle.std.specs.Prelude.{◌≡◌, false, ℕ, List, None, Some, Err, map, codes, IfOk, OnOk};
 ghost use Rattle.std.specs.List.{list_any, flat_map};
+ghost use Rattle.text_bytes.specs.Texts.{key_texts};
 ghost use Rattle.first_fault.specs.Reading.{stepping};
 ghost use Rattle.stil_ast.specs.Data.Texts.{same, indices, indexed};
 ghost use Rattle.stil_ast.specs.Faults.Found.{fault_at};
 ghost use Rattle.stil_ast.specs.Meaning.Signals.{signals_place, declared_as, declared};
-ghost use Rattle.signal_groups.specs.Memory.{key_texts};
 ghost use Rattle.signal_groups.specs.Begun.{Begun, begun_in, signal_said, with_signal, signal_as, decl_said, Refuses, Tells};
 
 use crate::items::{index_at, index_count, indexed};

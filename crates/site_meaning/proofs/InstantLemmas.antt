@@ -6,13 +6,14 @@ use Rattle.std.proofs.lemmas.Bool.{and_parts, cond_both}
 use Rattle.std.proofs.lemmas.Int.{ints}
 use Rattle.std.proofs.lemmas.List.{length-map}
 use Rattle.std.proofs.lemmas.Option.{slice_get_within, get_or_from_slice_get}
+use Rattle.tester_types.specs.Waves.{is_wave}
 use Rattle.tester_types.specs.declared.wave.Event.{Event}
 use Rattle.tester_types.specs.declared.wave.Table.{Table}
 use Rattle.tester_types.specs.declared.cycle.Cycle.{Cycle}
 use Rattle.tester_types.specs.declared.cycle.Moment.{Moment}
 use Rattle.page_code.specs.Conditions.{letters_of}
 use Rattle.page_code.specs.Cycles.{period_of}
-use Rattle.edge_gen.specs.Signals.{is_wave, wave_of, events_of, moved_time, moved, skew_of, signals_of, stays_inside, stay_inside, is_inside, keeps_inside}
+use Rattle.edge_gen.specs.Signals.{wave_of, events_of, moved_time, moved, skew_of, signals_of, stays_inside, stay_inside, is_inside, keeps_inside}
 use Rattle.edge_gen.specs.Moments.{times_of, instants, moment_at, moments_of}
 use Rattle.edge_gen.proofs.SignalLemmas.{wave_of-signal}
 use Rattle.edge_gen.proofs.InstantLemmas.{All-instants}

@@ -2,7 +2,7 @@
 use Rattle.std.proofs.Common.{◌≡◌, ◌≢◌, ℕ, ◌+◌, ◌<◌, ◌≤◌, Bool, true, false, List, [], ◌∷◌, ◌++◌, length, get_or, take, drop, map, Option, Some, refl, sym, ap, ◌∙◌, subst, arith, inl, inr, zero-add}
 use Rattle.std.specs.Prelude.{nat_lt}
 use Rattle.std.specs.List.{list_any, range_with_len}
-use Rattle.std.proofs.lemmas.Bool.{cases_lt, and_parts, lt-ltb}
+use Rattle.std.proofs.lemmas.Bool.{cases_lt, and_parts, lt-ltb, or_left, or_right}
 use Rattle.std.proofs.lemmas.List.{append-nil, append_assoc, get_or_past, map-append, take_more, take-append-drop}
 use Rattle.text_bytes.proofs.ListLemmas.{drop-item}
 use Rattle.std.proofs.lemmas.List.Folds.{list_any_at}
@@ -32,7 +32,6 @@ use Rattle.site_run.specs.Tape.{call_at, call_of, calls_in, with_calls}
 use Rattle.site_run.specs.Cycle.{Point, IsStateOf}
 use Rattle.site_run.specs.Step.{along_at, IsReady, with_entries, GoesThrough, CallsBehind, StopsIn, Stops, AreLevels, WantsSome, IsCheckedBy, IsSettled}
 use Rattle.site_run.proofs.SocketLemmas.{with-none}
-use Rattle.text_bytes.proofs.BoolLemmas.{or_left, or_right}
 
 -- ---- moments behind moments
 

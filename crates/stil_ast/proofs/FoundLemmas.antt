@@ -1,6 +1,6 @@
 -- The first fault of two, and of lists one behind the other; there is one at most.
-use Rattle.std.proofs.Common.{◌≡◌, List, [], ◌∷◌, ◌++◌, Option, Some, None, refl, ap, ◌∙◌}
-use Rattle.stil_ast.specs.Faults.Found.{or_else, first_in}
+use Rattle.std.proofs.Common.{◌≡◌, Bool, true, false, List, [], ◌∷◌, ◌++◌, Option, Some, None, refl, ap, ◌∙◌}
+use Rattle.stil_ast.specs.Faults.Found.{refuse_if, or_else, first_in}
 use Rattle.stil_ast.specs.declared.fault.StilFault.{StilFault}
 
 -- where there is none there is not one
@@ -26,3 +26,8 @@ pub first_in-append : {X : Type 0} (rule : X → Option StilFault) (xs ys : List
 first_in-append rule [] ys = refl
 first_in-append rule (x ∷ xs) ys =
     ap (or_else (rule x)) (first_in-append rule xs ys) ∙ or_else-both (rule x) (first_in rule xs) (first_in rule ys)
+
+-- what isn't refused isn't so
+pub not_refused : (b : Bool) (f : StilFault) → refuse_if b f None ≡ None → b ≡ false
+not_refused true f e = cc
+not_refused false f e = refl

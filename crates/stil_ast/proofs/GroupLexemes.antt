@@ -2,9 +2,11 @@
 use Rattle.std.proofs.Common.{◌≡◌, ◌⊎◌, ℕ, ◌<◌, Bool, true, false, not, ◌&&◌, ◌||◌, List, [], ◌∷◌, ◌++◌, length, refl, sym, ap, subst, ◌∙◌, inl, inr, append_assoc, append-nil, arith, if◌then◌else◌}
 use Rattle.std.specs.Prelude.{◌==◌}
 use Rattle.std.specs.List.{list_all}
-use Rattle.std.proofs.lemmas.Bool.{and_parts, and_from, cond-true, cond-false, eqb-true, true≢false, not-true, not_from_false}
+use Rattle.std.proofs.lemmas.Bool.{and_parts, and_from, cond-true, cond-false, eqb-true, true≢false, not-true, not_from_false, or_cases}
+use Rattle.text_bytes.proofs.LexemeLemmas.{reads-blank}
+use Rattle.text_bytes.specs.Lexemes.{Reads}
 use Rattle.text_bytes.specs.Bytes.{is_word, is_blank}
-use Rattle.stil_ast.specs.Meaning.GroupText.{Lexeme, word, quoted, plus, minus, opens, closes, dot, stray, IsLexeme, Reads}
+use Rattle.stil_ast.specs.Meaning.GroupText.{Lexeme, word, quoted, plus, minus, opens, closes, dot, stray, IsLexeme}
 use Rattle.stil_ast.specs.Meaning.GroupReading.{Kind, of_word, of_quote, of_blank, of_sign, kind_of, Within, between, in_word, in_quotes, sign_of, begun_by, ended_by, behind_kind, lexemes}
 
 -- what may be a lexeme of a text
@@ -18,10 +20,6 @@ is_fine closes = true
 is_fine dot = true
 is_fine stray = false
 
-either : (x y : Bool) → (x || y) ≡ true → (x ≡ true) ⊎ (y ≡ true)
-either true y e = inl refl
-either false y e = inr e
-
 -- a blank is no byte of a word and no quote
 abbrev OnlyBlank : ℕ → Type 0
 OnlyBlank c = (is_word c ≡ false) × ((c == 34) ≡ false) × (is_blank c ≡ true)
@@ -31,22 +29,22 @@ at_byte P byte c holds e = subst P (sym (eqb-true c byte e)) holds
 
 blank_alone : (c : ℕ) → is_blank c ≡ true → OnlyBlank c
 unfolding is_word is_blank
-blank_alone c e = by_last (either (c == 32 || c == 9 || c == 10 || c == 12) (c == 13) e)
+blank_alone c e = by_last (or_cases (c == 32 || c == 9 || c == 10 || c == 12) (c == 13) e)
   where
     by_first : ((c == 32) ≡ true) ⊎ ((c == 9) ≡ true) → OnlyBlank c
     by_first (inl is) = at_byte OnlyBlank 32 c (refl, refl, refl) is
     by_first (inr is) = at_byte OnlyBlank 9 c (refl, refl, refl) is
 
     by_second : ((c == 32 || c == 9) ≡ true) ⊎ ((c == 10) ≡ true) → OnlyBlank c
-    by_second (inl more) = by_first (either (c == 32) (c == 9) more)
+    by_second (inl more) = by_first (or_cases (c == 32) (c == 9) more)
     by_second (inr is) = at_byte OnlyBlank 10 c (refl, refl, refl) is
 
     by_third : ((c == 32 || c == 9 || c == 10) ≡ true) ⊎ ((c == 12) ≡ true) → OnlyBlank c
-    by_third (inl more) = by_second (either (c == 32 || c == 9) (c == 10) more)
+    by_third (inl more) = by_second (or_cases (c == 32 || c == 9) (c == 10) more)
     by_third (inr is) = at_byte OnlyBlank 12 c (refl, refl, refl) is
 
     by_last : ((c == 32 || c == 9 || c == 10 || c == 12) ≡ true) ⊎ ((c == 13) ≡ true) → OnlyBlank c
-    by_last (inl more) = by_third (either (c == 32 || c == 9 || c == 10) (c == 12) more)
+    by_last (inl more) = by_third (or_cases (c == 32 || c == 9 || c == 10) (c == 12) more)
     by_last (inr is) = at_byte OnlyBlank 13 c (refl, refl, refl) is
 
 kind_of-blank : (c : ℕ) → is_blank c ≡ true → kind_of c ≡ of_blank
@@ -82,22 +80,9 @@ of_kind c = by_word (is_word c) refl
     by_word true e = e
     by_word false e = by_quote (c == 34) refl
 
--- one more blank in front
-one_blank : (ls : List Lexeme) (c : ℕ) (text : List ℕ) → is_blank c ≡ true → Reads ls text → Reads ls (c ∷ text)
-one_blank [] c text e r = and_from (is_blank c) (list_all is_blank text) e r
-one_blank (l ∷ ls) c text e b = record {
-  blanks = c ∷ b.blanks;
-  piece = b.piece;
-  rest = b.rest;
-  spelled = ap (λ (t : List ℕ). c ∷ t) b.spelled;
-  are_blank = and_from (is_blank c) (list_all is_blank b.blanks) e b.are_blank;
-  is_lexeme = b.is_lexeme;
-  goes_on = b.goes_on;
-}
-
 -- a lexeme in front, without blanks before it
-lexeme_first : (l : Lexeme) (ls : List Lexeme) (piece rest text : List ℕ) → text ≡ piece ++ rest → IsLexeme l piece → Reads ls rest
-    → Reads (l ∷ ls) text
+lexeme_first : (l : Lexeme) (ls : List Lexeme) (piece rest text : List ℕ) → text ≡ piece ++ rest → IsLexeme l piece → Reads IsLexeme ls rest
+    → Reads IsLexeme (l ∷ ls) text
 lexeme_first l ls piece rest text e is r =
     record { blanks = []; piece = piece; rest = rest; spelled = e; are_blank = refl; is_lexeme = is; goes_on = r }
 
@@ -122,9 +107,9 @@ sign_spelled c =
 
 -- what lexemes from a place on say of the bytes that are open there and those behind
 abbrev ReadsFrom : Within → List Lexeme → List ℕ → Type 0
-ReadsFrom between ls text = Reads ls text
-ReadsFrom (in_word w) ls text = 0 < length w → list_all is_word w ≡ true → Reads ls (w ++ text)
-ReadsFrom (in_quotes w) ls text = list_all (λ c. not (c == 34)) w ≡ true → Reads ls (34 ∷ (w ++ text))
+ReadsFrom between ls text = Reads IsLexeme ls text
+ReadsFrom (in_word w) ls text = 0 < length w → list_all is_word w ≡ true → Reads IsLexeme ls (w ++ text)
+ReadsFrom (in_quotes w) ls text = list_all (λ c. not (c == 34)) w ≡ true → Reads IsLexeme ls (34 ∷ (w ++ text))
 
 abbrev fine : List Lexeme → Bool
 fine ls = list_all is_fine ls
@@ -142,11 +127,11 @@ SpelledOn text = (place : Within) → fine (lexemes place text) ≡ true → Rea
 -- a byte between lexemes
 step_between : (c : ℕ) (cs : List ℕ) → SpelledOn cs → (k : Kind) → IsOfKind c k
     → fine (begun_by k c ++ lexemes (behind_kind [] k c) cs) ≡ true
-    → Reads (begun_by k c ++ lexemes (behind_kind [] k c) cs) (c ∷ cs)
+    → Reads IsLexeme (begun_by k c ++ lexemes (behind_kind [] k c) cs) (c ∷ cs)
 step_between c cs next of_word is h = next (in_word (c ∷ [])) h (omega arith) (and_from (is_word c) true is refl)
 step_between c cs next of_quote is h =
-    subst (λ x. Reads (lexemes (in_quotes []) cs) (x ∷ cs)) (sym is) (next (in_quotes []) h refl)
-step_between c cs next of_blank is h = one_blank (lexemes between cs) c cs is (next between h)
+    subst (λ x. Reads IsLexeme (lexemes (in_quotes []) cs) (x ∷ cs)) (sym is) (next (in_quotes []) h refl)
+step_between c cs next of_blank is h = reads-blank IsLexeme (lexemes between cs) c cs is (next between h)
 step_between c cs next of_sign is h =
     let parts = and_parts (is_fine (sign_of c)) (fine (lexemes between cs)) h in
     lexeme_first (sign_of c) (lexemes between cs) (c ∷ []) cs (c ∷ cs) refl (sign_spelled c parts.0) (next between parts.1)
@@ -159,16 +144,16 @@ some_bytes (x ∷ w) c = omega arith
 step_word : (w : List ℕ) (c : ℕ) (cs : List ℕ) → SpelledOn cs → (k : Kind) → IsOfKind c k
     → fine (ended_by w k c ++ lexemes (behind_kind w k c) cs) ≡ true
     → 0 < length w → list_all is_word w ≡ true
-    → Reads (ended_by w k c ++ lexemes (behind_kind w k c) cs) (w ++ c ∷ cs)
+    → Reads IsLexeme (ended_by w k c ++ lexemes (behind_kind w k c) cs) (w ++ c ∷ cs)
 step_word w c cs next of_word is h some each =
-    subst (Reads (lexemes (in_word (w ++ c ∷ [])) cs)) (append_assoc w (c ∷ []) cs)
+    subst (Reads IsLexeme (lexemes (in_word (w ++ c ∷ [])) cs)) (append_assoc w (c ∷ []) cs)
     (next (in_word (w ++ c ∷ [])) h (some_bytes w c) (all_with is_word w c each is))
 step_word w c cs next of_quote is h some each =
     lexeme_first (word w) (lexemes (in_quotes []) cs) w (c ∷ cs) (w ++ c ∷ cs) refl (record { spelled = refl; some = some; each = each })
-    (subst (λ x. Reads (lexemes (in_quotes []) cs) (x ∷ cs)) (sym is) (next (in_quotes []) h refl))
+    (subst (λ x. Reads IsLexeme (lexemes (in_quotes []) cs) (x ∷ cs)) (sym is) (next (in_quotes []) h refl))
 step_word w c cs next of_blank is h some each =
     lexeme_first (word w) (lexemes between cs) w (c ∷ cs) (w ++ c ∷ cs) refl (record { spelled = refl; some = some; each = each })
-    (one_blank (lexemes between cs) c cs is (next between h))
+    (reads-blank IsLexeme (lexemes between cs) c cs is (next between h))
 step_word w c cs next of_sign is h some each =
     let parts = and_parts (is_fine (sign_of c)) (fine (lexemes between cs)) h in
     lexeme_first (word w) (sign_of c ∷ lexemes between cs) w (c ∷ cs) (w ++ c ∷ cs) refl (record { spelled = refl; some = some; each = each })
@@ -178,13 +163,13 @@ step_word w c cs next of_sign is h some each =
 step_quotes : (w : List ℕ) (c : ℕ) (cs : List ℕ) → SpelledOn cs → (b : Bool) → (c == 34) ≡ b
     → fine ((if b then quoted w ∷ [] else []) ++ lexemes (if b then between else in_quotes (w ++ c ∷ [])) cs) ≡ true
     → list_all (λ x. not (x == 34)) w ≡ true
-    → Reads ((if b then quoted w ∷ [] else []) ++ lexemes (if b then between else in_quotes (w ++ c ∷ [])) cs) (34 ∷ (w ++ c ∷ cs))
+    → Reads IsLexeme ((if b then quoted w ∷ [] else []) ++ lexemes (if b then between else in_quotes (w ++ c ∷ [])) cs) (34 ∷ (w ++ c ∷ cs))
 step_quotes w c cs next true e h each =
     lexeme_first (quoted w) (lexemes between cs) (34 ∷ (w ++ 34 ∷ [])) cs (34 ∷ (w ++ c ∷ cs))
     (ap (λ x. 34 ∷ (w ++ x ∷ cs)) (eqb-true c 34 e) ∙ ap (λ (t : List ℕ). 34 ∷ t) (sym (append_assoc w (34 ∷ []) cs)))
     (record { spelled = refl; each = each }) (next between h)
 step_quotes w c cs next false e h each =
-    subst (λ (t : List ℕ). Reads (lexemes (in_quotes (w ++ c ∷ [])) cs) (34 ∷ t)) (append_assoc w (c ∷ []) cs)
+    subst (λ (t : List ℕ). Reads IsLexeme (lexemes (in_quotes (w ++ c ∷ [])) cs) (34 ∷ t)) (append_assoc w (c ∷ []) cs)
     (next (in_quotes (w ++ c ∷ [])) h (all_with (λ x. not (x == 34)) w c each (not_from_false (c == 34) e)))
 
 -- the lexemes that are found are spelled
@@ -197,7 +182,7 @@ spelled_from (c ∷ cs) between h = step_between c cs (spelled_from cs) (kind_of
 spelled_from (c ∷ cs) (in_word w) h = step_word w c cs (spelled_from cs) (kind_of c) (of_kind c) h
 spelled_from (c ∷ cs) (in_quotes w) h = step_quotes w c cs (spelled_from cs) (c == 34) refl h
 
-pub found_are_spelled : (text : List ℕ) → fine (lexemes between text) ≡ true → Reads (lexemes between text) text
+pub found_are_spelled : (text : List ℕ) → fine (lexemes between text) ≡ true → Reads IsLexeme (lexemes between text) text
 found_are_spelled text h = spelled_from text between h
 
 -- no word stands directly behind a word
@@ -295,7 +280,7 @@ piece_ends closes ls piece rest h is = subst (λ (p : List ℕ). EndsWord (p ++ 
 piece_ends dot ls piece rest h is = subst (λ (p : List ℕ). EndsWord (p ++ rest)) (sym is) refl
 piece_ends stray ls piece rest h is = absurd is
 
-text_ends : (ls : List Lexeme) (text : List ℕ) → begins_apart ls ≡ true → Reads ls text → EndsWord text
+text_ends : (ls : List Lexeme) (text : List ℕ) → begins_apart ls ≡ true → Reads IsLexeme ls text → EndsWord text
 text_ends [] text h r = subst EndsWord (append-nil text) (behind_blanks text [] r tt)
 text_ends (l ∷ ls) text h b =
     subst EndsWord (sym b.spelled) (behind_blanks b.blanks (b.piece ++ b.rest) b.are_blank (piece_ends l ls b.piece b.rest h b.is_lexeme))
@@ -316,7 +301,7 @@ apart_rest dot ls h = h
 apart_rest stray ls h = h
 
 -- spelled lexemes are found, where no word stands directly behind a word
-pub spelled_are_found : (ls : List Lexeme) (text : List ℕ) → Reads ls text → are_apart ls ≡ true → lexemes between text ≡ ls
+pub spelled_are_found : (ls : List Lexeme) (text : List ℕ) → Reads IsLexeme ls text → are_apart ls ≡ true → lexemes between text ≡ ls
 spelled_are_found [] text r h =
     ap (lexemes between) (sym (append-nil text)) ∙ over_blanks text [] r
 spelled_are_found (l ∷ ls) text b h =

@@ -22,3 +22,4 @@ pub mod ConsumedLemmas
 pub mod GroupItems
 pub mod GroupLexemes
 pub mod GroupLemmas
+pub mod TextLemmas

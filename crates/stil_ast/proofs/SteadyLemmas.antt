@@ -40,7 +40,7 @@ found_at : (f : BodyDef → Statements) (defs : List BodyDef) (n : ℕ) (d : Bod
     → slice_get (map f defs) n ≡ Some (f d)
 found_at f defs n d e = slice_get-map f defs n ∙ ap (option_map f) e
 
-not_both : (a b c : Bool) → b ≡ true → ((a && not b) && c) ≡ true → ⊥
+pub not_both : (a b c : Bool) → b ≡ true → ((a && not b) && c) ≡ true → ⊥
 not_both true true c e f = cc
 not_both false true c e f = cc
 not_both a false c e f = cc

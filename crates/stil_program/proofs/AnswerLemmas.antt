@@ -1,5 +1,5 @@
 -- What is answered of a text, from what its passes answer.
-use Rattle.std.proofs.Common.{◌≡◌, ◌⊎◌, ℕ, List, map, Option, Some, None, Result, Ok, Err, MatchResult, refl, sym, ap, subst, ◌∙◌, inl, inr}
+use Rattle.std.proofs.Common.{◌≡◌, ◌⊎◌, ℕ, List, map, Some, None, Result, Ok, Err, MatchResult, refl, sym, ap, subst, ◌∙◌, inl, inr}
 use Rattle.std.specs.Prelude.{IfOk, IfErr}
 use Rattle.stil_ast.specs.Faults.FrontFaults.{refused_by, read_as}
 use Rattle.stil_ast.specs.declared.blocks.Blocks.{Blocks}
@@ -10,7 +10,6 @@ use Rattle.stil_ast.specs.declared.fault.StilRefusal.TheVariants as refusal
 use Rattle.stil_ast.proofs.FoundLemmas.{not_both, one_fault}
 use Rattle.page_code.specs.Program.{Program}
 use Rattle.text_front.specs.Front.{IsFront, IsRefusedFor}
-use Rattle.time_expr.specs.TimesOf.{times_of}
 use Rattle.burst_exec.specs.Finding.{Finds}
 use Rattle.stil_program.specs.Program.{IsTextFault, IsTextOf, IsBlocksCode, IsProgramOf, IsCompiledText, IsRefusal}
 use Rattle.stil_program.specs.Working.{first_fault, IsCompiledOf, Answers}
@@ -54,7 +53,7 @@ by_blocks bytes blocks (Err refusal.NoMemory) read h = tt
 by_blocks bytes blocks (Err (refusal.Fault f)) read h = (read_as blocks, read, sym h)
 
 -- such a text has none
-no_fault : (bytes : List ℕ) (blocks : Blocks) → IsTextOf bytes blocks → IsTextFault bytes None
+pub no_fault : (bytes : List ℕ) (blocks : Blocks) → IsTextOf bytes blocks → IsTextFault bytes None
 no_fault bytes blocks is = (read_as blocks, is.read, sym is.fine)
 
 pub not_compiled : (bytes : List ℕ) (code : Program) (lines : List ℕ) (fault : StilFault) → IsCompiledText bytes code lines

@@ -3,7 +3,7 @@ use Rattle.std.proofs.Common.{◌≡◌, ◌⊎◌, ℕ, List, Option, Some, Non
 use Rattle.std.specs.Prelude.{IfOk, IfErr}
 use Rattle.stil_ast.specs.Faults.CodeFaults.{sixth_fault}
 use Rattle.stil_ast.specs.Faults.ExecutiveFaults.{fifth_fault}
-use Rattle.stil_ast.specs.Faults.Found.{or_else}
+use Rattle.stil_ast.specs.Faults.Found.{or_else, IsRefusal}
 use Rattle.stil_ast.specs.Faults.FrontFaults.{Front, refused_by, read_as, fault_of_front}
 use Rattle.stil_ast.specs.Faults.SignalFaults.{fourth_fault}
 use Rattle.stil_ast.specs.Meaning.ExecutiveData.{Executive}
@@ -17,7 +17,7 @@ use Rattle.page_code.specs.Program.{Program}
 use Rattle.text_front.proofs.FrontLemmas.{one_front}
 use Rattle.time_expr.specs.TimesOf.{times_of}
 use Rattle.burst_exec.specs.Executives.{AreAllOf, IsExecFault}
-use Rattle.burst_exec.specs.Finding.{Finds, IsRefusal}
+use Rattle.burst_exec.specs.Finding.{Finds}
 use Rattle.cycle_comp.specs.Compiled.{IsCodeOf, code_fault}
 use Rattle.stil_program.specs.Program.{IsTextFault, IsBlocksCode}
 use Rattle.stil_program.specs.Working.{first_fault}

@@ -2,7 +2,7 @@
 use Rattle.std.proofs.Common.{◌≡◌, ℕ, ◌+◌, ◌≤◌, Bool, true, false, not, ◌&&◌, ◌||◌, cond, nat_lt, List, [], ◌∷◌, ◌++◌, length, map, refl, sym, ap, subst, ◌∙◌, inl, inr, arith, append-nil, length-append}
 use Rattle.std.specs.List.{list_any, flat_map}
 use Rattle.std.proofs.lemmas.List.{map-append}
-use Rattle.std.proofs.lemmas.Bool.{and_parts, and_from, or_parts, not-true, cases_Bool, ltb-true}
+use Rattle.std.proofs.lemmas.Bool.{and_parts, and_from, or_parts, not-true, cases_Bool, ltb-true, or_from}
 use Rattle.std.proofs.lemmas.List.Folds.{list_any-append}
 use Rattle.std.proofs.lemmas.List.Sums.{sum_by-cons}
 use Rattle.std.proofs.lemmas.Slice.Eq.{bytes_eq-Decides}
@@ -74,11 +74,6 @@ names_under-blocks title items name (b ∷ bs) other =
     ∙ ap (λ ns. map name (cond (same (title b) other) (items b) []) ++ ns) (names_under-blocks title items name bs other)
     ∙ sym (map-append name (cond (same (title b) other) (items b) []) more)
 
--- neither passes
-neither : (a b : Bool) → a ≡ false → b ≡ false → (a || b) ≡ false
-neither true b first second = first
-neither false b first second = second
-
 -- one more item that equals none before it
 pub all_differ-push : {A : Type 0} (equal : A → A → Bool) (xs : List A) (y : A) → all_differ equal xs ≡ true
     → list_any (λ x. equal x y) xs ≡ false → all_differ equal (xs ++ y ∷ []) ≡ true
@@ -88,14 +83,14 @@ all_differ-push equal (x ∷ xs) y differ new =
     let apart = or_parts (equal x y) (list_any (λ z. equal z y) xs) new in
     let none : list_any (equal x) (xs ++ y ∷ []) ≡ false =
     list_any-append (equal x) xs (y ∷ [])
-    ∙ neither (list_any (equal x) xs) (equal x y || false) (not-true (list_any (equal x) xs) parts.0) (neither (equal x y) false apart.0 refl) in
+    ∙ or_from (list_any (equal x) xs) (equal x y || false) (not-true (list_any (equal x) xs) parts.0) (or_from (equal x y) false apart.0 refl) in
     and_from (not (list_any (equal x) (xs ++ y ∷ []))) (all_differ equal (xs ++ y ∷ [])) (ap not none)
     (all_differ-push equal xs y parts.1 apart.1)
 
 -- a name that is not the new one, under this title or another
 apart : (b : Bool) (x called : List ℕ) (xs : List (List ℕ)) → (b && same x called) ≡ false
     → list_any (λ y. same y called) xs ≡ false → list_any (λ y. same y called) (cond b (x ∷ xs) xs) ≡ false
-apart true x called xs first rest = neither (same x called) (list_any (λ y. same y called) xs) first rest
+apart true x called xs first rest = or_from (same x called) (list_any (λ y. same y called) xs) first rest
 apart false x called xs first rest = rest
 
 -- a name that was not declared is not among those under its title

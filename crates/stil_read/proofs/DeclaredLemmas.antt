@@ -7,9 +7,9 @@ use Rattle.std.proofs.lemmas.List.{map-append}
 use Rattle.std.proofs.lemmas.List.Folds.{list_any-append}
 use Rattle.std.proofs.lemmas.List.Sums.{sum_by_push}
 use Rattle.std.proofs.lemmas.Slice.Eq.{bytes_eq-Decides}
+use Rattle.std.proofs.Math.Bool.{or-false}
 use Rattle.indexmap.specs.IndexMap.{IndexMap}
 use Rattle.indexmap.specs.IndexSet.{IndexSet}
-use Rattle.text_bytes.proofs.BoolLemmas.{or_false}
 use Rattle.stil_read.specs.Heads.{is_declared, count_under}
 use Rattle.stil_read.specs.Indices.{pairs_of, has_pair, count_in, IsIndexed}
 
@@ -23,7 +23,7 @@ is_declared-push : (declared : List (List ℕ × List ℕ)) (title called other 
     ≡ (is_declared declared other name || (bytes_eq title other && bytes_eq called name))
 is_declared-push declared title called other name =
     list_any-append (λ (d : List ℕ × List ℕ). bytes_eq d.0 other && bytes_eq d.1 name) declared ((title, called) ∷ [])
-    ∙ ap (λ b. is_declared declared other name || b) (or_false (bytes_eq title other && bytes_eq called name))
+    ∙ ap (λ b. is_declared declared other name || b) (or-false (bytes_eq title other && bytes_eq called name))
 
 -- one more is counted under its title
 count_under-push : (declared : List (List ℕ × List ℕ)) (title called other : List ℕ)

@@ -1,10 +1,11 @@
 -- A command whose file is there and whose text is accepted is done, where no count rises: `completes`.
 use Rattle.std.proofs.Common.{◌≡◌, ◌⊎◌, ℕ, ◌≤◌, List, [], ◌∷◌, length, unwrap_or, Option, Some, None, refl, sym, ap, ◌∙◌, subst, arith, inl, inr}
+use Rattle.stil_program.proofs.AnswerLemmas.{no_fault}
 use Rattle.tester_types.specs.Outside.{HasRisen, Files, TellsFile, gained, GainsFront}
 use Rattle.stil_ast.specs.declared.blocks.Blocks.{Blocks}
 use Rattle.stil_ast.specs.declared.fault.StilFault.{StilFault}
 use Rattle.stil_ast.specs.Faults.FrontFaults.{Front, refused_by, read_as, too_many_at}
-use Rattle.stil_program.specs.Program.{IsTextFault, IsTextOf}
+use Rattle.stil_program.specs.Program.{IsTextFault}
 use Rattle.stil_program.proofs.FaultLemmas.{one_text_fault}
 use Rattle.text_front.proofs.FrontLemmas.{one_front}
 use Rattle.stil_tool.specs.declared.command.Command.{Command}
@@ -52,15 +53,11 @@ one_command Save Save is = refl
 
 -- ---- a text that is accepted isn't refused
 
--- a text without a fault has no fault
-pub fine_fault : (bytes : List ℕ) (blocks : Blocks) → IsTextOf bytes blocks → IsTextFault bytes None
-fine_fault bytes blocks text = (read_as blocks, text.read, sym text.fine)
-
-no_fault : (command : Command) (bytes : List ℕ) → IsAccepted command bytes → IsTextFault bytes None
-no_fault Check bytes accepted = accepted
-no_fault Cycles bytes accepted = fine_fault bytes accepted.0 accepted.1.text
-no_fault Events bytes accepted = fine_fault bytes accepted.0 accepted.1.text
-no_fault Save bytes accepted = accepted.0
+accepted_fault : (command : Command) (bytes : List ℕ) → IsAccepted command bytes → IsTextFault bytes None
+accepted_fault Check bytes accepted = accepted
+accepted_fault Cycles bytes accepted = no_fault bytes accepted.0 accepted.1.text
+accepted_fault Events bytes accepted = no_fault bytes accepted.0 accepted.1.text
+accepted_fault Save bytes accepted = accepted.0
 
 few_of : (command : Command) (bytes : List ℕ) → IsListing command → IsAccepted command bytes → (blocks : Blocks) × IsListed bytes blocks
 few_of Check bytes lists accepted = absurd lists
@@ -82,7 +79,7 @@ not_many bytes fault blocks listed many =
 
 not_refused : (command : Command) (bytes : List ℕ) (fault : StilFault) → IsAccepted command bytes → IsRefusedBy command bytes fault → ⊥
 not_refused command bytes fault accepted (inl is) =
-    let same = one_text_fault bytes (Some fault) None is (no_fault command bytes accepted) in cc
+    let same = one_text_fault bytes (Some fault) None is (accepted_fault command bytes accepted) in cc
 not_refused command bytes fault accepted (inr many) =
     let listed = few_of command bytes many.0 accepted in
     not_many bytes fault listed.0 listed.1 many.1

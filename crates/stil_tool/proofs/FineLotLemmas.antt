@@ -1,6 +1,7 @@
 -- A lot whose files are there and accepted is done, where no count rises: `lot_completes`.
 use Rattle.std.proofs.Common.{◌≡◌, codes, ◌⊎◌, ℕ, Bool, true, false, List, [], ◌∷◌, ◌++◌, length, Option, Some, None, Err, refl, sym, ap, ◌∙◌, subst, arith, inl, inr}
 use Rattle.std.specs.List.{AllByRecursion}
+use Rattle.stil_program.proofs.AnswerLemmas.{no_fault}
 use Rattle.tester_types.specs.Outside.{HasRisen, Files, gained, GainsFront}
 use Rattle.bench_net.proofs.ReadLemmas.{no_fault_where_net}
 use Rattle.die_sim.specs.Socket.{Told}
@@ -35,7 +36,7 @@ use Rattle.stil_tool.specs.Lot.LotWants.{is_run, is_refused}
 use Rattle.stil_tool.specs.Tester.{NeedTester, TesterWants}
 use Rattle.stil_tool.specs.Tester.TesterWants.{of_lot, of_drill, of_other}
 use Rattle.stil_tool.specs.FineLot.{HasFile, IsProgramBytes, IsNetBytes, IsFineLot}
-use Rattle.stil_tool.proofs.CompletenessLemmas.{fine_fault, same_bytes, not_lacking, not_too_long}
+use Rattle.stil_tool.proofs.CompletenessLemmas.{same_bytes, not_lacking, not_too_long}
 
 -- a file that is there can be loaded but for want of memory
 loaded : (told : Option Files) (before now : ℕ) (name : List ℕ) (fact : List ℕ → Type 0) (r : Refusal) → HasFile told name fact
@@ -60,7 +61,7 @@ fine_text : (b : Bool) (bytes : List ℕ) (code : Program) (fault : StilFault) �
     → IsTextFault bytes (Some fault) → ⊥
 fine_text true bytes code fault text is first = cc
 fine_text false bytes code fault text is first =
-    let same = one_text_fault bytes (Some fault) None first (fine_fault bytes is.blocks is.text) in cc
+    let same = one_text_fault bytes (Some fault) None first (no_fault bytes is.blocks is.text) in cc
 
 -- nor as a saved one
 fine_saved : (b : Bool) (bytes : List ℕ) (code : Program) (fault : SavedFault) → b ≡ true → IsCodeBy b bytes code

@@ -5,6 +5,7 @@ use lib.ListN.{get_elem?}
 use Rattle.std.proofs.lemmas.List.{get_or-append-add, get_or-map, length-map, map-append, take_at}
 use Rattle.std.proofs.lemmas.List.Sums.{sum_by_push}
 use Rattle.std.proofs.lemmas.List.Elements.{All-push}
+use Rattle.text_bytes.proofs.SumLemmas.{sum_by-set_there}
 use Rattle.atomic_table.specs.Table.{State, Me, Joins, Final, Seen}
 use Rattle.atomic_table.proofs.Lists.{at_set}
 use Rattle.stop_board.specs.Rule.{desk_view, as_desk, as_site, of_site, over_seats, one, if_finished, if_at, IsWithin, IsKept}
@@ -14,7 +15,6 @@ use Rattle.stop_board.specs.declared.view.View.{View}
 use Rattle.stop_board.specs.declared.view.View.TheVariants.{Desk, Site, Spent}
 use Rattle.stop_board.specs.declared.view.DeskView.{DeskView}
 use Rattle.stop_board.specs.declared.view.SiteView.{SiteView}
-use Rattle.stop_board.proofs.SumLemmas.{sum_by-set_there}
 use Rattle.stop_board.proofs.RuleLemmas.{state, finished, behind_desk, still_no_desk, desk_place}
 use Rattle.stop_board.proofs.StepLemmas.{desk_there}
 

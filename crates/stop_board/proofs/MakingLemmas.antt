@@ -1,9 +1,8 @@
 -- A new board keeps the rule, and so does the making of a site's seat.
-use Rattle.std.proofs.Common.{◌≡◌, ℕ, ◌+◌, ◌<◌, ◌≤◌, List, [], ◌∷◌, ◌++◌, false, cond, ◌==◌, nat_lt, replicate, set, sym, refl, ap, ◌∙◌, subst, ⊎_elim, arith, lt-ltb, le-ltb, eq-eqb, ne_eqb}
+use Rattle.std.proofs.Common.{◌≡◌, ℕ, ◌+◌, ◌<◌, List, [], ◌∷◌, ◌++◌, false, replicate, set, sym, refl, ap, ◌∙◌, subst, ⊎_elim, arith}
 use mathlib.Core.Option.{some, some-ne-none}
 use Rattle.std.proofs.lemmas.List.Sums.{sum_by_push}
-use mathlib.Core.Logic.{dite}
-use native.Mathlib.Decide.{ℕ_discrete, dec_le}
+use Rattle.text_bytes.proofs.BoolLemmas.{below_no, below_one_more}
 use Rattle.atomic_table.specs.Table.{Splits}
 use Rattle.atomic_table.proofs.Lists.{at_snoc}
 use Rattle.stop_board.specs.Rule.{desk_view, site_view, as_desk, as_site, first_view, of_site, over_seats, one, if_finished, if_at, IsKept}
@@ -13,25 +12,6 @@ use Rattle.stop_board.specs.declared.view.View.TheVariants.{Desk, Site}
 use Rattle.stop_board.specs.declared.view.DeskView.{DeskView}
 use Rattle.stop_board.specs.declared.view.SiteView.{SiteView}
 use Rattle.stop_board.proofs.RuleLemmas.{state, desk_place}
-
-below_yes : (a b : ℕ) → a < b → cond {A = ℕ} (nat_lt a b) 1 0 ≡ 1
-below_yes a b h = ap (λ x. cond x 1 0) (lt-ltb a b h)
-
-pub below_no : (a b : ℕ) → b ≤ a → cond {A = ℕ} (nat_lt a b) 1 0 ≡ 0
-below_no a b h = ap (λ x. cond x 1 0) (le-ltb a b h)
-
--- the sites below made, and made, are the sites below one more
-pub below_one_more : (site made : ℕ)
-    → cond {A = ℕ} (nat_lt site made) 1 0 + cond (made == site) 1 0 ≡ cond (nat_lt site (made + 1)) 1 0
-below_one_more site made =
-    dite (ℕ_discrete made site)
-    (λ e.
-    let it : cond {A = ℕ} (made == site) 1 0 ≡ 1 = ap (λ x. cond x 1 0) (eq-eqb made site e) in
-    omega (arith, below_no site made (omega arith), below_yes site (made + 1) (omega arith)))
-    (λ ne.
-    let other : cond {A = ℕ} (made == site) 1 0 ≡ 0 = ap (λ x. cond x 1 0) (ne_eqb made site ne) in
-    dite (dec_le made site) (λ above. omega (arith, below_no site made above, below_no site (made + 1) (omega arith)))
-    (λ below. omega (arith, below_yes site made (omega arith), below_yes site (made + 1) (omega arith))))
 
 -- a board at the start
 pub begins : {S : Type 0} → IsKept {S = S} (state (replicate 17 0) [] (first_view ∷ []))

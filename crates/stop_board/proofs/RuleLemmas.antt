@@ -1,5 +1,6 @@
 -- The rule is kept where one seat's view changes.
 use Rattle.std.proofs.Common.{◌≡◌, ℕ, zero, suc, ◌+◌, ◌≤◌, List, [], ◌∷◌, ◌++◌, cond, ◌==◌, length, get_or, set, slice_index, sym, refl, ap, ◌∙◌, subst, ⊎_elim, arith}
+use Rattle.text_bytes.proofs.SumLemmas.{sum_by-set_there}
 use mathlib.Core.Option.{Option, some, some-injective}
 use lib.ListN.{get_elem?}
 use Rattle.atomic_table.specs.Table.{State}
@@ -9,7 +10,6 @@ use Rattle.stop_board.specs.declared.view.View.{View}
 use Rattle.stop_board.specs.declared.view.View.TheVariants.{Desk, Site}
 use Rattle.stop_board.specs.declared.view.DeskView.{DeskView}
 use Rattle.stop_board.specs.declared.view.SiteView.{SiteView}
-use Rattle.stop_board.proofs.SumLemmas.{sum_by-set_there}
 
 -- a table's state, of its parts
 abbrev pub state : {S : Type 0} → List ℕ → List (Option S) → List View → State S View

@@ -1,5 +1,6 @@
 -- Known states of a board of two sites, which the rule must allow or refuse.
 use Rattle.std.proofs.Common.{◌≡◌, ℕ, suc, zero, List, [], ◌∷◌, ◌++◌, true, false, cond, nat_lt, replicate, slice_index, refl, sym, ap, ◌∙◌, subst, arith}
+use Rattle.text_bytes.proofs.BoolLemmas.{below_no, below_one_more}
 use mathlib.Core.Option.{some, some-injective, some-ne-none}
 use lib.ListN.{get_elem?}
 use Rattle.atomic_table.specs.Table.{State}
@@ -11,7 +12,6 @@ use Rattle.stop_board.specs.declared.view.DeskView.{DeskView}
 use Rattle.stop_board.specs.declared.view.SiteView.{SiteView}
 use Rattle.stop_board.proofs.RuleLemmas.{state, site-injective}
 use Rattle.stop_board.proofs.WordLemmas.{last_word}
-use Rattle.stop_board.proofs.MakingLemmas.{below_no, below_one_more}
 
 -- one stop was asked for at site 1
 abbrev asked : List ℕ

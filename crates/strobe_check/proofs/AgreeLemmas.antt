@@ -1,7 +1,7 @@
 -- Entries that agree in all that is sensed are judged alike.
 use Rattle.std.proofs.Common.{◌≡◌, ℕ, zero, suc, ◌+◌, ◌<◌, ◌≤◌, Bool, true, false, cond, not, ◌&&◌, ◌||◌, List, [], ◌∷◌, ◌++◌, length, get_or, take, map, Option, None, is_some, refl, sym, ap, subst, ◌∙◌, arith, inl, inr, zero-add}
 use Rattle.std.specs.List.{enumerate_from, flat_map, list_any}
-use Rattle.std.proofs.lemmas.Bool.{cases_lt}
+use Rattle.std.proofs.lemmas.Bool.{cases_lt, or_parts}
 use Rattle.std.proofs.lemmas.List.{append-nil, get_or_past, take_more, take_all}
 use Rattle.tester_types.specs.declared.wave.Look.{Look}
 use Rattle.tester_types.specs.declared.level.Level.{Level}
@@ -61,15 +61,11 @@ map-bound_from f g d n (false ∷ bound) same =
 
 -- ---- a signal that isn't sensed
 
-or_none : (b c : Bool) → (b || c) ≡ false → (b ≡ false) × (c ≡ false)
-or_none true c e = absurd (cc)
-or_none false c e = (refl, e)
-
 -- no edge look fails where there is none
 no_edges : (level : Level) (looks : List Look) → list_any is_edge looks ≡ false → failed_edges level looks ≡ []
 no_edges level [] e = refl
 no_edges level (look ∷ looks) e =
-    let parts = or_none (is_edge look) (list_any is_edge looks) e in
+    let parts = or_parts (is_edge look) (list_any is_edge looks) e in
     ap (λ b. cond (b && not (is_met look level)) (look ∷ failed_edges level looks) (failed_edges level looks)) parts.0
     ∙ no_edges level looks parts.1
 
@@ -82,7 +78,7 @@ unwatched : (level : Level) (window : Option Look) (looks : List Look)
     → (list_any is_edge looks || is_some (window_after window looks)) ≡ false
     → (failed level window looks ≡ []) × (left_open level (window_after window looks) ≡ None)
 unwatched level window looks e =
-    let parts = or_none (list_any is_edge looks) (is_some (window_after window looks)) e in
+    let parts = or_parts (list_any is_edge looks) (is_some (window_after window looks)) e in
     let none = no_window (window_after window looks) parts.1 in (
       ap (λ w. failed_edges level looks ++ failed_window level w) none
           ∙ append-nil (failed_edges level looks) ∙ no_edges level looks parts.0,

@@ -5,18 +5,19 @@ use Rattle.std.proofs.lemmas.List.Elements.{filter_map-append}
 use Rattle.std.proofs.lemmas.List.Folds.{list_all-append}
 use Rattle.std.specs.List.{cons_option, enumerate_from, filter_map, find, list_all}
 use Rattle.std.specs.Option.{option_map}
+use Rattle.std.proofs.Math.Bool.{and-true}
+use Rattle.text_bytes.proofs.ListLemmas.{enumerate_from-push}
 use Rattle.tester_types.specs.declared.wave.Look.{Look}
 use Rattle.tester_types.specs.declared.wave.Look.TheVariants.{Low, High, Off, LowWindow, HighWindow, OffWindow, Close}
 use Rattle.tester_types.specs.declared.level.Level.{Level}
 use Rattle.tester_types.specs.declared.record.Fail.{Fail}
-use Rattle.text_bytes.proofs.BoolLemmas.{and_true}
 use Rattle.strobe_check.specs.Look.{is_edge, is_window, is_met}
 use Rattle.strobe_check.specs.Entry.{Entry, looks_at, level_of, fail_at}
 use Rattle.strobe_check.specs.Extent.{Extent, inside_last, inside_followed, extents_here, extents}
 use Rattle.strobe_check.specs.Fails.{meets, fail_of, fails_of}
 use Rattle.strobe_check.specs.History.{open_in, last_open, open_window}
 use Rattle.strobe_check.specs.Step.{opened, window_after, failed_edges, failed_window, failed, left_open}
-use Rattle.strobe_check.proofs.ListLemmas.{enumerate_from-push, cons_option-append}
+use Rattle.strobe_check.proofs.ListLemmas.{cons_option-append}
 use Rattle.strobe_check.proofs.ExtentLemmas.{looks, extent, grow, grow_last, extents-looked, extents-quiet}
 
 -- the fail of a look at an entry, with its place
@@ -100,7 +101,7 @@ open_in-grow signal entry x = by (is_window x.look)
     one : (c : Bool)
         → window_if (c && (meets signal x.look entry && true)) x.look
         ≡ left_open (level signal entry) (window_if c x.look)
-    one true = ap (λ b. cond b (Some x.look) None) (and_true (meets signal x.look entry))
+    one true = ap (λ b. cond b (Some x.look) None) (and-true (meets signal x.look entry))
     one false = refl
 
     by : (b : Bool)
@@ -188,11 +189,11 @@ open-last signal entry Low = refl
 open-last signal entry High = refl
 open-last signal entry Off = refl
 open-last signal entry LowWindow =
-    ap (λ b. cond b (Some LowWindow) None) (and_true (is_met LowWindow (level signal entry)))
+    ap (λ b. cond b (Some LowWindow) None) (and-true (is_met LowWindow (level signal entry)))
 open-last signal entry HighWindow =
-    ap (λ b. cond b (Some HighWindow) None) (and_true (is_met HighWindow (level signal entry)))
+    ap (λ b. cond b (Some HighWindow) None) (and-true (is_met HighWindow (level signal entry)))
 open-last signal entry OffWindow =
-    ap (λ b. cond b (Some OffWindow) None) (and_true (is_met OffWindow (level signal entry)))
+    ap (λ b. cond b (Some OffWindow) None) (and-true (is_met OffWindow (level signal entry)))
 open-last signal entry Close = refl
 
 open-here : (signal : ℕ) (entry : ℕ × Entry) (window : Option Look) (xs : List Extent) (look : Look)

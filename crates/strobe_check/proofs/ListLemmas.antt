@@ -1,19 +1,10 @@
 -- Lists of any elements.
-use Rattle.std.proofs.Common.{◌≡◌, ℕ, zero, suc, ◌+◌, ◌<◌, Bool, true, false, cond, List, [], ◌∷◌, ◌++◌, length, get_or, set, take, drop, Option, Some, None, refl, sym, ap, ◌∙◌, arith, add-zero}
+use Rattle.std.proofs.Common.{◌≡◌, ℕ, zero, suc, ◌+◌, ◌<◌, Bool, true, false, cond, List, [], ◌∷◌, ◌++◌, length, get_or, set, take, drop, Option, Some, None, refl, sym, ap, ◌∙◌, arith}
 use Rattle.std.proofs.lemmas.List.{append_assoc, map-id, take_more, drop_more, set_at, get_or_at, length-take-le}
 use Rattle.std.proofs.lemmas.List.FromFn.{map-range_with_len_more}
-use Rattle.text_bytes.proofs.ListLemmas.{plus-suc}
-use Rattle.std.specs.List.{AllByRecursion, cons_option, enumerate_from, flat_map, range_with_len}
+use Rattle.std.specs.List.{AllByRecursion, cons_option, flat_map, range_with_len}
 
 -- ---- one more element
-
--- the last one has the greatest number
-pub enumerate_from-push : {X : Type 0} (n : ℕ) (xs : List X) (y : X)
-    → enumerate_from n (xs ++ y ∷ []) ≡ enumerate_from n xs ++ (n + length xs, y) ∷ []
-enumerate_from-push n [] y = ap (λ k. (k, y) ∷ []) (sym (add-zero n))
-enumerate_from-push n (x ∷ xs) y =
-    ap (λ l. (n, x) ∷ l) (enumerate_from-push (n + 1) xs y)
-    ∙ ap (λ k. (n, x) ∷ (enumerate_from (n + 1) xs ++ (k, y) ∷ [])) (plus-suc n (length xs))
 
 -- what may stand in front of two lists
 pub cons_option-append : {X : Type 0} (o : Option X) (xs ys : List X)

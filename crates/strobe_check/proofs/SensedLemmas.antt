@@ -1,13 +1,12 @@
 -- A signal is sensed where it has an edge look, or a window that is open after the moment's looks.
 use Rattle.std.proofs.Common.{◌≡◌, ℕ, ◌<◌, Bool, true, false, cond, eqb, ◌&&◌, ◌||◌, List, [], ◌∷◌, ◌++◌, length, Option, Some, None, is_some, refl, sym, ap, subst, ◌∙◌, arith, zero-add}
-use Rattle.std.proofs.Math.Bool.{or_assoc}
+use Rattle.std.proofs.Math.Bool.{or_assoc, or-false, or-true}
 use Rattle.std.proofs.lemmas.Bool.{eq-eqb, ne_eqb}
 use Rattle.std.proofs.lemmas.List.Folds.{list_any-append, list_all-append}
 use Rattle.std.specs.List.{AllByRecursion, enumerate_from, list_all, list_any, slice_index_or}
 use Rattle.tester_types.specs.declared.wave.Look.{Look}
 use Rattle.tester_types.specs.declared.wave.Look.TheVariants.{Low, High, Off, LowWindow, HighWindow, OffWindow, Close}
 use Rattle.tester_types.specs.declared.cycle.Moment.{Moment}
-use Rattle.text_bytes.proofs.BoolLemmas.{or_false, or_true}
 use Rattle.strobe_check.specs.Look.{is_edge, is_window}
 use Rattle.strobe_check.specs.Entry.{Entry}
 use Rattle.strobe_check.specs.Extent.{Extent, inside_last, inside_followed, extents_here, extents}
@@ -77,7 +76,7 @@ watching-grow n signal entry x below = by (is_window x.look)
     any =
         list_any-append (λ e. eqb e.0 n) x.inside ((n, entry) ∷ [])
         ∙ ap (λ b. list_any (λ e. eqb e.0 n) x.inside || (b || false)) (eq-eqb n n refl)
-        ∙ or_true (list_any (λ e. eqb e.0 n) x.inside)
+        ∙ or-true (list_any (λ e. eqb e.0 n) x.inside)
 
     all : list_all (λ e. eqb e.0 n || meets signal x.look e) (x.inside ++ (n, entry) ∷ []) ≡ list_all (meets signal x.look) x.inside
     all =
@@ -99,7 +98,7 @@ watching-grow_last : (n signal : ℕ) (entry : Entry) (xs : List Extent) → Are
     → list_any (is_watching n signal) (grow_last (n, entry) xs) ≡ is_some (last_open signal xs)
 watching-grow_last n signal entry [] below = refl
 watching-grow_last n signal entry (x ∷ []) below =
-    or_false _ ∙ watching-grow n signal entry x below.0
+    or-false _ ∙ watching-grow n signal entry x below.0
 watching-grow_last n signal entry (x ∷ y ∷ xs) below =
     ap (λ b. b || list_any (is_watching n signal) (grow_last (n, entry) (y ∷ xs)))
     (watching-before n signal x below.0)
@@ -137,8 +136,8 @@ watching-here : (n signal : ℕ) (entry : Entry) (window : Option Look) (look : 
     → list_any (is_watching n signal) (extents_here (look ∷ ls) (n, entry) [])
     ≡ (list_any is_edge (look ∷ ls) || is_some (window_after window (look ∷ ls)))
 watching-here n signal entry window look [] =
-    or_false _ ∙ watching-last n signal entry look
-    ∙ ap (λ b. b || is_some (opened look)) (sym (or_false (is_edge look)))
+    or-false _ ∙ watching-last n signal entry look
+    ∙ ap (λ b. b || is_some (opened look)) (sym (or-false (is_edge look)))
 watching-here n signal entry window look (next ∷ ls) =
     ap (λ b. b || list_any (is_watching n signal) (extents_here (next ∷ ls) (n, entry) []))
     (watching-followed n signal entry look)

@@ -4,6 +4,7 @@ use Rattle.std.proofs.lemmas.List.{append-nil, append_assoc, map-append, take_mo
 use Rattle.std.proofs.lemmas.List.Concat.{flat_map-append}
 use Rattle.std.proofs.lemmas.List.Elements.{filter-append}
 use Rattle.std.specs.List.{enumerate_from, flat_map}
+use Rattle.text_bytes.proofs.ListLemmas.{enumerate_from-push}
 use Rattle.tester_types.specs.declared.wave.Look.{Look}
 use Rattle.tester_types.specs.declared.level.Level.{Level}
 use Rattle.strobe_check.specs.declared.judge.Sight.{Sight}
@@ -12,7 +13,7 @@ use Rattle.strobe_check.specs.Fails.{bound_signals, fails}
 use Rattle.strobe_check.specs.Count.{Count, HasCounted, Counts}
 use Rattle.strobe_check.specs.History.{History, all_fails, with_entry, open_window, open_windows, Held, HasSeen}
 use Rattle.strobe_check.specs.Step.{window_after, left_open, failed, fail_in}
-use Rattle.strobe_check.proofs.ListLemmas.{enumerate_from-push, front_len, get_or-seam, set-seam, kept-seam}
+use Rattle.strobe_check.proofs.ListLemmas.{front_len, get_or-seam, set-seam, kept-seam}
 use Rattle.strobe_check.proofs.CycleLemmas.{new_fails, fails-push}
 use Rattle.strobe_check.proofs.FailLemmas.{open_window-push}
 use Rattle.strobe_check.proofs.HistoryLemmas.{length-open_windows, get_or-open_windows}

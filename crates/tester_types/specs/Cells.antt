@@ -10,3 +10,8 @@ cell_behind length cells index = if nat_lt index length then slice_get cells (le
 abbrev pub marked_cell : {C : Type 0} → ℕ → List C → ℕ → Option C
 marked_cell length cells zero = None
 marked_cell length cells (suc index) = cell_behind length cells index
+
+-- a cell of a chain, by their names
+pub record Cell : Type 0 where
+  pub chain : List ℕ
+  pub name : List ℕ

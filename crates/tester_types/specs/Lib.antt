@@ -4,3 +4,4 @@ pub mod Memory
 pub mod Desk
 pub mod Cells
 pub mod Records
+pub mod Waves

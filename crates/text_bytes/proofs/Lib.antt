@@ -4,3 +4,6 @@ pub mod ListLemmas
 pub mod BoolLemmas
 pub mod MapLemmas
 pub mod StandardFacts
+pub mod LexemeLemmas
+pub mod OptionLemmas
+pub mod SumLemmas

@@ -9,10 +9,6 @@ is_blank b = b == 0x20 || b == 0x09 || b == 0x0A || b == 0x0C || b == 0x0D
 unfoldable pub is_digit : ℕ → Bool
 is_digit b = nat_le 0x30 b && nat_le b 0x39
 
--- `A` to `Z` and `a` to `z`
-unfoldable pub is_letter : ℕ → Bool
-is_letter b = (nat_le 0x61 b && nat_le b 0x7A) || (nat_le 0x41 b && nat_le b 0x5A)
-
 -- a letter or the low line, with which a name may begin
 unfoldable pub begins_name : ℕ → Bool
 begins_name b = (nat_le 0x61 b && nat_le b 0x7A) || (nat_le 0x41 b && nat_le b 0x5A) || b == 0x5F

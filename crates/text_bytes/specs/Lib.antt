@@ -1,3 +1,5 @@
 pub mod Bytes
 pub mod Numbers
 pub mod Limits
+pub mod Lexemes
+pub mod Texts

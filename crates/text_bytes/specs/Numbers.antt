@@ -1,5 +1,5 @@
 -- Numbers as decimal digits spell them.
-use Rattle.std.specs.Prelude.{ℕ, ◌+◌, ◌-◌, ◌*◌, ◌^◌, ◌&&◌, nat_lt, Bool, min, List, length, fold, Option, Some, None, if◌then◌else◌}
+use Rattle.std.specs.Prelude.{ℕ, ◌+◌, ◌-◌, ◌*◌, ◌^◌, ◌&&◌, nat_lt, nat_le, Bool, min, List, length, fold, Option, Some, None, if◌then◌else◌}
 use Rattle.std.specs.List.{list_all}
 use Rattle.text_bytes.specs.Bytes.{is_digit}
 
@@ -18,3 +18,7 @@ number_of digits = fold with_digit 0 digits
 -- the number that bytes spell, if they are digits
 abbrev pub number_by : List ℕ → Option ℕ
 number_by bytes = if are_digits bytes then Some (number_of bytes) else None
+
+-- whether a number lies in a range
+abbrev pub is_within : ℕ → ℕ → ℕ → Bool
+is_within low high number = nat_le low number && nat_le number high

@@ -2,14 +2,14 @@
 
 ghost use Rattle.std.specs.Prelude.{◌≡◌, ◌==◌, count_by};
 ghost use Rattle.std.specs.List.{list_all};
-ghost use Rattle.text_bytes.specs.Bytes.{is_blank, is_digit, is_letter, begins_name, is_word, is_character, is_printing, is_printable};
+ghost use Rattle.text_bytes.specs.Bytes.{is_blank, is_digit, begins_name, is_word, is_character, is_printing, is_printable};
 
 /// Whether it is a space, tab, line feed, form feed or carriage return.
 #[tactic(auto, unfolding(crate::specs::Bytes::is_blank))]
 pub fn is_blank(b: u8) -> bool
     ensures { result ≡ is_blank b }
 {
-    b == b' ' || b == b'\t' || b == b'\n' || b == 0x0C || b == b'\r'
+    b.is_ascii_whitespace()
 }
 
 /// Whether it is `0` to `9`.
@@ -17,15 +17,7 @@ pub fn is_blank(b: u8) -> bool
 pub fn is_digit(b: u8) -> bool
     ensures { result ≡ is_digit b }
 {
-    b'0' <= b && b <= b'9'
-}
-
-/// Whether it is `A` to `Z` or `a` to `z`.
-#[tactic(auto, unfolding(crate::specs::Bytes::is_letter))]
-pub fn is_letter(b: u8) -> bool
-    ensures { result ≡ is_letter b }
-{
-    (b'a' <= b && b <= b'z') || (b'A' <= b && b <= b'Z')
+    b.is_ascii_digit()
 }
 
 /// Whether it is a letter or `_`.
@@ -33,7 +25,7 @@ pub fn is_letter(b: u8) -> bool
 pub fn begins_name(b: u8) -> bool
     ensures { result ≡ begins_name b }
 {
-    (b'a' <= b && b <= b'z') || (b'A' <= b && b <= b'Z') || b == b'_'
+    b.is_ascii_alphabetic() || b == b'_'
 }
 
 /// Whether it is a waveform character: a letter or a digit.
@@ -41,7 +33,7 @@ pub fn begins_name(b: u8) -> bool
 pub fn is_character(b: u8) -> bool
     ensures { result ≡ is_character b }
 {
-    (b'a' <= b && b <= b'z') || (b'A' <= b && b <= b'Z') || (b'0' <= b && b <= b'9')
+    b.is_ascii_alphanumeric()
 }
 
 /// 1 at each byte that a word may hold, else 0.
@@ -70,7 +62,7 @@ pub fn is_word(b: u8) -> bool
 pub fn is_printing(b: u8) -> bool
     ensures { result ≡ is_printing b }
 {
-    b'!' <= b && b <= b'~'
+    b.is_ascii_graphic()
 }
 
 /// Whether a name may hold it: 0x20 to 0x7E.
@@ -78,7 +70,7 @@ pub fn is_printing(b: u8) -> bool
 pub fn is_printable(b: u8) -> bool
     ensures { result ≡ is_printable b }
 {
-    b' ' <= b && b <= b'~'
+    b.is_ascii_graphic() || b == b' '
 }
 
 /// Whether each byte is a digit.

@@ -6,7 +6,7 @@ mod limit;
 mod number;
 
 pub use byte::{
-    all_digits, all_printable, all_words, begins_name, is_blank, is_character, is_digit, is_letter,
+    all_digits, all_printable, all_words, begins_name, is_blank, is_character, is_digit,
     is_printable, is_printing, is_word, line_feeds,
 };
 pub use limit::{

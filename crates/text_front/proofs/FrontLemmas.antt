@@ -1,16 +1,16 @@
 -- Of one text reading answers one thing.
-use Rattle.std.proofs.Common.{◌≡◌, ◌⊎◌, ℕ, ◌+◌, List, [], ◌++◌, take, Result, Ok, Err, MatchResult, refl, sym, ap, subst, ◌∙◌, inl, inr}
+use Rattle.std.proofs.Common.{◌≡◌, ◌⊎◌, ℕ, ◌+◌, List, [], Result, Ok, Err, MatchResult, refl, sym, ap, subst, ◌∙◌, inl, inr}
 use Rattle.std.specs.Prelude.{slice_get}
+use Rattle.pat_read.proofs.ToldLemmas.{same_fault}
 use Rattle.stil_lex.specs.declared.token.Token.{Token}
 use Rattle.stil_lex.specs.declared.fault.LexFault.{LexFault}
 use Rattle.stil_lex.specs.declared.fault.LexFault.TheVariants as lexical
-use Rattle.stil_lex.specs.Pieces.{Piece}
 use Rattle.stil_lex.specs.Tokens.{tokens_of, Reads}
 use Rattle.stil_lex.specs.Faults.{IsFault}
 use Rattle.stil_lex.proofs.Readings as readings
 use Rattle.stil_tree.specs.Trees.{Trees, entries}
 use Rattle.stil_tree.specs.Grammar.{Parses}
-use Rattle.stil_tree.specs.Blocks.{IsBlock, keyword_at, name_if}
+use Rattle.stil_tree.specs.Blocks.{keyword_at, name_if}
 use Rattle.stil_tree.specs.declared.fault.TreeFault.{TreeFault}
 use Rattle.stil_tree.specs.declared.fault.TreeFault.TheVariants as tree
 use Rattle.stil_tree.proofs.Reached.{forest_is_found, fault_is_found}
@@ -30,16 +30,11 @@ use Rattle.text_front.specs.TokenFaults as tokens
 use Rattle.text_front.specs.TokenFaults.{IsTokenFault}
 use Rattle.text_front.specs.StatementFaults as statements
 use Rattle.text_front.specs.StatementFaults.{IsStatementFault}
-use Rattle.text_front.specs.Front.{IsReadAs, IsFirstFault, of_tokens, of_statements, of_blocks, IsFront, IsRefusedFor, FrontAnswers}
+use Rattle.text_front.specs.Front.{IsReadAs, IsFirstFault, of_tokens, of_statements, of_blocks, IsFront, FrontAnswers}
 
 -- a fault of these parts
 abbrev fault_by : StilKind → List ℕ → List ℕ → ℕ → StilFault
 fault_by kind block name line = record { kind = kind; block = block; name = name; line = line }
-
-same_fault : (k k' : StilKind) (b b' n n' : List ℕ) (l l' : ℕ) →
-    k ≡ k' → b ≡ b' → n ≡ n' → l ≡ l' → fault_by k b n l ≡ fault_by k' b' n' l'
-same_fault k k' b b' n n' l l' kind block name line =
-    ap (λ v. fault_by v b n l) kind ∙ ap (λ v. fault_by k' v n l) block ∙ ap (λ v. fault_by k' b' v l) name ∙ ap (fault_by k' b' n') line
 
 -- of one fault one thing is told
 told_once : (bytes : List ℕ) (read : List Token) (kind : StilKind) (line : ℕ) (f g : StilFault)

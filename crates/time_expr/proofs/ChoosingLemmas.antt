@@ -7,7 +7,7 @@ use Rattle.stil_ast.specs.Data.Places.{Place}
 use Rattle.stil_ast.specs.Meaning.Times.{in_text}
 use Rattle.stil_ast.specs.Meaning.Variables.{Variable, value_of, value_of_found, value_within, value_fault, picked_fault}
 use Rattle.stil_ast.specs.Data.Texts.{same}
-use Rattle.stil_ast.specs.Faults.Found.{fault_at, first_in, or_else}
+use Rattle.stil_ast.specs.Faults.Found.{fault_at, first_in, or_else, IsRefusal}
 use Rattle.stil_ast.specs.declared.fault.StilFault.{StilFault}
 use Rattle.stil_ast.specs.declared.fault.StilRefusal.{StilRefusal}
 use Rattle.stil_ast.specs.declared.fault.StilRefusal.TheVariants as refusal
@@ -18,7 +18,7 @@ use Rattle.time_expr.specs.Value.{named_of}
 use Rattle.time_expr.specs.NamedValue.{met_of}
 use Rattle.time_expr.specs.TimesOf.{times_of}
 use Rattle.time_expr.specs.Picked.{variable_of, variables_of}
-use Rattle.time_expr.specs.Choosing.{variable_named, IsRefusal, IsFirst, IsOpen, IsNext, AreKnown, IsWalked, KeepsValues, own_fault, AreValues, Chooses, has_no_value}
+use Rattle.time_expr.specs.Choosing.{variable_named, IsRefusal, IsOpen, IsNext, AreKnown, IsWalked, KeepsValues, own_fault, AreValues, Chooses, has_no_value}
 use Rattle.time_expr.specs.declared.picked.Picked.{Picked}
 use Rattle.time_expr.proofs.ReachLemmas.{variable-named, variable-first}
 use Rattle.time_expr.proofs.KnownLemmas.{known-value, known-added, added-keeps, added-fewer}
@@ -45,7 +45,7 @@ unknown-value vs name none =
     ap (λ o. value_of_found false o (times_of.value (value_within times_of vs (length vs) (name ∷ [])))) none
 
 pub unknown-first : (vs : List Variable) (p : Place) (name : List ℕ) (e : StilRefusal) → variable_named vs name ≡ None
-    → IsRefusal (fault_at p UnknownName) e → IsFirst (value_fault p (value_of times_of vs name)) e
+    → IsRefusal (fault_at p UnknownName) e → IsRefusal (value_fault p (value_of times_of vs name)) e
 unknown-first vs p name refusal.NoMemory none told = tt
 unknown-first vs p name (refusal.Fault f) none told =
     ap (value_fault p) (unknown-value vs name none) ∙ ap Some (sym told)
@@ -108,7 +108,7 @@ fault-more vs rest vars v first known some is =
 
 -- its fault is the first
 pub fault-here : (vs rest : List Variable) (v : Variable) (first : Option StilFault) (e : StilRefusal)
-    → first ≡ first_in (own_fault vs) (v ∷ rest) → IsFirst (own_fault vs v) e → IsFirst first e
+    → first ≡ first_in (own_fault vs) (v ∷ rest) → IsRefusal (own_fault vs v) e → IsRefusal first e
 fault-here vs rest v first refusal.NoMemory is at = tt
 fault-here vs rest v first (refusal.Fault f) is at = is ∙ ap (λ o. or_else o (first_in (own_fault vs) rest)) at
 
@@ -134,7 +134,7 @@ chooses vs (Ok vars) apart h = (ap (λ o. or_else o (first_in (own_fault vs) vs)
 chooses vs (Err refusal.NoMemory) apart h = tt
 chooses vs (Err (refusal.Fault f)) apart h = ap (λ o. or_else o (first_in (own_fault vs) vs)) apart ∙ h
 
-pub apart-chooses : (vs : List Variable) (e : StilRefusal) → IsFirst (picked_fault [] vs) e → Chooses vs (Err e)
+pub apart-chooses : (vs : List Variable) (e : StilRefusal) → IsRefusal (picked_fault [] vs) e → Chooses vs (Err e)
 apart-chooses vs refusal.NoMemory h = tt
 apart-chooses vs (refusal.Fault f) h = ap (λ o. or_else o (first_in (own_fault vs) vs)) h
 
@@ -149,10 +149,10 @@ module _ (vs : List Variable) (items : List Picked) (i : ℕ) (x : Picked) (with
 
   pub loop-refused : (q : Place) (e : StilRefusal) → q ≡ (variable_of x).place
       → first_in (own_fault vs) vs ≡ first_in (own_fault vs) (variables_of (drop i items))
-      → IsFirst (value_fault q (value_of times_of vs x.name.now)) e → AreValues vs (Err e)
+      → IsRefusal (value_fault q (value_of times_of vs x.name.now)) e → AreValues vs (Err e)
   loop-refused q e at fault told =
       fault-here vs rest (variable_of x) (first_in (own_fault vs) vs) e (fault ∙ ap (first_in (own_fault vs)) here)
-      (subst (λ (p : Place). IsFirst (value_fault p (value_of times_of vs x.name.now)) e) at told)
+      (subst (λ (p : Place). IsRefusal (value_fault p (value_of times_of vs x.name.now)) e) at told)
 
   pub loop-found : (before now : List (List ℕ × Ratio)) → KeepsValues before now → IsSome (value_of_name x.name.now now)
       → ((name : List ℕ) → value_of_name name before ≡ None

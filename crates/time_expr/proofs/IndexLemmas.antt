@@ -1,5 +1,5 @@
 -- The index of the variables of an executive.
-use Rattle.std.proofs.Common.{◌≡◌, ℕ, ◌+◌, ◌<◌, Bool, true, false, cond, not, ◌||◌, List, [], ◌∷◌, ◌++◌, length, take, drop, find, Option, Some, None, is_some, get_or, refl, sym, ap, subst, ◌∙◌, inl, inr, arith}
+use Rattle.std.proofs.Common.{◌≡◌, ℕ, ◌+◌, ◌<◌, Bool, true, false, cond, ◌||◌, List, [], ◌∷◌, ◌++◌, length, take, drop, find, Option, Some, None, is_some, get_or, refl, sym, ap, subst, ◌∙◌, inl, inr, arith}
 use Rattle.std.specs.Prelude.{nat_lt}
 use Rattle.std.specs.Borrow.{Bor}
 use Rattle.std.specs.Option.{option_or}
@@ -14,13 +14,13 @@ use Rattle.text_bytes.proofs.MapLemmas.{lookup-push}
 use Rattle.indexmap.specs.IndexMap.{IndexMap, IsEmpty}
 use Rattle.stil_ast.specs.Meaning.Variables.{Variable, picked_fault}
 use Rattle.stil_ast.specs.Data.Texts.{same}
-use Rattle.stil_ast.specs.Faults.Found.{fault_at, unless, refuse_if}
+use Rattle.stil_ast.specs.Faults.Found.{fault_at, unless, refuse_if, IsRefusal}
 use Rattle.text_bytes.specs.Limits.{most_variables}
 use Rattle.stil_ast.specs.declared.fault.StilFault.{StilFault}
 use Rattle.stil_ast.specs.declared.fault.StilRefusal.{StilRefusal}
 use Rattle.stil_ast.specs.declared.fault.StilKind.TheVariants.{OutOfRange, Twice}
 use Rattle.time_expr.specs.Picked.{variable_of, variables_of}
-use Rattle.time_expr.specs.Choosing.{variable_named, variable_at, variable_in, IsFirst, next_fault, Keeps}
+use Rattle.time_expr.specs.Choosing.{variable_named, variable_at, variable_in, next_fault, Keeps}
 use Rattle.time_expr.specs.declared.picked.Picked.{Picked}
 use Rattle.time_expr.proofs.VarsLemmas.{same-comm}
 
@@ -55,10 +55,10 @@ next-follows vs before rest v place found at is apart follows =
 
 pub next-refused : (vs before rest : List Variable) (v : Variable) (place : ℕ) (found : Option Variable) (e : StilRefusal)
     → length before ≡ place → found ≡ variable_named before v.name → picked_fault before (v ∷ rest) ≡ picked_fault [] vs
-    → ((more : Option StilFault) → IsFirst (next_fault place found v.place more) e)
-    → IsFirst (picked_fault [] vs) e
+    → ((more : Option StilFault) → IsRefusal (next_fault place found v.place more) e)
+    → IsRefusal (picked_fault [] vs) e
 next-refused vs before rest v place found e at is apart refused =
-    subst (λ (o : Option StilFault). IsFirst o e) (sym (next-is before rest v place found at is) ∙ apart)
+    subst (λ (o : Option StilFault). IsRefusal o e) (sym (next-is before rest v place found at is) ∙ apart)
     (refused (picked_fault (before ++ v ∷ []) rest))
 
 -- what is kept after one more entry
@@ -131,8 +131,8 @@ pub index-refused : (xs : List Picked) (i : ℕ) (x : Picked) (found : Option Va
     → x ≡ get_or xs i x
     → found ≡ variable_named (variables_of (take i xs)) x.name.now
     → picked_fault (variables_of (take i xs)) (variables_of (drop i xs)) ≡ picked_fault [] (variables_of xs)
-    → ((more : Option StilFault) → IsFirst (next_fault i found (variable_of x).place more) e)
-    → IsFirst (picked_fault [] (variables_of xs)) e
+    → ((more : Option StilFault) → IsRefusal (next_fault i found (variable_of x).place more) e)
+    → IsRefusal (picked_fault [] (variables_of xs)) e
 index-refused xs i x found e within is kept apart refused =
     next-refused (variables_of xs) (variables_of (take i xs)) (variables_of (drop (i + 1) xs)) (variable_of x) i found e
     (taken-length xs i within) kept

@@ -4,6 +4,8 @@ use Rattle.std.specs.Option.{option_or}
 use Rattle.std.proofs.lemmas.Bool.{cases_Bool}
 use Rattle.std.proofs.lemmas.List.Sums.{sum_by-cons, count_by-le-length}
 use Rattle.std.proofs.lemmas.Slice.Eq.{bytes_eq-Decides}
+use Rattle.stil_ast.proofs.TextLemmas.{same-refl}
+use Rattle.text_bytes.proofs.OptionLemmas.{or_none}
 use Rattle.stil_ast.specs.Meaning.Variables.{Variable, value_within, value_of_found, value_of}
 use Rattle.stil_ast.specs.Data.Texts.{same, has_name}
 use Rattle.time_expr.specs.Ratio.{Ratio}
@@ -69,13 +71,6 @@ value_of_name-push name key r (e ∷ es) =
       | inr f ↦ ap (λ b. cond b (Some e.1) (value_of_name name (es ++ (key, r) ∷ []))) f ∙ value_of_name-push name key r es
           ∙ sym (ap (λ b. option_or (cond b (Some e.1) (value_of_name name es)) (cond (same key name) (Some r) None)) f)
     ]
-
-pub same-refl : (name : List ℕ) → same name name ≡ true
-same-refl name = (bytes_eq-Decides name name).1 refl
-
-or_none : {X : Type 0} (o p : Option X) → option_or o p ≡ None → o ≡ None
-or_none None p e = refl
-or_none (Some x) p e = cc
 
 pub none-is : {X : Type 0} (o : Option X) → o ≡ None → is_none o ≡ true
 none-is o e = ap is_none e

@@ -1,13 +1,15 @@
 -- The lexemes that are found in a text are those that it is read as.
 use Rattle.std.proofs.Common.{◌≡◌, ℕ, zero, suc, ◌+◌, ◌-◌, ◌<◌, Bool, true, false, List, [], ◌∷◌, ◌++◌, length, drop, Option, Some, None, refl, sym, ap, subst, ◌∙◌, inl, inr, arith}
 use Rattle.std.specs.Prelude.{◌==◌}
-use Rattle.std.proofs.lemmas.Bool.{and_parts, and_from, cases_Bool, cond-true, cond-false, false≢true, false_from_ne_true}
+use Rattle.std.proofs.lemmas.Bool.{and_parts, cases_Bool, cond-true, cond-false, false≢true, false_from_ne_true}
 use Rattle.std.proofs.lemmas.List.{drop_at, append-nil}
 use Rattle.std.specs.List.{list_all, prefix_len}
+use Rattle.text_bytes.proofs.LexemeLemmas.{reads-blank}
+use Rattle.text_bytes.specs.Lexemes.{Reads}
 use Rattle.time_expr.specs.Bytes.{open_paren, point}
 use Rattle.text_bytes.specs.Bytes.{is_blank, is_digit, begins_name, is_word, begins_with}
 use Rattle.time_expr.specs.Tree.{Tree}
-use Rattle.time_expr.specs.Lexeme.{Lexeme, literal, word, operator, opening, comma, closing, IsLexeme, Reads}
+use Rattle.time_expr.specs.Lexeme.{Lexeme, literal, word, operator, opening, comma, closing, IsLexeme}
 use Rattle.time_expr.specs.Front.{begins, paren_len, sign_front, front_of, in_front, going, lexed}
 use Rattle.time_expr.specs.Machine.{Frame, Sum, State, before, behind, refused, step, run, outcome}
 use Rattle.time_expr.specs.declared.expr.Operator.TheVariants.{Plus, Minus, Times, Over}
@@ -46,19 +48,6 @@ lexed-blanks (b ∷ blanks) text h =
     let parts = and_parts (is_blank b) (list_all is_blank blanks) h in
     lexed-blank b (blanks ++ text) parts.0 ∙ lexed-blanks blanks text parts.1
 
--- a text with a blank more is read as the same
-reads-blank : (ls : List Lexeme) (b : ℕ) (text : List ℕ) → is_blank b ≡ true → Reads ls text → Reads ls (b ∷ text)
-reads-blank [] b text h r = and_from _ _ h r
-reads-blank (l ∷ ls) b text h r = record {
-  blanks = b ∷ r.blanks;
-  piece = r.piece;
-  rest = r.rest;
-  spelled = ap (λ ys. b ∷ ys) r.spelled;
-  are_blank = and_from _ _ h r.are_blank;
-  is_lexeme = r.is_lexeme;
-  goes_on = r.goes_on;
-}
-
 -- a lexeme before others that are found
 in_front_is : (l : Lexeme) (o : Option (List Lexeme)) (ls : List Lexeme) → in_front l o ≡ Some ls
     → (more : List Lexeme) × (o ≡ Some more) × (ls ≡ l ∷ more)
@@ -78,42 +67,42 @@ drop_front b text (p ∷ piece) rest n e is some =
 
 -- a lexeme that is found, and others behind it
 reads-front : (b : ℕ) (text : List ℕ) (ls : List Lexeme)
-    → ((n : ℕ) (ms : List Lexeme) → lexed n text ≡ Some ms → Reads ms (drop n text))
+    → ((n : ℕ) (ms : List Lexeme) → lexed n text ≡ Some ms → Reads IsLexeme ms (drop n text))
     → (front : Option (Lexeme × ℕ)) → front_of (b ∷ text) ≡ front → going front (λ n. lexed n text) ≡ Some ls
-    → Reads ls (b ∷ text)
+    → Reads IsLexeme ls (b ∷ text)
 reads-front b text ls again None is h = let clash : ◌≡◌ {A = Option (List Lexeme)} None (Some ls) = h in cc
 reads-front b text ls again (Some front) is h =
     let found = front_is_so b text front.0 front.1 is in
     let others = in_front_is front.0 (lexed (front.1 - 1) text) ls h in
     let more = again (front.1 - 1) others.0 others.1 in
     let rest = drop_front b text found.piece found.rest front.1 found.spelled found.length_is found.some in
-    let reads : Reads (front.0 ∷ others.0) (b ∷ text) = record {
+    let reads : Reads IsLexeme (front.0 ∷ others.0) (b ∷ text) = record {
       blanks = [];
       piece = found.piece;
       rest = found.rest;
       spelled = found.spelled;
       are_blank = refl;
       is_lexeme = found.is;
-      goes_on = subst (Reads others.0) rest more;
+      goes_on = subst (Reads IsLexeme others.0) rest more;
     } in
-    subst (λ (xs : List Lexeme). Reads xs (b ∷ text)) (sym others.2) reads
+    subst (λ (xs : List Lexeme). Reads IsLexeme xs (b ∷ text)) (sym others.2) reads
 
 -- the lexemes that are found are read
 pub lexed_is_so : (skipped : ℕ) (text : List ℕ) (ls : List Lexeme) → lexed skipped text ≡ Some ls
-    → Reads ls (drop skipped text)
+    → Reads IsLexeme ls (drop skipped text)
 unfolding lexed
 lexed_is_so zero [] ls e =
     let same : ◌≡◌ {A = Option (List Lexeme)} (Some []) (Some ls) = e in
     let is : [] ≡ ls = cc in
-    subst (λ (xs : List Lexeme). Reads xs []) is refl
+    subst (λ (xs : List Lexeme). Reads IsLexeme xs []) is refl
 lexed_is_so (suc n) [] ls e =
     let same : ◌≡◌ {A = Option (List Lexeme)} (Some []) (Some ls) = e in
     let is : [] ≡ ls = cc in
-    subst (λ (xs : List Lexeme). Reads xs []) is refl
+    subst (λ (xs : List Lexeme). Reads IsLexeme xs []) is refl
 lexed_is_so (suc n) (b ∷ text) ls e = lexed_is_so n text ls e
 lexed_is_so zero (b ∷ text) ls e =
     elim (cases_Bool (is_blank b)) [
-      | inl t ↦ reads-blank ls b text t (lexed_is_so zero text ls (sym (cond-true (is_blank b) (lexed 0 text) _ t) ∙ e))
+      | inl t ↦ reads-blank IsLexeme ls b text t (lexed_is_so zero text ls (sym (cond-true (is_blank b) (lexed 0 text) _ t) ∙ e))
       | inr f ↦
           reads-front b text ls (λ n ms h. lexed_is_so n text ms h) (front_of (b ∷ text)) refl
           (sym (cond-false (is_blank b) (lexed 0 text) (going (front_of (b ∷ text)) (λ n. lexed n text)) f) ∙ e)
@@ -235,7 +224,7 @@ ends_behind blanks rest each e = record {
 }
 
 -- behind an operand, lexemes that may stand there end it
-pub follow_ends : (ls : List Lexeme) (text : List ℕ) → Reads ls text → Follow ls → EndsOperand text
+pub follow_ends : (ls : List Lexeme) (text : List ℕ) → Reads IsLexeme ls text → Follow ls → EndsOperand text
 follow_ends [] text r f =
     let nothing : Ends [] = record { no_word = refl; no_point = refl; no_paren = refl; no_blank = refl } in
     subst EndsOperand (append-nil text) (ends_behind text [] r nothing)
@@ -264,7 +253,7 @@ lexed-found (b ∷ text) l piece rest e found =
     ∙ ap (lexed 0) (drop_front b text piece rest (length piece) e refl is.some))
 
 -- the lexemes that are read are found, where no operand has another one behind it
-pub so_is_lexed : (ls : List Lexeme) (text : List ℕ) → Reads ls text → AreApart ls → lexed 0 text ≡ Some ls
+pub so_is_lexed : (ls : List Lexeme) (text : List ℕ) → Reads IsLexeme ls text → AreApart ls → lexed 0 text ≡ Some ls
 so_is_lexed [] text r a = ap (lexed 0) (sym (append-nil text)) ∙ lexed-blanks text [] r ∙ lexed-nothing
 so_is_lexed (l ∷ ls) text r a =
     let found = front_is_found l r.piece r.rest r.is_lexeme (λ h. follow_ends ls r.rest r.goes_on (a.0 h)) in

@@ -2,8 +2,8 @@
 use Rattle.std.proofs.Common.{◌≡◌, ◌⊎◌, ℕ, zero, suc, ◌+◌, ◌-◌, ◌≤◌, ◌<◌, Bool, true, false, ◌&&◌, List, [], ◌∷◌, ◌++◌, length, length-append, drop, get_or, Option, Some, None, option_map, Result, Ok, Err, refl, sym, ap, subst, ◌∙◌, inl, inr, arith}
 use Rattle.std.specs.List.{list_all}
 use Rattle.std.proofs.lemmas.List.{drop_all, drop-drop}
+use Rattle.std.proofs.Math.Bool.{and-true}
 use Rattle.text_bytes.specs.Bytes.{is_blank}
-use Rattle.text_bytes.proofs.BoolLemmas.{and_true}
 use Rattle.time_expr.specs.Tree.{Tree, tree_of}
 use Rattle.time_expr.specs.Lexeme.{Lexeme, is_in_range}
 use Rattle.time_expr.specs.Spelling.{Spells, IsFault}
@@ -164,7 +164,7 @@ over_blank (b ∷ text) p s some blank state in_range len = record {
       ap (outcome_from s r) (lexed-blank b text blank ∙ ap (lexed 0) (sym rest))
       ∙ ap (λ (x : State). outcome_from x r (lexed 0 (drop p.len (b ∷ text)))) (sym state)
       ∙ ap (λ (x : Bool). outcome_from (state_of p.reader) x (lexed 0 (drop p.len (b ∷ text))))
-      (sym (ap (λ (x : Bool). r && x) in_range ∙ and_true r));
+      (sym (ap (λ (x : Bool). r && x) in_range ∙ and-true r));
 }
 
 -- bytes behind a front
@@ -237,4 +237,4 @@ pub ends_at : (text : List ℕ) (at : ℕ) (s : State) (r : Bool) (o : Option (T
     → o ≡ option_map (λ t. (t, r)) (outcome s)
 ends_at text at s r o h e =
     sym e ∙ ap (λ (xs : List ℕ). outcome_from s r (lexed 0 xs)) (drop_all at text h) ∙ ap (outcome_from s r) lexed-nothing
-    ∙ ap (λ (b : Bool). option_map (λ t. (t, b)) (outcome s)) (and_true r)
+    ∙ ap (λ (b : Bool). option_map (λ t. (t, b)) (outcome s)) (and-true r)

@@ -1,5 +1,5 @@
 -- Names of categories, and what a Selector takes, after one more entry.
-use Rattle.std.proofs.Common.{◌≡◌, ℕ, Option, option_map, find, IfOk, Result, Ok, Err, Bool, true, false, cond, List, [], ◌∷◌, ◌++◌, ◌||◌, Some, None, refl, sym, ap, ◌∙◌}
+use Rattle.std.proofs.Common.{◌≡◌, ℕ, Option, option_map, find, IfOk, Result, Ok, Err, cond, List, [], ◌∷◌, ◌++◌, Some, None, refl, sym, ap, ◌∙◌}
 use Rattle.std.specs.Borrow.{Bor}
 use Rattle.std.specs.Option.{option_or, option_copied}
 use Rattle.std.specs.Str.{bytes_eq}
@@ -12,20 +12,6 @@ use Rattle.stil_ast.specs.declared.variable.Selection.{Selection}
 use Rattle.stil_ast.specs.declared.variable.Selector.{Selector}
 use Rattle.time_expr.specs.Selected.{kept_choice, choice_of}
 use Rattle.time_expr.proofs.VarsLemmas.{same-comm}
-
--- what was there or is new
-or_true : (there : Bool) → true ≡ (there || true)
-or_true true = refl
-or_true false = refl
-
-or_false : (there : Bool) → there ≡ (there || false)
-or_false true = refl
-or_false false = refl
-
--- a name is there where it is the new one, or was there
-pub new_or_there : (is_new there : Bool) → cond is_new true there ≡ (there || is_new)
-new_or_there true there = or_true there
-new_or_there false there = or_false there
 
 -- a name for which nothing was kept has this choice
 pub choice-added : {S : Type 0} (old new : IndexMap (Bor (List ℕ)) Choice S) (key : Bor (List ℕ)) (choice : Choice) (other : List ℕ)

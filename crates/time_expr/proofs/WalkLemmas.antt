@@ -1,6 +1,9 @@
 -- The evaluation of a name, from variable to variable.
 use Rattle.std.proofs.Common.{◌≡◌, ℕ, zero, suc, ◌+◌, ◌≤◌, Bool, true, false, not, ◌&&◌, ◌||◌, List, [], ◌∷◌, length, Some, None, Result, Ok, Err, refl, sym, ap, ◌∙◌, arith, count_by}
 use Rattle.std.specs.Str.{bytes_eq}
+use Rattle.std.proofs.lemmas.Bool.{and_from}
+use Rattle.stil_ast.specs.Faults.Found.{IsRefusal}
+use Rattle.stil_ast.proofs.TextLemmas.{same-refl}
 use Rattle.stil_ast.specs.Data.Places.{Place}
 use Rattle.stil_ast.specs.Meaning.Times.{Met, in_text}
 use Rattle.stil_ast.specs.Meaning.Variables.{Variable, value_within, value_of_found, value_of, value_fault}
@@ -12,8 +15,8 @@ use Rattle.stil_ast.specs.declared.fault.StilKind.TheVariants.{UnknownName}
 use Rattle.time_expr.specs.Ratio.{Ratio}
 use Rattle.time_expr.specs.Vars.{value_of_name}
 use Rattle.time_expr.specs.TimesOf.{times_of}
-use Rattle.time_expr.specs.Choosing.{variable_named, IsFirst, IsOpen, HasValues, GoesUnless, IsNext, evaluated, AreKnown, has_no_value, is_free, IsWalk}
-use Rattle.time_expr.proofs.KnownLemmas.{count-le, count-less, apart-more, same-refl, none-is}
+use Rattle.time_expr.specs.Choosing.{variable_named, IsOpen, HasValues, GoesUnless, IsNext, evaluated, AreKnown, has_no_value, is_free, IsWalk}
+use Rattle.time_expr.proofs.KnownLemmas.{count-le, count-less, apart-more, none-is}
 
 and_left : (a b : Bool) → (a && b) ≡ true → a ≡ true
 and_left true b e = refl
@@ -22,10 +25,6 @@ and_left false b e = e
 and_right : (a b : Bool) → (a && b) ≡ true → b ≡ true
 and_right true b e = e
 and_right false b e = cc
-
-both : (a b : Bool) → a ≡ true → b ≡ true → (a && b) ≡ true
-both true b e f = f
-both false b e f = cc
 
 or-comm : (a b : Bool) → (a || b) ≡ (b || a)
 or-comm true true = refl
@@ -82,7 +81,7 @@ module _ (vs : List Variable) (vars : List (List ℕ × Ratio)) (known : AreKnow
 
     free-now : is_running v.name ≡ false → is_free vars is_running v ≡ true
     free-now idle =
-        both (has_no_value vars v) (not (is_running v.name)) (none-is (value_of_name v.name vars) walk.is_open.no_value)
+        and_from (has_no_value vars v) (not (is_running v.name)) (none-is (value_of_name v.name vars) walk.is_open.no_value)
         (ap not idle)
 
     some-free : is_running v.name ≡ false → 1 ≤ count_by (is_free vars is_running) vs
@@ -112,8 +111,8 @@ module _ (vs : List Variable) (vars : List (List ℕ × Ratio)) (known : AreKnow
     -- the evaluation ends with a refusal
     pub walk-ends : (e : StilRefusal)
         → ((names : List ℕ → Result Ratio Met) → GoesUnless (is_running v.name) vs vars names
-        → IsFirst (value_fault q (evaluated (is_running v.name) v names)) e)
-        → IsFirst (value_fault p (value_of times_of vs name)) e
+        → IsRefusal (value_fault q (evaluated (is_running v.name) v names)) e)
+        → IsRefusal (value_fault p (value_of times_of vs name)) e
     walk-ends refusal.NoMemory ends = tt
     walk-ends (refusal.Fault told) ends =
         walk.leads told (ap (value_fault q) own-value ∙ ends inner inner-goes)
@@ -141,7 +140,7 @@ module _ (vs : List Variable) (vars : List (List ℕ × Ratio)) (known : AreKnow
       pub walk-nears : count_by (is_free vars now_running) vs + 1 ≤ count_by (is_free vars is_running) vs
       walk-nears =
           count-less (is_free vars is_running) (is_free vars now_running) vs v (λ x. same x.name v.name)
-          (λ x e. both (has_no_value vars x) (not (is_running x.name))
+          (λ x e. and_from (has_no_value vars x) (not (is_running x.name))
           (and_left (has_no_value vars x) (not (now_running x.name)) e)
           (not_or (is_running x.name) (bytes_eq x.name v.name)
           (ap not (sym (now x.name)) ∙ and_right (has_no_value vars x) (not (now_running x.name)) e)))

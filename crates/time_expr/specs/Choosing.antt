@@ -7,7 +7,7 @@ use Rattle.indexmap.specs.IndexMap.{IndexMap, get_by}
 use Rattle.stil_ast.specs.Data.Places.{Place}
 use Rattle.stil_ast.specs.Meaning.Times.{Met, in_text}
 use Rattle.stil_ast.specs.Meaning.Variables.{Variable, value_of_found, value_within, value_of, value_fault, picked_fault, variables_fault}
-use Rattle.stil_ast.specs.Faults.Found.{fault_at, unless, first_in, refuse_if}
+use Rattle.stil_ast.specs.Faults.Found.{fault_at, unless, first_in, refuse_if, IsRefusal}
 use Rattle.text_bytes.specs.Limits.{most_variables}
 use Rattle.stil_ast.specs.Data.Texts.{same, has_name}
 use Rattle.stil_ast.specs.declared.fault.StilFault.{StilFault}
@@ -45,11 +45,6 @@ abbrev pub IsRefusal : StilFault → StilRefusal → Type 0
 IsRefusal fault refusal.NoMemory = Unit {0}
 IsRefusal fault (refusal.Fault told) = told ≡ fault
 
--- the same of a fault that there may be
-abbrev pub IsFirst : Option StilFault → StilRefusal → Type 0
-IsFirst first refusal.NoMemory = Unit {0}
-IsFirst first (refusal.Fault told) = first ≡ Some told
-
 -- a variable may stand behind so many others, where that of its name is this
 abbrev pub next_fault : ℕ → Option Variable → Place → Option StilFault → Option StilFault
 next_fault place found p rest =
@@ -59,7 +54,7 @@ next_fault place found p rest =
 abbrev pub Follows : {A : Type 0} → ℕ → Option Variable → Place → Result A StilRefusal → Type 0
 Follows place found p (Ok done) =
     (found ≡ None) × ((rest : Option StilFault) → next_fault place found p rest ≡ rest)
-Follows place found p (Err e) = (rest : Option StilFault) → IsFirst (next_fault place found p rest) e
+Follows place found p (Err e) = (rest : Option StilFault) → IsRefusal (next_fault place found p rest) e
 
 -- an index keeps these variables
 abbrev pub Keeps : {S : Type 0} → List Variable → IndexMap (Bor (List ℕ)) (Bor Picked) S → Type 0
@@ -68,7 +63,7 @@ Keeps vs index = (name : List ℕ) → variable_in index name ≡ variable_named
 -- the variables have no two of a name, and are not too many, or this is the fault
 abbrev pub AreApart : {A : Type 0} → List Variable → Result A StilRefusal → Type 0
 AreApart vs (Ok made) = picked_fault [] vs ≡ None
-AreApart vs (Err e) = IsFirst (picked_fault [] vs) e
+AreApart vs (Err e) = IsRefusal (picked_fault [] vs) e
 
 -- a variable that is the first of its name and has no value so far
 pub record IsOpen (vs : List Variable) (vars : List (List ℕ × Ratio)) (v : Variable) : Type 0 where
@@ -117,7 +112,7 @@ abbrev pub Steps : List Variable → List (List ℕ × Ratio) → ((List ℕ →
     → ((List ℕ → Result Ratio Met) → Result Ratio Met) → Place → Result Ratio Step → Type 0
 Steps vs vars Fits value p (Ok r) = (names : List ℕ → Result Ratio Met) → HasValues vars names → value names ≡ Ok r
 Steps vs vars Fits value p (Err (step.Ends e)) =
-    (names : List ℕ → Result Ratio Met) → Fits names → IsFirst (value_fault p (value names)) e
+    (names : List ℕ → Result Ratio Met) → Fits names → IsRefusal (value_fault p (value names)) e
 Steps vs vars Fits value p (Err (step.Down next spot)) =
     IsOpen vs vars (variable_of next.now)
     × ((names : List ℕ → Result Ratio Met) → Fits names → (told : StilFault)
@@ -184,12 +179,12 @@ pub record IsWalk (vs : List Variable) (vars : List (List ℕ × Ratio)) (p : Pl
 abbrev pub IsWalked : List Variable → List (List ℕ × Ratio) → Place → List ℕ
     → Result (Bor Picked × Ratio) StilRefusal → Type 0
 IsWalked vs vars p name (Ok found) = IsNext vs vars (variable_of found.0.now) found.1
-IsWalked vs vars p name (Err e) = IsFirst (value_fault p (value_of times_of vs name)) e
+IsWalked vs vars p name (Err e) = IsRefusal (value_fault p (value_of times_of vs name)) e
 
 -- the values are those of the variables, which have no fault, or this is the fault
 abbrev pub Chooses : List Variable → Result (List (List ℕ × Ratio)) StilRefusal → Type 0
 Chooses vs (Ok vars) = (variables_fault times_of vs ≡ None) × AreNames (value_of times_of vs) vars
-Chooses vs (Err e) = IsFirst (variables_fault times_of vs) e
+Chooses vs (Err e) = IsRefusal (variables_fault times_of vs) e
 
 -- values that are known stay
 abbrev pub KeepsValues : List (List ℕ × Ratio) → List (List ℕ × Ratio) → Type 0
@@ -203,4 +198,4 @@ own_fault vs v = value_fault v.place (value_of times_of vs v.name)
 -- the values are those of the variables, each of which has one, or this is the fault of the first that has none
 abbrev pub AreValues : List Variable → Result (List (List ℕ × Ratio)) StilRefusal → Type 0
 AreValues vs (Ok vars) = (first_in (own_fault vs) vs ≡ None) × AreNames (value_of times_of vs) vars
-AreValues vs (Err e) = IsFirst (first_in (own_fault vs) vs) e
+AreValues vs (Err e) = IsRefusal (first_in (own_fault vs) vs) e

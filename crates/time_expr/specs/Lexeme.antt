@@ -112,21 +112,6 @@ IsLexeme (opening bound) text = IsOpening bound text
 IsLexeme comma text = text ≡ 44 ∷ []
 IsLexeme closing text = text ≡ 41 ∷ []
 
--- a text of blanks, this lexeme, and the rest
-pub record Begins (lexeme : Lexeme) (Rest : List ℕ → Type 0) (text : List ℕ) : Type 0 where
-  pub blanks : List ℕ
-  pub piece : List ℕ
-  pub rest : List ℕ
-  pub spelled : text ≡ blanks ++ (piece ++ rest)
-  pub are_blank : list_all is_blank blanks ≡ true
-  pub is_lexeme : IsLexeme lexeme piece
-  pub goes_on : Rest rest
-
--- a text of these lexemes, with blanks before, between and behind them
-abbrev pub Reads : List Lexeme → List ℕ → Type 0
-Reads [] text = list_all is_blank text ≡ true
-Reads (lexeme ∷ lexemes) text = Begins lexeme (Reads lexemes) text
-
 -- a literal in range, or what isn't a literal
 abbrev pub is_in_range : Lexeme → Bool
 is_in_range (literal n) = n.in_range

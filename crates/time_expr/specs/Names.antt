@@ -1,6 +1,5 @@
 -- The names in an expression, from the left, and the first that has no value. No public clause cites this file.
 use Rattle.std.specs.Prelude.{ℕ, List, [], ◌∷◌, ◌++◌, Option, map, find, flat_map, is_none}
-use Rattle.std.specs.Borrow.{Bor}
 use Rattle.time_expr.specs.Ratio.{Ratio}
 use Rattle.time_expr.specs.Vars.{value_of_name}
 use Rattle.time_expr.specs.declared.expr.Operator.{Operator}
@@ -38,7 +37,3 @@ operand_names operands = joined (map names_of operands)
 -- the first of these names that has no value
 abbrev pub first_missing : List (List ℕ × Ratio) → List (List ℕ) → Option (List ℕ)
 first_missing vars names = find (λ name. is_none (value_of_name name vars)) names
-
--- what references point to
-abbrev pub behind : {X : Type 0} → List (Bor X) → List X
-behind items = map (λ b. b.now) items

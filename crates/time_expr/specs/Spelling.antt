@@ -1,8 +1,9 @@
 -- Which text spells which expression, and the fault of a text.
 use Rattle.std.specs.Prelude.{◌≡◌, ℕ, Bool, false, List}
 use Rattle.std.specs.List.{list_all}
+use Rattle.text_bytes.specs.Lexemes.{Reads}
 use Rattle.time_expr.specs.Tree.{Tree}
-use Rattle.time_expr.specs.Lexeme.{Lexeme, Reads, is_in_range}
+use Rattle.time_expr.specs.Lexeme.{Lexeme, is_in_range, IsLexeme}
 use Rattle.time_expr.specs.Grammar.{of_sum, joined, Parses}
 use Rattle.time_expr.specs.declared.fault.ExprFault.{ExprFault}
 use Rattle.time_expr.specs.declared.fault.ExprFault.TheVariants.{NoMemory, BadExpr, OutOfRange, UnknownName, ZeroDivisor}
@@ -10,7 +11,7 @@ use Rattle.time_expr.specs.declared.fault.ExprFault.TheVariants.{NoMemory, BadEx
 -- the whole text spells the tree; whether each of its literals is in range
 pub record Spells (text : List ℕ) (tree : Tree) (in_range : Bool) : Type 0 where
   pub lexemes : List Lexeme
-  pub reads : Reads lexemes text
+  pub reads : Reads IsLexeme lexemes text
   pub parses : Parses (joined of_sum) 0 lexemes tree
   pub judged : list_all is_in_range lexemes ≡ in_range
 

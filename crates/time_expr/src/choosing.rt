@@ -1,6 +1,7 @@
 //! The values of the variables of an executive (IEEE 1450-1999, clauses 16 and 19).
 
 ghost use Rattle.std.specs.Prelude.{◌≡◌, ◌⊎◌, ◌<◌, length, slice_get, Some, None, IsSome, IfOk, IfErr, OnOk, MatchResult};
+ghost use Rattle.stil_ast.specs.Faults.Found.{IsRefusal};
 ghost use Rattle.stil_ast.specs.Meaning.Executive.{exec_value};
 ghost use Rattle.stil_ast.specs.Meaning.Variables.{picked, value_of, value_fault, variables_fault};
 ghost use Rattle.stil_ast.specs.declared.executive.ExecDecl.{ExecDecl};
@@ -10,7 +11,7 @@ ghost use Rattle.time_expr.specs.TimesOf.{times_of};
 ghost use Rattle.time_expr.specs.TimeIn.{AreNames};
 ghost use Rattle.time_expr.specs.Vars.{value_of_name};
 ghost use Rattle.time_expr.specs.Picked.{place_of, variables_of};
-ghost use Rattle.time_expr.specs.Choosing.{IsFirst, AreKnown, KeepsValues, IsWalked, AreValues, Chooses};
+ghost use Rattle.time_expr.specs.Choosing.{AreKnown, KeepsValues, IsWalked, AreValues, Chooses};
 
 use crate::fraction::Fraction;
 use crate::order::ordered_values;
@@ -52,7 +53,7 @@ fn settle<'a>(
     ensures kept { OnOk result (KeepsValues vars.old vars.new) }
     ensures value { OnOk result (IsSome (value_of_name name.now vars.new)) }
     ensures fault { IfErr result
-        (IsFirst (value_fault (place_of spot.entry) (value_of times_of variables.now name.now))) }
+        (IsRefusal (value_fault (place_of spot.entry) (value_of times_of variables.now name.now))) }
 {
     while vars.get(name).is_none() {
         let (variable, value) = next_value(alloc, variables, vars, name, spot)?;

@@ -2,7 +2,8 @@
 
 ghost use Rattle.std.specs.Prelude.{◌≡◌, ◌++◌, IfOk, OnOk};
 ghost use Rattle.std.specs.Option.{option_copied};
-ghost use Rattle.time_expr.specs.Names.{names_of, link_names, operand_names, first_missing, behind};
+ghost use Rattle.text_bytes.specs.Texts.{behind};
+ghost use Rattle.time_expr.specs.Names.{names_of, link_names, operand_names, first_missing};
 
 use crate::expr::{Expr, Operator};
 use crate::vars::Vars;

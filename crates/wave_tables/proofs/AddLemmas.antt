@@ -53,9 +53,6 @@ or_false : (b : Bool) → (b || false) ≡ b
 or_false true = refl
 or_false false = refl
 
-neither : (a b : Bool) → (a || b) ≡ false → (a ≡ false) × (b ≡ false)
-neither a b e = or_parts a b e
-
 -- one table more
 pub adds_more : (t : Timed Ratio) (inherits : List (List ℕ)) (ready : List Bool) (i : ℕ) (r : Bool)
     (first now new : List (Option Whole)) (added more : Bool)
@@ -79,7 +76,7 @@ adds_more t inherits ready i r first now new added more within is before at = re
             ap is_some (at.others k other) ∙ before.there k h
             ∙ ap (λ (b : Bool). is_there first k || b) (sym (front_other ready i k other within))
       ];
-  kept = λ e. let parts = neither added more e in at.kept parts.1 ∙ before.kept parts.0;
+  kept = λ e. let parts = or_parts added more e in at.kept parts.1 ∙ before.kept parts.0;
   grows = λ k w e. still k w (before.grows k w e);
   has = λ k w e. where_from k w e;
 }

@@ -5,6 +5,7 @@ use Rattle.std.specs.Prelude.{slice_get}
 use Rattle.std.proofs.lemmas.List.{length-map}
 use Rattle.std.proofs.lemmas.List.Elements.{All-get_or}
 use Rattle.std.proofs.lemmas.Bool.{eq-eqb, ne_eqb}
+use Rattle.std.proofs.Math.Bool.{and-false}
 use Rattle.text_bytes.specs.Bytes.{is_character}
 use Rattle.stil_ast.specs.Data.Places.{Place}
 use Rattle.stil_ast.specs.Meaning.Times.{time_at}
@@ -107,17 +108,13 @@ not_late_early t period table w early =
     first_of_either (late_event t period) (not (w.table == table) && stands (waveforms t.names t.tables table) w)
     w.events early
 
-and_no : (b : Bool) → (b && false) ≡ false
-and_no true = refl
-and_no false = refl
-
 -- one that doesn't stand isn't late
 pub not_late_gone : (t : Timed Ratio) (period : ℤ) (table : ℕ) (w : Waveform)
     → stands (waveforms t.names t.tables table) w ≡ false
     → late_one t period table w ≡ None
 not_late_gone t period table w gone =
     ap (λ (b : Bool). first_in (late_event t period) (cond (not (w.table == table) && b) w.events [])) gone
-    ∙ ap (λ (b : Bool). first_in (late_event t period) (cond b w.events [])) (and_no (not (w.table == table)))
+    ∙ ap (λ (b : Bool). first_in (late_event t period) (cond b w.events [])) (and-false (not (w.table == table)))
 
 -- one of another table that stands is as late as its events
 pub late_standing : (t : Timed Ratio) (period : ℤ) (table : ℕ) (w : Waveform) → (w.table ≡ table → ⊥)

@@ -1,12 +1,13 @@
 -- The first fault of the tables, one table after another.
-use Rattle.std.proofs.Common.{◌≡◌, ℕ, zero, suc, ◌+◌, ◌<◌, ◌||◌, Bool, true, false, List, [], ◌∷◌, Option, Some, None, length, nat_le, refl, sym, ap, ◌∙◌, arith}
+use Rattle.std.proofs.Common.{◌≡◌, ℕ, zero, suc, ◌+◌, ◌<◌, ◌||◌, Bool, false, List, [], ◌∷◌, Option, Some, None, length, nat_le, refl, sym, ap, ◌∙◌, arith}
 use Rattle.std.specs.Prelude.{slice_get}
 use Rattle.std.specs.List.{list_any, filter_map, cons_option, enumerate_from}
+use Rattle.text_bytes.proofs.ListLemmas.{slice_get-there}
 use Rattle.text_bytes.specs.Limits.{most_waves}
 use Rattle.stil_ast.specs.Data.Places.{Place}
 use Rattle.stil_ast.specs.Meaning.Signals.{Names}
 use Rattle.stil_ast.specs.Meaning.Tables.{table_of, inherited_by, leads_into_cycle, waveforms, wave_count}
-use Rattle.stil_ast.specs.Faults.Found.{first_in, refuse_if, fault_at, on_line, unless}
+use Rattle.stil_ast.specs.Faults.Found.{first_in, fault_at, on_line, unless}
 use Rattle.stil_ast.specs.Faults.TableFaults.{Timed, inherit_found, inherit_fault, waves_of_first, table_fault, tables_fault}
 use Rattle.stil_ast.specs.declared.fault.StilFault.{StilFault}
 use Rattle.stil_ast.specs.declared.fault.StilKind.TheVariants.{TooLarge}
@@ -16,13 +17,8 @@ use Rattle.time_expr.specs.Ratio.{Ratio}
 use Rattle.wave_tables.specs.declared.lineage.Whole.{Whole}
 use Rattle.wave_tables.specs.Lineage.{AreWhole}
 use Rattle.wave_tables.specs.Check.{count_fault, behind_names}
-use Rattle.stil_ast.proofs.FoundLemmas.{or_else-none}
+use Rattle.stil_ast.proofs.FoundLemmas.{or_else-none, not_refused}
 use Rattle.wave_tables.proofs.RowLemmas.{sum_more}
-
--- a name without a fault leads into no cycle
-not_cyclic : (b : Bool) (f : StilFault) → refuse_if b f None ≡ None → b ≡ false
-not_cyclic true f e = cc
-not_cyclic false f e = refl
 
 name_free : (p : Place) (tables : List TableDecl) (i : Named) (names : List Named) (o : Option ℕ)
     → table_of tables i.name ≡ o
@@ -36,7 +32,7 @@ name_free p tables i names None is none rest =
     never e = cc
 name_free p tables i names (Some k) is none rest =
     let free : leads_into_cycle tables k ≡ false =
-    not_cyclic (leads_into_cycle tables k) _ (sym (ap (inherit_found (on_line p i.line) tables) is) ∙ none) in
+    not_refused (leads_into_cycle tables k) _ (sym (ap (inherit_found (on_line p i.line) tables) is) ∙ none) in
     ap (λ (o : Option ℕ). list_any (leads_into_cycle tables)
     (cons_option o (filter_map (λ (i : Named). table_of tables i.name) names))) is
     ∙ ap (λ (b : Bool). b || list_any (leads_into_cycle tables)
@@ -66,12 +62,6 @@ within_at [] i x e = cc
 within_at (y ∷ ys) zero x e = omega arith
 within_at (y ∷ ys) (suc i) x e = omega (arith, within_at ys i x e)
 
--- within a list something is found
-found_at : {X : Type 0} (xs : List X) (i : ℕ) → i < length xs → (x : X) × (slice_get xs i ≡ Some x)
-found_at [] i h = absurd (omega arith)
-found_at (x ∷ xs) zero h = (x, refl)
-found_at (x ∷ xs) (suc i) h = found_at xs i (omega arith)
-
 none_at : {X : Type 0} (f : ℕ × X → Option StilFault) (n : ℕ) (xs : List X) (i : ℕ) (x : X)
     → first_in f (enumerate_from n xs) ≡ None
     → slice_get xs i ≡ Some x → f (n + i, x) ≡ None
@@ -91,7 +81,7 @@ pub all_free : (t : Timed Ratio) (before : ℕ) (wholes : List (Option Whole)) �
     → tables_fault t before ≡ None
     → (k : ℕ) → k < length t.tables → leads_into_cycle t.tables k ≡ false
 all_free t before wholes whole none k within =
-    let d : (d : TableDecl) × (slice_get t.tables k ≡ Some d) = found_at t.tables k within in
+    let d : (d : TableDecl) × (slice_get t.tables k ≡ Some d) = slice_get-there t.tables k within in
     let at_zero : 0 + k ≡ k = omega arith in
     let here : table_fault t before (k, d.0) ≡ None =
     ap (λ (n : ℕ). table_fault t before (n, d.0)) (sym at_zero)

@@ -4,12 +4,13 @@ use Rattle.std.specs.List.{filter_map, list_all, enumerate_from}
 use Rattle.std.specs.Prelude.{slice_get}
 use Rattle.std.specs.Borrow.{Bor}
 use Rattle.std.proofs.lemmas.Option.{slice_get-map, slice_get-get_or}
-use Rattle.wave_tables.specs.Behind.{behind}
 use Rattle.std.proofs.Math.Seq.{drop-append_seam}
 use Rattle.std.specs.Option.{option_to_list, option_map}
 use Rattle.std.proofs.lemmas.List.{take_more, map-append}
 use Rattle.std.proofs.lemmas.List.Elements.{filter_map-append}
 use Rattle.std.proofs.lemmas.Bool.{and_parts}
+use Rattle.text_bytes.specs.Texts.{behind}
+use Rattle.text_bytes.proofs.ListLemmas.{enumerate_from-push}
 
 -- the front with the item at hand
 pub take_taken : {X : Type 0} (xs : List X) (i : ℕ) (x : X) → i < length xs → x ≡ get_or xs i x
@@ -91,17 +92,6 @@ pub drop_behind : {X : Type 0} (xs : List X) (n k : ℕ) (front rest : List X) �
 drop_behind xs n k front rest long e =
     drop_by n k xs ∙ ap (drop k) e ∙ ap (λ (m : ℕ). drop m (front ++ rest)) (sym long) ∙ drop-append_seam front rest
 
--- items with their numbers, and one more
-pub enumerate_more : {X : Type 0} (k : ℕ) (xs : List X) (x : X)
-    → enumerate_from k (xs ++ x ∷ []) ≡ enumerate_from k xs ++ (k + length xs, x) ∷ []
-enumerate_more k [] x = let same : k ≡ k + 0 = omega arith in ap (λ (n : ℕ). (n, x) ∷ []) same
-enumerate_more k (y ∷ ys) x =
-    ap (λ l. (k, y) ∷ l) (enumerate_more (k + 1) ys x
-    ∙ ap (λ (n : ℕ). enumerate_from (k + 1) ys ++ (n, x) ∷ []) (moved k (length ys)))
-  where
-    moved : (k n : ℕ) → k + 1 + n ≡ k + suc n
-    moved k n = omega arith
-
 -- what a reference at a place points to
 pub behind_at : {X : Type 0} (bs : List (Bor X)) (xs : List X) (i : ℕ) (b : Bor X) → behind bs ≡ xs → i < length bs
     → b ≡ get_or bs i b
@@ -128,5 +118,5 @@ pub enumerate_taken : {X : Type 0} (xs : List X) (i : ℕ) (x : X) → slice_get
     → enumerate_from 0 (take (i + 1) xs) ≡ enumerate_from 0 (take i xs) ++ (i, x) ∷ []
 enumerate_taken xs i x at =
     let number : 0 + length (take i xs) ≡ i = omega (arith, front_long xs i x at) in
-    ap (enumerate_from 0) (front_found xs i x at) ∙ enumerate_more 0 (take i xs) x
+    ap (enumerate_from 0) (front_found xs i x at) ∙ enumerate_from-push 0 (take i xs) x
     ∙ ap (λ (n : ℕ). enumerate_from 0 (take i xs) ++ (n, x) ∷ []) number

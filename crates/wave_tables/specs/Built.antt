@@ -1,5 +1,6 @@
 -- What is answered of an executive's tables.
-use Rattle.std.specs.Prelude.{◌≡◌, ℕ, List, Option, Some, None, Result, Ok, Err}
+use Rattle.std.specs.Prelude.{◌≡◌, ℕ, List, Option, None, Result, Ok, Err}
+use Rattle.stil_ast.specs.Faults.Found.{IsRefusal}
 use Rattle.stil_ast.specs.Meaning.Tables.{made_tables}
 use Rattle.stil_ast.specs.Faults.TableFaults.{Timed, tables_fault}
 use Rattle.stil_ast.specs.declared.fault.StilFault.{StilFault}
@@ -19,12 +20,7 @@ abbrev pub IsSet : Timed Ratio → ℕ → Result (List Table) Trouble → Type 
 IsSet t before (Ok set) = (tables_fault t before ≡ None) × (set ≡ tables_in t)
 IsSet t before (Err trouble) = IsAt t.place (tables_fault t before) trouble
 
--- a refusal by a fault, or want of memory
-abbrev pub IsRefused : Option StilFault → StilRefusal → Type 0
-IsRefused fault refusal.NoMemory = Unit {0}
-IsRefused fault (refusal.Fault f) = fault ≡ Some f
-
 -- these tables where there is no fault, else the refusal
 abbrev pub IsBuilt : Option StilFault → List Table → Result (List Table) StilRefusal → Type 0
 IsBuilt fault tables (Ok set) = (fault ≡ None) × (set ≡ tables)
-IsBuilt fault tables (Err e) = IsRefused fault e
+IsBuilt fault tables (Err e) = IsRefusal fault e

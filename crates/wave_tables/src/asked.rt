@@ -1,11 +1,11 @@
 //! What is asked of a scope: tables, signals and times.
 
 ghost use Rattle.std.specs.Prelude.{◌≡◌, ◌<◌, length, All, IfOk};
+ghost use Rattle.text_bytes.specs.Texts.{behind};
 ghost use Rattle.stil_ast.specs.Meaning.Tables.{tables_named};
 ghost use Rattle.stil_ast.specs.Meaning.Members.{members, reference_kind};
 ghost use Rattle.stil_ast.specs.Data.Texts.{name_or_none};
 ghost use Rattle.signal_groups.specs.Lookup.{Resolves};
-ghost use Rattle.wave_tables.specs.Behind.{behind};
 ghost use Rattle.wave_tables.specs.Scope.{timed, IsTimeOf};
 
 use crate::scope::Scope;

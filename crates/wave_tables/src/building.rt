@@ -4,7 +4,7 @@ ghost use Rattle.std.specs.Prelude.{◌≡◌, ◌⊎◌, ◌<◌, Option, Some,
 ghost use Rattle.signal_groups.specs.Table.{table_of};
 ghost use Rattle.stil_ast.specs.Data.OneText.{AreOfOneText};
 ghost use Rattle.stil_ast.specs.Faults.ExecutiveFaults.{timed_of};
-ghost use Rattle.stil_ast.specs.Faults.Found.{fault_at, on_line};
+ghost use Rattle.stil_ast.specs.Faults.Found.{fault_at, on_line, IsRefusal};
 ghost use Rattle.stil_ast.specs.Faults.TableFaults.{tables_fault};
 ghost use Rattle.stil_ast.specs.Meaning.Executive.{exec_tables, exec_value, table_list, timing_place};
 ghost use Rattle.stil_ast.specs.Meaning.Signals.{names_of};
@@ -15,7 +15,7 @@ ghost use Rattle.time_expr.specs.TimeIn.{AreNames};
 ghost use Rattle.time_expr.specs.TimesOf.{times_of};
 ghost use Rattle.wave_tables.specs.Letters.{are_lettered};
 ghost use Rattle.wave_tables.specs.Scope.{timed};
-ghost use Rattle.wave_tables.specs.Built.{IsSet, IsBuilt, IsRefused};
+ghost use Rattle.wave_tables.specs.Built.{IsSet, IsBuilt};
 ghost use Rattle.wave_tables.specs.Check.{IsAt};
 
 use crate::asked::{tables_named, timing_name};
@@ -140,7 +140,7 @@ fn fault_at(
 
 /// The refusal for a fault of an executive's tables.
 fn refusal_of(alloc: Global, exec: &ExecDecl, trouble: Trouble) -> StilRefusal
-    ensures { (fault : Option StilFault) → IsAt (timing_place exec.now) fault trouble → IsRefused fault result }
+    ensures { (fault : Option StilFault) → IsAt (timing_place exec.now) fault trouble → IsRefusal fault result }
 {
     match trouble {
         Trouble::NoMemory => StilRefusal::NoMemory,

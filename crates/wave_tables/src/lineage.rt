@@ -3,9 +3,9 @@
 ghost use Rattle.std.specs.Prelude.{◌≡◌, ◌<◌, ◌||◌, ℕ, [], ◌∷◌, ◌++◌, Option, Some, None, not, true, false, map, flat_map, length, slice_get, slice_index_or, position, replicate, IfOk, OnOk, IfSome};
 ghost use Rattle.std.specs.List.{list_all};
 ghost use Rattle.std.specs.Option.{option_to_list};
+ghost use Rattle.text_bytes.specs.Texts.{behind};
 ghost use Rattle.stil_ast.specs.Data.Texts.{same};
 ghost use Rattle.stil_ast.specs.Meaning.Tables.{inherited_by, lineage, table_of};
-ghost use Rattle.wave_tables.specs.Behind.{behind};
 ghost use Rattle.wave_tables.specs.Scope.{timed};
 ghost use Rattle.wave_tables.specs.Sources.{Fills};
 ghost use Rattle.wave_tables.specs.declared.lineage.Whole.{Whole};

@@ -1,12 +1,12 @@
 //! What the tables of an executive are made from.
 
 ghost use Rattle.std.specs.Prelude.{◌≡◌, true};
+ghost use Rattle.text_bytes.specs.Texts.{behind};
 ghost use Rattle.stil_ast.specs.Meaning.Executive.{exec_tables, exec_value};
 ghost use Rattle.stil_ast.specs.Meaning.Signals.{names_of};
 ghost use Rattle.signal_groups.specs.Table.{table_of};
 ghost use Rattle.time_expr.specs.TimeIn.{AreNames};
 ghost use Rattle.time_expr.specs.TimesOf.{times_of};
-ghost use Rattle.wave_tables.specs.Behind.{behind};
 ghost use Rattle.wave_tables.specs.Letters.{are_lettered};
 
 use signal_groups::SignalTable;

@@ -2,7 +2,8 @@
 
 ghost use Rattle.std.specs.Prelude.{◌≡◌, ◌<◌, All, length, slice_get, find, Some};
 ghost use Rattle.std.specs.Option.{option_map};
-ghost use Rattle.wave_tables.specs.Waves.{AreInOrder, wave_key, is_wave, waves_at, wave_in};
+ghost use Rattle.tester_types.specs.Waves.{is_wave};
+ghost use Rattle.wave_tables.specs.Waves.{AreInOrder, wave_key, waves_at, wave_in};
 
 use std::marker::Model;
 use tester_types::{Table, Wave};

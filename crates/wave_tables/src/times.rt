@@ -1,7 +1,7 @@
 //! The texts of waveforms with their times.
 
 ghost use Rattle.std.specs.Prelude.{◌≡◌, ◌++◌, map, flat_map, IfOk, OnOk};
-ghost use Rattle.wave_tables.specs.Behind.{behind};
+ghost use Rattle.text_bytes.specs.Texts.{behind};
 ghost use Rattle.wave_tables.specs.Scope.{timed};
 ghost use Rattle.wave_tables.specs.ReadWaves.{read_event, read_wave, read_waves};
 

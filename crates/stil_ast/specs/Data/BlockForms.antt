@@ -1,9 +1,10 @@
 -- The form of the statements of each kind of block in a text that was read (IEEE 1450-1999, clauses 14 to 24).
 use Rattle.std.specs.Prelude.{ℕ, suc, ◌-◌, ◌==◌, ◌&&◌, ◌||◌, Bool, true, false, List, Option, Some, None, nat_le, nat_eq, length, map, sum_by, count_by, if◌then◌else◌}
 use Rattle.std.specs.List.{list_all}
+use Rattle.text_bytes.specs.Numbers.{is_within}
 use Rattle.text_bytes.specs.Limits.{most_cells, most_events, most_passes}
 use Rattle.text_bytes.specs.Bytes.{is_character}
-use Rattle.stil_ast.specs.Data.Texts.{same, within, is_name}
+use Rattle.stil_ast.specs.Data.Texts.{same, is_name}
 use Rattle.stil_ast.specs.Data.Forms.{all_differ, is_absent_or, is_line, is_optional_name, is_range, is_name_ref, is_quoted, is_sig_ref, is_named, is_optionally_named, is_item}
 use Rattle.stil_ast.specs.Data.Written.{Written, no_more, single, looped, shifted}
 use Rattle.stil_ast.specs.declared.name.IndexRange.{IndexRange}
@@ -166,7 +167,7 @@ abbrev pub is_body : Bool → Written → Bool
 is_body stops no_more = true
 is_body stops (single line plain rest) = is_line line && is_step stops plain && is_body stops rest
 is_body stops (looped line times body rest) =
-    is_line line && within 1 most_passes times && is_body false body && is_body stops rest
+    is_line line && is_within 1 most_passes times && is_body false body && is_body stops rest
 is_body stops (shifted line body rest) = is_line line && is_body false body && is_body stops rest
 
 -- a macro or a procedure

@@ -1,8 +1,9 @@
 -- The form of names, lines, references and data in a text that was read (IEEE 1450-1999, clauses 6 and 21).
 use Rattle.std.specs.Prelude.{ℕ, ◌&&◌, not, Bool, true, List, [], ◌∷◌, Option, Some, None, nat_le}
 use Rattle.std.specs.List.{list_any}
+use Rattle.text_bytes.specs.Numbers.{is_within}
 use Rattle.text_bytes.specs.Bytes.{is_character}
-use Rattle.stil_ast.specs.Data.Texts.{within, is_name}
+use Rattle.stil_ast.specs.Data.Texts.{is_name}
 use Rattle.stil_ast.specs.Meaning.Statements.{Item, letter, hash, percent}
 use Rattle.stil_ast.specs.declared.name.IndexRange.{IndexRange}
 use Rattle.stil_ast.specs.declared.name.Named.{Named}
@@ -23,7 +24,7 @@ is_absent_or test (Some x) = test x
 
 -- lines are counted from 1, in 32 bits
 abbrev pub is_line : ℕ → Bool
-is_line line = within 1 4294967295 line
+is_line line = is_within 1 4294967295 line
 
 -- the name of a block that may go without one
 abbrev pub is_optional_name : List ℕ → Bool

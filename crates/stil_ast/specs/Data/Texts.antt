@@ -11,10 +11,6 @@ use Rattle.stil_ast.specs.declared.name.Named.{Named}
 abbrev pub same : List ℕ → List ℕ → Bool
 same a b = pointwise nat_eq a b
 
--- whether a number lies in a range
-abbrev pub within : ℕ → ℕ → ℕ → Bool
-within low high c = nat_le low c && nat_le c high
-
 -- a name has a byte at least and not too many, from 0x20 to 0x7E
 abbrev pub is_name : List ℕ → Bool
 is_name [] = false

@@ -1,8 +1,10 @@
 -- How the first fault of several rules is found.
-use Rattle.std.specs.Prelude.{ℕ, Bool, true, false, List, [], ◌∷◌, Option, Some, None, codes}
+use Rattle.std.specs.Prelude.{◌≡◌, ℕ, Bool, true, false, List, [], ◌∷◌, Option, Some, None, codes}
 use Rattle.stil_ast.specs.Data.Places.{Place, Body, of_pattern, of_macro, of_procedure, Origin, Titles}
 use Rattle.stil_ast.specs.declared.fault.StilFault.{StilFault}
 use Rattle.stil_ast.specs.declared.fault.StilKind.{StilKind}
+use Rattle.stil_ast.specs.declared.fault.StilRefusal.{StilRefusal}
+use Rattle.stil_ast.specs.declared.fault.StilRefusal.TheVariants as refusal
 
 -- a fault of this kind at this place
 abbrev pub fault_at : Place → StilKind → StilFault
@@ -48,3 +50,8 @@ or_else (Some fault) second = Some fault
 abbrev pub first_in : {A : Type 0} → (A → Option StilFault) → List A → Option StilFault
 first_in rule [] = None
 first_in rule (x ∷ xs) = or_else (rule x) (first_in rule xs)
+
+-- a refusal has the fault that is there, or memory was short
+abbrev pub IsRefusal : Option StilFault → StilRefusal → Type 0
+IsRefusal fault refusal.NoMemory = Unit {0}
+IsRefusal fault (refusal.Fault first) = fault ≡ Some first

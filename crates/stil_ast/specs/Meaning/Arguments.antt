@@ -7,6 +7,11 @@ pub data Entry : Type 0 where
   given : ℕ → Entry
   padding : Entry
 
+-- an entry as the code names it: none is padding
+abbrev pub entry_of : Option ℕ → Entry
+entry_of None = padding
+entry_of (Some character) = given character
+
 -- the argument of one signal: what is left, and how many were taken
 pub record Argument : Type 0 where
   pub left : List Entry

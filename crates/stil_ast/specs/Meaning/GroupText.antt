@@ -1,7 +1,8 @@
 -- Group expressions: items joined by `+` and `-` (IEEE 1450-1999, clause 6, signal references).
 use Rattle.std.specs.Prelude.{◌≡◌, ℕ, ◌<◌, ◌==◌, not, Bool, true, false, List, [], ◌∷◌, ◌++◌, Option, Some, None, length, if◌then◌else◌}
 use Rattle.std.specs.List.{list_all}
-use Rattle.text_bytes.specs.Bytes.{is_word, is_blank}
+use Rattle.text_bytes.specs.Lexemes.{Reads}
+use Rattle.text_bytes.specs.Bytes.{is_word}
 use Rattle.stil_ast.specs.Data.Texts.{is_name, is_bare_name, index_of}
 use Rattle.stil_ast.specs.declared.name.IndexRange.{IndexRange}
 use Rattle.stil_ast.specs.declared.name.NameRef.{NameRef}
@@ -39,21 +40,6 @@ IsLexeme opens text = text ≡ 91 ∷ []
 IsLexeme closes text = text ≡ 93 ∷ []
 IsLexeme dot text = text ≡ 46 ∷ []
 IsLexeme stray text = ⊥
-
--- a text of blanks, this lexeme, and the rest
-pub record Begins (lexeme : Lexeme) (Rest : List ℕ → Type 0) (text : List ℕ) : Type 0 where
-  pub blanks : List ℕ
-  pub piece : List ℕ
-  pub rest : List ℕ
-  pub spelled : text ≡ blanks ++ (piece ++ rest)
-  pub are_blank : list_all is_blank blanks ≡ true
-  pub is_lexeme : IsLexeme lexeme piece
-  pub goes_on : Rest rest
-
--- a text of these lexemes, with blanks before, between and behind them
-abbrev pub Reads : List Lexeme → List ℕ → Type 0
-Reads [] text = list_all is_blank text ≡ true
-Reads (lexeme ∷ lexemes) text = Begins lexeme (Reads lexemes) text
 
 -- the name that a lexeme is
 abbrev pub item_name : Lexeme → Option (List ℕ)
@@ -115,5 +101,5 @@ pub data AreTerms : Bool → List Term → List Lexeme → Type 0 where
 -- the whole text is a group expression of these items, of which the first has no sign and is added
 pub record SpellsTerms (text : List ℕ) (terms : List Term) : Type 0 where
   pub lexemes : List Lexeme
-  pub reads : Reads lexemes text
+  pub reads : Reads IsLexeme lexemes text
   pub are : AreTerms true terms lexemes

@@ -1,7 +1,7 @@
 use Rattle.std.proofs.Common.{◌≡◌, length}
 use Rattle.std.specs.List.{fold}
-use Rattle.bench_net.specs.Net.{added}
-use Rattle.bench_net.specs.Views.{texts, key_texts}
+use Rattle.text_bytes.specs.Texts.{added, key_texts}
+use Rattle.bench_net.specs.Views.{texts}
 use Rattle.bench_net.proofs.build.add_all.Given as goal
 
 abbrev pub invariant-loop-rest : goal.invariant-loop-rest

@@ -1,7 +1,8 @@
 use Rattle.std.proofs.Common.{◌≡◌, length, map}
 use Rattle.std.specs.List.{fold, flat_map}
-use Rattle.bench_net.specs.Net.{added, named, names}
-use Rattle.bench_net.specs.Views.{form_of, key_texts}
+use Rattle.text_bytes.specs.Texts.{added, key_texts}
+use Rattle.bench_net.specs.Net.{named, names}
+use Rattle.bench_net.specs.Views.{form_of}
 use Rattle.bench_net.proofs.build.names_of.Given as goal
 
 abbrev pub invariant-loop-rest : goal.invariant-loop-rest

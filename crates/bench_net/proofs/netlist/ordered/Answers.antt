@@ -1,12 +1,13 @@
 -- The netlist is whole and the lines', from what the sorted gates and the search for a loop say.
 use Rattle.std.proofs.Common.{◌<◌, ℕ, List, length, map, sym, ◌∙◌, subst, inr}
+use Rattle.text_bytes.specs.Texts.{key_texts}
 use Rattle.bench_net.specs.declared.gate.Driver.{Driver}
 use Rattle.bench_net.specs.Wiring.{pins_at, AreReaders}
 use Rattle.bench_net.specs.Circuit.{Net, IsWhole}
 use Rattle.bench_net.specs.Fault.{IsFirstLoop}
 use Rattle.bench_net.specs.Givers.{IsNetOf}
 use Rattle.bench_net.specs.Sorting.{AreWithin}
-use Rattle.bench_net.specs.Views.{form_of, key_texts}
+use Rattle.bench_net.specs.Views.{form_of}
 use Rattle.bench_net.proofs.BuildLemmas.{IsTable-sorted, IsWhole-net_of, IsNetOf-net_of, same_net, wired, within-wired, loop-first, loop_fault-same}
 use Rattle.bench_net.proofs.netlist.ordered.Goals as goal
 

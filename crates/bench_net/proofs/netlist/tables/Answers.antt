@@ -1,5 +1,6 @@
 use Rattle.std.proofs.Common.{◌∙◌, map}
-use Rattle.bench_net.specs.Views.{form_of, texts, key_texts}
+use Rattle.text_bytes.specs.Texts.{key_texts}
+use Rattle.bench_net.specs.Views.{form_of, texts}
 use Rattle.bench_net.proofs.BuildLemmas.{drivers-given, outputs-shown}
 use Rattle.bench_net.proofs.netlist.tables.Goals as goal
 

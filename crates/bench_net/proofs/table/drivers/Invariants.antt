@@ -1,6 +1,7 @@
 use Rattle.std.proofs.Common.{◌≡◌, map}
+use Rattle.text_bytes.specs.Texts.{key_texts}
 use Rattle.bench_net.specs.Givers.{given_driver}
-use Rattle.bench_net.specs.Views.{form_of, texts, key_texts}
+use Rattle.bench_net.specs.Views.{form_of, texts}
 use Rattle.bench_net.proofs.table.drivers.Given as goal
 
 abbrev pub invariant-loop-name : goal.invariant-loop-name

@@ -1,6 +1,6 @@
 use Rattle.std.proofs.Common.{sym, ◌∙◌}
 use Rattle.std.proofs.lemmas.List.{length-map}
-use Rattle.bench_net.specs.Views.{key_texts}
+use Rattle.text_bytes.specs.Texts.{key_texts}
 use Rattle.bench_net.proofs.NetLemmas.{number_from_none}
 use Rattle.bench_net.proofs.table.number.Goals as goal
 

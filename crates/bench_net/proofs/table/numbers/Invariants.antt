@@ -1,6 +1,7 @@
 use Rattle.std.proofs.Common.{◌≡◌, ◌++◌, length, map}
+use Rattle.text_bytes.specs.Texts.{key_texts}
 use Rattle.bench_net.specs.Circuit.{number}
-use Rattle.bench_net.specs.Views.{texts, key_texts}
+use Rattle.bench_net.specs.Views.{texts}
 use Rattle.bench_net.proofs.table.numbers.Given as goal
 
 abbrev pub invariant-loop-rest : goal.invariant-loop-rest

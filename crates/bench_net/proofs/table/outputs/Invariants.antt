@@ -1,7 +1,8 @@
 use Rattle.std.proofs.Common.{◌≡◌, map}
 use Rattle.std.specs.List.{list_any}
 use Rattle.std.specs.Str.{bytes_eq}
-use Rattle.bench_net.specs.Views.{texts, key_texts}
+use Rattle.text_bytes.specs.Texts.{key_texts}
+use Rattle.bench_net.specs.Views.{texts}
 use Rattle.bench_net.proofs.table.outputs.Given as goal
 
 abbrev pub invariant-loop-name : goal.invariant-loop-name

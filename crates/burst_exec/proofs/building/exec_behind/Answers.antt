@@ -1,12 +1,12 @@
 use Rattle.std.proofs.Common.{◌≡◌, List, None, refl, ap, ◌∙◌, subst, get_or}
 use Rattle.std.proofs.lemmas.Option.{get_or_from_slice_get}
+use Rattle.stil_ast.specs.Faults.Found.{IsRefusal}
 use Rattle.signal_groups.specs.Table.{table_of}
 use Rattle.stil_ast.specs.Meaning.Resolved.{outs_of}
 use Rattle.stil_ast.specs.Meaning.Signals.{names_of}
 use Rattle.stil_ast.specs.declared.blocks.Blocks.{Blocks}
 use Rattle.stil_ast.specs.declared.executive.ExecDecl.{ExecDecl}
 use Rattle.burst_exec.specs.Carried.{HasRun}
-use Rattle.burst_exec.specs.Finding.{IsRefusal}
 use Rattle.burst_exec.specs.Patterns.{played_fault}
 use Rattle.burst_exec.specs.Staged.{order_of, IsStageOf}
 use Rattle.burst_exec.specs.declared.progress.Progress.{Progress}

@@ -1,9 +1,9 @@
 use Rattle.std.proofs.Common.{◌≡◌, None, List, ap, ◌∙◌, subst}
+use Rattle.stil_ast.specs.Faults.Found.{IsRefusal}
 use Rattle.stil_ast.specs.Meaning.Bursts.{Played}
 use Rattle.stil_ast.specs.Meaning.Chains.{scan_outs}
 use Rattle.stil_ast.specs.Meaning.Signals.{names_of}
 use Rattle.burst_exec.specs.Carried.{HasRun}
-use Rattle.burst_exec.specs.Finding.{IsRefusal}
 use Rattle.burst_exec.specs.Patterns.{played_fault}
 use Rattle.burst_exec.proofs.StagedLemmas.{chains_there}
 use Rattle.burst_exec.proofs.building.trees_of.Goals as goal

@@ -1,6 +1,6 @@
 use Rattle.std.proofs.Common.{◌≡◌, None}
+use Rattle.stil_ast.specs.Faults.Found.{IsRefusal}
 use Rattle.stil_ast.specs.declared.blocks.Blocks.{Blocks}
-use Rattle.burst_exec.specs.Finding.{IsRefusal}
 use Rattle.burst_exec.specs.Staged.{values_fault, waves_fault, ends_fault, tables_of, chains_of}
 use Rattle.burst_exec.proofs.StagedLemmas.{in_blocks, for_names, for_values, for_tables, for_chains, for_nothing, waves_there}
 use Rattle.burst_exec.proofs.staging.stage_exec.Goals as goal

@@ -1,6 +1,6 @@
 use Rattle.std.proofs.Common.{arith, ◌∙◌, sym, subst, Option}
+use Rattle.stil_ast.specs.Faults.Found.{IsRefusal}
 use Rattle.stil_ast.specs.declared.fault.StilFault.{StilFault}
-use Rattle.burst_exec.specs.Finding.{IsRefusal}
 use Rattle.cycle_comp.proofs.BuildLemmas.{rows_after, fault-rows, built-push}
 use Rattle.cycle_comp.proofs.compiling.add_exec.Goals as goal
 

@@ -1,8 +1,8 @@
 use Rattle.std.proofs.Common.{◌+◌, ◌<◌, ◌≤◌, length, sym, subst, arith, Option}
+use Rattle.stil_ast.specs.Faults.Found.{IsRefusal}
 use Rattle.text_bytes.specs.Limits.{most_measure, most_cycles}
 use Rattle.stil_ast.specs.Meaning.ExecutiveData.{measure_of, vectors_of}
 use Rattle.stil_ast.specs.declared.fault.StilFault.{StilFault}
-use Rattle.burst_exec.specs.Finding.{IsRefusal}
 use Rattle.cycle_comp.proofs.BuildLemmas.{measured, counted, size-many, size-none}
 use Rattle.cycle_comp.proofs.sizes.checked_measure.Goals as goal
 

@@ -1,6 +1,6 @@
 use Rattle.std.proofs.Common.{◌≡◌, ◌++◌, map, drop}
+use Rattle.text_bytes.specs.Texts.{behind}
 use Rattle.lot_plan.specs.Bound.{numbered}
-use Rattle.lot_plan.specs.Views.{behind}
 use Rattle.lot_plan.proofs.building.numbered_rows.Given as goal
 
 abbrev pub invariant-loop-row : goal.invariant-loop-row

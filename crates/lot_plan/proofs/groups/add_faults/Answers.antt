@@ -1,8 +1,8 @@
 use Rattle.std.proofs.Common.{ap, sym, ◌∙◌, ◌+◌, drop}
 use Rattle.std.specs.Prelude.{fold}
+use Rattle.text_bytes.specs.Texts.{behind}
 use Rattle.plan_rows.specs.declared.row.FaultRow.{FaultRow}
 use Rattle.lot_plan.specs.Groups.{put_fault, IsThere}
-use Rattle.lot_plan.specs.Views.{behind}
 use Rattle.text_bytes.proofs.ListLemmas.{drop-item}
 use Rattle.lot_plan.proofs.NameLemmas.{each-behind}
 use Rattle.lot_plan.proofs.GroupLemmas.{there-shape, shape-shape, shape-put_fault}

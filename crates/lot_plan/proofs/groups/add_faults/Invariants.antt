@@ -1,7 +1,7 @@
 use Rattle.std.proofs.Common.{◌≡◌, drop}
 use Rattle.std.specs.Prelude.{fold}
+use Rattle.text_bytes.specs.Texts.{behind}
 use Rattle.lot_plan.specs.Groups.{put_fault, HasShape}
-use Rattle.lot_plan.specs.Views.{behind}
 use Rattle.lot_plan.proofs.groups.add_faults.Given as goal
 
 abbrev pub invariant-loop-fault : goal.invariant-loop-fault

@@ -1,6 +1,6 @@
 use Rattle.std.proofs.Common.{ap, ◌∙◌}
+use Rattle.text_bytes.specs.Texts.{behind}
 use Rattle.bench_net.specs.Views.{texts}
-use Rattle.lot_plan.specs.Views.{behind}
 use Rattle.lot_plan.proofs.GroupLemmas.{dies-below, is-with_dies, is-with_faults, faults-there-in, stops-there-in, are-groups-in}
 use Rattle.lot_plan.proofs.groups.groups_of.Goals as goal
 

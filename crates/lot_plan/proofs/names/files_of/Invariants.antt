@@ -1,8 +1,8 @@
 use Rattle.std.proofs.Common.{◌≡◌, drop, []}
 use Rattle.std.specs.Prelude.{fold}
+use Rattle.text_bytes.specs.Texts.{behind}
 use Rattle.bench_net.specs.Views.{texts}
 use Rattle.plan_rows.specs.Rows.{with_file}
-use Rattle.lot_plan.specs.Views.{behind}
 use Rattle.lot_plan.proofs.names.files_of.Given as goal
 
 abbrev pub invariant-loop-die : goal.invariant-loop-die

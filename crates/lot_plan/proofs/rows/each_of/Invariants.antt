@@ -1,6 +1,6 @@
 use Rattle.std.proofs.Common.{◌≡◌, ◌++◌, drop}
+use Rattle.text_bytes.specs.Texts.{behind}
 use Rattle.plan_rows.specs.Rows.{each_of}
-use Rattle.lot_plan.specs.Views.{behind}
 use Rattle.lot_plan.proofs.rows.each_of.Given as goal
 
 abbrev pub invariant-loop-row : goal.invariant-loop-row

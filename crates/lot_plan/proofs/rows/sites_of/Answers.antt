@@ -1,7 +1,7 @@
 use Rattle.std.proofs.Common.{◌≡◌, ◌+◌, max, arith, ap, sym, ◌∙◌, drop}
 use Rattle.std.specs.Prelude.{fold}
+use Rattle.text_bytes.specs.Texts.{behind}
 use Rattle.plan_rows.specs.declared.row.DieRow.{DieRow}
-use Rattle.lot_plan.specs.Views.{behind}
 use Rattle.text_bytes.proofs.ListLemmas.{drop-item}
 use Rattle.lot_plan.proofs.NameLemmas.{site-within}
 use Rattle.lot_plan.proofs.rows.sites_of.Goals as goal

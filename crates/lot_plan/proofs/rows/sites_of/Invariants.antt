@@ -1,6 +1,6 @@
 use Rattle.std.proofs.Common.{◌≡◌, ◌+◌, ◌≤◌, drop, max}
 use Rattle.std.specs.Prelude.{fold}
-use Rattle.lot_plan.specs.Views.{behind}
+use Rattle.text_bytes.specs.Texts.{behind}
 use Rattle.lot_plan.proofs.rows.sites_of.Given as goal
 
 abbrev pub invariant-loop-die : goal.invariant-loop-die

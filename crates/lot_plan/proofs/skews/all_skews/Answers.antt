@@ -1,5 +1,5 @@
 use Rattle.std.proofs.Common.{◌∙◌, ap}
-use Rattle.lot_plan.specs.Views.{behind}
+use Rattle.text_bytes.specs.Texts.{behind}
 use Rattle.lot_plan.proofs.SkewLemmas.{one_site_more}
 use Rattle.lot_plan.proofs.skews.all_skews.Goals as goal
 

@@ -1,5 +1,5 @@
 use Rattle.std.proofs.Common.{◌≡◌, ◌==◌, ◌++◌, drop, filter}
-use Rattle.lot_plan.specs.Views.{behind}
+use Rattle.text_bytes.specs.Texts.{behind}
 use Rattle.lot_plan.proofs.skews.rows_at.Given as goal
 
 abbrev pub invariant-loop-row : goal.invariant-loop-row

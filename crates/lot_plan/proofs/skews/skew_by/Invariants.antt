@@ -1,5 +1,5 @@
 use Rattle.std.proofs.Common.{◌≡◌, drop}
-use Rattle.lot_plan.specs.Views.{behind}
+use Rattle.text_bytes.specs.Texts.{behind}
 use Rattle.lot_plan.specs.Skews.{skew_by}
 use Rattle.lot_plan.proofs.skews.skew_by.Given as goal
 

@@ -1,8 +1,9 @@
 use Rattle.std.proofs.Common.{arith, reverse}
+use Rattle.stil_ast.proofs.FoundLemmas.{not_refused}
 use Rattle.stil_ast.specs.Faults.Found.{fault_at}
 use Rattle.stil_ast.specs.Faults.BurstFaults.{burst_place}
 use Rattle.stil_ast.specs.declared.fault.StilKind.TheVariants.{Cyclic}
-use Rattle.pattern_order.proofs.ForwardLemmas.{forward-closes, forward-goes, forward-refused, forward-from}
+use Rattle.pattern_order.proofs.ForwardLemmas.{forward-closes, forward-goes, forward-refused}
 use Rattle.pattern_order.proofs.checking.forward_next.Goals as goal
 
 pub returns-then-frame-len-clause-goes : goal.returns-then-frame-len-clause-goes
@@ -21,5 +22,5 @@ pub returns-clause-goes : goal.returns-clause-goes
 returns-clause-goes c =
     forward-goes c.args.walk.now.names.now c.args.walk.now.marks.items c.args.frame c.args.walk.now.frames.items
     c.next_in-step.result c.pass.new.self.marks.items c.pass.new.self.frames.items c.requires c.next_in-step.ensures
-    (forward-from c.next_in-step.result.leads_back
+    (not_refused c.next_in-step.result.leads_back
     (fault_at (burst_place c.next_in-step.result.burst.now c.next_in-step.result.item.now.line) Cyclic) c.in_default.ensures) c.in_ok-pass.ensures.passes

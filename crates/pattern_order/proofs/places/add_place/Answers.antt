@@ -1,9 +1,9 @@
 use Rattle.std.proofs.Common.{◌∙◌, List, ℕ}
 use Rattle.std.specs.Borrow.{Bor}
 use Rattle.std.specs.Str.{bytes_eq}
+use Rattle.text_bytes.proofs.OptionLemmas.{none-from}
 use Rattle.indexmap.specs.IndexMap.{get_by}
 use Rattle.indexmap.proofs.CallerLemmas.{insert_entry-new}
-use Rattle.text_bytes.proofs.ListLemmas.{none-from}
 use Rattle.pattern_order.proofs.PlaceLemmas.{place-added}
 use Rattle.pattern_order.proofs.places.add_place.Goals as goal
 

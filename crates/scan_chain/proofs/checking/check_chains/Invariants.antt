@@ -1,8 +1,8 @@
 use Rattle.std.proofs.Common.{◌≡◌, [], take, drop}
+use Rattle.text_bytes.specs.Texts.{behind}
 use Rattle.stil_ast.specs.Meaning.Signals.{Names}
 use Rattle.stil_ast.specs.Meaning.Chains.{chains_fault}
 use Rattle.signal_groups.specs.Table.{table_of}
-use Rattle.scan_chain.specs.Held.{behind}
 use Rattle.scan_chain.proofs.checking.check_chains.Given as goal
 
 abbrev pub invariant-loop-place : goal.invariant-loop-place

@@ -1,8 +1,8 @@
 use Rattle.std.proofs.Common.{◌≡◌, drop}
 use Rattle.std.specs.List.{list_any}
+use Rattle.text_bytes.specs.Texts.{behind}
 use Rattle.stil_ast.specs.Data.Texts.{same}
 use Rattle.stil_ast.specs.declared.scan.ChainDecl.{ChainDecl}
-use Rattle.scan_chain.specs.Held.{behind}
 use Rattle.scan_chain.proofs.checking.has_name.Given as goal
 
 abbrev pub invariant-loop-decl : goal.invariant-loop-decl

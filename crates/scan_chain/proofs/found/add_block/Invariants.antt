@@ -1,5 +1,5 @@
 use Rattle.std.proofs.Common.{◌≡◌, ◌++◌, drop}
-use Rattle.scan_chain.specs.Held.{behind}
+use Rattle.text_bytes.specs.Texts.{behind}
 use Rattle.scan_chain.proofs.found.add_block.Given as goal
 
 abbrev pub invariant-loop-decl : goal.invariant-loop-decl

@@ -1,6 +1,6 @@
 use Rattle.std.proofs.Common.{◌≡◌, ◌++◌, drop}
+use Rattle.text_bytes.specs.Texts.{behind}
 use Rattle.stil_ast.specs.Meaning.Chains.{chains_named}
-use Rattle.scan_chain.specs.Held.{behind}
 use Rattle.scan_chain.proofs.found.chains_named.Given as goal
 
 abbrev pub invariant-loop-block : goal.invariant-loop-block

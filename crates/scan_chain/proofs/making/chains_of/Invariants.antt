@@ -1,8 +1,9 @@
 use Rattle.std.proofs.Common.{◌≡◌, drop}
+use Rattle.text_bytes.specs.Texts.{behind}
 use Rattle.stil_ast.specs.Meaning.Signals.{Names}
 use Rattle.stil_ast.specs.Meaning.Chains.{distinct_chains, chains_of}
 use Rattle.signal_groups.specs.Table.{table_of}
-use Rattle.scan_chain.specs.Held.{behind, chains_in}
+use Rattle.scan_chain.specs.Held.{chains_in}
 use Rattle.scan_chain.proofs.CellLemmas.{declared_chains}
 use Rattle.scan_chain.proofs.making.chains_of.Given as goal
 

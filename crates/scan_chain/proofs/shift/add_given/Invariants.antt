@@ -1,6 +1,5 @@
 use Rattle.std.proofs.Common.{◌≡◌, ◌++◌, map, drop}
-use Rattle.stil_ast.specs.Meaning.Arguments.{given}
-use Rattle.scan_chain.specs.Held.{entry_of}
+use Rattle.stil_ast.specs.Meaning.Arguments.{given, entry_of}
 use Rattle.scan_chain.proofs.shift.add_given.Given as goal
 
 abbrev pub invariant-loop-character : goal.invariant-loop-character

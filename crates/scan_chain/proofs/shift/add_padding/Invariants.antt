@@ -1,7 +1,6 @@
 use Rattle.std.proofs.Common.{◌≡◌, ◌++◌, map}
 use Rattle.std.specs.Prelude.{replicate}
-use Rattle.stil_ast.specs.Meaning.Arguments.{padding}
-use Rattle.scan_chain.specs.Held.{entry_of}
+use Rattle.stil_ast.specs.Meaning.Arguments.{padding, entry_of}
 use Rattle.scan_chain.proofs.shift.add_padding.Given as goal
 
 abbrev pub invariant-loop : goal.invariant-loop

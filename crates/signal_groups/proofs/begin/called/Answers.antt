@@ -1,5 +1,5 @@
 use Rattle.std.proofs.Common.{map}
-use Rattle.signal_groups.specs.Memory.{key_texts}
+use Rattle.text_bytes.specs.Texts.{key_texts}
 use Rattle.signal_groups.specs.Located.{group_at}
 use Rattle.signal_groups.proofs.BegunLemmas.{names_refused, names_taken}
 use Rattle.signal_groups.proofs.begin.called.Goals as goal

@@ -1,7 +1,7 @@
 use Rattle.std.proofs.Common.{◌∙◌}
 use Rattle.std.specs.Str.{bytes_eq}
+use Rattle.text_bytes.proofs.BoolLemmas.{new_or_there}
 use Rattle.stil_form.specs.Skipping.{is_kept}
-use Rattle.stil_form.proofs.WordLemmas.{new_or_there}
 use Rattle.stil_form.proofs.words.add_word.Goals as goal
 
 pub returns : goal.returns

@@ -1,6 +1,6 @@
 use Rattle.std.proofs.Common.{◌∙◌, ◌&&◌}
 use Rattle.std.specs.Str.{bytes_eq}
-use Rattle.stil_form.proofs.WordLemmas.{new_or_there}
+use Rattle.text_bytes.proofs.BoolLemmas.{new_or_there}
 use Rattle.stil_read.specs.Indices.{has_pair}
 use Rattle.stil_read.proofs.declared.add_pair.Goals as goal
 

@@ -1,5 +1,6 @@
 use Rattle.std.proofs.Common.{◌≡◌, ◌++◌, drop}
-use Rattle.time_expr.specs.Names.{behind, link_names, operand_names}
+use Rattle.text_bytes.specs.Texts.{behind}
+use Rattle.time_expr.specs.Names.{link_names, operand_names}
 use Rattle.time_expr.proofs.names.+names.Given as goal
 
 abbrev pub invariant-add_link_names-loop-link : goal.invariant-add_link_names-loop-link

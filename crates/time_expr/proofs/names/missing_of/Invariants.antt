@@ -1,5 +1,6 @@
 use Rattle.std.proofs.Common.{◌≡◌, drop}
-use Rattle.time_expr.specs.Names.{behind, first_missing}
+use Rattle.text_bytes.specs.Texts.{behind}
+use Rattle.time_expr.specs.Names.{first_missing}
 use Rattle.time_expr.proofs.names.missing_of.Given as goal
 
 abbrev pub invariant-loop-name : goal.invariant-loop-name

@@ -1,5 +1,5 @@
 use Rattle.std.proofs.Common.{sym, ◌∙◌}
-use Rattle.text_bytes.proofs.ListLemmas.{none-from}
+use Rattle.text_bytes.proofs.OptionLemmas.{none-from}
 use Rattle.time_expr.specs.Picked.{variable_of}
 use Rattle.time_expr.proofs.ChoosingLemmas.{open-named}
 use Rattle.time_expr.proofs.order.ready_value.Goals as goal

@@ -1,7 +1,7 @@
 use Rattle.std.proofs.Common.{◌∙◌, ◌||◌, ap}
 use Rattle.std.specs.Str.{bytes_eq}
+use Rattle.text_bytes.proofs.BoolLemmas.{new_or_there}
 use Rattle.time_expr.specs.Selected.{is_kept}
-use Rattle.time_expr.proofs.SelectedLemmas.{new_or_there}
 use Rattle.time_expr.proofs.VarsLemmas.{same-comm}
 use Rattle.time_expr.proofs.selected.add_name.Goals as goal
 

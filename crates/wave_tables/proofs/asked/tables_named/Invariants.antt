@@ -1,6 +1,6 @@
 use Rattle.std.proofs.Common.{◌≡◌, ◌++◌, take}
+use Rattle.text_bytes.specs.Texts.{behind}
 use Rattle.stil_ast.specs.Meaning.Tables.{tables_named}
-use Rattle.wave_tables.specs.Behind.{behind}
 use Rattle.wave_tables.proofs.asked.tables_named.Given as goal
 
 abbrev pub invariant-loop-timing : goal.invariant-loop-timing

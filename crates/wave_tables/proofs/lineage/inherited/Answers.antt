@@ -1,9 +1,9 @@
 use Rattle.std.proofs.Common.{◌++◌, ◌∙◌, ap, arith, List, ℕ, take, Option}
 use Rattle.std.specs.List.{filter_map}
 use Rattle.std.specs.Option.{option_to_list}
+use Rattle.text_bytes.specs.Texts.{behind}
 use Rattle.stil_ast.specs.Meaning.Tables.{table_of}
 use Rattle.stil_ast.specs.declared.name.Named.{Named}
-use Rattle.wave_tables.specs.Behind.{behind}
 use Rattle.wave_tables.proofs.TakenLemmas.{filter_map_taken}
 use Rattle.wave_tables.proofs.lineage.inherited.Goals as goal
 

@@ -1,5 +1,5 @@
 use Rattle.std.proofs.Common.{◌≡◌, take, map}
-use Rattle.wave_tables.specs.Behind.{behind}
+use Rattle.text_bytes.specs.Texts.{behind}
 use Rattle.wave_tables.specs.Scope.{timed}
 use Rattle.wave_tables.specs.ReadWaves.{read_waves}
 use Rattle.wave_tables.proofs.times.read_tables.Given as goal

@@ -1,9 +1,10 @@
 use Rattle.std.proofs.Common.{◌∙◌, ap, sym, subst}
 use Rattle.std.proofs.lemmas.Bool.{false≢true}
+use Rattle.text_bytes.proofs.OptionLemmas.{on_err}
 use Rattle.lru.specs.LruCache.{lru_cache, put_entries}
 use Rattle.edge_gen.specs.Moments.{moments_of}
 use Rattle.edge_gen.specs.Held.{is_pair, is_held, HoldsOnly}
-use Rattle.edge_gen.proofs.HeldLemmas.{on_err, promoted-asked, promoted-none, put-asked}
+use Rattle.edge_gen.proofs.HeldLemmas.{promoted-asked, promoted-none, put-asked}
 use Rattle.edge_gen.proofs.schedules.Schedules.hold.Goals as goal
 
 pub returns-then-promote-clause-asked : goal.returns-then-promote-clause-asked

@@ -1,9 +1,9 @@
 use Rattle.std.proofs.Common.{ap, ◌∙◌, List, ℕ, Vec, None, ◌≡◌, map}
 use Rattle.std.specs.Str.{bytes_eq}
 use Rattle.std.specs.declared.alloc.Global.{Global}
+use Rattle.text_bytes.proofs.OptionLemmas.{none-from}
 use Rattle.indexmap.specs.IndexMap.{get_by}
 use Rattle.indexmap.proofs.CallerLemmas.{insert_entry-new}
-use Rattle.text_bytes.proofs.ListLemmas.{none-from}
 use Rattle.time_expr.specs.Vars.{named_value}
 use Rattle.time_expr.proofs.VarsLemmas.{with_value-known, with_value-new}
 use Rattle.time_expr.proofs.vars.Vars.add.Goals as goal
