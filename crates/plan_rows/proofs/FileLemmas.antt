@@ -4,7 +4,7 @@ use Rattle.std.specs.Prelude.{codes}
 use Rattle.std.specs.List.{list_all}
 use Rattle.std.specs.Str.{bytes_eq}
 use Rattle.plan_rows.specs.Words.{number_in, is_name, name_of, net_of}
-use Rattle.plan_rows.specs.Forms.{Columns, Written, a_lot, a_clock, a_bind, a_die, a_fault, a_stop, a_bin, a_skew, given, unused, lot_form, clock_form, bound_net, bind_form, die_form, fault_tries, fault_form, stop_form, ending_form, bin_form, offset_in, skew_form, form_of, columns_of, written_of}
+use Rattle.plan_rows.specs.Forms.{Written, a_lot, a_clock, a_bind, a_die, a_fault, a_stop, a_bin, a_skew, given, unused, bound_net, fault_tries, ending_form, offset_in, written_of}
 
 -- what a record says, if it is a die's, has a file's name
 abbrev pub SaysFile : Option Written → Type 0
@@ -40,56 +40,41 @@ named-says bytes f each = by (is_name bytes) refl
     by true is = each is
     by false is = tt
 
--- a die's record
-die_form-says : (r : Columns) → SaysFile (die_form r)
-die_form-says r =
-    unused-says (r.fifth ∷ r.sixth ∷ []) _ (given-says (number_in r.second) _ (λ site. given-says (name_of r.third) _ (λ name.
-    named-says r.fourth (λ file. Some (a_die site name file)) (λ is. is))))
+-- the record of a die, of its four fields and those that are empty
+die-says : (a b c d e : List ℕ) → SaysFile (unused (d ∷ e ∷ [])
+    (given (number_in a) (λ site. given (name_of b) (λ name. given (name_of c) (λ file. Some (a_die site name file))))))
+die-says a b c d e =
+    unused-says (d ∷ e ∷ []) _ (given-says (number_in a) _ (λ site. given-says (name_of b) _ (λ name.
+    named-says c (λ file. Some (a_die site name file)) (λ is. is))))
 
--- the other records
-lot_form-says : (r : Columns) → SaysFile (lot_form r)
-lot_form-says r =
-    unused-says (r.fifth ∷ r.sixth ∷ []) _ (given-says (number_in r.second) _ (λ batch. given-says (number_in r.third) _ (λ tries.
-    given-says (number_in r.fourth) _ (λ keep. tt))))
-
-clock_form-says : (r : Columns) → SaysFile (clock_form r)
-clock_form-says r = unused-says (r.third ∷ r.fourth ∷ r.fifth ∷ r.sixth ∷ []) _ (given-says (net_of r.second) _ (λ signal. tt))
-
-bind_form-says : (r : Columns) → SaysFile (bind_form r)
-bind_form-says r =
-    unused-says (r.fourth ∷ r.fifth ∷ r.sixth ∷ []) _ (given-says (net_of r.second) _ (λ signal. given-says (bound_net r.third) _ (λ net. tt)))
-
-fault_form-says : (r : Columns) → SaysFile (fault_form r)
-fault_form-says r =
-    given-says (number_in r.second) _ (λ site. given-says (name_of r.third) _ (λ name. given-says (net_of r.fourth) _ (λ net.
-    given-says (number_in r.fifth) _ (λ value. given-says (fault_tries r.sixth) _ (λ tries. tt)))))
-
-stop_form-says : (r : Columns) → SaysFile (stop_form r)
-stop_form-says r =
-    unused-says (r.sixth ∷ []) _ (given-says (number_in r.second) _ (λ site. given-says (name_of r.third) _ (λ name.
-    given-says (number_in r.fourth) _ (λ number. given-says (number_in r.fifth) _ (λ batch. tt)))))
-
-bin_form-says : (r : Columns) → SaysFile (bin_form r)
-bin_form-says r =
-    unused-says (r.fifth ∷ r.sixth ∷ []) _ (given-says (ending_form r) _ (λ ending. given-says (number_in r.fourth) _ (λ number. tt)))
-
-skew_form-says : (r : Columns) → SaysFile (skew_form r)
-skew_form-says r =
-    unused-says (r.fifth ∷ r.sixth ∷ []) _ (given-says (number_in r.second) _ (λ site. given-says (net_of r.third) _ (λ signal.
-    given-says (offset_in r.fourth) _ (λ offset. tt))))
-
--- each form
-form_of-says : (r : Columns) → SaysFile (form_of r)
-form_of-says r =
-    chosen-says (bytes_eq r.kind (codes "lot")) _ _ (lot_form-says r)
-    (chosen-says (bytes_eq r.kind (codes "clock")) _ _ (clock_form-says r)
-    (chosen-says (bytes_eq r.kind (codes "bind")) _ _ (bind_form-says r)
-    (chosen-says (bytes_eq r.kind (codes "die")) _ _ (die_form-says r)
-    (chosen-says (bytes_eq r.kind (codes "fault")) _ _ (fault_form-says r)
-    (chosen-says (bytes_eq r.kind (codes "stop")) _ _ (stop_form-says r)
-    (chosen-says (bytes_eq r.kind (codes "bin")) _ _ (bin_form-says r)
-    (chosen-says (bytes_eq r.kind (codes "skew")) _ _ (skew_form-says r) tt)))))))
+-- the records of the kinds
+six-says : (kind a b c d e : List ℕ) → SaysFile (written_of (kind ∷ a ∷ b ∷ c ∷ d ∷ e ∷ []))
+six-says kind a b c d e =
+    chosen-says (bytes_eq kind (codes "lot")) _ _ (unused-says (d ∷ e ∷ []) _
+    (given-says (number_in a) _ (λ batch. given-says (number_in b) _ (λ tries. given-says (number_in c) _ (λ keep. tt)))))
+    (chosen-says (bytes_eq kind (codes "clock")) _ _ (unused-says (b ∷ c ∷ d ∷ e ∷ []) _ (given-says (net_of a) _ (λ signal. tt)))
+    (chosen-says (bytes_eq kind (codes "bind")) _ _ (unused-says (c ∷ d ∷ e ∷ []) _
+    (given-says (net_of a) _ (λ signal. given-says (bound_net b) _ (λ net. tt))))
+    (chosen-says (bytes_eq kind (codes "die")) _ _ (die-says a b c d e)
+    (chosen-says (bytes_eq kind (codes "fault")) _ _
+    (given-says (number_in a) _ (λ site. given-says (name_of b) _ (λ name. given-says (net_of c) _ (λ net.
+    given-says (number_in d) _ (λ value. given-says (fault_tries e) _ (λ tries. tt))))))
+    (chosen-says (bytes_eq kind (codes "stop")) _ _ (unused-says (e ∷ []) _
+    (given-says (number_in a) _ (λ site. given-says (name_of b) _ (λ name. given-says (number_in c) _ (λ number.
+    given-says (number_in d) _ (λ batch. tt))))))
+    (chosen-says (bytes_eq kind (codes "bin")) _ _ (unused-says (d ∷ e ∷ []) _
+    (given-says (ending_form a b) _ (λ ending. given-says (number_in c) _ (λ number. tt))))
+    (chosen-says (bytes_eq kind (codes "skew")) _ _ (unused-says (d ∷ e ∷ []) _
+    (given-says (number_in a) _ (λ site. given-says (net_of b) _ (λ signal. given-says (offset_in c) _ (λ offset. tt)))))
+    tt)))))))
 
 -- each record
 pub written_of-says : (fields : List (List ℕ)) → SaysFile (written_of fields)
-written_of-says fields = given-says (columns_of fields) form_of form_of-says
+written_of-says [] = tt
+written_of-says (k ∷ []) = tt
+written_of-says (k ∷ a ∷ []) = tt
+written_of-says (k ∷ a ∷ b ∷ []) = tt
+written_of-says (k ∷ a ∷ b ∷ c ∷ []) = tt
+written_of-says (k ∷ a ∷ b ∷ c ∷ d ∷ []) = tt
+written_of-says (k ∷ a ∷ b ∷ c ∷ d ∷ e ∷ []) = six-says k a b c d e
+written_of-says (k ∷ a ∷ b ∷ c ∷ d ∷ e ∷ x ∷ xs) = tt

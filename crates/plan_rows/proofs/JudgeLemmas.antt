@@ -1,5 +1,5 @@
 -- What the row of a judged record keeps.
-use Rattle.std.proofs.Common.{◌≡◌, ℕ, ◌+◌, ◌<◌, ◌^◌, Bool, true, false, not, cond, ◌&&◌, ◌==◌, nat_le, List, [], ◌∷◌, length, map, Option, Some, None, Result, Ok, Err, refl, sym, ap, ◌∙◌, subst, arith}
+use Rattle.std.proofs.Common.{◌≡◌, ℕ, ◌+◌, ◌<◌, ◌^◌, Bool, true, false, not, cond, ◌&&◌, ◌==◌, nat_lt, nat_le, List, [], ◌∷◌, length, map, Option, Some, None, Result, Ok, Err, refl, sym, ap, ◌∙◌, subst, arith}
 use Rattle.std.specs.List.{list_any}
 use Rattle.std.specs.Str.{bytes_eq}
 use Rattle.std.proofs.lemmas.Bool.{and_parts, leb-true, ne_eqb}
@@ -9,7 +9,7 @@ use Rattle.plan_rows.specs.Rows.{dies_of, dies_at, IsLot}
 use Rattle.plan_rows.specs.Forms.{Written, a_lot, a_clock, a_bind, a_die, a_fault, a_stop, a_bin, a_skew, written_of}
 use Rattle.first_fault.specs.Reading.{and_then}
 use Rattle.plan_rows.specs.Subjects.{subject_of}
-use Rattle.plan_rows.specs.Judging.{is_lot, stands, is_within, lot_fits, die_fits, tries_fit, ending_fits, names_at, number_at, has_die, of_die, within, row_of, says_again, placed, once, row_at, judge_at, judge}
+use Rattle.plan_rows.specs.Judging.{is_lot, stands, is_within, lot_fits, die_fits, tries_fit, ending_fits, names_at, number_at, of_die, within, row_of, says_again, placed, once, row_at, judge_at, judge}
 use Rattle.plan_rows.specs.Inside.{Suits, IsNext, key_of}
 use Rattle.plan_rows.proofs.FileLemmas.{SaysFile, written_of-says}
 use Rattle.plan_rows.proofs.SubjectLemmas.{same_subject-keys}
@@ -132,7 +132,7 @@ suits place before (a_bin ending number) x says st h =
     (not_first before (a_bin ending number) refl st, leb-true 1 number least, leb-true number 99 most)
 suits place before (a_skew site signal back size) x says st h =
     let (fits, found) = fits_within place (nat_le site 63 && nat_le size 1000000000000) _ x h in
-    of_same (Suits before) _ x _ refl (where_some (has_die site before) (UnknownName place) _ x found)
+    of_same (Suits before) _ x _ refl (where_some (nat_lt 0 (length (dies_at site before))) (UnknownName place) _ x found)
     (not_first before (a_skew site signal back size) refl st)
 
 -- the row of a judged record may follow those before it

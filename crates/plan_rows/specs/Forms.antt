@@ -6,15 +6,6 @@ use Rattle.plan_rows.specs.Words.{number_in, name_of, net_of}
 use Rattle.plan_rows.specs.declared.row.Ending.{Ending}
 use Rattle.plan_rows.specs.declared.row.Ending.TheVariants.{Pass, Fail, Stopped, Contact}
 
--- the six columns of a record: its kind, and five more
-pub record Columns : Type 0 where
-  pub kind : List ℕ
-  pub second : List ℕ
-  pub third : List ℕ
-  pub fourth : List ℕ
-  pub fifth : List ℕ
-  pub sixth : List ℕ
-
 -- what a record says, before its numbers and names are looked at
 pub data Written : Type 0 where
   a_lot : ℕ → ℕ → ℕ → Written
@@ -35,63 +26,23 @@ given (Some x) rest = rest x
 abbrev pub unused : {A : Type 0} → List (List ℕ) → Option A → Option A
 unused fields rest = if list_all (λ f. length f == 0) fields then rest else None
 
--- lot,B,TRIES,F,,
-abbrev pub lot_form : Columns → Option Written
-lot_form r = unused (r.fifth ∷ r.sixth ∷ [])
-    (given (number_in r.second) (λ batch. given (number_in r.third) (λ tries. given (number_in r.fourth) (λ keep.
-    Some (a_lot batch tries keep)))))
-
--- clock,SIGNAL,,,,
-abbrev pub clock_form : Columns → Option Written
-clock_form r = unused (r.third ∷ r.fourth ∷ r.fifth ∷ r.sixth ∷ [])
-    (given (net_of r.second) (λ signal. Some (a_clock signal)))
-
 -- the net of a binding: none at `-`
 abbrev pub bound_net : List ℕ → Option (Option (List ℕ))
 bound_net bytes = if bytes_eq bytes (codes "-") then Some None else given (net_of bytes) (λ net. Some (Some net))
-
--- bind,SIGNAL,NET,,,
-abbrev pub bind_form : Columns → Option Written
-bind_form r = unused (r.fourth ∷ r.fifth ∷ r.sixth ∷ [])
-    (given (net_of r.second) (λ signal. given (bound_net r.third) (λ net. Some (a_bind signal net))))
-
--- die,SITE,NAME,FILE,,
-abbrev pub die_form : Columns → Option Written
-die_form r = unused (r.fifth ∷ r.sixth ∷ [])
-    (given (number_in r.second) (λ site. given (name_of r.third) (λ name. given (name_of r.fourth) (λ file.
-    Some (a_die site name file)))))
 
 -- in how many tries a fault is active: in all where nothing is written
 abbrev pub fault_tries : List ℕ → Option (Option ℕ)
 fault_tries bytes = if length bytes == 0 then Some None else given (number_in bytes) (λ tries. Some (Some tries))
 
--- fault,SITE,NAME,NET,VALUE,TRIES
-abbrev pub fault_form : Columns → Option Written
-fault_form r =
-    given (number_in r.second) (λ site. given (name_of r.third) (λ name. given (net_of r.fourth) (λ net.
-    given (number_in r.fifth) (λ value. given (fault_tries r.sixth) (λ tries.
-    Some (a_fault site name net value tries))))))
-
--- stop,SITE,NAME,TRY,BATCH,
-abbrev pub stop_form : Columns → Option Written
-stop_form r = unused (r.sixth ∷ [])
-    (given (number_in r.second) (λ site. given (name_of r.third) (λ name. given (number_in r.fourth) (λ number.
-    given (number_in r.fifth) (λ batch. Some (a_stop site name number batch))))))
-
--- how a last try ends: pass, fail with the executive's number, stopped, contact
-abbrev pub ending_form : Columns → Option Ending
-ending_form r =
-    if bytes_eq r.second (codes "fail") then given (number_in r.third) (λ executive. Some (Fail executive))
-    else unused (r.third ∷ []) (
-    if bytes_eq r.second (codes "pass") then Some Pass
-    else if bytes_eq r.second (codes "stopped") then Some Stopped
-    else if bytes_eq r.second (codes "contact") then Some Contact
+-- how a last try ends, of its word and the field behind it: pass, fail with the executive's number, stopped, contact
+abbrev pub ending_form : List ℕ → List ℕ → Option Ending
+ending_form word number =
+    if bytes_eq word (codes "fail") then given (number_in number) (λ executive. Some (Fail executive))
+    else unused (number ∷ []) (
+    if bytes_eq word (codes "pass") then Some Pass
+    else if bytes_eq word (codes "stopped") then Some Stopped
+    else if bytes_eq word (codes "contact") then Some Contact
     else None)
-
--- bin,ENDING,E,N,,
-abbrev pub bin_form : Columns → Option Written
-bin_form r = unused (r.fifth ∷ r.sixth ∷ [])
-    (given (ending_form r) (λ ending. given (number_in r.fourth) (λ number. Some (a_bin ending number))))
 
 -- a number of femtoseconds and whether a `-` stands before it
 abbrev pub offset_in : List ℕ → Option (Bool × ℕ)
@@ -100,31 +51,37 @@ offset_in (b ∷ bytes) =
     if b == 45 then given (number_in bytes) (λ size. Some (true, size))
     else given (number_in (b ∷ bytes)) (λ size. Some (false, size))
 
--- skew,SITE,SIGNAL,FS,,
-abbrev pub skew_form : Columns → Option Written
-skew_form r = unused (r.fifth ∷ r.sixth ∷ [])
-    (given (number_in r.second) (λ site. given (net_of r.third) (λ signal. given (offset_in r.fourth) (λ offset.
-    Some (a_skew site signal offset.0 offset.1)))))
-
--- the form of each kind
-abbrev pub form_of : Columns → Option Written
-form_of r =
-    if bytes_eq r.kind (codes "lot") then lot_form r
-    else if bytes_eq r.kind (codes "clock") then clock_form r
-    else if bytes_eq r.kind (codes "bind") then bind_form r
-    else if bytes_eq r.kind (codes "die") then die_form r
-    else if bytes_eq r.kind (codes "fault") then fault_form r
-    else if bytes_eq r.kind (codes "stop") then stop_form r
-    else if bytes_eq r.kind (codes "bin") then bin_form r
-    else if bytes_eq r.kind (codes "skew") then skew_form r
-    else None
-
--- a record of exactly six fields
-abbrev pub columns_of : List (List ℕ) → Option Columns
-columns_of (kind ∷ second ∷ third ∷ fourth ∷ fifth ∷ sixth ∷ []) =
-    Some (record { kind = kind; second = second; third = third; fourth = fourth; fifth = fifth; sixth = sixth })
-columns_of _ = None
-
--- what a record of these fields says, if it has a form
+-- what a record of these six fields says, by the form of its kind; other fields say nothing
 abbrev pub written_of : List (List ℕ) → Option Written
-written_of fields = given (columns_of fields) form_of
+written_of (kind ∷ a ∷ b ∷ c ∷ d ∷ e ∷ []) =
+    -- lot,B,TRIES,F,,
+    if bytes_eq kind (codes "lot") then unused (d ∷ e ∷ [])
+    (given (number_in a) (λ batch. given (number_in b) (λ tries. given (number_in c) (λ keep.
+    Some (a_lot batch tries keep)))))
+    -- clock,SIGNAL,,,,
+    else if bytes_eq kind (codes "clock") then unused (b ∷ c ∷ d ∷ e ∷ [])
+    (given (net_of a) (λ signal. Some (a_clock signal)))
+    -- bind,SIGNAL,NET,,,
+    else if bytes_eq kind (codes "bind") then unused (c ∷ d ∷ e ∷ [])
+    (given (net_of a) (λ signal. given (bound_net b) (λ net. Some (a_bind signal net))))
+    -- die,SITE,NAME,FILE,,
+    else if bytes_eq kind (codes "die") then unused (d ∷ e ∷ [])
+    (given (number_in a) (λ site. given (name_of b) (λ name. given (name_of c) (λ file.
+    Some (a_die site name file)))))
+    -- fault,SITE,NAME,NET,VALUE,TRIES
+    else if bytes_eq kind (codes "fault") then
+    given (number_in a) (λ site. given (name_of b) (λ name. given (net_of c) (λ net.
+    given (number_in d) (λ value. given (fault_tries e) (λ tries. Some (a_fault site name net value tries))))))
+    -- stop,SITE,NAME,TRY,BATCH,
+    else if bytes_eq kind (codes "stop") then unused (e ∷ [])
+    (given (number_in a) (λ site. given (name_of b) (λ name. given (number_in c) (λ number.
+    given (number_in d) (λ batch. Some (a_stop site name number batch))))))
+    -- bin,ENDING,E,N,,
+    else if bytes_eq kind (codes "bin") then unused (d ∷ e ∷ [])
+    (given (ending_form a b) (λ ending. given (number_in c) (λ number. Some (a_bin ending number))))
+    -- skew,SITE,SIGNAL,FS,,
+    else if bytes_eq kind (codes "skew") then unused (d ∷ e ∷ [])
+    (given (number_in a) (λ site. given (net_of b) (λ signal. given (offset_in c) (λ offset.
+    Some (a_skew site signal offset.0 offset.1)))))
+    else None
+written_of _ = None

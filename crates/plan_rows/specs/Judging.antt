@@ -1,5 +1,5 @@
 -- Records judged one after another, each by the rows before it.
-use Rattle.std.specs.Prelude.{ℕ, ◌+◌, ◌*◌, ◌&&◌, ◌==◌, nat_lt, nat_le, ℤ, pos, neg_ℤ, Bool, true, false, not, List, [], ◌∷◌, ◌++◌, length, map, Option, Some, None, Result, Ok, Err, if◌then◌else◌}
+use Rattle.std.specs.Prelude.{ℕ, ◌+◌, ◌*◌, ◌&&◌, ◌==◌, nat_lt, nat_le, pos, neg_ℤ, Bool, true, false, not, List, [], ◌∷◌, length, map, Option, Some, None, Result, Ok, Err, if◌then◌else◌}
 use Rattle.std.specs.List.{list_any, position}
 use Rattle.std.specs.Str.{bytes_eq}
 use Rattle.first_fault.specs.Reading.{and_then, reading}
@@ -62,15 +62,6 @@ names_at site rows = map (λ d. d.name) (dies_at site rows)
 abbrev pub number_at : List Row → ℕ → List ℕ → Option ℕ
 number_at before site name = position (bytes_eq name) (names_at site before)
 
--- whether a site has a die
-abbrev pub has_die : ℕ → List Row → Bool
-has_die site before = nat_lt 0 (length (dies_at site before))
-
--- a number below 0, or not
-abbrev pub signed : Bool → ℕ → ℤ
-signed true size = neg_ℤ (pos size)
-signed false size = pos size
-
 -- the row of a die that is there
 abbrev pub of_die : ℕ → Option ℕ → (ℕ → Row) → Result Row PlanFault
 of_die place None made = Err (UnknownName place)
@@ -99,7 +90,8 @@ row_of place before (a_stop site name number batch) =
 row_of place before (a_bin ending number) = within place (ending_fits ending && is_within 1 last_bin number)
     (Ok (row.Bin (record { ending = ending; bin = number })))
 row_of place before (a_skew site signal back size) = within place (nat_le site last_site && nat_le size most_skew)
-    (if has_die site before then Ok (row.Skew (record { site = site; signal = signal; skew = signed back size }))
+    (if nat_lt 0 (length (dies_at site before))
+    then Ok (row.Skew (record { site = site; signal = signal; skew = (if back then neg_ℤ (pos size) else pos size) }))
     else Err (UnknownName place))
 
 -- an earlier row is about the same

@@ -1,7 +1,7 @@
 -- The code's values without where they lie in memory; no public clause cites them.
-use Rattle.std.specs.Prelude.{List, ℕ, Option, option_map, Result, Ok, Err}
+use Rattle.std.specs.Prelude.{List, [], ◌∷◌, ℕ, Option, option_map, Result, Ok, Err}
 use Rattle.std.specs.Borrow.{Bor}
-use Rattle.plan_rows.specs.Forms.{Columns, Written, a_lot, a_clock, a_bind, a_die, a_fault, a_stop, a_bin, a_skew}
+use Rattle.plan_rows.specs.Forms.{Written, a_lot, a_clock, a_bind, a_die, a_fault, a_stop, a_bin, a_skew}
 use Rattle.plan_rows.specs.declared.row.Ending.{Ending}
 use Rattle.plan_rows.specs.declared.row.Ending.TheVariants.{Pass, Fail, Stopped, Contact}
 use Rattle.plan_rows.specs.declared.fault.PlanFault.{PlanFault}
@@ -9,16 +9,13 @@ use Rattle.plan_rows.specs.declared.written as written
 use Rattle.plan_rows.specs.declared.written.Ended.TheVariants as ended
 use Rattle.plan_rows.specs.declared.written.Written.TheVariants as says
 
--- six fields
-abbrev pub columns_seen : written.Columns.Columns → Columns
-columns_seen r = record {
-  kind = r.kind.now;
-  second = r.second.now;
-  third = r.third.now;
-  fourth = r.fourth.now;
-  fifth = r.fifth.now;
-  sixth = r.sixth.now;
-}
+-- the five fields behind the kind
+abbrev pub behind_kind : written.Columns.Columns → List (List ℕ)
+behind_kind r = r.second.now ∷ r.third.now ∷ r.fourth.now ∷ r.fifth.now ∷ r.sixth.now ∷ []
+
+-- the six fields
+abbrev pub columns_seen : written.Columns.Columns → List (List ℕ)
+columns_seen r = r.kind.now ∷ behind_kind r
 
 -- an ending
 abbrev pub ending_seen : written.Ended.Ended → Ending

@@ -5,13 +5,10 @@ use Rattle.text_bytes.specs.Bytes.{is_printing, is_printable}
 use Rattle.text_bytes.specs.Limits.{longest_name, longest_label}
 use Rattle.text_bytes.specs.Numbers.{are_digits, number_of}
 
--- the number of digits: more than 20 of them are beyond every range
-abbrev pub value_of : List ℕ → ℕ
-value_of digits = if nat_lt 20 (length digits) then 2 ^ 64 - 1 else number_of digits
-
--- the number that a field is, if it is decimal digits
+-- the number that a field is, if it is decimal digits: more than 20 of them are beyond every range
 abbrev pub number_in : List ℕ → Option ℕ
-number_in bytes = if are_digits bytes then Some (value_of bytes) else None
+number_in bytes =
+    if are_digits bytes then Some (if nat_lt 20 (length bytes) then 2 ^ 64 - 1 else number_of bytes) else None
 
 -- 1 to this many bytes, each of which passes
 abbrev pub is_text : (ℕ → Bool) → ℕ → List ℕ → Bool

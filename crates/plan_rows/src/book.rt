@@ -2,7 +2,7 @@
 
 ghost use Rattle.std.specs.Prelude.{◌≡◌, ◌==◌, ◌<◌, ◌≤◌, ◌⊎◌, ◌∷◌, ◌++◌, ◌-◌, ◌^◌, [], Ok, Err, length, OnOk, IfOk, IfErr};
 ghost use Rattle.csv.specs.Records.{fields_of};
-ghost use Rattle.plan_rows.specs.Judging.{row_of, number_at, has_die, placed, row_at, judge, is_lot};
+ghost use Rattle.plan_rows.specs.Judging.{row_of, number_at, placed, row_at, judge};
 ghost use Rattle.plan_rows.specs.Forms.{a_die, a_stop, a_skew, written_of};
 ghost use Rattle.plan_rows.specs.Views.{written_seen, placed_seen, fault_seen};
 ghost use Rattle.plan_rows.specs.Inside.{IsAnswer, IsBook, IsNext, Reads, key_of};
@@ -28,13 +28,6 @@ pub(crate) struct Book {
     rows: Vec<Row>,
     tally: DieTally,
     subjects: IndexSet<Vec<u16>>,
-}
-
-/// Whether a record is the lot's own.
-fn is_lot(written: &Written) -> bool
-    ensures { result ≡ is_lot (written_seen written.now) }
-{
-    matches!(written, Written::Lot { .. })
 }
 
 impl Book {
@@ -79,15 +72,6 @@ impl Book {
     {
         let number = self.tally.place_of(site, name)?;
         Some(number as u16)
-    }
-
-    /// Whether a site has a die.
-    fn has_die(&self, site: u64) -> bool
-        requires book { IsBook self.now }
-        requires site { site ≤ 63 }
-        ensures { result ≡ has_die site self.now.rows.items }
-    {
-        self.tally.has_die(site)
     }
 
     /// The row of one more die: at a site from 0 to 63, and within the limits of dies and of kept fails.
@@ -177,7 +161,7 @@ impl Book {
         if site > LAST_SITE || size > MOST_SKEW {
             return Err(PlanFault::OutOfRange(place));
         }
-        if !self.has_die(site) {
+        if !self.tally.has_die(site) {
             return Err(PlanFault::UnknownName(place));
         }
         Ok(Row::Skew(SkewRow {
@@ -219,7 +203,7 @@ impl Book {
         ensures { placed_seen result ≡ placed place self.now.rows.items (written_of (fields_of fields.now)) }
     {
         match written_of(fields) {
-            Some(written) if is_lot(&written) == self.is_empty() => Ok(written),
+            Some(said) if matches!(said, Written::Lot { .. }) == self.is_empty() => Ok(said),
             _ => Err(PlanFault::Shape(place)),
         }
     }

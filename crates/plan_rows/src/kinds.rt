@@ -1,8 +1,8 @@
 //! Rows that no earlier die decides, each by the ranges of its numbers.
 
-ghost use Rattle.std.specs.Prelude.{◌≡◌, ◌≤◌, ℕ, true, [], Some, None, if◌then◌else◌};
+ghost use Rattle.std.specs.Prelude.{◌≡◌, ◌≤◌, ℕ, pos, neg_ℤ, true, [], Some, None, if◌then◌else◌};
 ghost use Rattle.plan_rows.specs.Limits.{most_skew};
-ghost use Rattle.plan_rows.specs.Judging.{row_of, signed, tries_fit, ending_fits};
+ghost use Rattle.plan_rows.specs.Judging.{row_of, tries_fit, ending_fits};
 ghost use Rattle.plan_rows.specs.Forms.{a_lot, a_bind, a_bin};
 ghost use Rattle.plan_rows.specs.Views.{ending_seen, net_seen};
 ghost use Rattle.plan_rows.specs.Inside.{IsAnswer};
@@ -94,7 +94,7 @@ pub(crate) fn bin_row(place: u32, ended: Ended, number: u64) -> Result<Row, Plan
 /// A skew of this size, below 0 or not.
 pub(crate) fn signed(back: bool, size: u64) -> i64
     requires { size ≤ most_skew }
-    ensures { result ≡ signed back size }
+    ensures { result ≡ (if back then neg_ℤ (pos size) else pos size) }
 {
     let size = size as i64;
     if back { -size } else { size }

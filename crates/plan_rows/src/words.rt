@@ -4,7 +4,7 @@ ghost use Rattle.std.specs.Prelude.{◌≡◌, MatchOption, None, Some, length, 
 ghost use Rattle.std.specs.List.{list_all};
 ghost use Rattle.std.specs.Str.{bytes_eq};
 ghost use Rattle.text_bytes.specs.Bytes.{is_printing};
-ghost use Rattle.plan_rows.specs.Words.{value_of, number_in, name_of, net_of};
+ghost use Rattle.plan_rows.specs.Words.{number_in, name_of, net_of};
 
 use text_bytes::{LONGEST_LABEL, LONGEST_NAME, all_printable, are_digits, is_printing, number_of};
 
@@ -18,25 +18,16 @@ pub(crate) fn is_word(bytes: &[u8], word: &[u8]) -> bool
     bytes == word
 }
 
-/// The number of digits; more than 20 of them are beyond every range.
-fn value_of(digits: &[u8]) -> u64
-    ensures { result ≡ value_of digits.now }
-{
-    if digits.len() > MOST_DIGITS {
-        u64::MAX
-    } else {
-        number_of(digits)
-    }
-}
-
-/// The number that a field is, if it is decimal digits.
+/// The number that a field is, if it is decimal digits; more than 20 of them are beyond every range.
 pub(crate) fn number_in(bytes: &[u8]) -> Option<u64>
     ensures { result ≡ number_in bytes.now }
 {
-    if are_digits(bytes) {
-        Some(value_of(bytes))
-    } else {
+    if !are_digits(bytes) {
         None
+    } else if bytes.len() > MOST_DIGITS {
+        Some(u64::MAX)
+    } else {
+        Some(number_of(bytes))
     }
 }
 

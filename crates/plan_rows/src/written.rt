@@ -1,10 +1,10 @@
 //! What a record says by its form alone.
 
-ghost use Rattle.std.specs.Prelude.{◌≡◌, ◌==◌, length, map, option_map};
+ghost use Rattle.std.specs.Prelude.{◌≡◌, ◌==◌, ◌∷◌, length, codes, option_map, MatchOption};
 ghost use Rattle.std.specs.List.{list_all};
 ghost use Rattle.csv.specs.Records.{fields_of};
-ghost use Rattle.plan_rows.specs.Forms.{columns_of, written_of, form_of, lot_form, clock_form, bound_net, bind_form, die_form, fault_tries, fault_form, stop_form, ending_form, bin_form, offset_in, skew_form};
-ghost use Rattle.plan_rows.specs.Views.{columns_seen, written_seen, ending_seen, net_seen};
+ghost use Rattle.plan_rows.specs.Forms.{bound_net, fault_tries, ending_form, offset_in, written_of};
+ghost use Rattle.plan_rows.specs.Views.{behind_kind, columns_seen, written_seen, ending_seen, net_seen};
 
 use crate::words::{is_word, name_of, net_of, number_in};
 use csv::ByteRecord;
@@ -80,7 +80,8 @@ pub(crate) enum Written<'a> {
 
 /// The fields of a record that has exactly six.
 fn columns_of(fields: &ByteRecord) -> Option<Columns<'_>>
-    ensures { option_map columns_seen result ≡ columns_of (fields_of fields.now) }
+    ensures { MatchOption result (length (fields_of fields.now) ≡ 6 → ⊥)
+        (λ r. columns_seen r ≡ fields_of fields.now) }
 {
     if fields.len() != 6 {
         return None;
@@ -97,7 +98,7 @@ fn columns_of(fields: &ByteRecord) -> Option<Columns<'_>>
 
 /// `lot,B,TRIES,F,,`
 fn lot_form<'a>(r: &Columns<'a>) -> Option<Written<'a>>
-    ensures { option_map written_seen result ≡ lot_form (columns_seen r.now) }
+    ensures { option_map written_seen result ≡ written_of (codes "lot" ∷ behind_kind r.now) }
 {
     if !(r.fifth.is_empty() && r.sixth.is_empty()) {
         return None;
@@ -110,7 +111,7 @@ fn lot_form<'a>(r: &Columns<'a>) -> Option<Written<'a>>
 
 /// `clock,SIGNAL,,,,`
 fn clock_form<'a>(r: &Columns<'a>) -> Option<Written<'a>>
-    ensures { option_map written_seen result ≡ clock_form (columns_seen r.now) }
+    ensures { option_map written_seen result ≡ written_of (codes "clock" ∷ behind_kind r.now) }
 {
     if !(r.third.is_empty() && r.fourth.is_empty() && r.fifth.is_empty() && r.sixth.is_empty()) {
         return None;
@@ -132,7 +133,7 @@ fn bound_net(bytes: &[u8]) -> Option<Option<&[u8]>>
 
 /// `bind,SIGNAL,NET,,,`
 fn bind_form<'a>(r: &Columns<'a>) -> Option<Written<'a>>
-    ensures { option_map written_seen result ≡ bind_form (columns_seen r.now) }
+    ensures { option_map written_seen result ≡ written_of (codes "bind" ∷ behind_kind r.now) }
 {
     if !(r.fourth.is_empty() && r.fifth.is_empty() && r.sixth.is_empty()) {
         return None;
@@ -144,7 +145,7 @@ fn bind_form<'a>(r: &Columns<'a>) -> Option<Written<'a>>
 
 /// `die,SITE,NAME,FILE,,`
 fn die_form<'a>(r: &Columns<'a>) -> Option<Written<'a>>
-    ensures { option_map written_seen result ≡ die_form (columns_seen r.now) }
+    ensures { option_map written_seen result ≡ written_of (codes "die" ∷ behind_kind r.now) }
 {
     if !(r.fifth.is_empty() && r.sixth.is_empty()) {
         return None;
@@ -168,7 +169,7 @@ fn fault_tries(bytes: &[u8]) -> Option<Option<u64>>
 
 /// `fault,SITE,NAME,NET,VALUE,TRIES`
 fn fault_form<'a>(r: &Columns<'a>) -> Option<Written<'a>>
-    ensures { option_map written_seen result ≡ fault_form (columns_seen r.now) }
+    ensures { option_map written_seen result ≡ written_of (codes "fault" ∷ behind_kind r.now) }
 {
     let site = number_in(r.second)?;
     let name = name_of(r.third)?;
@@ -186,7 +187,7 @@ fn fault_form<'a>(r: &Columns<'a>) -> Option<Written<'a>>
 
 /// `stop,SITE,NAME,TRY,BATCH,`
 fn stop_form<'a>(r: &Columns<'a>) -> Option<Written<'a>>
-    ensures { option_map written_seen result ≡ stop_form (columns_seen r.now) }
+    ensures { option_map written_seen result ≡ written_of (codes "stop" ∷ behind_kind r.now) }
 {
     if !r.sixth.is_empty() {
         return None;
@@ -205,7 +206,7 @@ fn stop_form<'a>(r: &Columns<'a>) -> Option<Written<'a>>
 
 /// The ending of a bin's record: `pass,`, `fail,E`, `stopped,`, `contact,`
 fn ending_form(r: &Columns) -> Option<Ended>
-    ensures { option_map ending_seen result ≡ ending_form (columns_seen r.now) }
+    ensures { option_map ending_seen result ≡ ending_form r.now.second.now r.now.third.now }
 {
     if is_word(r.second, b"fail") {
         let executive = number_in(r.third)?;
@@ -227,7 +228,7 @@ fn ending_form(r: &Columns) -> Option<Ended>
 
 /// `bin,ENDING,E,N,,`
 fn bin_form<'a>(r: &Columns<'a>) -> Option<Written<'a>>
-    ensures { option_map written_seen result ≡ bin_form (columns_seen r.now) }
+    ensures { option_map written_seen result ≡ written_of (codes "bin" ∷ behind_kind r.now) }
 {
     if !(r.fifth.is_empty() && r.sixth.is_empty()) {
         return None;
@@ -251,7 +252,7 @@ fn offset_in(bytes: &[u8]) -> Option<(bool, u64)>
 
 /// `skew,SITE,SIGNAL,FS,,`
 fn skew_form<'a>(r: &Columns<'a>) -> Option<Written<'a>>
-    ensures { option_map written_seen result ≡ skew_form (columns_seen r.now) }
+    ensures { option_map written_seen result ≡ written_of (codes "skew" ∷ behind_kind r.now) }
 {
     if !(r.fifth.is_empty() && r.sixth.is_empty()) {
         return None;
@@ -269,7 +270,7 @@ fn skew_form<'a>(r: &Columns<'a>) -> Option<Written<'a>>
 
 /// What six fields say, by the form of their kind.
 fn form_of<'a>(r: &Columns<'a>) -> Option<Written<'a>>
-    ensures { option_map written_seen result ≡ form_of (columns_seen r.now) }
+    ensures { option_map written_seen result ≡ written_of (columns_seen r.now) }
 {
     if is_word(r.kind, b"lot") {
         lot_form(r)
