@@ -3,16 +3,13 @@ use Rattle.std.proofs.Common.{ℕ, ◌-◌, ◌<◌, ◌≤◌, length, arith, l
 use Rattle.std.specs.Prelude.{decimal}
 use Rattle.std.proofs.lemmas.Fmt.{length-decimal-le}
 use Rattle.text_bytes.specs.Limits.{most_bytes}
-use Rattle.drill_texts.specs.Texts.{vectors, drive_letter, look_letter, vector_line, stil_head, stil_tail, stil_text, register_line, net_head, net_text}
+use Rattle.drill_texts.specs.Texts.{vectors, vector_line, stil_head, stil_tail, stil_text, register_line, net_head, net_text}
 use Rattle.drill_texts.proofs.LineLemmas.{length-lines}
 
 -- a vector's line
 length-vector_line : (n i : ℕ) → length (vector_line n i) ≤ 64
 unfolding vector_line
-length-vector_line n i =
-    let drive : length (drive_letter n i) ≤ 1 = grind arith in
-    let look : length (look_letter n i) ≤ 1 = grind arith in
-    grind (arith, length-append, drive, look)
+length-vector_line n i = grind (arith, length-append)
 
 -- a number that is below 1000
 length-decimal : (n : ℕ) → n < 1000 → length (decimal n) ≤ 3

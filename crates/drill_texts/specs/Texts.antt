@@ -11,17 +11,13 @@ vectors n = 500 * n
 abbrev pub driven_bit : ℕ → ℕ → Bool
 driven_bit n i = nat_lt ((i * i + n) % 7) 3
 
--- the letter of `d` in vector i
-abbrev pub drive_letter : ℕ → ℕ → List ℕ
-drive_letter n i = if driven_bit n i then codes "1" else codes "0"
-
--- the letter of `q` in vector i: unknown until the first bit is through, then the bit of n vectors before
-abbrev pub look_letter : ℕ → ℕ → List ℕ
-look_letter n i = if nat_lt i n then codes "X" else if driven_bit n (i - n) then codes "H" else codes "L"
-
--- the line of vector i
+-- the line of vector i: the bit that it drives, and what is seen, which is unknown until the first bit is through, and
+-- then the bit of n vectors before
 unfoldable pub vector_line : ℕ → ℕ → List ℕ
-vector_line n i = codes "V { d=" ++ drive_letter n i ++ codes "; ck=P; q=" ++ look_letter n i ++ codes "; }\n"
+vector_line n i =
+    codes "V { d=" ++ (if driven_bit n i then codes "1" else codes "0")
+    ++ codes "; ck=P; q=" ++ (if nat_lt i n then codes "X" else if driven_bit n (i - n) then codes "H" else codes "L")
+    ++ codes "; }\n"
 
 -- what stands before the vectors
 unfoldable pub stil_head : List ℕ

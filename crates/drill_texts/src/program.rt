@@ -1,8 +1,8 @@
 //! The pattern of a drill.
 
-ghost use Rattle.std.specs.Prelude.{◌≡◌, ◌≤◌, ◌<◌, ◌++◌, ◌*◌, length, IfOk, OnOk};
+ghost use Rattle.std.specs.Prelude.{◌≡◌, ◌≤◌, ◌<◌, ◌++◌, ◌*◌, ◌-◌, length, codes, nat_lt, if◌then◌else◌, IfOk, OnOk};
 ghost use Rattle.text_bytes.specs.Limits.{most_bytes};
-ghost use Rattle.drill_texts.specs.Texts.{driven_bit, drive_letter, look_letter, vector_line};
+ghost use Rattle.drill_texts.specs.Texts.{driven_bit, vector_line};
 ghost use Rattle.drill_texts.specs.Texts.{stil_head, stil_tail, stil_text};
 
 use std::alloc::{AllocError, Global};
@@ -59,45 +59,35 @@ fn put_vector(text: &mut Vec<u8>, number: u64, place: u64) -> Result<(), AllocEr
     ensures { OnOk result (text.new.items ≡ text.old.items ++ vector_line number place) }
 {
     text.extend_from_slice(b"V { d=")?;
-    text.extend_from_slice(drive_letter(number, place))?;
+    text.extend_from_slice(bit_letter(number, place, b"1", b"0"))?;
     text.extend_from_slice(b"; ck=P; q=")?;
     text.extend_from_slice(look_letter(number, place))?;
     text.extend_from_slice(b"; }\n")
-}
-
-/// The letter of `d` in a vector.
-fn drive_letter(number: u64, place: u64) -> &'static [u8]
-    requires number { number < 256 }
-    requires place { place < 127500 }
-    ensures { result.now ≡ drive_letter number place }
-{
-    if driven_bit(number, place) {
-        b"1"
-    } else {
-        b"0"
-    }
 }
 
 /// The letter of `q` in a vector.
 fn look_letter(number: u64, place: u64) -> &'static [u8]
     requires number { number < 256 }
     requires place { place < 127500 }
-    ensures { result.now ≡ look_letter number place }
+    ensures { result.now ≡ (if nat_lt place number then codes "X"
+        else if driven_bit number (place - number) then codes "H" else codes "L") }
 {
     if place < number {
         b"X"
-    } else if driven_bit(number, place - number) {
-        b"H"
     } else {
-        b"L"
+        bit_letter(number, place - number, b"H", b"L")
     }
 }
 
-/// Whether a vector drives `d` high.
-fn driven_bit(number: u64, place: u64) -> bool
+/// The letter for what a vector drives: one where `d` is high, and the other where it is low.
+fn bit_letter(number: u64, place: u64, high: &'static [u8], low: &'static [u8]) -> &'static [u8]
     requires number { number < 256 }
     requires place { place < 127500 }
-    ensures { result ≡ driven_bit number place }
+    ensures { result.now ≡ (if driven_bit number place then high.now else low.now) }
 {
-    (place * place + number) % 7 < 3
+    if (place * place + number) % 7 < 3 {
+        high
+    } else {
+        low
+    }
 }
