@@ -1,52 +1,34 @@
 -- The plain slow reader of the open block: the tokens that end a statement outside all braces.
-use Rattle.std.proofs.Common.{◌≡◌, ◌⊎◌, ℕ, ◌+◌, ◌≤◌, ◌<◌, true, false, ◌&&◌, List, ◌∷◌, ◌++◌, length, take, drop, get_or, Some, refl, sym, ap, ◌∙◌, subst, inl, inr, arith, length-append, eq-eqb, slice_get}
-use Rattle.std.specs.Prelude.{◌==◌}
-use Rattle.std.proofs.lemmas.Bool.{and_parts, and_from, or_cases, or_left, or_right, eqb-true, false≢true, cases_order}
+use Rattle.std.proofs.Common.{◌≡◌, ◌⊎◌, ℕ, ◌+◌, ◌≤◌, ◌<◌, true, List, ◌∷◌, ◌++◌, length, take, drop, get_or, refl, sym, ap, ◌∙◌, subst, inl, inr, arith, length-append}
+use Rattle.std.proofs.lemmas.Bool.{cases_order}
 use Rattle.std.proofs.lemmas.List.{take_at, drop_more, take-append-drop, length-take-le, get_or_at}
-use Rattle.std.proofs.lemmas.Option.{slice_get-get_or, slice_get_cases}
 use Rattle.stil_lex.specs.declared.token.Token.{Token}
 use Rattle.stil_tree.specs.Signs.{semicolon, close_brace, is_sign}
 use Rattle.stil_tree.specs.Blocks.{open_braces, EndsStatement, BeginsAt}
-use Rattle.stil_tree.specs.Slow.{ends_if, ends_at}
 
--- an end passes the test
-pub ends_at-is : (tokens : List Token) (index : ℕ) → EndsStatement tokens index → ends_at tokens index ≡ true
-ends_at-is tokens index e =
-    let long : length tokens ≡ length (e.front ++ e.token ∷ e.back) = ap length e.spelled in
-    let below : index < length tokens = omega (arith, e.place, long, length-append e.front (e.token ∷ e.back)) in
-    let here : get_or tokens index e.token ≡ e.token = ap (λ ts. get_or ts index e.token) e.spelled ∙ get_or_at e.front e.token e.back e.token index (sym e.place) in
-    let token : slice_get tokens index ≡ Some e.token = slice_get-get_or tokens index e.token below ∙ ap Some here in
+-- a token is an end, by the braces that are open before it
+abbrev pub Ends : List Token → Token → Type 0
+Ends front t = ((is_sign semicolon t ≡ true) × (open_braces front ≡ 0)) ⊎ ((is_sign close_brace t ≡ true) × (open_braces front ≡ 1))
+
+-- the token at the index of an end is one
+pub ends-at : (tokens : List Token) (index : ℕ) (d : Token) → EndsStatement tokens index
+    → Ends (take index tokens) (get_or tokens index d)
+ends-at tokens index d e =
+    let here : get_or tokens index d ≡ e.token = ap (λ ts. get_or ts index d) e.spelled ∙ get_or_at e.front e.token e.back d index (sym e.place) in
     let front : take index tokens ≡ e.front = ap (take index) e.spelled ∙ take_at e.front (e.token ∷ e.back) index (sym e.place) in
-    let n = open_braces e.front in
-    ap (λ o. ends_if (open_braces (take index tokens)) o) token
-    ∙ (ap (λ ts. ends_if (open_braces ts) (Some e.token)) front
-    ∙ elim e.ends [
-      | inl a ↦ or_left (is_sign semicolon e.token && n == 0) (is_sign close_brace e.token && n == 1) (and_from (is_sign semicolon e.token) (n == 0) a.0 (eq-eqb n 0 a.1))
-      | inr b ↦ or_right (is_sign semicolon e.token && n == 0) (is_sign close_brace e.token && n == 1) (and_from (is_sign close_brace e.token) (n == 1) b.0 (eq-eqb n 1 b.1))
-    ])
+    subst (λ (ts : List Token). Ends ts (get_or tokens index d)) (sym front) (subst (Ends e.front) (sym here) e.ends)
 
--- what passes the test is an end
-pub ends_at-so : (tokens : List Token) (index : ℕ) → index < length tokens → ends_at tokens index ≡ true → EndsStatement tokens index
-ends_at-so tokens index below h =
-    elim ((slice_get_cases tokens index).1) [
-      | inl found ↦
-          let n = open_braces (take index tokens) in
-          let t = found.0 in
-          let passes = ap (ends_if n) (sym found.2) ∙ h in
-          record {
-            front = take index tokens;
-            token = t;
-            back = drop (index + 1) tokens;
-            spelled = sym (take-append-drop index tokens) ∙ ap (λ ts. take index tokens ++ ts) (drop_more tokens index t below ∙ ap (λ x. x ∷ drop (index + 1) tokens) found.3);
-            place = sym (length-take-le index tokens (omega arith));
-            ends =
-                elim (or_cases (is_sign semicolon t && n == 0) (is_sign close_brace t && n == 1) passes) [
-                  | inl a ↦ let parts = and_parts (is_sign semicolon t) (n == 0) a in inl (parts.0, eqb-true n 0 parts.1)
-                  | inr b ↦ let parts = and_parts (is_sign close_brace t) (n == 1) b in inr (parts.0, eqb-true n 1 parts.1)
-                ];
-          }
-      | inr past ↦ absurd (omega (arith, below, past.0))
-    ]
+-- a token that is one stands at the index of an end
+pub at-ends : (tokens : List Token) (index : ℕ) (d : Token) → index < length tokens
+    → Ends (take index tokens) (get_or tokens index d) → EndsStatement tokens index
+at-ends tokens index d below ends = record {
+  front = take index tokens;
+  token = get_or tokens index d;
+  back = drop (index + 1) tokens;
+  spelled = sym (take-append-drop index tokens) ∙ ap (λ ts. take index tokens ++ ts) (drop_more tokens index d below);
+  place = sym (length-take-le index tokens (omega arith));
+  ends = ends;
+}
 
 -- the last end among so many tokens is known: the open statement begins behind it
 pub record IsLast (tokens : List Token) (read start : ℕ) : Type 0 where
@@ -59,21 +41,22 @@ pub last-start : (tokens : List Token) → IsLast tokens 0 0
 last-start tokens = record { within = omega arith; after_end = inl refl; no_later = λ index above below e. absurd (omega (arith, below)) }
 
 -- at a token that ends the statement
-pub last-end : (tokens : List Token) (read start : ℕ) → read < length tokens → ends_at tokens read ≡ true → IsLast tokens (read + 1) (read + 1)
-last-end tokens read start below h = record {
+pub last-end : (tokens : List Token) (read start : ℕ) → EndsStatement tokens read → IsLast tokens (read + 1) (read + 1)
+last-end tokens read start ends = record {
   within = omega arith;
-  after_end = inr (read, refl, ends_at-so tokens read below h);
+  after_end = inr (read, refl, ends);
   no_later = λ index above before e. absurd (omega (arith, above, before));
 }
 
 -- at one that doesn't
-pub last-on : (tokens : List Token) (read start : ℕ) → IsLast tokens read start → ends_at tokens read ≡ false → IsLast tokens (read + 1) start
-last-on tokens read start l h = record {
+pub last-on : (tokens : List Token) (read start : ℕ) → IsLast tokens read start → (EndsStatement tokens read → ⊥)
+    → IsLast tokens (read + 1) start
+last-on tokens read start l goes = record {
   within = omega (arith, l.within);
   after_end = l.after_end;
   no_later = λ index above below e.
       elim (cases_order index read) [
-        | inl same ↦ false≢true (sym h ∙ ends_at-is tokens read (subst (λ (n : ℕ). EndsStatement tokens n) same e))
+        | inl same ↦ goes (subst (λ (n : ℕ). EndsStatement tokens n) same e)
         | inr (inl less) ↦ l.no_later index above less e
         | inr (inr more) ↦ omega (arith, below, more)
       ];

@@ -1,14 +1,13 @@
 -- The statement that is open outside all braces, a token at a time.
-use Rattle.std.proofs.Common.{◌≡◌, ◌⊎◌, ℕ, ◌+◌, ◌-◌, ◌<◌, true, false, ◌&&◌, List, [], ◌∷◌, ◌++◌, length, take, get_or, refl, sym, ap, ◌∙◌, subst, inl, inr, arith, length-append, append_assoc, cond, eq-eqb}
-use Rattle.std.specs.Prelude.{◌==◌}
-use Rattle.std.proofs.lemmas.Bool.{cond_both, cond-true, cond-false, eqb-true, eqb-false, and_parts, and_from, cases_order, false≢true}
-use Rattle.std.proofs.lemmas.List.{same_from_push, length_push, take_more, length-take-le}
+use Rattle.std.proofs.Common.{◌≡◌, ◌⊎◌, ℕ, ◌+◌, ◌-◌, ◌<◌, true, false, List, [], ◌∷◌, ◌++◌, length, take, get_or, refl, sym, ap, ◌∙◌, subst, inl, inr, arith, length-append, append_assoc}
+use Rattle.std.proofs.lemmas.Bool.{cond-true, cond-false, cases_order, false≢true}
+use Rattle.std.proofs.lemmas.List.{same_from_push, length_push, take_more}
 use Rattle.std.proofs.lemmas.List.Sums.{fold_push}
 use Rattle.stil_lex.specs.declared.token.Token.{Token}
 use Rattle.stil_tree.specs.Signs.{semicolon, open_brace, close_brace, is_sign}
 use Rattle.stil_tree.specs.Blocks.{braces_behind, open_braces, EndsStatement, BeginsAt}
 use Rattle.stil_tree.specs.declared.block.Spot.{Spot}
-use Rattle.stil_tree.specs.Step.{spot_behind}
+use Rattle.stil_tree.specs.Step.{IsSpot}
 use Rattle.stil_tree.proofs.Steps.{is_kind-other}
 
 -- a list is empty, or has a last element
@@ -86,11 +85,6 @@ begins-on xs t start b goes = record {
   still_open = λ index above e. elim (ends_cases xs t index e) [ inl last ↦ goes last.1 | inr before ↦ b.still_open index above before ];
 }
 
--- what the code keeps behind tokens
-pub record IsSpot (tokens : List Token) (start braces : ℕ) : Type 0 where
-  pub begins : BeginsAt tokens start
-  pub are_open : braces ≡ open_braces tokens
-
 -- a spot of a token
 abbrev pub IsNext : List Token → Spot → Type 0
 IsNext tokens s = IsSpot tokens s.start s.braces
@@ -114,46 +108,57 @@ pub spot-end : (xs : List Token) (t : Token) (start braces behind : ℕ) → IsS
 spot-end xs t start braces behind s ends is =
     record { begins = begins-end xs t ends; are_open = is ∙ (ap (λ n. braces_behind n t) s.are_open ∙ sym (braces-push xs t)) }
 
--- behind one token more
-pub spot-more : (xs : List Token) (t : Token) (start braces : ℕ) → IsSpot xs start braces → IsNext (xs ++ t ∷ []) (spot_behind start braces (length xs) t)
-unfolding spot_behind
-spot-more xs t start braces s =
-    let at = length xs in
-    let P : Spot → Type 0 = IsNext (xs ++ t ∷ []) in
-    let kept : Spot = record { start = start; braces = braces } in
-    let fresh : Spot = record { start = at + 1; braces = braces } in
-    let at_end = cond (is_sign semicolon t && braces == 0) fresh kept in
-    let closing : Spot = record { start = cond (braces == 1) (at + 1) start; braces = braces - 1 } in
-    cond_both (is_sign open_brace t) (record { start = start; braces = braces + 1 }) (cond (is_sign close_brace t) closing at_end) P
-    (λ is_open.
-    let n_end : is_sign semicolon t ≡ false = is_kind-other open_brace semicolon t.kind is_open refl in
-    let n_close : is_sign close_brace t ≡ false = is_kind-other open_brace close_brace t.kind is_open refl in
+-- behind a `{`
+pub spot-open : (xs : List Token) (t : Token) (start braces : ℕ) → is_sign open_brace t ≡ true → IsSpot xs start braces
+    → IsSpot (xs ++ t ∷ []) start (braces + 1)
+spot-open xs t start braces is s =
+    let n_end : is_sign semicolon t ≡ false = is_kind-other open_brace semicolon t.kind is refl in
+    let n_close : is_sign close_brace t ≡ false = is_kind-other open_brace close_brace t.kind is refl in
     spot-on xs t start braces (braces + 1) s
     (λ e. elim e [ inl a ↦ false≢true (sym n_end ∙ a.0) | inr b ↦ false≢true (sym n_close ∙ b.0) ])
-    (sym (cond-true (is_sign open_brace t) (braces + 1) _ is_open)))
-    (λ n_open. cond_both (is_sign close_brace t) closing at_end P
-    (λ is_close.
-    let n_end : is_sign semicolon t ≡ false = is_kind-other close_brace semicolon t.kind is_close refl in
-    let behind : braces - 1 ≡ braces_behind braces t =
-    sym (cond-false (is_sign open_brace t) (braces + 1) _ n_open ∙ cond-true (is_sign close_brace t) (braces - 1) braces is_close) in
-    cond_both (braces == 1) (at + 1) start (λ begin. IsSpot (xs ++ t ∷ []) begin (braces - 1))
-    (λ one. spot-end xs t start braces (braces - 1) s (inr (is_close, sym s.are_open ∙ eqb-true braces 1 one)) behind)
-    (λ other. spot-on xs t start braces (braces - 1) s
-    (λ e. elim e [ inl a ↦ false≢true (sym n_end ∙ a.0) | inr b ↦ eqb-false braces 1 other (s.are_open ∙ b.1) ])
-    behind))
-    (λ n_close.
-    let behind : braces ≡ braces_behind braces t =
-    sym (cond-false (is_sign open_brace t) (braces + 1) _ n_open ∙ cond-false (is_sign close_brace t) (braces - 1) braces n_close) in
-    cond_both (is_sign semicolon t && braces == 0) fresh kept P
-    (λ ends.
-    let parts = and_parts (is_sign semicolon t) (braces == 0) ends in
-    spot-end xs t start braces braces s (inl (parts.0, sym s.are_open ∙ eqb-true braces 0 parts.1)) behind)
-    (λ goes. spot-on xs t start braces braces s
-    (λ e. elim e [
-      | inl a ↦ false≢true (sym goes ∙ and_from (is_sign semicolon t) (braces == 0) a.0 (eq-eqb braces 0 (s.are_open ∙ a.1)))
-      | inr b ↦ false≢true (sym n_close ∙ b.0)
-    ])
-    behind)))
+    (sym (cond-true (is_sign open_brace t) (braces + 1) _ is))
+
+-- the braces behind a `}`
+pub braces-close : (t : Token) (braces : ℕ) → is_sign close_brace t ≡ true → braces - 1 ≡ braces_behind braces t
+braces-close t braces is =
+    let n_open : is_sign open_brace t ≡ false = is_kind-other close_brace open_brace t.kind is refl in
+    sym (cond-false (is_sign open_brace t) (braces + 1) _ n_open ∙ cond-true (is_sign close_brace t) (braces - 1) braces is)
+
+-- behind a `}` that closes the last open brace
+pub spot-close : (xs : List Token) (t : Token) (start braces : ℕ) → is_sign close_brace t ≡ true → braces ≡ 1
+    → IsSpot xs start braces → IsSpot (xs ++ t ∷ []) (length xs + 1) (braces - 1)
+spot-close xs t start braces is one s =
+    spot-end xs t start braces (braces - 1) s (inr (is, sym s.are_open ∙ one)) (braces-close t braces is)
+
+-- behind one that doesn't
+pub spot-inner : (xs : List Token) (t : Token) (start braces : ℕ) → is_sign close_brace t ≡ true → (braces ≡ 1 → ⊥)
+    → IsSpot xs start braces → IsSpot (xs ++ t ∷ []) start (braces - 1)
+spot-inner xs t start braces is other s =
+    let n_end : is_sign semicolon t ≡ false = is_kind-other close_brace semicolon t.kind is refl in
+    spot-on xs t start braces (braces - 1) s
+    (λ e. elim e [ inl a ↦ false≢true (sym n_end ∙ a.0) | inr b ↦ other (s.are_open ∙ b.1) ])
+    (braces-close t braces is)
+
+-- the braces behind a token that is none
+pub braces-other : (t : Token) (braces : ℕ) → is_sign open_brace t ≡ false → is_sign close_brace t ≡ false
+    → braces ≡ braces_behind braces t
+braces-other t braces n_open n_close =
+    sym (cond-false (is_sign open_brace t) (braces + 1) _ n_open ∙ cond-false (is_sign close_brace t) (braces - 1) braces n_close)
+
+-- behind a `;` outside braces
+pub spot-semicolon : (xs : List Token) (t : Token) (start braces : ℕ) → is_sign semicolon t ≡ true → braces ≡ 0
+    → IsSpot xs start braces → IsSpot (xs ++ t ∷ []) (length xs + 1) braces
+spot-semicolon xs t start braces is none s =
+    spot-end xs t start braces braces s (inl (is, sym s.are_open ∙ none))
+    (braces-other t braces (is_kind-other semicolon open_brace t.kind is refl) (is_kind-other semicolon close_brace t.kind is refl))
+
+-- behind any other token
+pub spot-other : (xs : List Token) (t : Token) (start braces : ℕ) → is_sign open_brace t ≡ false → is_sign close_brace t ≡ false
+    → (is_sign semicolon t ≡ true → braces ≡ 0 → ⊥) → IsSpot xs start braces → IsSpot (xs ++ t ∷ []) start braces
+spot-other xs t start braces n_open n_close goes s =
+    spot-on xs t start braces braces s
+    (λ e. elim e [ inl a ↦ goes a.0 (s.are_open ∙ a.1) | inr b ↦ false≢true (sym n_close ∙ b.0) ])
+    (braces-other t braces n_open n_close)
 
 -- a statement does not begin where one that is open later ended
 pub begins_later : (tokens : List Token) (first last : ℕ) → BeginsAt tokens first → BeginsAt tokens last → first < last → ⊥
@@ -176,10 +181,6 @@ one_start tokens start other b c =
     ]
 
 -- a loop over the tokens
-pub goes_on : (tokens : List Token) (at : ℕ) (d : Token) (start braces : ℕ) (next : Spot) → at < length tokens → IsSpot (take at tokens) start braces
-    → next ≡ spot_behind start braces at (get_or tokens at d) → IsNext (take (at + 1) tokens) next
-goes_on tokens at d start braces next below s is =
-    let t = get_or tokens at d in
-    let place : length (take at tokens) ≡ at = length-take-le at tokens (omega arith) in
-    let more = subst (λ (n : ℕ). IsNext (take at tokens ++ t ∷ []) (spot_behind start braces n t)) place (spot-more (take at tokens) t start braces s) in
-    rw (is, take_more tokens at d below) more
+pub goes_on : (tokens : List Token) (at : ℕ) (d : Token) (next : Spot) → at < length tokens
+    → IsNext (take at tokens ++ get_or tokens at d ∷ []) next → IsNext (take (at + 1) tokens) next
+goes_on tokens at d next below more = subst (λ (ts : List Token). IsNext ts next) (sym (take_more tokens at d below)) more

@@ -1,10 +1,9 @@
 -- What the plain slow reader says of one statement at the front of tokens. No public clause cites this file.
-use Rattle.std.specs.Prelude.{ℕ, map, zero, suc, ◌+◌, ◌-◌, ◌==◌, ◌≤◌, ◌<◌, if◌then◌else◌, Bool, false, ◌&&◌, ◌||◌, List, [], ◌∷◌, length, take, drop, slice_get, Option, Some, None}
+use Rattle.std.specs.Prelude.{ℕ, map, zero, suc, ◌+◌, ◌-◌, ◌==◌, ◌≤◌, ◌<◌, if◌then◌else◌, List, [], ◌∷◌, length, drop, Option, Some, None}
 use Rattle.stil_lex.specs.declared.token.Token.{Token}
 use Rattle.stil_tree.specs.declared.stmt.Stmt.{Stmt}
 use Rattle.stil_tree.specs.Trees.{Trees, plain, in_front, trees_from, entry_of}
-use Rattle.stil_tree.specs.Signs.{semicolon, open_brace, close_brace, is_sign}
-use Rattle.stil_tree.specs.Blocks.{open_braces}
+use Rattle.stil_tree.specs.Signs.{open_brace, close_brace, is_sign}
 use Rattle.stil_tree.specs.Grammar.{ParsesAt}
 
 -- the trees of statements in memory
@@ -39,12 +38,3 @@ block_end n [] = 0
 block_end n (t ∷ ts) =
     if is_sign open_brace t then 1 + block_end (n + 1) ts
     else (if is_sign close_brace t then (if n == 0 then 0 else 1 + block_end (n - 1) ts) else 1 + block_end n ts)
-
--- whether a token ends a statement outside all braces, where so many braces are open before it
-abbrev pub ends_if : ℕ → Option Token → Bool
-ends_if braces None = false
-ends_if braces (Some t) = (is_sign semicolon t && braces == 0) || (is_sign close_brace t && braces == 1)
-
--- whether the token at the index does
-abbrev pub ends_at : List Token → ℕ → Bool
-ends_at tokens index = ends_if (open_braces (take index tokens)) (slice_get tokens index)

@@ -1,10 +1,10 @@
 -- What the code does at each token. No public clause cites this file.
-use Rattle.std.specs.Prelude.{ℕ, zero, suc, ◌+◌, ◌-◌, ◌==◌, ◌&&◌, if◌then◌else◌, List, [], ◌∷◌, length, Result, Ok, Err}
+use Rattle.std.specs.Prelude.{◌≡◌, ℕ, zero, suc, ◌+◌, ◌-◌, ◌==◌, if◌then◌else◌, List, [], ◌∷◌, length, Result, Ok, Err}
 use Rattle.stil_lex.specs.declared.token.Token.{Token}
 use Rattle.stil_tree.specs.Signs.{semicolon, open_brace, close_brace, is_sign}
+use Rattle.stil_tree.specs.Blocks.{open_braces, BeginsAt}
 use Rattle.stil_tree.specs.Trees.{Trees, end, plain, block}
 use Rattle.stil_tree.specs.Grammar.{most_levels}
-use Rattle.stil_tree.specs.declared.block.Spot.{Spot}
 use Rattle.stil_tree.specs.declared.fault.TreeFault.{TreeFault}
 use Rattle.stil_tree.specs.declared.fault.TreeFault.TheVariants.{OpenBlock, OpenStatement, StrayClose, TooDeep}
 
@@ -76,10 +76,7 @@ outcome len (going (f ∷ fs) done first) = Err (OpenBlock (brace_of f))
 abbrev pub forest_of : List Token → Result Trees TreeFault
 forest_of tokens = outcome (length tokens) (run 0 (going [] end 0) tokens)
 
--- the spot behind a token with the index `at`
-unfoldable pub spot_behind : ℕ → ℕ → ℕ → Token → Spot
-spot_behind start braces at t =
-    if is_sign open_brace t then record { start = start; braces = braces + 1 }
-    else if is_sign close_brace t then record { start = if braces == 1 then at + 1 else start; braces = braces - 1 }
-    else if is_sign semicolon t && braces == 0 then record { start = at + 1; braces = braces }
-    else record { start = start; braces = braces }
+-- what is kept behind tokens: where the statement outside all braces that is open begins, and how many braces are open
+pub record IsSpot (tokens : List Token) (start braces : ℕ) : Type 0 where
+  pub begins : BeginsAt tokens start
+  pub are_open : braces ≡ open_braces tokens

@@ -1,8 +1,9 @@
 //! The block of a place, which a fault names.
 
-ghost use Rattle.std.specs.Prelude.{◌≡◌, ◌+◌, ◌-◌, ◌≤◌, ◌<◌, ◌^◌, length, take, slice_get};
-ghost use Rattle.stil_tree.specs.Blocks.{BeginsAt, IsBlock, may_name, keyword_at, name_if};
-ghost use Rattle.stil_tree.specs.Step.{spot_behind};
+ghost use Rattle.std.specs.Prelude.{◌≡◌, ◌+◌, ◌-◌, ◌≤◌, ◌<◌, ◌^◌, ◌++◌, ◌∷◌, [], List, length, take, slice_get};
+ghost use Rattle.stil_tree.specs.Blocks.{BeginsAt, IsBlock, keyword_at, name_if};
+ghost use Rattle.stil_tree.specs.Step.{IsSpot};
+ghost use Rattle.stil_lex.specs.declared.token.Token as declared;
 
 use crate::builder::is_sign;
 use stil_lex::{Token, TokenKind};
@@ -14,12 +15,12 @@ struct Spot {
     braces: usize,
 }
 
-/// The spot behind a token with the index `at`.
-#[tactic(auto, unfolding(crate::specs::Step::spot_behind))]
+/// The spot behind one token more, which has the index `at`.
 fn spot_behind(spot: Spot, at: usize, token: &Token) -> Spot
     requires few { spot.braces ≤ at }
     requires small { at < 2 ^ 63 }
-    ensures spot { result ≡ spot_behind spot.start spot.braces at token.now }
+    ensures spot { (read : List declared.Token) → length read ≡ at → IsSpot read spot.start spot.braces
+        → IsSpot (read ++ token.now ∷ []) result.start result.braces }
     ensures few { result.braces ≤ at + 1 }
 {
     let Spot { start, braces } = spot;
@@ -58,12 +59,6 @@ fn block_start(tokens: &[Token]) -> usize
     spot.start
 }
 
-fn may_name(kind: TokenKind) -> bool
-    ensures { result ≡ may_name kind }
-{
-    matches!(kind, TokenKind::Word | TokenKind::Name)
-}
-
 /// The index, where a token stands there.
 pub(crate) fn keyword_at(tokens: &[Token], index: usize) -> Option<usize>
     ensures { result ≡ keyword_at tokens.now index }
@@ -79,7 +74,7 @@ pub(crate) fn keyword_at(tokens: &[Token], index: usize) -> Option<usize>
 pub(crate) fn name_at(tokens: &[Token], index: usize) -> Option<usize>
     ensures { result ≡ name_if (slice_get tokens.now index) index }
 {
-    if index < tokens.len() && may_name(tokens[index].kind) {
+    if index < tokens.len() && matches!(tokens[index].kind, TokenKind::Word | TokenKind::Name) {
         Some(index)
     } else {
         None

@@ -2,15 +2,15 @@
 //! reads the block; it gives the statements, and none exactly where the tokens are none. The reader of the open block looks at each
 //! token anew.
 
-ghost use Rattle.std.specs.Prelude.{◌≡◌, ◌+◌, ◌≤◌, ◌<◌, length, take, IfOk, IfSome, IfNone, OnOk};
+ghost use Rattle.std.specs.Prelude.{◌≡◌, ◌+◌, ◌≤◌, ◌<◌, true, length, take, IfOk, IfSome, IfNone, OnOk};
 ghost use Rattle.std.specs.List.{position_or_len};
 ghost use Rattle.text_bytes.specs.Limits.{most_bytes};
 ghost use Rattle.stil_tree.specs.Signs.{is_delimiter, is_sign};
 ghost use Rattle.stil_tree.specs.Trees.{Trees, trees};
-ghost use Rattle.stil_tree.specs.Blocks.{open_braces, BeginsAt, IsBlock};
+ghost use Rattle.stil_tree.specs.Blocks.{open_braces, EndsStatement, BeginsAt, IsBlock};
 ghost use Rattle.stil_tree.specs.Step.{join};
 ghost use Rattle.stil_tree.specs.Grammar.{ParsesAt, Parses};
-ghost use Rattle.stil_tree.specs.Slow.{IsFirst, trees_of, before, plain_before, block_end, ends_at};
+ghost use Rattle.stil_tree.specs.Slow.{IsFirst, trees_of, before, plain_before, block_end};
 
 use crate::block::{keyword_at, name_at};
 use crate::builder::is_sign;
@@ -190,7 +190,8 @@ pub(crate) fn open_braces(tokens: &[Token]) -> usize
 fn ends_at(tokens: &[Token], index: usize) -> bool
     requires small { length tokens.now ≤ most_bytes }
     requires within { index < length tokens.now }
-    ensures { result ≡ ends_at tokens.now index }
+    ensures ends { result ≡ true → EndsStatement tokens.now index }
+    ensures all { EndsStatement tokens.now index → result ≡ true }
 {
     let open = open_braces(&tokens[..index]);
     let token = &tokens[index];

@@ -7,7 +7,7 @@ ghost use Rattle.text_bytes.specs.Limits.{most_bytes};
 ghost use Rattle.stil_tree.specs.Signs.{is_delimiter};
 ghost use Rattle.stil_tree.specs.Blocks.{open_braces};
 ghost use Rattle.stil_tree.specs.Faults.{IsFault};
-ghost use Rattle.stil_tree.specs.SlowFaults.{head_start, opens_at, last_opening, unfinished, refusal_at_close, refusal_at, refusal_at_end};
+ghost use Rattle.stil_tree.specs.SlowFaults.{head_start, last_opening, unfinished, refusal_at, refusal_at_end};
 ghost use Rattle.stil_tree.specs.declared.fault.TreeFault.{TreeFault};
 
 use crate::builder::is_sign;
@@ -34,15 +34,6 @@ fn head_start(tokens: &[Token]) -> usize
     tokens.len()
 }
 
-/// Whether the token at the index is a `{` with which so many braces are open.
-fn opens_at(tokens: &[Token], index: usize, braces: usize) -> bool
-    requires small { length tokens.now ≤ most_bytes }
-    requires within { index < length tokens.now }
-    ensures { result ≡ opens_at braces tokens.now index }
-{
-    is_sign(&tokens[index], b'{') && open_braces(&tokens[..index]) + 1 == braces
-}
-
 /// The last `{` with which so many braces are open.
 fn last_opening(tokens: &[Token], braces: usize) -> usize
     requires { length tokens.now ≤ most_bytes }
@@ -50,7 +41,7 @@ fn last_opening(tokens: &[Token], braces: usize) -> usize
 {
     let mut place = 0;
     for index in 0..tokens.len() {
-        if opens_at(tokens, index, braces) {
+        if is_sign(&tokens[index], b'{') && open_braces(&tokens[..index]) + 1 == braces {
             place = index;
         }
     }
@@ -69,18 +60,6 @@ fn unfinished(tokens: &[Token]) -> Option<TreeFault>
     }
 }
 
-/// The refusal of a `}` behind the tokens.
-fn refusal_at_close(front: &[Token]) -> Option<TreeFault>
-    requires { length front.now ≤ most_bytes }
-    ensures { result ≡ refusal_at_close front.now }
-{
-    if open_braces(front) == 0 {
-        Some(TreeFault::StrayClose(front.len()))
-    } else {
-        unfinished(front)
-    }
-}
-
 /// The refusal of a token behind others.
 fn refusal_at(front: &[Token], token: &Token) -> Option<TreeFault>
     requires { length front.now ≤ most_bytes }
@@ -88,10 +67,12 @@ fn refusal_at(front: &[Token], token: &Token) -> Option<TreeFault>
 {
     if is_sign(token, b'{') && open_braces(front) == 16 {
         Some(TreeFault::TooDeep(front.len()))
-    } else if is_sign(token, b'}') {
-        refusal_at_close(front)
-    } else {
+    } else if !is_sign(token, b'}') {
         None
+    } else if open_braces(front) == 0 {
+        Some(TreeFault::StrayClose(front.len()))
+    } else {
+        unfinished(front)
     }
 }
 

@@ -1,4 +1,5 @@
-use Rattle.std.proofs.Common.{arith}
+use Rattle.std.proofs.Common.{arith, take}
+use Rattle.std.proofs.lemmas.List.{length-take-le}
 use Rattle.stil_tree.proofs.Spots.{spot-start, goes_on}
 use Rattle.stil_tree.proofs.block.block_start.Goals as goal
 
@@ -12,6 +13,8 @@ pub loop-at-preserved : goal.loop-at-preserved
 loop-at-preserved c =
     let said = c.spot_behind-spot.ensures in
     record {
-      spot = goes_on c.args.tokens.now c.loop-at.at _ c.loop-at.spot.start c.loop-at.spot.braces c.spot_behind-spot.result (omega arith) c.loop-at.invariant.spot said.spot;
+      spot =
+          goes_on c.args.tokens.now c.loop-at.at _ c.spot_behind-spot.result (omega arith)
+          (said.spot (take c.loop-at.at c.args.tokens.now) (length-take-le c.loop-at.at c.args.tokens.now (omega arith)) c.loop-at.invariant.spot);
       few = said.few;
     }

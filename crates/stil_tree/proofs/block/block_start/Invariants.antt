@@ -1,5 +1,5 @@
 use Rattle.std.proofs.Common.{◌≤◌, take}
-use Rattle.stil_tree.proofs.Spots.{IsSpot}
+use Rattle.stil_tree.specs.Step.{IsSpot}
 use Rattle.stil_tree.proofs.block.block_start.Given as goal
 
 abbrev pub invariant-loop-at : goal.invariant-loop-at

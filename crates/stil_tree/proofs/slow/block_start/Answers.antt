@@ -1,4 +1,5 @@
 use Rattle.std.proofs.Common.{◌≡◌, ◌+◌, length, arith, sym, subst, ◌∙◌, ℕ}
+use Rattle.std.proofs.lemmas.Bool.{false≢true}
 use Rattle.stil_tree.proofs.SlowBlocks.{IsLast, last-end, last-on, last-done}
 use Rattle.stil_tree.proofs.slow.block_start.Goals as goal
 use Rattle.stil_tree.proofs.slow.block_start.Goals.{then-ends_at, else-ends_at}
@@ -8,10 +9,10 @@ loop-index-preserved c =
     elim c.if-ends_at.branch [
       | then-ends_at w ↦
           subst (IsLast c.args.tokens.now (c.loop-index.index + 1)) (sym w.start-is)
-          (last-end c.args.tokens.now c.loop-index.index c.loop-index.start (omega arith) (sym c.ends_at.ensures ∙ w.if-ends_at.true))
+          (last-end c.args.tokens.now c.loop-index.index c.loop-index.start (c.ends_at.ensures.ends w.if-ends_at.true))
       | else-ends_at w ↦
           subst (IsLast c.args.tokens.now (c.loop-index.index + 1)) (sym w.start-is)
-          (last-on c.args.tokens.now c.loop-index.index c.loop-index.start c.loop-index.invariant (sym c.ends_at.ensures ∙ w.if-ends_at.false))
+          (last-on c.args.tokens.now c.loop-index.index c.loop-index.start c.loop-index.invariant (λ e. false≢true (sym w.if-ends_at.false ∙ c.ends_at.ensures.all e)))
     ]
 
 pub returns : goal.returns
