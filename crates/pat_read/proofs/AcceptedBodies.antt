@@ -38,7 +38,7 @@ use Rattle.pat_read.specs.declared.outline.Outline.TheVariants as outline
 use Rattle.pat_read.specs.declared.reader.BodyPlace.{BodyPlace}
 use Rattle.pat_read.specs.Accepted.{is_spelled, AreSpelled, AreLexed}
 use Rattle.pat_read.specs.References.{last_of, data_behind, referred, assigned, assignment_by, assignment_of}
-use Rattle.pat_read.specs.Statements.{keyword_of, unlabelled, alone, is_there, only_name, named, of_times, looped, shifted, block_at_break, keyword_said, by_keyword, unlabelled_said, statement_said}
+use Rattle.pat_read.specs.Statements.{keyword_of, unlabelled, alone, is_there, only_name, named, of_times, looped, block_at_break, keyword_said, by_keyword, unlabelled_said, statement_said}
 use Rattle.pat_read.specs.Body.{assignment_at, judge_assignment, assignments_of, step_of, action_of, on_line, outline_at, judge_statement, body_from, is_pattern, body_of}
 use Rattle.pat_read.proofs.AcceptedLemmas.{both_ok, said_at, list_all-one, reading-each, first_line, is_name-named_by, FitsRef, fits_front, is_sig_ref-ref_of}
 use Rattle.pat_read.proofs.AcceptedData.{data_fit}
@@ -162,8 +162,8 @@ says_one top one fits found is = let same : one ≡ found = cc in subst (FitsOut
 says_nothing : (top : Bool) (kind : FormKind) → Says top (Err kind)
 says_nothing top kind found is = cc
 
-says_alone : (top : Bool) (one : Plain) (rest : List Lexeme) → FitsPlain top one → Says top (alone one rest)
-says_alone top one [] fits = says_one top (outline.Step one) fits
+says_alone : (top : Bool) (one : Outline) (rest : List Lexeme) → FitsOutline top one → Says top (alone one rest)
+says_alone top one [] fits = says_one top one fits
 says_alone top one (next ∷ rest) fits = says_nothing top Shape
 
 -- what is there
@@ -202,11 +202,7 @@ says_loop top (name bytes ∷ rest) = says_nothing top Shape
 says_loop top (text bytes ∷ rest) = says_nothing top Shape
 says_loop top (sign kind ∷ rest) = says_nothing top Shape
 
--- a Shift, and a BreakPoint with a block
-says_shift : (top : Bool) (rest : List Lexeme) → Says top (shifted rest)
-says_shift top [] = says_one top outline.Shift tt
-says_shift top (next ∷ rest) = says_nothing top Shape
-
+-- a BreakPoint with a block
 says_break : (top : Bool) (rest : List Lexeme) → Says top (block_at_break rest)
 says_break top [] found is = cc
 says_break top (next ∷ rest) found is = cc
@@ -215,9 +211,9 @@ says_break top (next ∷ rest) found is = cc
 says_keyword : (top : Bool) (k : Keyword) (b : Bool) (rest : List Lexeme) → Says top (keyword_said top k b rest)
 says_keyword top keyword.Wave false rest found is = says_named top said.Wave rest (λ called fits. fits) found is
 says_keyword top keyword.Wave true rest found is = says_nothing top Shape found is
-says_keyword top keyword.Vector true rest found is = says_alone top said.Vector rest tt found is
+says_keyword top keyword.Vector true rest found is = says_alone top (outline.Step said.Vector) rest tt found is
 says_keyword top keyword.Vector false rest found is = says_nothing top Shape found is
-says_keyword top keyword.Condition true rest found is = says_alone top said.Condition rest tt found is
+says_keyword top keyword.Condition true rest found is = says_alone top (outline.Step said.Condition) rest tt found is
 says_keyword top keyword.Condition false rest found is = says_nothing top Shape found is
 says_keyword top keyword.Loop true rest found is = says_loop top rest found is
 says_keyword top keyword.Loop false rest found is = says_nothing top Shape found is
@@ -225,15 +221,15 @@ says_keyword top keyword.Macro true rest found is = says_named top said.Macro re
 says_keyword top keyword.Macro false rest found is = says_named top said.Macro rest (λ called fits. fits) found is
 says_keyword top keyword.Call true rest found is = says_named top said.Call rest (λ called fits. fits) found is
 says_keyword top keyword.Call false rest found is = says_named top said.Call rest (λ called fits. fits) found is
-says_keyword top keyword.Shift true rest found is = says_shift top rest found is
+says_keyword top keyword.Shift true rest found is = says_alone top outline.Shift rest tt found is
 says_keyword top keyword.Shift false rest found is = says_nothing top Shape found is
 says_keyword false keyword.Stop true rest found is = cc
 says_keyword false keyword.Stop false rest found is = cc
 says_keyword true keyword.Stop true rest found is = says_nothing true Shape found is
-says_keyword true keyword.Stop false rest found is = says_alone true said.Stop rest refl found is
-says_keyword top keyword.BreakPoint false rest found is = says_alone top said.BreakPoint rest tt found is
+says_keyword true keyword.Stop false rest found is = says_alone true (outline.Step said.Stop) rest refl found is
+says_keyword top keyword.BreakPoint false rest found is = says_alone top (outline.Step said.BreakPoint) rest tt found is
 says_keyword top keyword.BreakPoint true rest found is = says_break top rest found is
-says_keyword top keyword.IddqTestPoint false rest found is = says_alone top said.IddqTestPoint rest tt found is
+says_keyword top keyword.IddqTestPoint false rest found is = says_alone top (outline.Step said.IddqTestPoint) rest tt found is
 says_keyword top keyword.IddqTestPoint true rest found is = says_nothing top Shape found is
 
 says_by : (top : Bool) (o : Option Keyword) (b : Bool) (rest : List Lexeme) → Says top (by_keyword top o b rest)

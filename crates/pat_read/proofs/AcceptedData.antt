@@ -1,5 +1,5 @@
 -- Data that are read are waveform characters, `#` and `%`, where the words of the text are of letters, digits and `_`.
-use Rattle.std.proofs.Common.{◌≡◌, ℕ, zero, suc, ◌-◌, ◌==◌, ◌||◌, List, [], ◌∷◌, ◌++◌, map, replicate, Result, Ok, Err, Option, Some, None, Bool, true, false, cond, nat_le, refl, subst, ◌∙◌}
+use Rattle.std.proofs.Common.{◌≡◌, ℕ, zero, suc, ◌==◌, ◌||◌, List, [], ◌∷◌, ◌++◌, map, replicate, Result, Ok, Err, Option, Some, None, Bool, true, false, cond, nat_le, refl, subst, ◌∙◌}
 use Rattle.std.specs.List.{list_all, list_any}
 use Rattle.std.proofs.lemmas.Bool.{and_parts, and_from, or_parts}
 use Rattle.std.proofs.lemmas.List.Folds.{list_all-append}

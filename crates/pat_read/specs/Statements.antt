@@ -41,9 +41,9 @@ abbrev pub unlabelled : List Lexeme → List Lexeme
 unlabelled (called ∷ sign Colon ∷ rest) = behind_label (is_some (named_by called)) called rest
 unlabelled head = head
 
--- a plain statement, where nothing stands behind its keyword
-abbrev pub alone : Plain → List Lexeme → Result Outline FormKind
-alone said [] = Ok (outline.Step said)
+-- what a keyword says, where nothing stands behind it
+abbrev pub alone : Outline → List Lexeme → Result Outline FormKind
+alone said [] = Ok said
 alone said (one ∷ rest) = Err Shape
 
 -- what is there, or else the statement has no form
@@ -70,11 +70,6 @@ abbrev pub looped : List Lexeme → Result Outline FormKind
 looped (word digits ∷ []) = of_times (number_by digits)
 looped _ = Err Shape
 
--- a Shift, where nothing stands behind its keyword
-abbrev pub shifted : List Lexeme → Result Outline FormKind
-shifted [] = Ok outline.Shift
-shifted (one ∷ rest) = Err Shape
-
 -- a BreakPoint with a block is left out
 abbrev pub block_at_break : List Lexeme → Result Outline FormKind
 block_at_break [] = Err LeftOut
@@ -83,17 +78,17 @@ block_at_break (one ∷ rest) = Err Shape
 -- the form of each keyword, which stands at a Pattern's top level or not, with a block or not, by what stands behind it
 abbrev pub keyword_said : Bool → Keyword → Bool → List Lexeme → Result Outline FormKind
 keyword_said top keyword.Wave false rest = named plain.Wave rest
-keyword_said top keyword.Vector true rest = alone plain.Vector rest
-keyword_said top keyword.Condition true rest = alone plain.Condition rest
+keyword_said top keyword.Vector true rest = alone (outline.Step plain.Vector) rest
+keyword_said top keyword.Condition true rest = alone (outline.Step plain.Condition) rest
 keyword_said top keyword.Loop true rest = looped rest
 keyword_said top keyword.Macro has_block rest = named plain.Macro rest
 keyword_said top keyword.Call has_block rest = named plain.Call rest
-keyword_said top keyword.Shift true rest = shifted rest
+keyword_said top keyword.Shift true rest = alone outline.Shift rest
 keyword_said false keyword.Stop has_block rest = Err LeftOut
-keyword_said true keyword.Stop false rest = alone plain.Stop rest
-keyword_said top keyword.BreakPoint false rest = alone plain.BreakPoint rest
+keyword_said true keyword.Stop false rest = alone (outline.Step plain.Stop) rest
+keyword_said top keyword.BreakPoint false rest = alone (outline.Step plain.BreakPoint) rest
 keyword_said top keyword.BreakPoint true rest = block_at_break rest
-keyword_said top keyword.IddqTestPoint false rest = alone plain.IddqTestPoint rest
+keyword_said top keyword.IddqTestPoint false rest = alone (outline.Step plain.IddqTestPoint) rest
 keyword_said top other has_block rest = Err Shape
 
 -- a statement whose first token is no keyword is left out

@@ -6,7 +6,7 @@ ghost use Rattle.stil_form.specs.Fronts.{ref_of};
 ghost use Rattle.stil_ast.specs.Data.AssignmentCuts.{reference_of};
 ghost use Rattle.pat_read.specs.Fault.{DataAnswers};
 ghost use Rattle.pat_read.specs.References as references;
-ghost use Rattle.pat_read.specs.References.{last_of, data_behind, referred, as_assignment, assignment_of};
+ghost use Rattle.pat_read.specs.References.{data_behind, as_assignment, assignment_of};
 
 use crate::data::take_data;
 use crate::fault::DataFault;
@@ -15,15 +15,7 @@ use stil_ast::{
     AssignmentList, AssignmentParts, IndexRange, NameRef, Quoted, RefKind, SigRef, VecText,
 };
 use stil_form::{Part, Reference, SignKind, Source, Span, first_part, reference_front};
-use stil_lex::Token;
 use tester_types::Items;
-
-/// The last tokens, so many of them.
-fn last_of(count: usize, tokens: &[Token]) -> &[Token]
-    ensures { result.now ≡ last_of count tokens.now }
-{
-    &tokens[tokens.len().saturating_sub(count)..]
-}
 
 /// The indices of a reference, each at most 2^32 - 1.
 fn range_of(span: Option<Span>) -> Result<Option<IndexRange>, DataFault>
@@ -77,25 +69,11 @@ fn take_behind(items: &mut VecText, head: Source, behind: Source) -> Result<(), 
 {
     match first_part(behind) {
         Some((Part::Sign(SignKind::Equals), rest)) => {
-            take_data(items, head.bytes, last_of(rest.tokens.len(), head.tokens))
+            let before = head.tokens.len().saturating_sub(rest.tokens.len());
+            take_data(items, head.bytes, &head.tokens[before..])
         }
         _ => Err(DataFault::Shape),
     }
-}
-
-/// The reference of a statement, which may have no block.
-fn referred<'a>(
-    line: u32,
-    has_block: bool,
-    reference: Reference<'a>,
-) -> Result<(RefKind, &'a [u8]), DataFault>
-    ensures { DataAnswers (λ found. reference_of found.0 found.1.now) result
-        (referred line has_block (ref_of reference.entry)) }
-{
-    if has_block {
-        return Err(DataFault::Shape);
-    }
-    lent_ref(line, reference)
 }
 
 /// What `ref = data;` on this line says, by its head: its reference, while its data are taken.
@@ -113,7 +91,10 @@ pub(crate) fn assignment_of<'a>(
         return Err(DataFault::Shape);
     };
     take_behind(items, head, rest)?;
-    let found = referred(line, has_block, reference)?;
+    if has_block {
+        return Err(DataFault::Shape);
+    }
+    let found = lent_ref(line, reference)?;
     Ok(found)
 }
 

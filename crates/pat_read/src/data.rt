@@ -8,7 +8,7 @@ ghost use Rattle.stil_ast.specs.Data.Items.{item_of};
 ghost use Rattle.pat_read.specs.declared.fault.DataFault.{DataFault};
 ghost use Rattle.pat_read.specs.declared.fault.DataFault.TheVariants.{NoMemory};
 ghost use Rattle.pat_read.specs.Fault.{DataAnswers};
-ghost use Rattle.pat_read.specs.Data.{has_underscore, times_by, is_left_out, unit_of, word_behind, repeat_said, unit_said, item_said, said_by, said_behind, ended, data_of, IsDataFault};
+ghost use Rattle.pat_read.specs.Data.{times_by, unit_of, repeat_said, unit_said, item_said, said_by, said_behind, ended, data_of, IsDataFault};
 
 use crate::fault::DataFault;
 use std::alloc::{AllocError, Global};
@@ -28,12 +28,6 @@ pub(crate) enum Awaited {
     OfUnit(u64),
 }
 
-fn has_underscore(word: &[u8]) -> bool
-    ensures { result ≡ has_underscore word.now }
-{
-    word.iter().any(|byte| *byte == b'_')
-}
-
 /// How often `rN` repeats.
 fn times_by(word: &[u8]) -> Option<u64>
     ensures { result ≡ times_by word.now }
@@ -41,16 +35,6 @@ fn times_by(word: &[u8]) -> Option<u64>
     match word {
         [b'r', digits @ ..] => number_by(digits),
         _ => None,
-    }
-}
-
-/// Whether this word behind a `\` is a form of data that is left out.
-fn is_left_out(word: &[u8]) -> bool
-    ensures { result ≡ is_left_out word.now }
-{
-    match word {
-        [first, ..] => b"hdlmjew".contains(first),
-        [] => false,
     }
 }
 
@@ -84,7 +68,7 @@ fn take_item(items: &mut VecText, part: &Part, end: u32) -> Result<Awaited, Data
 {
     match *part {
         Part::Word(word) => {
-            if has_underscore(word) {
+            if word.contains(&b'_') {
                 return Err(DataFault::Shape);
             }
             push_letters(items, word)?;
@@ -103,24 +87,19 @@ fn take_item(items: &mut VecText, part: &Part, end: u32) -> Result<Awaited, Data
     }
 }
 
-/// Takes a word behind a `\`.
-fn word_behind(adjacent: bool, word: &[u8]) -> Result<Awaited, DataFault>
-    ensures { DataAnswers (λ next. ([], next)) result (word_behind adjacent word.now (times_by word.now)) }
-{
-    match times_by(word) {
-        Some(times) if adjacent => Ok(Awaited::OfUnit(times)),
-        _ if is_left_out(word) => Err(DataFault::LeftOut),
-        _ => Err(DataFault::Shape),
-    }
-}
-
 /// Takes a part behind a `\`.
 fn take_repeat(adjacent: bool, part: &Part) -> Result<Awaited, DataFault>
     ensures { DataAnswers (λ next. ([], next)) result (repeat_said adjacent (lexeme_of part.now)) }
 {
-    match *part {
-        Part::Word(word) => word_behind(adjacent, word),
-        _ => Err(DataFault::Shape),
+    let Part::Word(word) = *part else {
+        return Err(DataFault::Shape);
+    };
+    match times_by(word) {
+        Some(times) if adjacent => Ok(Awaited::OfUnit(times)),
+        _ => match word {
+            [first, ..] if b"hdlmjew".contains(first) => Err(DataFault::LeftOut),
+            _ => Err(DataFault::Shape),
+        },
     }
 }
 

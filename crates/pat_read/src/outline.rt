@@ -4,7 +4,7 @@ ghost use Rattle.std.specs.Prelude.{◌≡◌, ◌||◌};
 ghost use Rattle.stil_form.specs.Lexeme.{lexeme_of, lexemes};
 ghost use Rattle.stil_form.specs.Words.{is_keyword};
 ghost use Rattle.pat_read.specs.Fault.{DataAnswers};
-ghost use Rattle.pat_read.specs.Statements.{keyword_of, unlabelled, alone, only_name, of_times, looped, shifted, block_at_break, keyword_said, unlabelled_said, statement_said};
+ghost use Rattle.pat_read.specs.Statements.{keyword_of, unlabelled, alone, only_name, looped, keyword_said, unlabelled_said, statement_said};
 
 use crate::fault::DataFault;
 use std::alloc::Global;
@@ -102,12 +102,12 @@ fn unlabelled(head: Source) -> Source
     }
 }
 
-/// A plain statement, where nothing stands behind its keyword.
-fn alone(plain: Plain, rest: Source) -> Result<Outline, DataFault>
-    ensures { DataAnswers (λ said. said) result (alone plain (lexemes rest.entry)) }
+/// What a keyword says, where nothing stands behind it.
+fn alone(said: Outline, rest: Source) -> Result<Outline, DataFault>
+    ensures { DataAnswers (λ said. said) result (alone said (lexemes rest.entry)) }
 {
     match first_part(rest) {
-        None => Ok(Outline::Step(plain)),
+        None => Ok(said),
         Some(_) => Err(DataFault::Shape),
     }
 }
@@ -128,52 +128,23 @@ fn only_name(alloc: Global, rest: Source) -> Result<Text, DataFault>
     }
 }
 
-/// A Loop that runs so often.
-fn of_times(times: Option<u64>) -> Result<Outline, DataFault>
-    ensures { DataAnswers (λ said. said) result (of_times times) }
-{
-    match times {
-        None => Err(DataFault::Shape),
-        Some(times) => {
-            if 1 <= times && times <= MOST_PASSES {
-                Ok(Outline::Loop(times))
-            } else {
-                Err(DataFault::OutOfRange)
-            }
-        }
-    }
-}
-
-/// A Loop, where digits stand behind its keyword.
+/// A Loop, where the digits of 1 to 2^48 stand behind its keyword.
 fn looped(rest: Source) -> Result<Outline, DataFault>
     ensures { DataAnswers (λ said. said) result (looped (lexemes rest.entry)) }
 {
     let Some((Part::Word(digits), rest)) = first_part(rest) else {
         return Err(DataFault::Shape);
     };
-    match first_part(rest) {
-        None => of_times(number_by(digits)),
-        Some(_) => Err(DataFault::Shape),
+    if first_part(rest).is_some() {
+        return Err(DataFault::Shape);
     }
-}
-
-/// A Shift, where nothing stands behind its keyword.
-fn shifted(rest: Source) -> Result<Outline, DataFault>
-    ensures { DataAnswers (λ said. said) result (shifted (lexemes rest.entry)) }
-{
-    match first_part(rest) {
-        None => Ok(Outline::Shift),
-        Some(_) => Err(DataFault::Shape),
-    }
-}
-
-/// A BreakPoint with a block.
-fn block_at_break(rest: Source) -> Result<Outline, DataFault>
-    ensures { DataAnswers (λ said. said) result (block_at_break (lexemes rest.entry)) }
-{
-    match first_part(rest) {
-        None => Err(DataFault::LeftOut),
-        Some(_) => Err(DataFault::Shape),
+    let Some(times) = number_by(digits) else {
+        return Err(DataFault::Shape);
+    };
+    if 1 <= times && times <= MOST_PASSES {
+        Ok(Outline::Loop(times))
+    } else {
+        Err(DataFault::OutOfRange)
     }
 }
 
@@ -190,17 +161,17 @@ fn keyword_said(
 {
     match (keyword, has_block) {
         (Keyword::Wave, false) => Ok(Outline::Step(Plain::Wave(only_name(alloc, rest)?))),
-        (Keyword::Vector, true) => alone(Plain::Vector, rest),
-        (Keyword::Condition, true) => alone(Plain::Condition, rest),
+        (Keyword::Vector, true) => alone(Outline::Step(Plain::Vector), rest),
+        (Keyword::Condition, true) => alone(Outline::Step(Plain::Condition), rest),
         (Keyword::Loop, true) => looped(rest),
         (Keyword::Macro, _) => Ok(Outline::Step(Plain::Macro(only_name(alloc, rest)?))),
         (Keyword::Call, _) => Ok(Outline::Step(Plain::Call(only_name(alloc, rest)?))),
-        (Keyword::Shift, true) => shifted(rest),
+        (Keyword::Shift, true) => alone(Outline::Shift, rest),
         (Keyword::Stop, _) if !top => Err(DataFault::LeftOut),
-        (Keyword::Stop, false) => alone(Plain::Stop, rest),
-        (Keyword::BreakPoint, false) => alone(Plain::BreakPoint, rest),
-        (Keyword::BreakPoint, true) => block_at_break(rest),
-        (Keyword::IddqTestPoint, false) => alone(Plain::IddqTestPoint, rest),
+        (Keyword::Stop, false) => alone(Outline::Step(Plain::Stop), rest),
+        (Keyword::BreakPoint, false) => alone(Outline::Step(Plain::BreakPoint), rest),
+        (Keyword::BreakPoint, true) if first_part(rest).is_none() => Err(DataFault::LeftOut),
+        (Keyword::IddqTestPoint, false) => alone(Outline::Step(Plain::IddqTestPoint), rest),
         _ => Err(DataFault::Shape),
     }
 }

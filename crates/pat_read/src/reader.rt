@@ -7,12 +7,10 @@ ghost use Rattle.stil_ast.specs.Data.Written.{Written};
 ghost use Rattle.stil_ast.specs.declared.fault.StilRefusal.{StilRefusal};
 ghost use Rattle.stil_ast.specs.declared.fault.StilRefusal.TheVariants as refusal;
 ghost use Rattle.stil_form.specs.Setting.{Setting, setting, setting_of, line_at, at_statement, inner_of};
-ghost use Rattle.pat_read.specs.Fault.{DataAnswers};
-ghost use Rattle.pat_read.specs.Body.{assignment_at, assignment_with, outline_at, judge_assignment, assignments_of, step_of, action_of, judge_statement, body_from, is_pattern, body_of};
+ghost use Rattle.pat_read.specs.Body.{assignment_with, outline_at, judge_assignment, assignments_of, step_of, action_of, judge_statement, body_from, body_of};
 ghost use Rattle.pat_read.specs.Refusal.{IsBodyFault, BodyAnswers};
 
 use crate::assignment::{add_assignment, assignment_of, emptied};
-use crate::fault::DataFault;
 use crate::outline::{Outline, Plain, statement_said};
 use crate::refusal::refused;
 use std::alloc::Global;
@@ -41,21 +39,6 @@ fn line_of(form: &Reader, stmt: &Stmt) -> u32
     line_at(form.source.tokens, first_of(stmt) as usize)
 }
 
-/// The reference of an assignment, while its data are taken, or the kind of its fault.
-fn assignment_at<'k, 'a>(
-    items: &mut VecText,
-    form: &Reader<'k, 'a>,
-    stmt: &Stmt,
-) -> Result<(RefKind, &'a [u8]), DataFault>
-    requires { items.old ≡ [] }
-    ensures { DataAnswers
-        (λ found. assignment_with (setting_of form.now) (entry_of stmt.now) found.0 found.1.now items.new) result
-        (assignment_at (setting_of form.now) (entry_of stmt.now)) }
-{
-    let line = line_of(form, stmt);
-    assignment_of(items, line, has_block(stmt), head_at(form.source, stmt))
-}
-
 /// The reference of an assignment, while its data are taken.
 fn read_assignment<'k, 'a>(
     items: &mut VecText,
@@ -67,7 +50,8 @@ fn read_assignment<'k, 'a>(
         (λ found. assignment_with (setting_of form.now) (entry_of stmt.now) found.0 found.1.now items.new) result
         (judge_assignment (setting_of form.now) [] (entry_of stmt.now)) }
 {
-    match assignment_at(items, form, stmt) {
+    let line = line_of(form, stmt);
+    match assignment_of(items, line, has_block(stmt), head_at(form.source, stmt)) {
         Ok(found) => Ok(found),
         Err(fault) => Err(fault.at(first_of(stmt))),
     }
@@ -103,19 +87,12 @@ fn read_arguments(alloc: Global, form: &Reader, stmts: &[Stmt]) -> Result<Argume
     Ok(given)
 }
 
-/// What a statement says without its block, or the kind of its fault.
-fn outline_at(alloc: Global, form: &Reader, top: bool, stmt: &Stmt) -> Result<Outline, DataFault>
-    ensures { DataAnswers (λ read. read) result (outline_at (setting_of form.now) top (entry_of stmt.now)) }
-{
-    statement_said(alloc, top, has_block(stmt), head_at(form.source, stmt))
-}
-
 /// What a statement says without its block.
 fn read_outline(alloc: Global, form: &Reader, top: bool, stmt: &Stmt) -> Result<Outline, FormFault>
     ensures { Answers result
         (at_statement (entry_of stmt.now).first (outline_at (setting_of form.now) top (entry_of stmt.now))) }
 {
-    match outline_at(alloc, form, top, stmt) {
+    match statement_said(alloc, top, has_block(stmt), head_at(form.source, stmt)) {
         Ok(outline) => Ok(outline),
         Err(fault) => Err(fault.at(first_of(stmt))),
     }
@@ -221,12 +198,6 @@ fn read_trees(
     read_stmts(alloc, form, top, body.as_slice())
 }
 
-fn is_pattern(place: BodyPlace) -> bool
-    ensures { result ≡ is_pattern place }
-{
-    matches!(place, BodyPlace::Pattern)
-}
-
 /// The body that statements are, or the first fault of its statements, for readers of the blocks in which it stands.
 pub fn read_written(
     alloc: Global,
@@ -236,7 +207,8 @@ pub fn read_written(
 ) -> Result<PatBody, FormFault>
     ensures { Answers result (body_of (setting_of form.now) place (trees body.now)) }
 {
-    let stmts = read_trees(alloc, form, is_pattern(place), body)?;
+    let top = matches!(place, BodyPlace::Pattern);
+    let stmts = read_trees(alloc, form, top, body)?;
     Ok(PatBody::from_vec(stmts))
 }
 
