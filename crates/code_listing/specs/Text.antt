@@ -29,8 +29,8 @@ check_text code =
     ++ codes " pages " ++ decimal (length (pages_of code)) ++ codes "\n"
 
 -- a character of a signal, `-` for none
-abbrev pub shown : ℕ → ℕ
-shown letter = if letter == 0 then 45 else letter
+abbrev pub letter_or_dash : ℕ → ℕ
+letter_or_dash letter = if letter == 0 then 45 else letter
 
 -- the line of an executive, by its number and its name
 abbrev pub exec_line : ListedExec → List ℕ
@@ -59,7 +59,7 @@ row_line number start table row =
 
 -- the same of a cycle
 abbrev pub cycle_line : Listed → List ℕ
-cycle_line cycle = row_line cycle.number cycle.start cycle.table.name (map shown cycle.row)
+cycle_line cycle = row_line cycle.number cycle.start cycle.table.name (map letter_or_dash cycle.row)
 
 -- the dated cycles of executives
 abbrev pub cycles_text : List ListedExec → List ℕ
@@ -69,21 +69,17 @@ cycles_text execs = listing_text cycle_line execs
 abbrev pub names_of : Program → List (List ℕ)
 names_of code = map (λ signal. signal.name) code.signals
 
--- the name of a signal, by its number
-abbrev pub name_at : List (List ℕ) → ℕ → List ℕ
-name_at names signal = slice_index_or names signal []
-
 -- an act of a signal, by its name, a sign, and a letter
 abbrev pub act_words : List ℕ → List ℕ → List ℕ → List ℕ
 act_words name sign letter = codes " " ++ printed_name name ++ sign ++ letter
 
 -- a drive
 abbrev pub push_words : List (List ℕ) → ℕ × Push → List ℕ
-push_words names drive = act_words (name_at names drive.0) (codes "=") (push_letter drive.1)
+push_words names drive = act_words (slice_index_or names drive.0 []) (codes "=") (push_letter drive.1)
 
 -- a look
 abbrev pub look_words : List (List ℕ) → ℕ × Look → List ℕ
-look_words names look = act_words (name_at names look.0) (codes "?") (look_letter look.1)
+look_words names look = act_words (slice_index_or names look.0 []) (codes "?") (look_letter look.1)
 
 -- the instant of a moment
 abbrev pub instant_words : ℕ → List ℕ

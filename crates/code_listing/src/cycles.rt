@@ -4,14 +4,14 @@ ghost use Rattle.std.specs.Prelude.{◌≡◌, ◌≤◌, OnErr, length, map};
 ghost use Rattle.tester_types.specs.Outside.{HasRisen, Puts};
 ghost use Rattle.page_code.specs.Walk.{IsOf};
 ghost use Rattle.code_listing.specs.Listing.{listed};
-ghost use Rattle.code_listing.specs.Text.{cycle_line, row_line, shown};
+ghost use Rattle.code_listing.specs.Text.{cycle_line, row_line, letter_or_dash};
 
 use page_code::Code;
 use tester_types::{Cycle, Piece, Sink, SinkFault, put_each};
 
 /// A character of a signal, `-` for none.
-fn shown(letter: u8) -> u8
-    ensures { result ≡ shown letter }
+fn letter_or_dash(letter: u8) -> u8
+    ensures { result ≡ letter_or_dash letter }
 {
     if letter == 0 { b'-' } else { letter }
 }
@@ -19,10 +19,10 @@ fn shown(letter: u8) -> u8
 /// Puts the characters of all signals into a row.
 fn show(row: &mut [u8], letters: &[u8])
     requires { length row.old ≡ length letters.now }
-    ensures { row.new ≡ map shown letters.now }
+    ensures { row.new ≡ map letter_or_dash letters.now }
 {
     for place in 0..letters.len() {
-        row[place] = shown(letters[place]);
+        row[place] = letter_or_dash(letters[place]);
     }
 }
 

@@ -2,6 +2,7 @@
 
 ghost use Rattle.std.specs.Prelude.{◌≡◌, ◌+◌, ◌<◌, ◌≤◌, ◌^◌, IfOk, OnErr, length};
 ghost use Rattle.std.specs.List.{flat_map};
+ghost use Rattle.text_bytes.specs.Limits.{most_listed};
 ghost use Rattle.tester_types.specs.Outside.{HasRisen, Puts};
 ghost use Rattle.page_code.specs.Walk.{IsOf};
 ghost use Rattle.code_listing.specs.Listing.{listed, listed_exec, listing_of, cycles_in, time_of};
@@ -179,7 +180,7 @@ fn put_listing<K: Sink>(
     room: &mut Room,
 ) -> Result<(), ListFault>
     requires room { Fits (length code.now.signals) room.old }
-    requires few { length (cycles_in (listing_of code.now)) ≤ 65536 }
+    requires few { length (cycles_in (listing_of code.now)) ≤ most_listed }
     ensures lists { Lists (K.told sink.old) (listing_text (text_of form code.now) (listing_of code.now)) result
         (K.told sink.new) }
     ensures sure { IsSure form result }
@@ -196,7 +197,7 @@ fn put_listing<K: Sink>(
 /// its number and start in its executive, its table, and one character for each signal; then the number of all cycles and
 /// how long they take, in femtoseconds. It wants memory before it puts anything, and not later.
 pub fn put_cycles<K: Sink>(alloc: Global, sink: &mut K, code: &Code) -> Result<(), ListFault>
-    requires few { length (cycles_in (listing_of code.now)) ≤ 65536 }
+    requires few { length (cycles_in (listing_of code.now)) ≤ most_listed }
     ensures puts { ListsWhole (K.told sink.old) (cycles_text (listing_of code.now)) result (K.told sink.new) }
     ensures count { K.faults sink.old ≤ K.faults sink.new }
     ensures cause { IsFor (K.faults sink.old) (K.faults sink.new) result }
@@ -209,7 +210,7 @@ pub fn put_cycles<K: Sink>(alloc: Global, sink: &mut K, code: &Code) -> Result<(
 /// line, the line of each cycle, and a line for each of its moments, with its drives and looks; then the number of all
 /// cycles and how long they take, in femtoseconds. Where memory is wanting, whole lines stand before.
 pub fn put_events<K: Sink>(alloc: Global, sink: &mut K, code: &Code) -> Result<(), ListFault>
-    requires few { length (cycles_in (listing_of code.now)) ≤ 65536 }
+    requires few { length (cycles_in (listing_of code.now)) ≤ most_listed }
     ensures lists { Lists (K.told sink.old) (events_text (names_of code.now) (listing_of code.now)) result
         (K.told sink.new) }
     ensures count { K.faults sink.old ≤ K.faults sink.new }

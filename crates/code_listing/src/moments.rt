@@ -1,13 +1,13 @@
 //! The lines of a cycle's moments.
 
-ghost use Rattle.std.specs.Prelude.{◌≡◌, ◌<◌, ◌≤◌, ◌^◌, ◌++◌, OnErr, length};
+ghost use Rattle.std.specs.Prelude.{◌≡◌, ◌<◌, ◌≤◌, ◌^◌, ◌++◌, OnErr, length, slice_index_or, []};
 ghost use Rattle.std.specs.List.{flat_map};
 ghost use Rattle.tester_types.specs.Outside.{HasRisen, Puts};
 ghost use Rattle.page_code.specs.Walk.{IsOf};
 ghost use Rattle.edge_gen.specs.Signals.{no_skews};
 ghost use Rattle.code_listing.specs.Listing.{listed};
 ghost use Rattle.code_listing.specs.Lines.{Lists, IsFor};
-ghost use Rattle.code_listing.specs.Text.{names_of, name_at, push_words, look_words, act_words, instant_words, acts_words};
+ghost use Rattle.code_listing.specs.Text.{names_of, push_words, look_words, act_words, instant_words, acts_words};
 ghost use Rattle.code_listing.specs.Text.{moment_line, head_line, moments_head, moments_text};
 
 use crate::fault::ListFault;
@@ -19,7 +19,7 @@ use tester_types::{Cycle, Look, Moment, Piece, Push, Sink, SinkFault, put_all, p
 
 /// The name of a signal, empty where there is none.
 fn name_at(code: &Code, signal: u16) -> &[u8]
-    ensures { result.now ≡ name_at (names_of code.now) signal }
+    ensures { result.now ≡ slice_index_or (names_of code.now) signal [] }
 {
     if signal < code.signals() {
         code.signal_name(signal)

@@ -1,6 +1,7 @@
 //! A set of places, packed into words of 64.
 ghost use Rattle.std.specs.Prelude.{◌≡◌, ℕ, ◌+◌, ◌*◌, ◌/◌, ◌%◌, ◌<◌, ◌≤◌, true, false, length, IfOk, slice_set, slice_index, slice_index_or};
 ghost use Rattle.std.specs.Int.{bit_at};
+ghost use Rattle.text_bytes.specs.Limits.{most_nets};
 ghost use Rattle.die_sim.specs.Pending.{bit_of};
 
 use std::alloc::{AllocError, Global};
@@ -26,7 +27,7 @@ impl Model for Bits {
 impl Bits {
     /// A set of none of so many places, and of up to 64 more.
     pub(crate) fn new(alloc: Global, places: usize) -> Result<Bits, AllocError>
-        requires { places ≤ 65536 }
+        requires { places ≤ most_nets }
         ensures room { IfOk result (λ b. places ≤ length b) }
         ensures few { IfOk result (λ b. length b ≤ 65600) }
     {

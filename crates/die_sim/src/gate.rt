@@ -1,5 +1,6 @@
 //! The level that a gate gives.
 ghost use Rattle.std.specs.Prelude.{◌≡◌, ℕ, ◌<◌, ◌≤◌, ◌+◌, length, All, count_by, slice_index};
+ghost use Rattle.text_bytes.specs.Limits.{most_inputs};
 ghost use Rattle.die_sim.specs.Gates.{is_zero, is_one, read, negated, zeros, ones, and_of, or_of, xor_of, gate_of, level_at};
 
 use bench_net::GateKind;
@@ -130,7 +131,7 @@ fn or_pins(levels: &[Level], pins: &[u32]) -> Level
 /// XOR of these nets, of which a gate has 1,024 at most.
 fn xor_pins(levels: &[Level], pins: &[u32]) -> Level
     requires within { All (λ p. p < length levels.now) pins.now }
-    requires few { length pins.now ≤ 1024 }
+    requires few { length pins.now ≤ most_inputs }
     ensures { result ≡ xor_of (zeros levels.now pins.now) (ones levels.now pins.now) (length pins.now) }
 {
     xor_level(zeros(levels, pins), ones(levels, pins), pins.len())
@@ -149,7 +150,7 @@ fn first(levels: &[Level], pins: &[u32]) -> Level
 pub(crate) fn gate_level(kind: GateKind, levels: &[Level], pins: &[u32]) -> Level
     requires within { All (λ p. p < length levels.now) pins.now }
     requires some { 0 < length pins.now }
-    requires few { length pins.now ≤ 1024 }
+    requires few { length pins.now ≤ most_inputs }
     ensures { result ≡ gate_of kind levels.now pins.now }
 {
     match kind {

@@ -17,7 +17,8 @@ reading judge before [] = Ok before
 reading judge before (e ∷ es) = and_then (judge before e) (λ x. reading judge (before ++ x ∷ []) es)
 
 -- the first item that is refused: those before it are read, and it has this fault
-pub record IsFirst {X E F : Type 0} (judge : List X → E → Result X F) (before : List X) (es : List E) (fault : F) : Type 0 where
+pub record IsFirst {X E F : Type 0} (judge : List X → E → Result X F) (before : List X) (es : List E) (fault : F)
+    : Type 0 where
   pub front : List E
   pub here : E
   pub back : List E

@@ -1,23 +1,12 @@
 -- Known facts, computed from the definitions: how a book is filled, and eight events at two sites.
-use Rattle.std.proofs.Common.{◌≡◌, ℕ, true, false, List, [], ◌∷◌, refl}
+use Rattle.std.proofs.Common.{◌≡◌, ℕ, List, [], ◌∷◌, refl}
 use Rattle.std.specs.Prelude.{codes}
-use Rattle.bench_net.specs.Circuit.{Circuit}
-use Rattle.bench_net.specs.declared.gate.Driver.TheVariants as driver
-use Rattle.bench_net.specs.declared.gate.GateKind.TheVariants as gate
 use Rattle.tester_types.specs.Records.{SiteRecords}
-use Rattle.tester_types.specs.declared.signal.Direction.TheVariants as direction
-use Rattle.tester_types.specs.declared.wave.Push.TheVariants as push
-use Rattle.tester_types.specs.declared.wave.Look.TheVariants as look
-use Rattle.tester_types.specs.declared.wave.Act.{Act}
-use Rattle.tester_types.specs.declared.wave.Act.TheVariants as act
-use Rattle.tester_types.specs.declared.wave.Wave.{Wave}
 use Rattle.tester_types.specs.declared.record.By.TheVariants as by
 use Rattle.tester_types.specs.declared.record.Verdict.{Verdict}
 use Rattle.tester_types.specs.declared.record.Verdict.TheVariants as verdict
 use Rattle.tester_types.specs.declared.record.Record.{Record}
-use Rattle.page_meaning.specs.declared.instr.Instr.TheVariants.{Run, Done}
 use Rattle.page_meaning.specs.Meaning.{bodies, repeated}
-use Rattle.page_code.specs.Program.{Program}
 use Rattle.edge_gen.specs.Moments.{moments_of}
 use Rattle.die_sim.specs.Stepped.{levels_through, captured_levels}
 use Rattle.strobe_check.specs.Fails.{fails}
@@ -30,6 +19,7 @@ use Rattle.site_meaning.specs.Trials.{played, after_cycles, fails_in, execs_of, 
 use Rattle.site_meaning.specs.Polls.{next_exec, onward, arrived, next_cycles, next_played, after_batch, settled, run_batch, before_batch, with_trial, poll}
 use Rattle.floor_core.specs.Book.{new_book, filed}
 use Rattle.floor_core.specs.World.{World, Event, Ask, Poll, File, contact_at, after, alone, events_of}
+use Rattle.site_meaning.proofs.SampleDie.{inverter, program}
 
 -- ---- a book
 
@@ -54,36 +44,6 @@ filed_behind : filed (site_of [] 1 ∷ site_of (entry 1 0 ∷ []) 2 ∷ []) (ent
 filed_behind = refl
 
 -- ---- two sites
-
--- an input A, and Y = NOT(A)
-abbrev inverter : Circuit
-inverter = record {
-  net = record {
-    names = codes "A" ∷ codes "Y" ∷ [];
-    drivers = driver.Input ∷ driver.Gate gate.Not (0 ∷ []) ∷ [];
-    outputs = false ∷ true ∷ [];
-  };
-  order = 1 ∷ [];
-  readers = (1 ∷ []) ∷ [] ∷ [];
-}
-
--- a wave of one event
-abbrev wave : ℕ → ℕ → ℕ → Act → Wave
-wave signal letter time what = record { signal = signal; letter = letter; events = record { time = time; act = what } ∷ [] }
-
--- two cycles: A=0 Y=H, then A=1 Y=L, with Y looked at after 40 ns
-abbrev program : Program
-program = record {
-  signals = record { name = codes "A"; direction = direction.In } ∷ record { name = codes "Y"; direction = direction.Out } ∷ [];
-  tables = record {
-    name = codes "w";
-    period = 100000000;
-    waves = wave 0 48 0 (act.Push push.Down) ∷ wave 0 49 0 (act.Push push.Up)
-        ∷ wave 1 72 40000000 (act.Look look.High) ∷ wave 1 76 40000000 (act.Look look.Low) ∷ [];
-  } ∷ [];
-  rows = (48 ∷ 72 ∷ []) ∷ (49 ∷ 76 ∷ []) ∷ [];
-  execs = record { name = []; chains = []; instrs = Run 0 0 0 1 ∷ Run 0 1 0 1 ∷ Done ∷ [] } ∷ [];
-}
 
 -- batches of one cycle, one try, and an inverter at each of two sites
 abbrev world : World

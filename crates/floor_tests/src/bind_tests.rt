@@ -88,7 +88,7 @@ fn unbound(alloc: Global, name: &[u8]) -> Result<Vec<u8>, Fail> {
 }
 
 /// The binding as a case shows it.
-fn shown(alloc: Global, answer: Result<BoundPlan, PlanFault>) -> Result<Vec<u8>, Fail> {
+fn answer_text(alloc: Global, answer: Result<BoundPlan, PlanFault>) -> Result<Vec<u8>, Fail> {
     match answer {
         Ok(plan) => first_letters(alloc, &plan),
         Err(PlanFault::Unbound(name)) => unbound(alloc, name.as_slice()),
@@ -114,7 +114,7 @@ fn is_bound(alloc: Global, case: Case<'_>) -> Result<bool, Fail> {
     if nets.len() != plan.files().len() {
         return Err(Fail::from("a netlist for each file"));
     }
-    let answer = shown(alloc, plan.bind(alloc, &code, nets))?;
+    let answer = answer_text(alloc, plan.bind(alloc, &code, nets))?;
     Ok(answer.as_slice() == wanted)
 }
 

@@ -28,7 +28,7 @@ fn moment(alloc: Global, at: u64, looks: &[(u16, Look)]) -> Result<Moment, NoMem
 }
 
 /// A checker that was shown these entries of cycle 7 of executive 0.
-fn shown(
+fn checker_of(
     alloc: Global,
     bound: [bool; 3],
     keep: u16,
@@ -56,7 +56,7 @@ fn fail(at: u64, signal: u16, want: Look, seen: Level) -> Fail {
 
 /// Whether these entries give these fails, the other signals being at 0 all the time.
 fn gives(alloc: Global, entries: &[Shown], fails: &[Fail]) -> Result<bool, NoMemory> {
-    let checker = shown(alloc, ALL, 100, entries)?;
+    let checker = checker_of(alloc, ALL, 100, entries)?;
     let total = checker.total();
     Ok(total == fails.len() as u64 && checker.kept().as_slice() == fails)
 }
@@ -119,7 +119,7 @@ fn window_that_is_closed_at_once_is_never_looked_at(rt: HostRuntime) -> Result<(
 
 #[test]
 fn window_fails_once_and_ends_with_its_cycle(rt: HostRuntime) -> Result<(), Failure> {
-    let mut checker = shown(
+    let mut checker = checker_of(
         rt.alloc(),
         ALL,
         100,
@@ -147,7 +147,7 @@ fn counts_what_it_does_not_keep(rt: HostRuntime) -> Result<(), Failure> {
         (0, Look::Off),
         (1, Look::Low),
     ];
-    let checker = shown(
+    let checker = checker_of(
         rt.alloc(),
         ALL,
         2,
@@ -240,7 +240,7 @@ fn agrees(alloc: Global, bound: [bool; 3], entries: &[Shown]) -> Result<bool, No
             }
         }
     }
-    let checker = shown(alloc, bound, 1_000, entries)?;
+    let checker = checker_of(alloc, bound, 1_000, entries)?;
     Ok(checker.total() == fails.len() as u64 && checker.kept().as_slice() == fails.as_slice())
 }
 
@@ -249,7 +249,7 @@ fn senses(alloc: Global, bound: [bool; 3], entries: &[Shown]) -> Result<bool, No
     let Some((last, before)) = entries.split_last() else {
         return Ok(true);
     };
-    let checker = shown(alloc, bound, 0, before)?;
+    let checker = checker_of(alloc, bound, 0, before)?;
     let next = moment(alloc, last.0, last.1)?;
     for signal in 0..3u16 {
         let edge = last.1.iter().any(|(of, look)| {

@@ -59,7 +59,7 @@ fn code_of(alloc: Global, text: &[u8]) -> Result<Code, Stop> {
 }
 
 /// The bytes as a word that can be printed.
-fn shown(bytes: &[u8]) -> &str {
+fn word_or_dash(bytes: &[u8]) -> &str {
     if bytes.is_empty() {
         return "-";
     }
@@ -69,7 +69,10 @@ fn shown(bytes: &[u8]) -> &str {
 /// What is told of a fault: its kind, its block, the block's name, and its line.
 fn told(alloc: Global, fault: &StilFault) -> Result<String, AllocError> {
     let (kind, line) = (fault.kind.name(), fault.line);
-    let (block, name) = (shown(fault.block.as_slice()), shown(fault.name.as_slice()));
+    let (block, name) = (
+        word_or_dash(fault.block.as_slice()),
+        word_or_dash(fault.name.as_slice()),
+    );
     Ok(format!(in alloc; "{kind} {block} {name} {line}")?)
 }
 

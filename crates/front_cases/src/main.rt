@@ -14,7 +14,7 @@ use std::{env, fs, io};
 
 /// How many texts there were, and how many of them were answered otherwise.
 #[derive(Clone, Copy, Debug, Default)]
-struct Tally {
+struct TextTally {
     texts: u64,
     differ: u64,
 }
@@ -32,7 +32,7 @@ fn answer_of(alloc: Global, text: &str, is_compiled: bool) -> String {
     }
 }
 
-impl Tally {
+impl TextTally {
     /// Judges one text, and prints what differs.
     fn take<R: Print + AllocGlobal>(&mut self, rt: &R, file: &str, known: Known) -> io::Result<()> {
         self.texts = self.texts.saturating_add(1);
@@ -66,12 +66,12 @@ impl Tally {
 
 /// Judges the texts of all files that the command line names.
 fn judge_files<R: Files + Env + Print + AllocGlobal>(rt: &R) -> io::Result<()> {
-    let mut tally = Tally::default();
+    let mut tally = TextTally::default();
     for file in env::args(rt)?.skip(1) {
         let content = fs::read_to_string(rt, file.as_str())?;
         tally.take_all(rt, file.as_str(), content.as_str())?;
     }
-    let Tally { texts, differ } = tally;
+    let TextTally { texts, differ } = tally;
     println!(rt; "{texts} texts, {differ} answered otherwise")
 }
 

@@ -10,16 +10,15 @@ use Rattle.std.proofs.lemmas.Bool.{cases_Bool}
 use Rattle.std.proofs.lemmas.List.{get_or-map, length-map}
 use Rattle.std.proofs.lemmas.List.Folds.{list_any-append}
 use Rattle.std.proofs.Math.Bool.{or-false}
-use Rattle.text_bytes.specs.Texts.{behind}
+use Rattle.text_bytes.specs.Texts.{behind, added}
 use Rattle.page_code.specs.declared.parts.CodeSignal.{CodeSignal}
 use Rattle.plan_rows.specs.declared.row.DieRow.{DieRow}
-use Rattle.plan_rows.specs.Rows.{with_file}
 use Rattle.lot_plan.specs.Needs.{has_name}
 
 -- a name that isn't there goes behind the others
 pub with_file-new : (files made : List (List ℕ)) (name : List ℕ) → false ≡ list_any (bytes_eq name) files →
     made ≡ files ++ name ∷ [] →
-    made ≡ with_file files name
+    made ≡ added files name
 with_file-new files made name fresh is = is ∙ ap (λ b. cond b files (files ++ name ∷ [])) fresh
 
 or_same : (a b : Bool) → (b ≡ true → a ≡ true) → a ≡ (a || b)
@@ -29,7 +28,7 @@ or_same false false h = refl
 
 -- the names that are there after one more
 pub any-with_file : (files : List (List ℕ)) (file name : List ℕ) →
-    list_any (bytes_eq name) (with_file files file) ≡ (list_any (bytes_eq name) files || bytes_eq name file)
+    list_any (bytes_eq name) (added files file) ≡ (list_any (bytes_eq name) files || bytes_eq name file)
 any-with_file files file name =
     elim (cases_Bool (list_any (bytes_eq file) files)) [
       | inl e ↦ ap (λ b. list_any (bytes_eq name) (cond b files (files ++ file ∷ []))) e
@@ -47,7 +46,7 @@ or_assoc false b c = refl
 -- the name of one more signal
 pub any-signal : (files made : List (List ℕ)) (signals : List CodeSignal) (i : ℕ) (signal : CodeSignal) (file name : List ℕ)
     (all : Bool) →
-    i < length signals → signal ≡ get_or signals i signal → made ≡ with_file files file → file ≡ signal.name →
+    i < length signals → signal ≡ get_or signals i signal → made ≡ added files file → file ≡ signal.name →
     (list_any (bytes_eq name) files || list_any (has_name name) (drop i signals)) ≡ all →
     (list_any (bytes_eq name) made || list_any (has_name name) (drop (i + 1) signals)) ≡ all
 any-signal files made signals i signal file name all within is put own before =

@@ -5,12 +5,13 @@ use Rattle.std.proofs.lemmas.Bool.{and_parts}
 use Rattle.std.proofs.lemmas.List.Elements.{All-append, All-head, All-tail}
 use Rattle.std.specs.List.{list_all, list_any}
 use Rattle.std.specs.Str.{bytes_eq}
+use Rattle.text_bytes.specs.Texts.{added}
 use Rattle.text_bytes.specs.Bytes.{is_printing}
 use Rattle.plan_rows.specs.Words.{is_name}
 use Rattle.plan_rows.proofs.RowLemmas.{filter-le}
 use Rattle.plan_rows.specs.declared.row.Row.{Row}
 use Rattle.plan_rows.specs.declared.row.DieRow.{DieRow}
-use Rattle.plan_rows.specs.Rows.{AreKept, sites_of, dies_of, dies_at, files_of, with_file}
+use Rattle.plan_rows.specs.Rows.{AreKept, sites_of, dies_of, dies_at, files_of}
 
 -- the greatest of small sites is small
 greatest-within : (dies : List DieRow) (most : ℕ) → most ≤ 64 → All (λ d. d.site ≤ 63) dies →
@@ -38,7 +39,7 @@ alone file is zero d within = is
 alone file is (suc k) d within = absurd (omega arith)
 
 -- one more file
-with_file-printing : (files : List (List ℕ)) (file : List ℕ) → All IsPrinting files → IsPrinting file → All IsPrinting (with_file files file)
+with_file-printing : (files : List (List ℕ)) (file : List ℕ) → All IsPrinting files → IsPrinting file → All IsPrinting (added files file)
 with_file-printing files file all is = by (list_any (bytes_eq file) files)
   where
     by : (b : Bool) → All IsPrinting (cond b files (files ++ file ∷ []))
@@ -47,11 +48,11 @@ with_file-printing files file all is = by (list_any (bytes_eq file) files)
 
 -- the files of more dies
 folded-printing : (files : List (List ℕ)) (dies : List DieRow) → All IsPrinting files → All (λ d. is_name d.file ≡ true) dies
-    → All IsPrinting (fold (λ files d. with_file files d.file) files dies)
+    → All IsPrinting (fold (λ files d. added files d.file) files dies)
 folded-printing files [] all each = all
 folded-printing files (d ∷ ds) all each =
     let here : is_name d.file ≡ true = All-head (λ (x : DieRow). is_name x.file ≡ true) d ds each in
-    folded-printing (with_file files d.file) ds (with_file-printing files d.file all (and_parts _ (list_all is_printing d.file) here).1)
+    folded-printing (added files d.file) ds (with_file-printing files d.file all (and_parts _ (list_all is_printing d.file) here).1)
     (All-tail (λ (x : DieRow). is_name x.file ≡ true) d ds each)
 
 -- the bytes of a plan's files show in print

@@ -15,7 +15,7 @@ use Rattle.die_sim.specs.declared.image.StuckAt.{StuckAt}
 use Rattle.plan_rows.specs.declared.row.Row.{Row}
 use Rattle.plan_rows.specs.declared.row.DieRow.{DieRow}
 use Rattle.plan_rows.specs.declared.row.FaultRow.{FaultRow}
-use Rattle.plan_rows.specs.Rows.{AreKept, each_of, as_fault, dies_of, dies_at, faults_at, files_of, with_file, lot_of}
+use Rattle.plan_rows.specs.Rows.{AreKept, each_of, as_fault, dies_of, dies_at, faults_at, files_of, lot_of}
 use Rattle.plan_rows.specs.declared.row.SkewRow.{SkewRow}
 use Rattle.plan_rows.specs.declared.fault.PlanFault.{PlanFault}
 use Rattle.lot_plan.specs.declared.bound_die.BoundDie.{BoundDie}
@@ -30,6 +30,7 @@ use Rattle.lot_plan.specs.Refusal.{refused_row, is_signal, is_net, rows_refusal,
 use Rattle.lot_plan.specs.Stored.{stored_at, IsStored, AreStored}
 use Rattle.lot_plan.proofs.ApartLemmas.{Apart, ApartAt, apart-from, apart-at, apart-filter, apart-map, All-passing, All-filter, All-map}
 use Rattle.std.proofs.lemmas.List.Elements.{All-cons}
+use Rattle.text_bytes.specs.Texts.{added}
 use Rattle.lot_plan.proofs.GroupLemmas.{site-below}
 use Rattle.lot_plan.proofs.NameLemmas.{any-with_file}
 use Rattle.lot_plan.proofs.RefusalLemmas.{none_both, faults-accepted, each-bound, none-mapped, same_refusal}
@@ -112,24 +113,24 @@ number-there (k ∷ ks) n e =
     ]
 
 there-added : (files : List (List ℕ)) (file n : List ℕ) → (list_any (bytes_eq n) files || bytes_eq n file) ≡ true →
-    list_any (bytes_eq n) (with_file files file) ≡ true
+    list_any (bytes_eq n) (added files file) ≡ true
 there-added files file n e = any-with_file files file n ∙ e
 
 there-fold : (ds : List DieRow) (files : List (List ℕ)) (n : List ℕ) → list_any (bytes_eq n) files ≡ true →
-    list_any (bytes_eq n) (fold (λ named d. with_file named d.file) files ds) ≡ true
+    list_any (bytes_eq n) (fold (λ named d. added named d.file) files ds) ≡ true
 there-fold [] files n e = e
-there-fold (d ∷ ds) files n e = there-fold ds (with_file files d.file) n
+there-fold (d ∷ ds) files n e = there-fold ds (added files d.file) n
     (there-added files d.file n (or_left (list_any (bytes_eq n) files) (bytes_eq n d.file) e))
 
 all-files : (ds : List DieRow) (files : List (List ℕ)) →
-    All (λ d. list_any (bytes_eq d.file) (fold (λ named d. with_file named d.file) files ds) ≡ true) ds
+    All (λ d. list_any (bytes_eq d.file) (fold (λ named d. added named d.file) files ds) ≡ true) ds
 all-files [] files = λ k d within. absurd (omega (arith, within))
 all-files (x ∷ ds) files =
-    All-cons (λ d. list_any (bytes_eq d.file) (fold (λ named d. with_file named d.file) files (x ∷ ds)) ≡ true) x ds
-    (there-fold ds (with_file files x.file) x.file
+    All-cons (λ d. list_any (bytes_eq d.file) (fold (λ named d. added named d.file) files (x ∷ ds)) ≡ true) x ds
+    (there-fold ds (added files x.file) x.file
     (there-added files x.file x.file (or_right (list_any (bytes_eq x.file) files) (bytes_eq x.file x.file)
     ((bytes_decides x.file x.file).1 refl))))
-    (all-files ds (with_file files x.file))
+    (all-files ds (added files x.file))
 
 file-below : (rows : List Row) (s d : ℕ) → d < length (dies_at s rows) → file_of rows s d < length (files_of rows)
 file-below rows s d within =

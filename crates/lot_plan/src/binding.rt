@@ -5,6 +5,7 @@ ghost use Rattle.std.specs.Option.{option_map};
 ghost use Rattle.std.specs.Str.{bytes_eq};
 ghost use Rattle.bench_net.specs.Views.{texts};
 ghost use Rattle.std.specs.Arc.{arc_value};
+ghost use Rattle.text_bytes.specs.Limits.{most_signals};
 ghost use Rattle.bench_net.specs.Circuit.{IsWhole};
 ghost use Rattle.plan_rows.specs.declared.fault.PlanFault.TheVariants as refused;
 ghost use Rattle.plan_rows.specs.Rows.{AreKept, sites_of, files_of};
@@ -60,7 +61,7 @@ fn check_rows(
     requires few { length rows.now < 2 ^ 32 }
     requires groups { AreGroups rows.now groups.now }
     requires signals { signals.now ≡ code.now.signals }
-    requires few_signals { length signals.now ≤ 1024 }
+    requires few_signals { length signals.now ≤ most_signals }
     ensures accepted { OnOk result
         (refused_row (record { rows = rows.now; program = code.now; circuits = map arc_value nets.now }) ≡ None) }
     ensures fault { IfErr result (λ e. (e ≡ refused.NoMemory)
@@ -88,7 +89,7 @@ fn bind_signals(
     signals: &[CodeSignal],
     nets: &[Arc<Netlist>],
 ) -> Result<Vec<Arc<Binding>>, PlanFault>
-    requires { length signals.now ≤ 1024 }
+    requires { length signals.now ≤ most_signals }
     ensures found { IfOk result (λ bindings. AreBindings (map arc_value nets.now) (needs_of rows.now signals.now)
         (clock_of rows.now signals.now) (map arc_value bindings.items)) }
     ensures fault { IfErr result (λ e. (e ≡ refused.NoMemory)
@@ -112,7 +113,7 @@ pub(crate) fn made_of(
     requires few { length rows.now < 2 ^ 32 }
     requires sites { sites ≡ sites_of rows.now }
     requires signals { signals.now ≡ code.now.signals }
-    requires few_signals { length signals.now ≤ 1024 }
+    requires few_signals { length signals.now ≤ most_signals }
     requires files { length nets.now ≡ length (files_of rows.now) }
     ensures found { IfOk result
         (λ made. IsMade (record { rows = rows.now; program = code.now; circuits = map arc_value nets.now })

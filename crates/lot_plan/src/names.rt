@@ -2,9 +2,8 @@
 ghost use Rattle.std.specs.Prelude.{◌≡◌, ◌<◌, ℕ, List, [], map, fold, length, IfOk, IfSome, OnOk};
 ghost use Rattle.std.specs.List.{list_any, position, position_or_len};
 ghost use Rattle.std.specs.Str.{bytes_eq};
-ghost use Rattle.text_bytes.specs.Texts.{behind};
+ghost use Rattle.text_bytes.specs.Texts.{behind, added};
 ghost use Rattle.bench_net.specs.Views.{texts};
-ghost use Rattle.plan_rows.specs.Rows.{with_file};
 ghost use Rattle.lot_plan.specs.Refusal.{is_signal};
 
 use indexmap::IndexSet;
@@ -39,7 +38,7 @@ pub(crate) fn file_number(files: &IndexSet<&[u8]>, file: &[u8]) -> usize
 
 /// Puts a name behind the others, unless it is one of them.
 fn add<'a>(names: &mut IndexSet<&'a [u8]>, name: &'a [u8]) -> Result<(), AllocError>
-    ensures { OnOk result (texts names.new.keys ≡ with_file (texts names.old.keys) name.now) }
+    ensures { OnOk result (texts names.new.keys ≡ added (texts names.old.keys) name.now) }
 {
     if is_among(names, name) {
         return Ok(());
@@ -53,7 +52,7 @@ pub(crate) fn files_of<'a>(
     alloc: Global,
     dies: &[&'a DieRow],
 ) -> Result<IndexSet<&'a [u8]>, AllocError>
-    ensures { IfOk result (λ files. texts files.keys ≡ fold (λ named d. with_file named d.file) [] (behind dies.now)) }
+    ensures { IfOk result (λ files. texts files.keys ≡ fold (λ named d. added named d.file) [] (behind dies.now)) }
 {
     let mut files = IndexSet::new(alloc);
     for die in dies {

@@ -3,6 +3,7 @@ ghost use Rattle.std.specs.Prelude.{◌≡◌, ◌<◌, ◌≤◌, ℕ, List, No
 ghost use Rattle.std.specs.Option.{option_copied, option_map_or, option_or, option_and_then};
 ghost use Rattle.std.specs.List.{find, position};
 ghost use Rattle.std.specs.Str.{bytes_eq};
+ghost use Rattle.text_bytes.specs.Limits.{most_signals};
 ghost use Rattle.text_bytes.specs.Texts.{behind};
 ghost use Rattle.indexmap.specs.IndexMap.{get_by};
 ghost use Rattle.lot_plan.specs.Needs.{clock_of, has_name, is_clock_name, role_of, needs_of};
@@ -22,7 +23,7 @@ type BindRows<'a> = IndexMap<&'a [u8], &'a BindRow>;
 /// The signals of a program.
 pub(crate) fn signals_of(alloc: Global, code: &Code) -> Result<CodeSignalList, NoMemory>
     ensures all { IfOk result (λ signals. signals ≡ code.now.signals) }
-    ensures few { IfOk result (λ signals. length signals ≤ 1024) }
+    ensures few { IfOk result (λ signals. length signals ≤ most_signals) }
 {
     let mut signals = Vec::new(alloc);
     for number in 0..code.signals() {
@@ -149,7 +150,7 @@ pub(crate) fn pins_of<'a>(
 
 /// The number of the signal of this name.
 pub(crate) fn place_of(signals: &[CodeSignal], name: &[u8]) -> Option<u16>
-    requires { length signals.now ≤ 1024 }
+    requires { length signals.now ≤ most_signals }
     ensures { result ≡ position (has_name name.now) signals.now }
 {
     let place = signals
@@ -160,7 +161,7 @@ pub(crate) fn place_of(signals: &[CodeSignal], name: &[u8]) -> Option<u16>
 
 /// The number of the clock, none where the plan has no clock.
 pub(crate) fn clock_number(rows: &[Row], signals: &[CodeSignal]) -> Option<u16>
-    requires { length signals.now ≤ 1024 }
+    requires { length signals.now ≤ most_signals }
     ensures { result ≡ clock_of rows.now signals.now }
 {
     match clock_of(rows) {

@@ -3,6 +3,7 @@ ghost use Rattle.std.specs.Prelude.{◌≡◌, ◌<◌, ◌≤◌, ◌^◌, map,
 ghost use Rattle.std.specs.List.{list_any};
 ghost use Rattle.std.specs.Str.{bytes_eq};
 ghost use Rattle.std.specs.Arc.{arc_value};
+ghost use Rattle.text_bytes.specs.Limits.{most_signals};
 ghost use Rattle.bench_net.specs.Views.{texts};
 ghost use Rattle.lot_plan.specs.Bound.{no_circuit};
 ghost use Rattle.lot_plan.specs.Groups.{file_in, circuit_in};
@@ -83,7 +84,7 @@ fn row_refusal(
     number: u32,
     row: &Row,
 ) -> Option<PlanFault>
-    requires { length signals.now ≤ 1024 }
+    requires { length signals.now ≤ most_signals }
     ensures { result ≡ row_refusal (λ name. list_any (bytes_eq name) (texts names.now.keys))
         (skew_refusal signals.now code.now.tables) (length code.now.execs)
         (circuit_in sites.now (map arc_value nets.now)) number row.now }
@@ -114,7 +115,7 @@ pub(crate) fn rows_refusal(
     rows: &[Row],
 ) -> Option<PlanFault>
     requires rows { length rows.now < 2 ^ 32 }
-    requires signals { length signals.now ≤ 1024 }
+    requires signals { length signals.now ≤ most_signals }
     ensures { result ≡ rows_refusal (λ name. list_any (bytes_eq name) (texts names.now.keys))
         (skew_refusal signals.now code.now.tables) (length code.now.execs)
         (circuit_in sites.now (map arc_value nets.now)) 1 rows.now }

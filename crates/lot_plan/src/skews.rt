@@ -2,6 +2,7 @@
 
 ghost use Rattle.std.specs.Prelude.{◌≡◌, ◌==◌, ◌≤◌, if◌then◌else◌, Some, None, map, filter, length, IfOk};
 ghost use Rattle.std.specs.List.{list_all, range_with_len};
+ghost use Rattle.text_bytes.specs.Limits.{most_signals};
 ghost use Rattle.text_bytes.specs.Texts.{behind};
 ghost use Rattle.plan_rows.specs.Rows.{skews_at};
 ghost use Rattle.plan_rows.specs.declared.fault.PlanFault.TheVariants.{SkewOutside};
@@ -22,7 +23,7 @@ pub(crate) fn skew_refusal(
     number: u32,
     row: &SkewRow,
 ) -> Option<PlanFault>
-    requires { length signals.now ≤ 1024 }
+    requires { length signals.now ≤ most_signals }
     ensures { result ≡ skew_refusal signals.now code.now.tables number row.now }
 {
     match place_of(signals, row.signal.as_slice()) {

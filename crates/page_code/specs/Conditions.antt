@@ -3,6 +3,7 @@ use Rattle.std.specs.Prelude.{◌≡◌, ℕ, suc, ◌-◌, ◌*◌, ◌^◌, �
 use Rattle.std.specs.List.{list_all, list_any, AllByRecursion}
 use Rattle.std.specs.Option.{option_map_or}
 use Rattle.std.specs.Cmp.Lexicographic.{pointwise}
+use Rattle.text_bytes.specs.Limits.{longest_name, most_waves, longest_period, most_cells, most_chains, most_signals, most_code_tables, most_row_characters, most_executives}
 use Rattle.text_bytes.specs.Bytes.{is_printable, is_character}
 use Rattle.tester_types.specs.declared.wave.Event.{Event}
 use Rattle.tester_types.specs.declared.wave.Wave.{Wave}
@@ -31,7 +32,7 @@ last_of items = slice_get items (length items - 1)
 
 -- a text has at most 1024 bytes from 0x20 to 0x7E
 pub record IsText (text : List ℕ) : Type 0 where
-  pub short : length text ≤ 1024
+  pub short : length text ≤ longest_name
   pub printable : list_all is_printable text ≡ true
 
 -- a name is a text that is not empty
@@ -78,9 +79,9 @@ wave_count tables = sum_by (λ table. length table.waves) tables
 pub record IsTable (signals : ℕ) (before : List Table) (table : Table) : Type 0 where
   pub name : IsName table.name
   pub some : 0 < table.period
-  pub period : table.period ≤ 1000000000000
+  pub period : table.period ≤ longest_period
   pub count : length table.waves < 2 ^ 32
-  pub waves : EachBehind (IsWave signals table.period (2 ^ 20 - wave_count before)) [] table.waves
+  pub waves : EachBehind (IsWave signals table.period (most_waves - wave_count before)) [] table.waves
 
 -- a row has a character or 0 for each signal, and no two rows are equal
 pub record IsRow (signals : ℕ) (before : List (List ℕ)) (row : List ℕ) : Type 0 where
@@ -92,8 +93,8 @@ pub record IsRow (signals : ℕ) (before : List (List ℕ)) (row : List ℕ) : T
 pub record IsChain (signals : ℕ) (chain : CodeChain) : Type 0 where
   pub name : IsName chain.name
   pub out : chain.out < signals
-  pub size : chain.length ≤ 2 ^ 20
-  pub count : length chain.cells ≤ 2 ^ 20
+  pub size : chain.length ≤ most_cells
+  pub count : length chain.cells ≤ most_cells
   pub cells : Each IsName chain.cells
 
 -- whether a signal has a wave for a letter
@@ -133,7 +134,7 @@ IsInstr tables rows Done = Unit {0}
 -- an executive of signals, tables and rows
 pub record IsExec (signals : ℕ) (tables : List Table) (rows : List (List ℕ)) (exec : Exec) : Type 0 where
   pub name : IsText exec.name
-  pub few_chains : length exec.chains ≤ 256
+  pub few_chains : length exec.chains ≤ most_chains
   pub chains : Each (IsChain signals) exec.chains
   pub few_instrs : length exec.instrs ≤ 4194305
   pub instrs : Each (IsInstr tables rows) exec.instrs
@@ -141,15 +142,15 @@ pub record IsExec (signals : ℕ) (tables : List Table) (rows : List (List ℕ))
 
 -- all conditions on a code
 pub record IsProgram (program : Program) : Type 0 where
-  pub few_signals : length program.signals ≤ 1024
+  pub few_signals : length program.signals ≤ most_signals
   pub signals : EachBehind IsSignal [] program.signals
-  pub few_tables : length program.tables ≤ 4096
+  pub few_tables : length program.tables ≤ most_code_tables
   pub tables : EachBehind (IsTable (length program.signals)) [] program.tables
   pub count_rows : length program.rows < 2 ^ 32
-  pub few_rows : length program.rows * length program.signals ≤ 2 ^ 28
+  pub few_rows : length program.rows * length program.signals ≤ most_row_characters
   pub rows : EachBehind (IsRow (length program.signals)) [] program.rows
   pub some_execs : 0 < length program.execs
-  pub few_execs : length program.execs ≤ 64
+  pub few_execs : length program.execs ≤ most_executives
   pub execs : Each (IsExec (length program.signals) program.tables program.rows) program.execs
 
 -- the signals of waves don't fall

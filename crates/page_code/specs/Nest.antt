@@ -1,5 +1,6 @@
 -- The loops that are open where instructions are read one after another.
 use Rattle.std.specs.Prelude.{◌≡◌, ℕ, suc, ◌-◌, ◌≤◌, Bool, true, false, List, ◌++◌}
+use Rattle.text_bytes.specs.Limits.{deepest_loops}
 use Rattle.page_meaning.specs.declared.instr.Instr.{Instr}
 use Rattle.page_meaning.specs.declared.instr.Instr.TheVariants.{Run, Loop, End, Done}
 use Rattle.page_meaning.specs.Whole.{IsRest}
@@ -8,7 +9,7 @@ use Rattle.page_code.specs.Reading.{open_behind, begun_behind}
 
 -- what was read of loops, and that whatever completes it completes the whole
 pub record IsNest (before : List Instr) (nest : Nest) : Type 0 where
-  pub deep : nest.depth ≤ 64
+  pub deep : nest.depth ≤ deepest_loops
   pub depth : nest.depth ≡ open_behind 0 before
   pub begun : nest.begun ≡ begun_behind false before
   pub completes : (rest : List Instr) → IsRest nest.depth nest.begun rest → IsRest 0 false (before ++ rest)

@@ -3,6 +3,7 @@ use Rattle.std.specs.Prelude.{ℕ, suc, ◌+◌, ◌-◌, ◌*◌, ◌^◌, Bool
 use Rattle.std.specs.List.{list_all, list_any, take_while, find}
 use Rattle.std.specs.Option.{option_map_or}
 use Rattle.std.specs.Int.{w16, w32, w64, from_le_bytes}
+use Rattle.text_bytes.specs.Limits.{longest_name, longest_period, most_waves, most_cells, most_passes, deepest_loops, most_cycles, most_chains, most_signals, most_code_tables, most_row_characters, most_executives}
 use Rattle.text_bytes.specs.Bytes.{is_printable, is_character}
 use Rattle.tester_types.specs.declared.wave.Event.{Event}
 use Rattle.tester_types.specs.declared.wave.Wave.{Wave}
@@ -29,7 +30,7 @@ use Rattle.page_code.specs.Fields.{◌>>=◌, Read, byte_at, piece_at, number_at
 -- a text is one field: its bytes are judged when all of them are there
 unfoldable pub raw_text_at : List ℕ → Read (List ℕ)
 raw_text_at bytes = do
-  n ← checked (number_at w16) (λ n. nat_le n 1024) bytes
+  n ← checked (number_at w16) (λ n. nat_le n longest_name) bytes
   piece_at n.0 n.1
 
 -- a text with a further condition
@@ -78,14 +79,14 @@ wave_at signals period most before bytes = do
 unfoldable pub table_with : ℕ → ℕ → List ℕ → Read Table
 table_with signals most bytes = do
   name ← name_at bytes
-  period ← checked (number_at w64) (λ period. nat_lt 0 period && nat_le period 1000000000000) name.1
+  period ← checked (number_at w64) (λ period. nat_lt 0 period && nat_le period longest_period) name.1
   count ← number_at w32 period.1
   waves ← items_at (wave_at signals period.0 most) count.0 [] count.1
   Ok (record { name = name.0; period = period.0; waves = waves.0 }, waves.1)
 
 -- all tables together have at most 2 ^ 20 waves
 abbrev pub table_at : ℕ → List Table → List ℕ → Read Table
-table_at signals before bytes = table_with signals (2 ^ 20 - wave_count before) bytes
+table_at signals before bytes = table_with signals (most_waves - wave_count before) bytes
 
 -- the characters of a row, each a field of its own
 unfoldable pub letters_at : ℕ → List ℕ → Read (List ℕ)
@@ -148,8 +149,8 @@ unfoldable pub chain_at : ℕ → List ℕ → Read CodeChain
 chain_at signals bytes = do
   name ← name_at bytes
   out ← checked (number_at w16) (λ out. nat_lt out signals) name.1
-  size ← checked (number_at w32) (λ size. nat_le size (2 ^ 20)) out.1
-  count ← checked (number_at w32) (λ count. nat_le count (2 ^ 20)) size.1
+  size ← checked (number_at w32) (λ size. nat_le size most_cells) out.1
+  count ← checked (number_at w32) (λ count. nat_le count most_cells) size.1
   cells ← items_at (λ before. name_at) count.0 [] count.1
   Ok (record { name = name.0; out = out.0; length = size.0; cells = cells.0 }, cells.1)
 
@@ -195,7 +196,7 @@ follows tables rows is_last depth begun (Run table row mark times) =
     not is_last && nat_lt 0 times && nat_lt table (length tables) && nat_lt row (length rows)
     && has_waves (waves_of tables table) 0 (letters_of rows row)
 follows tables rows is_last depth begun (Loop times) =
-    not is_last && nat_lt 0 times && nat_le times (2 ^ 48) && nat_lt depth 64
+    not is_last && nat_lt 0 times && nat_le times most_passes && nat_lt depth deepest_loops
 follows tables rows is_last depth begun End = not is_last && not begun && nat_lt 0 depth
 follows tables rows is_last depth begun Done = is_last && depth == 0
 
@@ -204,7 +205,7 @@ abbrev pub is_bounded : List Instr → Instr → Bool
 is_bounded before (Run table row mark times) = true
 is_bounded before (Loop times) = true
 is_bounded before End = true
-is_bounded before Done = nat_le (cycle_count (before ++ Done ∷ [])) (2 ^ 48)
+is_bounded before Done = nat_le (cycle_count (before ++ Done ∷ [])) most_cycles
 
 -- whether an instruction may stand behind these, as the last one or not
 abbrev pub may_follow : List Table → List (List ℕ) → Bool → List Instr → Instr → Bool
@@ -224,7 +225,7 @@ instr_at tables rows count before bytes = instr_with tables rows (length before 
 unfoldable pub exec_at : ℕ → List Table → List (List ℕ) → List ℕ → Read Exec
 exec_at signals tables rows bytes = do
   name ← text_at (λ text. true) bytes
-  chain_count ← checked (number_at w16) (λ count. nat_le count 256) name.1
+  chain_count ← checked (number_at w16) (λ count. nat_le count most_chains) name.1
   chains ← items_at (λ before. chain_at signals) chain_count.0 [] chain_count.1
   count ← checked (number_at w32) (λ count. nat_lt 0 count && nat_le count 4194305) chains.1
   instrs ← items_at (instr_at tables rows count.0) count.0 [] count.1
@@ -257,13 +258,13 @@ head_at bytes = do
 -- behind the head of a version: signals, tables, rows and executives, each behind their count
 unfoldable pub program_at : Version → List ℕ → Read Program
 program_at version bytes = do
-  signal_count ← checked (number_at w16) (λ count. nat_le count 1024) bytes
+  signal_count ← checked (number_at w16) (λ count. nat_le count most_signals) bytes
   signals ← items_at signal_at signal_count.0 [] signal_count.1
-  table_count ← checked (number_at w16) (λ count. nat_le count 4096) signals.1
+  table_count ← checked (number_at w16) (λ count. nat_le count most_code_tables) signals.1
   tables ← items_at (table_at (length signals.0)) table_count.0 [] table_count.1
-  row_count ← checked (number_at w32) (λ count. nat_le (count * length signals.0) (2 ^ 28)) tables.1
+  row_count ← checked (number_at w32) (λ count. nat_le (count * length signals.0) most_row_characters) tables.1
   rows ← items_at (row_at version (length signals.0)) row_count.0 [] row_count.1
-  exec_count ← checked (number_at w16) (λ count. nat_lt 0 count && nat_le count 64) rows.1
+  exec_count ← checked (number_at w16) (λ count. nat_lt 0 count && nat_le count most_executives) rows.1
   execs ← items_at (λ before. exec_at (length signals.0) tables.0 rows.0) exec_count.0 [] exec_count.1
   Ok (record { signals = signals.0; tables = tables.0; rows = rows.0; execs = execs.0 }, execs.1)
 

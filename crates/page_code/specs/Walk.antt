@@ -1,6 +1,7 @@
 -- What a walk over a code still gives.
 use Rattle.std.specs.Prelude.{◌≡◌, ℕ, ◌+◌, ◌*◌, ◌^◌, ◌<◌, ◌≤◌, true, List, length}
 use Rattle.std.specs.List.{AllByRecursion}
+use Rattle.text_bytes.specs.Limits.{longest_period, most_cycles}
 use Rattle.tester_types.specs.declared.cycle.Cycle.{Cycle}
 use Rattle.page_meaning.specs.declared.instr.Entry.{Entry}
 use Rattle.page_meaning.specs.Course.{coming, IsOn}
@@ -27,5 +28,5 @@ pub record IsOf (code : Program) (number place : ℕ) : Type 0 where
 pub record IsOver (code : Program) (walk : Walk) : Type 0 where
   pub exec : walk.exec < length code.execs
   pub on : IsOn (exec_of code walk.exec).instrs walk.course
-  pub room : walk.start + 1000000000000 * length (entries_left code walk) ≤ 1000000000000 * 2 ^ 48
+  pub room : walk.start + longest_period * length (entries_left code walk) ≤ longest_period * most_cycles
   pub named : AllByRecursion (λ entry. IsOf code entry.table entry.row) (entries_left code walk)

@@ -3,6 +3,7 @@
 ghost use Rattle.std.specs.Prelude.{◌≡◌, ◌*◌, ◌<◌, ◌≤◌, List, Some, length, take, drop, slice_get};
 ghost use Rattle.std.specs.List.{flat_map};
 ghost use Rattle.std.specs.Option.{option_map};
+ghost use Rattle.text_bytes.specs.Limits.{longest_period};
 ghost use Rattle.page_meaning.specs.Meaning.{Means, cycle_count};
 ghost use Rattle.page_code.specs.Conditions.{IsProgram};
 ghost use Rattle.page_code.specs.Program.{code_of};
@@ -107,7 +108,7 @@ impl Code {
     pub fn table(&self, table: u16) -> &Table
         requires { table < length self.now.tables }
         ensures found { slice_get self.now.tables table ≡ Some result.now }
-        ensures period { (0 < result.now.period) × (result.now.period ≤ 1000000000000) }
+        ensures period { (0 < result.now.period) × (result.now.period ≤ longest_period) }
     {
         &self.tables.as_slice()[table as usize]
     }

@@ -2,6 +2,7 @@
 
 ghost use Rattle.std.specs.Prelude.{◌≡◌, ◌*◌, ◌^◌, ◌&&◌, ◌==◌, ◌⊎◌, ◌∷◌, [], nat_le, nat_lt, length, IfOk, IfErr, MatchResult, List, ℕ, Ok, Err};
 ghost use Rattle.std.specs.Int.{w16, w32};
+ghost use Rattle.text_bytes.specs.Limits.{most_row_characters, most_executives};
 ghost use Rattle.page_code.specs.declared.fault.SavedFault.{SavedFault};
 ghost use Rattle.page_code.specs.declared.fault.SavedFault.TheVariants as saved;
 ghost use Rattle.page_code.specs.Program.{Program};
@@ -21,6 +22,7 @@ use crate::rows::RowList;
 use crate::version::Version;
 use std::alloc::Global;
 use tester_types::TableList;
+use text_bytes::{MOST_CODE_TABLES, MOST_EXECUTIVES, MOST_ROW_CHARACTERS, MOST_SIGNALS};
 
 /// The four bytes with which a saved program begins.
 fn magic(bytes: &[u8]) -> Result<&[u8], ReadError>
@@ -63,16 +65,13 @@ fn head(bytes: &[u8]) -> Result<(Version, &[u8]), ReadError>
     Ok((version, after))
 }
 
-/// The most bytes of all rows together.
-const MOST_ROW_BYTES: usize = 268435456;
-
 /// The number of rows of so many characters.
 fn row_count(signals: usize, bytes: &[u8]) -> Result<(u32, &[u8]), ReadError>
     ensures { Gives (λ x. (x.0, x.1.now)) result
-        (checked (number_at w32) (λ count. nat_le (count * signals) (2 ^ 28)) bytes.now) }
+        (checked (number_at w32) (λ count. nat_le (count * signals) most_row_characters) bytes.now) }
 {
     let (count, rest) = number32(bytes)?;
-    if (count as usize).saturating_mul(signals) > MOST_ROW_BYTES {
+    if (count as usize).saturating_mul(signals) > MOST_ROW_CHARACTERS as usize {
         return Err(bad(bytes));
     }
     Ok((count, rest))
@@ -81,10 +80,10 @@ fn row_count(signals: usize, bytes: &[u8]) -> Result<(u32, &[u8]), ReadError>
 /// The number of executives, 1 to 64.
 fn exec_count(bytes: &[u8]) -> Result<(u16, &[u8]), ReadError>
     ensures { Gives (λ x. (x.0, x.1.now)) result
-        (checked (number_at w16) (λ count. nat_lt 0 count && nat_le count 64) bytes.now) }
+        (checked (number_at w16) (λ count. nat_lt 0 count && nat_le count most_executives) bytes.now) }
 {
     let (count, rest) = number16(bytes)?;
-    if count == 0 || count > 64 {
+    if count == 0 || usize::from(count) > MOST_EXECUTIVES {
         return Err(bad(bytes));
     }
     Ok((count, rest))
@@ -107,10 +106,10 @@ fn read_parts(alloc: Global, version: Version, bytes: &[u8]) -> Result<Parts<'_>
         (λ x. (record { signals = x.signals; tables = x.tables; rows = x.rows; execs = x.execs }, x.rest.now))
         result (program_at version bytes.now) }
 {
-    let (count, rest) = number16_to(1024, bytes)?;
+    let (count, rest) = number16_to(MOST_SIGNALS as u16, bytes)?;
     let (signals, rest) = signals(alloc, count, rest)?;
     let width = signals.len();
-    let (count, rest) = number16_to(4096, rest)?;
+    let (count, rest) = number16_to(MOST_CODE_TABLES as u16, rest)?;
     let (tables, rest) = tables(alloc, width, count, rest)?;
     let (count, rest) = row_count(width, rest)?;
     let (rows, rest) = rows(alloc, version, width, count, rest)?;

@@ -17,6 +17,7 @@ use crate::read_instrs::instrs;
 use crate::rows::RowList;
 use std::alloc::Global;
 use tester_types::{Table, TextList};
+use text_bytes::{MOST_CELLS, MOST_CHAINS};
 
 /// So many names of cells.
 fn cells(alloc: Global, count: u32, bytes: &[u8]) -> Result<(TextList, &[u8]), ReadError>
@@ -32,9 +33,6 @@ fn cells(alloc: Global, count: u32, bytes: &[u8]) -> Result<(TextList, &[u8]), R
     Ok((TextList::from_vec(cells), rest))
 }
 
-/// The most cells of a chain.
-const MOST_CELLS: u32 = 1048576;
-
 /// A chain.
 #[tactic(auto, unfolding(crate::specs::Reading::chain_at))]
 fn chain(alloc: Global, signals: usize, bytes: &[u8]) -> Result<(CodeChain, &[u8]), ReadError>
@@ -42,8 +40,8 @@ fn chain(alloc: Global, signals: usize, bytes: &[u8]) -> Result<(CodeChain, &[u8
 {
     let (name, rest) = name(alloc, bytes)?;
     let (out, rest) = number16_below(signals, rest)?;
-    let (length, rest) = number32_to(MOST_CELLS, rest)?;
-    let (count, rest) = number32_to(MOST_CELLS, rest)?;
+    let (length, rest) = number32_to(MOST_CELLS as u32, rest)?;
+    let (count, rest) = number32_to(MOST_CELLS as u32, rest)?;
     let (cells, rest) = cells(alloc, count, rest)?;
     let chain = CodeChain {
         name,
@@ -101,7 +99,7 @@ fn exec<'a>(
     ensures read { Gives (λ x. (x.0, x.1.now)) result (exec_at signals tables.now rows.now bytes.now) }
 {
     let (name, rest) = text(alloc, bytes)?;
-    let (count, rest) = number16_to(256, rest)?;
+    let (count, rest) = number16_to(MOST_CHAINS as u16, rest)?;
     let (chains, rest) = chains(alloc, signals, count, rest)?;
     let (count, rest) = instr_count(rest)?;
     let (instrs, rest) = instrs(alloc, tables, rows, accepted, count, rest)?;

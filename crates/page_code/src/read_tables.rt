@@ -4,6 +4,7 @@ ghost use Rattle.std.specs.Prelude.{◌≡◌, ◌+◌, ◌*◌, ◌^◌, ◌<�
 ghost use Rattle.std.specs.List.{list_all, list_any};
 ghost use Rattle.std.specs.Option.{option_map_or};
 ghost use Rattle.std.specs.Int.{w16, w32, w64};
+ghost use Rattle.text_bytes.specs.Limits.{longest_period};
 ghost use Rattle.page_code.specs.Letters.{direction_of, act_of};
 ghost use Rattle.page_code.specs.Conditions.{last_of, is_named, latest, is_behind, wave_count};
 ghost use Rattle.page_code.specs.Fields.{Gives, byte_at, number_at, known, checked, items_at};
@@ -18,7 +19,7 @@ use std::alloc::Global;
 use tester_types::{
     Act, Direction, Event, EventList, Look, Push, Table, TableList, Text, Wave, WaveList,
 };
-use text_bytes::all_printable;
+use text_bytes::{LONGEST_PERIOD, MOST_WAVES, all_printable};
 
 /// The direction of a number.
 fn direction_of_byte(byte: u8) -> Option<Direction>
@@ -245,10 +246,10 @@ fn waves(
 /// A period, 1 to 10^12 femtoseconds.
 fn period(bytes: &[u8]) -> Result<(u64, &[u8]), ReadError>
     ensures { Gives (λ x. (x.0, x.1.now)) result
-        (checked (number_at w64) (λ n. nat_lt 0 n && nat_le n 1000000000000) bytes.now) }
+        (checked (number_at w64) (λ n. nat_lt 0 n && nat_le n longest_period) bytes.now) }
 {
     let (number, rest) = number64(bytes)?;
-    if number == 0 || number > 1_000_000_000_000 {
+    if number == 0 || number > LONGEST_PERIOD {
         return Err(bad(bytes));
     }
     Ok((number, rest))
@@ -275,9 +276,6 @@ fn table(
     };
     Ok((table, rest))
 }
-
-/// The most waves of all tables together.
-const MOST_WAVES: usize = 1048576;
 
 /// So many tables.
 pub(crate) fn tables(

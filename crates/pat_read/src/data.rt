@@ -96,6 +96,7 @@ fn take_repeat(adjacent: bool, part: &Part) -> Result<Awaited, DataFault>
     };
     match times_by(word) {
         Some(times) if adjacent => Ok(Awaited::OfUnit(times)),
+        // by its first letter a form of data that this profile leaves out, or none
         _ => match word {
             [first, ..] if b"hdlmjew".contains(first) => Err(DataFault::LeftOut),
             _ => Err(DataFault::Shape),

@@ -1,6 +1,7 @@
 -- What is answered of the patterns of an executive.
 use Rattle.std.specs.Prelude.{◌≡◌, Bool, true, false, List, Vec, Option, Some, None, Result, Ok, Err, nat_le, length}
 use Rattle.std.specs.declared.alloc.Global.{Global}
+use Rattle.text_bytes.specs.Limits.{most_patterns}
 use Rattle.stil_ast.specs.Meaning.Bursts.{Played, played_of}
 use Rattle.stil_ast.specs.Faults.Found.{fault_at, unless, or_else, first_in}
 use Rattle.stil_ast.specs.Faults.BurstFaults.{exec_place, is_category, is_selector, is_timing, named_fault, maybe_fault, mentions, unknown_fault, cyclic_fault, exec_names_fault}
@@ -16,7 +17,7 @@ use Rattle.pattern_order.specs.declared.playing.PlayedPattern.{PlayedPattern}
 
 -- the most patterns that an executive may run
 abbrev pub is_few : List Played → Bool
-is_few order = nat_le (length order) 4096
+is_few order = nat_le (length order) most_patterns
 
 -- patterns are all there are, or there are too many
 abbrev pub AllPlayed : Option (Vec PlayedPattern Global) → List Played → Type 0

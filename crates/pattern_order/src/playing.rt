@@ -18,9 +18,7 @@ use crate::walk::{Frame, Mark, Step, Walk};
 use std::alloc::{AllocError, Global};
 use std::marker::Model;
 use stil_ast::Pattern;
-
-/// The most patterns that an executive may run, each counted as often as it runs.
-const MOST_PATTERNS: usize = 4_096;
+use text_bytes::MOST_PATTERNS;
 
 /// A pattern as it is run: with the names of its MacroDefs and its Procedures, which are empty where they are the
 /// unnamed ones.

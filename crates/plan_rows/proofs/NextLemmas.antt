@@ -7,9 +7,10 @@ use Rattle.std.proofs.lemmas.List.{map-append, length-map, append-nil}
 use Rattle.std.proofs.lemmas.List.Elements.{filter-append}
 use Rattle.std.proofs.lemmas.Grind.{get_or-set_at}
 use Rattle.std.proofs.lemmas.Bool.{eqb-true, eqb-false}
+use Rattle.text_bytes.specs.Texts.{added}
 use Rattle.plan_rows.specs.Rows.{one, each_of, dies_of, as_lot, as_die}
 use Rattle.plan_rows.specs.Judging.{says_again}
-use Rattle.plan_rows.specs.Inside.{IsTally, Suits, Notes, with_name, kept_names}
+use Rattle.plan_rows.specs.Inside.{IsTally, Suits, Notes, kept_names}
 use Rattle.plan_rows.specs.declared.tally.DieTally.{DieTally}
 use Rattle.plan_rows.specs.declared.row.Row.{Row}
 use Rattle.plan_rows.specs.declared.row.Row.TheVariants as row
@@ -72,25 +73,25 @@ lot_tally old new l t (lot, dies, names) = record {
 new_names : (kept : List (List (List ℕ))) (dies : List DieRow) (d : DieRow) (site : ℕ) → d.site < length kept →
     get_or kept site [] ≡ names_among site dies → get_or kept d.site [] ≡ names_among d.site dies →
     list_any (bytes_eq d.name) (names_among d.site dies) ≡ false →
-    get_or (set kept d.site (with_name (get_or kept d.site []) d.name)) site [] ≡ names_among site dies ++ names_among site (d ∷ [])
+    get_or (set kept d.site (added (get_or kept d.site []) d.name)) site [] ≡ names_among site dies ++ names_among site (d ∷ [])
 new_names kept dies d site low at_site at_die fresh = by (d.site == site) refl
   where
-    put : with_name (get_or kept d.site []) d.name ≡ names_among d.site dies ++ d.name ∷ []
-    put = ap (λ names. with_name names d.name) at_die
+    put : added (get_or kept d.site []) d.name ≡ names_among d.site dies ++ d.name ∷ []
+    put = ap (λ names. added names d.name) at_die
         ∙ ap (λ b. cond b (names_among d.site dies) (names_among d.site dies ++ d.name ∷ [])) fresh
 
     by : (b : Bool) → (d.site == site) ≡ b →
-        get_or (set kept d.site (with_name (get_or kept d.site []) d.name)) site []
+        get_or (set kept d.site (added (get_or kept d.site []) d.name)) site []
         ≡ names_among site dies ++ map (λ (d : DieRow). d.name) (cond b (d ∷ []) [])
     by true e =
         let same : d.site ≡ site = eqb-true d.site site e in
-        get_or-set_at kept d.site site (with_name (get_or kept d.site []) d.name) [] (sym same) low ∙ put
+        get_or-set_at kept d.site site (added (get_or kept d.site []) d.name) [] (sym same) low ∙ put
         ∙ ap (λ s. names_among s dies ++ d.name ∷ []) same
     by false e =
         let differ : site ≢ d.site = λ same. eqb-false d.site site e (sym same) in
         other_place site differ ∙ at_site ∙ sym (append-nil (names_among site dies))
       where
-        other_place : (j : ℕ) → j ≢ d.site → get_or (set kept d.site (with_name (get_or kept d.site []) d.name)) j [] ≡ get_or kept j []
+        other_place : (j : ℕ) → j ≢ d.site → get_or (set kept d.site (added (get_or kept d.site []) d.name)) j [] ≡ get_or kept j []
         other_place j differ = rw get_or-set_other refl
 
 die_tally : (old new : DieTally) (rows : List Row) (d : DieRow) → IsTally old rows → Suits rows (row.Die d) → says_again rows (row.Die d) ≡ false →

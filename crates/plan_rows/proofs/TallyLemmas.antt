@@ -5,19 +5,19 @@ use Rattle.std.specs.Str.{bytes_eq}
 use Rattle.std.proofs.lemmas.List.{map-append, map-set, get_or-map, length-map}
 use Rattle.std.proofs.Math.ListN.{set}
 use Rattle.std.proofs.lemmas.Nat.{mul-le}
+use Rattle.text_bytes.specs.Texts.{added}
 use Rattle.text_bytes.proofs.ListLemmas.{list_any-map}
-use Rattle.plan_rows.specs.Inside.{with_name}
 
 -- a name that is there stays alone
-pub with_name-present : {X : Type 0} (f : X → List ℕ) (keys : List X) (name : List ℕ) → true ≡ list_any (λ k. bytes_eq name (f k)) keys →
-    map f keys ≡ with_name (map f keys) name
-with_name-present f keys name h = rw (list_any-map f (bytes_eq name) keys, sym h) refl
+pub added-present : {X : Type 0} (f : X → List ℕ) (keys : List X) (name : List ℕ) → true ≡ list_any (λ k. bytes_eq name (f k)) keys →
+    map f keys ≡ added (map f keys) name
+added-present f keys name h = rw (list_any-map f (bytes_eq name) keys, sym h) refl
 
 -- a new name goes behind the others
-pub with_name-absent : {X : Type 0} (f : X → List ℕ) (keys keys' : List X) (name : List ℕ) (k : X) →
+pub added-absent : {X : Type 0} (f : X → List ℕ) (keys keys' : List X) (name : List ℕ) (k : X) →
     false ≡ list_any (λ k. bytes_eq name (f k)) keys → f k ≡ name →
-    keys' ≡ cond (list_any (λ j. bytes_eq (f k) (f j)) keys) keys (keys ++ k ∷ []) → map f keys' ≡ with_name (map f keys) name
-with_name-absent f keys keys' name k h e put =
+    keys' ≡ cond (list_any (λ j. bytes_eq (f k) (f j)) keys) keys (keys ++ k ∷ []) → map f keys' ≡ added (map f keys) name
+added-absent f keys keys' name k h e put =
     let fresh : list_any (λ j. bytes_eq (f k) (f j)) keys ≡ false = ap (λ (n : List ℕ). list_any (λ j. bytes_eq n (f j)) keys) e ∙ sym h in
     ap (map f) (put ∙ ap (λ b. cond b keys (keys ++ k ∷ [])) fresh)
     ∙ map-append f keys (k ∷ [])
@@ -35,15 +35,15 @@ kept_at f sets site s within is = get_or-map f sets site s [] within ∙ ap f (s
 
 -- the set of a site has one name more
 pub kept_set : {X : Type 0} (f : X → List (List ℕ)) (sets : List X) (site : ℕ) (s s' : X) (name : List ℕ) → site < length sets →
-    s ≡ get_or sets site s → f s' ≡ with_name (f s) name →
-    map f (set sets site s') ≡ set (map f sets) site (with_name (get_or (map f sets) site []) name)
+    s ≡ get_or sets site s → f s' ≡ added (f s) name →
+    map f (set sets site s') ≡ set (map f sets) site (added (get_or (map f sets) site []) name)
 kept_set f sets site s s' name within is new =
-    map-set f sets site s' ∙ ap (set (map f sets) site) (new ∙ ap (λ names. with_name names name) (sym (kept_at f sets site s within is)))
+    map-set f sets site s' ∙ ap (set (map f sets) site) (new ∙ ap (λ names. added names name) (sym (kept_at f sets site s within is)))
 
 -- the same, where the place is known by an equal number
 pub kept_set_at : {X : Type 0} (f : X → List (List ℕ)) (sets : List X) (site place : ℕ) (s s' : X) (name : List ℕ) → place ≡ site →
-    site < length sets → s ≡ get_or sets place s → f s' ≡ with_name (f s) name →
-    map f (set sets place s') ≡ set (map f sets) site (with_name (get_or (map f sets) site []) name)
+    site < length sets → s ≡ get_or sets place s → f s' ≡ added (f s) name →
+    map f (set sets place s') ≡ set (map f sets) site (added (get_or (map f sets) site []) name)
 kept_set_at f sets site place s s' name e within is new = rw e (kept_set f sets site s s' name within (rw e at is) new)
 
 -- where the first of the seen stands, the first of the items does

@@ -1,8 +1,6 @@
 -- What the code keeps beside the rows so far; no public clause cites it.
-use Rattle.std.specs.Prelude.{◌≡◌, ℕ, ◌+◌, ◌*◌, false, ◌<◌, ◌≤◌, ◌⊎◌, List, [], ◌∷◌, ◌++◌, length, map, slice_index_or, slice_set, Result, Ok, Err, Vec, true, if◌then◌else◌}
-use Rattle.std.specs.List.{list_any}
-use Rattle.std.specs.Str.{bytes_eq}
-use Rattle.std.specs.declared.alloc.Global.{Global}
+use Rattle.std.specs.Prelude.{◌≡◌, ℕ, ◌+◌, ◌*◌, false, ◌<◌, ◌≤◌, ◌⊎◌, List, [], ◌∷◌, ◌++◌, length, map, slice_index_or, slice_set, Result, Ok, Err, true}
+use Rattle.text_bytes.specs.Texts.{key_texts, added}
 use Rattle.plan_rows.specs.Rows.{dies_of, dies_at, lot_of, IsLot}
 use Rattle.first_fault.specs.Reading.{reading}
 use Rattle.plan_rows.specs.Limits.{last_site, most_dies, most_kept, last_bin}
@@ -23,14 +21,6 @@ use Rattle.plan_rows.specs.declared.fault.PlanFault.TheVariants.{NoMemory}
 abbrev pub IsAnswer : {A : Type 0} → Result A PlanFault → Result A PlanFault → Type 0
 IsAnswer (Ok x) wanted = wanted ≡ Ok x
 IsAnswer (Err e) wanted = (e ≡ NoMemory) ⊎ (wanted ≡ Err e)
-
--- the texts that own their numbers
-abbrev pub key_texts : List (Vec ℕ Global) → List (List ℕ)
-key_texts keys = map (λ k. k.items) keys
-
--- a name behind those that were there, once
-abbrev pub with_name : List (List ℕ) → List ℕ → List (List ℕ)
-with_name names name = if list_any (bytes_eq name) names then names else names ++ name ∷ []
 
 -- the names that are kept, site by site
 abbrev pub kept_names : DieTally → List (List (List ℕ))
@@ -118,7 +108,7 @@ abbrev pub Notes : DieTally → DieTally → Row → Type 0
 Notes old new (row.Lot l) = (new.lot ≡ l) × (new.dies ≡ old.dies) × (kept_names new ≡ kept_names old)
 Notes old new (row.Die d) = (new.lot ≡ old.lot) × (new.dies ≡ old.dies + 1)
     × (kept_names new
-    ≡ slice_set (kept_names old) d.site (with_name (slice_index_or (kept_names old) d.site []) d.name))
+    ≡ slice_set (kept_names old) d.site (added (slice_index_or (kept_names old) d.site []) d.name))
 Notes old new (row.Clock s) = new ≡ old
 Notes old new (row.Bind b) = new ≡ old
 Notes old new (row.Fault f) = new ≡ old

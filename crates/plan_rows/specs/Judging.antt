@@ -2,6 +2,7 @@
 use Rattle.std.specs.Prelude.{ℕ, ◌+◌, ◌*◌, ◌&&◌, ◌==◌, nat_lt, nat_le, pos, neg_ℤ, Bool, true, false, not, List, [], ◌∷◌, length, map, Option, Some, None, Result, Ok, Err, if◌then◌else◌}
 use Rattle.std.specs.List.{list_any, position}
 use Rattle.std.specs.Str.{bytes_eq}
+use Rattle.text_bytes.specs.Numbers.{is_within}
 use Rattle.first_fault.specs.Reading.{and_then, reading}
 use Rattle.plan_rows.specs.Limits.{last_site, most_dies, most_batch, most_tries, most_keep, most_kept, last_batch, most_skew, last_executive, last_bin}
 use Rattle.plan_rows.specs.Rows.{dies_of, dies_at, lot_of}
@@ -28,10 +29,6 @@ is_lot (a_skew site signal back size) = false
 -- the lot's own record is the first, and no other
 abbrev pub stands : List Row → Written → Bool
 stands before w = if length before == 0 then is_lot w else not (is_lot w)
-
--- a number within a range
-abbrev pub is_within : ℕ → ℕ → ℕ → Bool
-is_within low high number = nat_le low number && nat_le number high
 
 -- a lot's numbers within their ranges
 abbrev pub lot_fits : ℕ → ℕ → ℕ → Bool

@@ -1,7 +1,6 @@
 -- The rows of a plan as plain data: the lists that they make, and what accepted rows keep.
-use Rattle.std.specs.Prelude.{◌≡◌, ◌==◌, ◌+◌, ◌*◌, ◌&&◌, max, ℕ, ◌<◌, ◌≤◌, if◌then◌else◌, Option, Some, None, List, [], ◌∷◌, ◌++◌, length, filter, fold, slice_index_or, All, true}
-use Rattle.std.specs.List.{list_any}
-use Rattle.std.specs.Str.{bytes_eq}
+use Rattle.std.specs.Prelude.{◌≡◌, ◌==◌, ◌+◌, ◌*◌, ◌&&◌, max, ℕ, ◌<◌, ◌≤◌, Option, Some, None, List, [], ◌∷◌, ◌++◌, length, filter, fold, slice_index_or, All, true}
+use Rattle.text_bytes.specs.Texts.{added}
 use Rattle.plan_rows.specs.Limits.{last_site, most_dies, most_batch, most_tries, most_keep, most_kept, last_bin}
 use Rattle.plan_rows.specs.Words.{is_name}
 use Rattle.plan_rows.specs.declared.row.Row.{Row}
@@ -136,13 +135,9 @@ skews_at site rows = filter (λ k. k.site == site) (each_of as_skew rows)
 abbrev pub sites_of : List Row → ℕ
 sites_of rows = fold (λ most d. max most (d.site + 1)) 0 (dies_of rows)
 
--- a file behind those that were named, once
-abbrev pub with_file : List (List ℕ) → List ℕ → List (List ℕ)
-with_file files file = if list_any (bytes_eq file) files then files else files ++ file ∷ []
-
 -- the files of the dies in the order in which they are first named, each once
 abbrev pub files_of : List Row → List (List ℕ)
-files_of rows = fold (λ files d. with_file files d.file) [] (dies_of rows)
+files_of rows = fold (λ files d. added files d.file) [] (dies_of rows)
 
 -- the lot's own row: the first; zeros where there is none
 abbrev pub lot_of : List Row → LotRow

@@ -3,7 +3,8 @@
 ghost use Rattle.std.specs.Prelude.{◌≡◌, ◌+◌, ◌*◌, ◌<◌, ◌≤◌, ◌^◌, nat_lt, nat_le, ◌&&◌, [], length, All, slice_index_or, slice_set, option_map, OnOk, IfOk};
 ghost use Rattle.std.specs.List.{position};
 ghost use Rattle.std.specs.Str.{bytes_eq};
-ghost use Rattle.plan_rows.specs.Inside.{kept_names, key_texts, with_name, IsTally, HasPlace, Notes};
+ghost use Rattle.text_bytes.specs.Texts.{key_texts, added};
+ghost use Rattle.plan_rows.specs.Inside.{kept_names, IsTally, HasPlace, Notes};
 
 use crate::row::{DieRow, LotRow, Row};
 use indexmap::IndexSet;
@@ -28,7 +29,7 @@ pub(crate) struct DieTally {
 
 /// Puts a name behind the others, unless it is one of them.
 fn put_name(alloc: Global, names: &mut IndexSet<Vec<u8>>, name: &[u8]) -> Result<(), AllocError>
-    ensures { OnOk result (key_texts names.new.keys ≡ with_name (key_texts names.old.keys) name.now) }
+    ensures { OnOk result (key_texts names.new.keys ≡ added (key_texts names.old.keys) name.now) }
 {
     if names.contains(name) {
         return Ok(());
@@ -101,7 +102,7 @@ impl DieTally {
         ensures dies { OnOk result (self.new.dies ≡ self.old.dies + 1) }
         ensures names { OnOk result (kept_names self.new
             ≡ slice_set (kept_names self.old) die.now.site
-            (with_name (slice_index_or (kept_names self.old) die.now.site []) die.now.name)) }
+            (added (slice_index_or (kept_names self.old) die.now.site []) die.now.name)) }
     {
         put_name(
             alloc,

@@ -1,6 +1,7 @@
 //! The signals at which chains end.
 
 ghost use Rattle.std.specs.Prelude.{◌≡◌, ◌<◌, ◌≤◌, ◌^◌, ◌++◌, ◌∷◌, ℕ, List, filter, IfOk, OnOk};
+ghost use Rattle.text_bytes.specs.Limits.{most_signals};
 ghost use Rattle.stil_ast.specs.Data.Texts.{upwards};
 ghost use Rattle.scan_chain.specs.Held.{chains_in, is_end};
 
@@ -36,7 +37,7 @@ pub(crate) fn ends_among(
     chains: &[ScanChain],
     count: usize,
 ) -> Result<Vec<u16>, AllocError>
-    requires { count ≤ 1024 }
+    requires { count ≤ most_signals }
     ensures { IfOk result (λ ends. ends.items ≡ filter (is_end (chains_in chains.now)) (upwards 0 count)) }
 {
     let mut ends = Vec::new(alloc);

@@ -2,6 +2,7 @@
 use Rattle.std.specs.Prelude.{◌≡◌, ℕ, List, [], ◌∷◌, ◌++◌, Vec, Option, Some, None, Result, Ok, Err, nat_le, nat_lt, length, map, if◌then◌else◌}
 use Rattle.std.specs.List.{list_any}
 use Rattle.std.specs.declared.alloc.Global.{Global}
+use Rattle.text_bytes.specs.Limits.{longest_name, most_signals}
 use Rattle.text_bytes.specs.Texts.{key_texts}
 use Rattle.first_fault.specs.Reading.{stepping}
 use Rattle.stil_ast.specs.Data.Texts.{same}
@@ -49,8 +50,8 @@ with_signal b s = record {
 abbrev pub signal_said : Begun → Signal → Result Begun StilFault
 signal_said b s =
     if list_any (λ t. same t s.text) b.texts then Err (fault_at s.place Twice)
-    else if nat_le (length s.text) 1024 then
-    (if nat_lt (length b.texts) 1024 then Ok (with_signal b s) else Err (fault_at s.place OutOfRange))
+    else if nat_le (length s.text) longest_name then
+    (if nat_lt (length b.texts) most_signals then Ok (with_signal b s) else Err (fault_at s.place OutOfRange))
     else Err (fault_at s.place OutOfRange)
 
 -- a group's name is taken, or refused

@@ -2,6 +2,7 @@
 
 ghost use Rattle.std.specs.Prelude.{◌≡◌, ◌++◌, if◌then◌else◌, is_some, slice_index_or, ◌<◌, ◌≤◌, ◌^◌, ℕ, List, [], ◌∷◌, None, length, slice_index, All, IfOk, OnOk};
 ghost use Rattle.std.specs.List.{list_any, filter_map, list_all};
+ghost use Rattle.text_bytes.specs.Limits.{most_signals};
 ghost use Rattle.stil_ast.specs.Data.Texts.{indices, indexed};
 ghost use Rattle.stil_ast.specs.Meaning.Members.{is_based_on};
 ghost use Rattle.signal_groups.specs.Lexed.{name_ref};
@@ -107,7 +108,7 @@ fn add_based(
     signal: usize,
 ) -> Result<(), AllocError>
     requires within { signal < length table.now.texts }
-    requires few { length table.now.texts ≤ 1024 }
+    requires few { length table.now.texts ≤ most_signals }
     ensures { OnOk result (found.new.items ≡ (if is_based_on name.now (slice_index_or table.now.bases signal None)
         then found.old.items ++ signal ∷ [] else found.old.items)) }
 {

@@ -1,6 +1,7 @@
 //! What is known of the signals and groups of a text.
 
 ghost use Rattle.std.specs.Prelude.{◌≡◌, ◌<◌, ◌≤◌, ℕ, [], None, Some, IfSome, IfOk, All, length, slice_get, slice_index_or, slice_set};
+ghost use Rattle.text_bytes.specs.Limits.{most_signals};
 ghost use Rattle.stil_ast.specs.Meaning.Signals.{Names};
 ghost use Rattle.stil_ast.specs.Meaning.Members.{is_based_on, reference_kind, members};
 ghost use Rattle.signal_groups.specs.Table.{IsSound, table_of, with_members};
@@ -49,7 +50,7 @@ impl SignalTable {
     /// How many signals there are, at most 1,024.
     pub fn count(&self) -> usize
         ensures count { result ≡ length self.now.texts }
-        ensures few { result ≤ 1024 }
+        ensures few { result ≤ most_signals }
     {
         self.texts.len()
     }

@@ -1,3 +1,4 @@
+pub mod SampleDie
 mod StandardFacts
 pub mod AllLemmas
 pub mod PlayedLemmas

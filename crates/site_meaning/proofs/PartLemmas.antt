@@ -7,6 +7,7 @@ use Rattle.std.specs.Str.{bytes_eq}
 use Rattle.std.specs.Cmp.Lexicographic.{bytes_decides}
 use Rattle.std.proofs.lemmas.Bool.{false≢true, or_left, or_right}
 use Rattle.std.proofs.lemmas.List.FromFn.{get_or-map-range_with_len}
+use Rattle.text_bytes.specs.Texts.{added}
 use Rattle.bench_net.specs.Circuit.{Circuit}
 use Rattle.die_sim.specs.declared.image.Binding.{Binding}
 use Rattle.page_code.specs.Program.{Program}
@@ -18,7 +19,7 @@ use Rattle.plan_rows.specs.declared.row.DieRow.{DieRow}
 use Rattle.plan_rows.specs.declared.row.BindRow.{BindRow}
 use Rattle.plan_rows.specs.declared.row.FaultRow.{FaultRow}
 use Rattle.plan_rows.specs.declared.row.StopRow.{StopRow}
-use Rattle.plan_rows.specs.Rows.{dies_of, dies_at, faults_at, files_of, with_file, lot_of, each_of, as_clock, as_bind}
+use Rattle.plan_rows.specs.Rows.{dies_of, dies_at, faults_at, files_of, lot_of, each_of, as_clock, as_bind}
 use Rattle.lot_plan.specs.Needs.{PinNeed, role_of, is_clock_name, has_name}
 use Rattle.lot_plan.specs.Binds.{binds_of, list_of}
 use Rattle.lot_plan.specs.Bound.{Bound, no_circuit, die_at, circuit_of, binding_to, numbered, loaded, image_of, stop_of}
@@ -115,23 +116,23 @@ file_found g n (k ∷ ks) there =
 
 -- the files that dies name
 abbrev named : List (List ℕ) → List DieRow → List (List ℕ)
-named files dies = fold (λ names d. with_file names d.file) files dies
+named files dies = fold (λ names d. added names d.file) files dies
 
 still_there : (dies : List DieRow) (files : List (List ℕ)) (n : List ℕ) → list_any (bytes_eq n) files ≡ true
     → list_any (bytes_eq n) (named files dies) ≡ true
 still_there [] files n there = there
 still_there (d ∷ dies) files n there =
-    still_there dies (with_file files d.file) n
+    still_there dies (added files d.file) n
     (any-with_file files d.file n ∙ or_left (list_any (bytes_eq n) files) (bytes_eq n d.file) there)
 
 all_there : (dies : List DieRow) (files : List (List ℕ))
     → AllByRecursion (λ (d : DieRow). list_any (bytes_eq d.file) (named files dies) ≡ true) dies
 all_there [] files = tt
 all_there (d ∷ dies) files = (
-  still_there dies (with_file files d.file) d.file
+  still_there dies (added files d.file) d.file
       (any-with_file files d.file d.file
       ∙ or_right (list_any (bytes_eq d.file) files) (bytes_eq d.file d.file) ((bytes_decides d.file d.file).1 refl)),
-  all_there dies (with_file files d.file),
+  all_there dies (added files d.file),
 )
 
 -- no die

@@ -9,7 +9,6 @@ use Rattle.tester_types.specs.declared.signal.Direction.TheVariants as direction
 use Rattle.tester_types.specs.declared.wave.Push.TheVariants as push
 use Rattle.tester_types.specs.declared.wave.Look.{Look}
 use Rattle.tester_types.specs.declared.wave.Look.TheVariants as look
-use Rattle.tester_types.specs.declared.wave.Act.{Act}
 use Rattle.tester_types.specs.declared.wave.Act.TheVariants as act
 use Rattle.tester_types.specs.declared.wave.Wave.{Wave}
 use Rattle.tester_types.specs.declared.record.By.TheVariants as by
@@ -34,38 +33,9 @@ use Rattle.site_meaning.specs.Trials.{played, after_cycles, fails_in, pieces, tr
 use Rattle.site_meaning.specs.Records.{cut_at, tries_from, records}
 use Rattle.site_meaning.specs.Counting.{batch_at, polls_in}
 use Rattle.site_meaning.specs.Polls.{Seat, first_seat, with_word, with_none_waiting, next_exec, onward, arrived, next_cycles, next_played, after_batch, settled, run_batch, before_batch, with_trial, poll}
+use Rattle.site_meaning.proofs.SampleDie.{inverter, wave, program}
 
 -- ---- an inverter
-
--- an input A, and Y = NOT(A)
-abbrev inverter : Circuit
-inverter = record {
-  net = record {
-    names = codes "A" ∷ codes "Y" ∷ [];
-    drivers = driver.Input ∷ driver.Gate gate.Not (0 ∷ []) ∷ [];
-    outputs = false ∷ true ∷ [];
-  };
-  order = 1 ∷ [];
-  readers = (1 ∷ []) ∷ [] ∷ [];
-}
-
--- a wave of one event
-abbrev wave : ℕ → ℕ → ℕ → Act → Wave
-wave signal letter time what = record { signal = signal; letter = letter; events = record { time = time; act = what } ∷ [] }
-
--- A is driven down by 0 and up by 1; Y is looked at after 40 ns: A=0 Y=H, then A=1 Y=L
-abbrev program : Program
-program = record {
-  signals = record { name = codes "A"; direction = direction.In } ∷ record { name = codes "Y"; direction = direction.Out } ∷ [];
-  tables = record {
-    name = codes "w";
-    period = 100000000;
-    waves = wave 0 48 0 (act.Push push.Down) ∷ wave 0 49 0 (act.Push push.Up)
-        ∷ wave 1 72 40000000 (act.Look look.High) ∷ wave 1 76 40000000 (act.Look look.Low) ∷ [];
-  } ∷ [];
-  rows = (48 ∷ 72 ∷ []) ∷ (49 ∷ 76 ∷ []) ∷ [];
-  execs = record { name = []; chains = []; instrs = Run 0 0 0 1 ∷ Run 0 1 0 1 ∷ Done ∷ [] } ∷ [];
-}
 
 -- a plan of a die at site 0, with a lot of these numbers and these rows behind
 abbrev plan : ℕ → ℕ → List Row → Bound

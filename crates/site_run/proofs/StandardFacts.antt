@@ -1,16 +1,11 @@
 -- Known facts, computed from the definitions: what tries and polls of a small die put on a tape.
-use Rattle.std.proofs.Common.{◌≡◌, ℕ, false, true, List, [], ◌∷◌, None, refl}
+use Rattle.std.proofs.Common.{◌≡◌, ℕ, List, [], ◌∷◌, None, refl}
 use Rattle.std.specs.Prelude.{codes}
-use Rattle.bench_net.specs.Circuit.{Circuit}
-use Rattle.bench_net.specs.declared.gate.Driver.TheVariants as driver
-use Rattle.bench_net.specs.declared.gate.GateKind.TheVariants as gate
 use Rattle.tester_types.specs.declared.signal.Direction.TheVariants as direction
 use Rattle.tester_types.specs.declared.level.Drive.TheVariants as drive
 use Rattle.tester_types.specs.declared.wave.Push.TheVariants as push
 use Rattle.tester_types.specs.declared.wave.Look.TheVariants as look
-use Rattle.tester_types.specs.declared.wave.Act.{Act}
 use Rattle.tester_types.specs.declared.wave.Act.TheVariants as act
-use Rattle.tester_types.specs.declared.wave.Wave.{Wave}
 use Rattle.tester_types.specs.declared.record.Trial.{Trial}
 use Rattle.tester_types.specs.declared.record.Verdict.{Verdict}
 use Rattle.tester_types.specs.declared.record.Verdict.TheVariants as verdict
@@ -31,24 +26,9 @@ use Rattle.site_meaning.specs.Polls.{first_seat, with_word, next_exec, onward, a
 use Rattle.site_run.specs.Tape.{calls_in}
 use Rattle.site_run.specs.Batch.{calls_of_cycles}
 use Rattle.site_run.specs.Taped.{all_cycles, calls_of_try, calls_of, calls_of_batch, calls_of_next, calls_of_poll, calls_before, calls_until}
+use Rattle.site_meaning.proofs.SampleDie.{inverter, wave}
 
 -- ---- an inverter
-
--- an input A, and Y = NOT(A)
-abbrev inverter : Circuit
-inverter = record {
-  net = record {
-    names = codes "A" ∷ codes "Y" ∷ [];
-    drivers = driver.Input ∷ driver.Gate gate.Not (0 ∷ []) ∷ [];
-    outputs = false ∷ true ∷ [];
-  };
-  order = 1 ∷ [];
-  readers = (1 ∷ []) ∷ [] ∷ [];
-}
-
--- a wave of one event
-abbrev wave : ℕ → ℕ → ℕ → Act → Wave
-wave signal letter time what = record { signal = signal; letter = letter; events = record { time = time; act = what } ∷ [] }
 
 -- Two executives of one cycle, and one without any between them: A is driven up by 1, and by P to its last Down or Up;
 -- Y is looked at after 40 ns.

@@ -1,6 +1,7 @@
 //! What goes along with a try: the checker, the last Down or Up of each signal, and room for a moment.
 
 ghost use Rattle.std.specs.Prelude.{◌≡◌, ◌≤◌, [], map, length, replicate, IfOk};
+ghost use Rattle.text_bytes.specs.Limits.{most_signals};
 ghost use Rattle.tester_types.specs.declared.level.Drive.TheVariants as drive;
 ghost use Rattle.tester_types.specs.declared.level.Level.TheVariants as level;
 ghost use Rattle.die_sim.specs.Die.{device_of};
@@ -55,7 +56,7 @@ impl Bench {
     /// What goes along from the first moment on.
     pub fn new(alloc: Global, image: &DieImage, signals: u16, keep: u16) -> Result<Bench, NoMemory>
         requires count { signals ≡ length image.now.binds }
-        requires few { signals ≤ 1024 }
+        requires few { signals ≤ most_signals }
         ensures checker { IfOk result (λ bench. HasSeen (closed_with (device_of image.now) keep []) bench.checker) }
         ensures last { IfOk result (λ bench. bench.last.items ≡ replicate signals drive.Unknown) }
         ensures levels { IfOk result (λ bench. length bench.levels.items ≡ signals) }

@@ -1,6 +1,7 @@
 //! One cycle at a socket.
 
 ghost use Rattle.std.specs.Prelude.{◌≡◌, ◌≤◌, ◌<◌, ◌^◌, map, length, All, OnOk, IfErr};
+ghost use Rattle.text_bytes.specs.Limits.{most_signals};
 ghost use Rattle.page_code.specs.Conditions.{IsProgram};
 ghost use Rattle.page_code.specs.Walk.{IsOf};
 ghost use Rattle.bench_net.specs.Circuit.{IsWhole};
@@ -27,7 +28,7 @@ fn make_all<K: Socket>(
     moments: &[Moment],
 ) -> Result<(), Stop>
     requires whole { IsWhole image.now.circuit }
-    requires few { length image.now.binds ≤ 1024 }
+    requires few { length image.now.binds ≤ most_signals }
     requires early { place.start < 2 ^ 127 }
     requires moments { All (IsScheduled (length image.now.binds)) moments.now }
     requires room { FitsBench (length image.now.binds) bench.old.last.items bench.old.levels.items }

@@ -1,6 +1,7 @@
 //! The moments of a cycle, one after another.
 
 ghost use Rattle.std.specs.Prelude.{◌≡◌, ◌≤◌, ◌<◌, ◌^◌, [], ◌∷◌, map, length, All, OnOk, IfErr};
+ghost use Rattle.text_bytes.specs.Limits.{most_signals};
 ghost use Rattle.bench_net.specs.Circuit.{IsWhole};
 ghost use Rattle.edge_gen.specs.Moments.{later};
 ghost use Rattle.die_sim.specs.Die.{device_of};
@@ -24,7 +25,7 @@ fn make_held<K: Socket>(
     place: Place,
 ) -> Result<(), Stop>
     requires whole { IsWhole image.now.circuit }
-    requires few { length image.now.binds ≤ 1024 }
+    requires few { length image.now.binds ≤ most_signals }
     requires moment { IsMomentOf (length image.now.binds) bench.old.moment }
     requires room { FitsBench (length image.now.binds) bench.old.last.items bench.old.levels.items }
     requires ready { IsReady (device_of image.now)
@@ -77,7 +78,7 @@ fn make_moment<K: Socket>(
     moment: &Moment,
 ) -> Result<(), Stop>
     requires whole { IsWhole image.now.circuit }
-    requires few { length image.now.binds ≤ 1024 }
+    requires few { length image.now.binds ≤ most_signals }
     requires early { place.start < 2 ^ 127 }
     requires moment { IsScheduled (length image.now.binds) moment.now }
     requires room { FitsBench (length image.now.binds) bench.old.last.items bench.old.levels.items }
@@ -112,7 +113,7 @@ pub(crate) fn make_moments<K: Socket>(
     moments: &[Moment],
 ) -> Result<(), Stop>
     requires whole { IsWhole image.now.circuit }
-    requires few { length image.now.binds ≤ 1024 }
+    requires few { length image.now.binds ≤ most_signals }
     requires early { place.start < 2 ^ 127 }
     requires moments { All (IsScheduled (length image.now.binds)) moments.now }
     requires room { FitsBench (length image.now.binds) bench.old.last.items bench.old.levels.items }

@@ -1,6 +1,7 @@
 //! What a moment does at the socket: it drives the die, and senses what the checker wants.
 
 ghost use Rattle.std.specs.Prelude.{◌≡◌, ◌≢◌, ◌≤◌, [], length, OnOk, OnErr};
+ghost use Rattle.text_bytes.specs.Limits.{most_nets};
 ghost use Rattle.tester_types.specs.Outside.{HasRisen};
 ghost use Rattle.die_sim.specs.Socket.{CanDrive, Moves};
 ghost use Rattle.site_run.specs.Tape.{call_at, with_calls};
@@ -41,7 +42,7 @@ pub(crate) fn sense_wanted<K: Socket>(
     moment: &Moment,
     levels: &mut Vec<Level>,
 ) -> Result<(), Contact>
-    requires few { length levels.old.items ≤ 65536 }
+    requires few { length levels.old.items ≤ most_nets }
     requires checked { IsCheckedBy (K.told socket.old).loaded checker.now }
     ensures levels { OnOk result (AreLevels (K.told socket.old) checker.now moment.now
         (length levels.old.items) levels.new.items) }

@@ -3,7 +3,6 @@ use Rattle.std.specs.Prelude.{ℕ, Bool, List, map}
 use Rattle.std.specs.Borrow.{Bor}
 use Rattle.std.specs.List.{list_any}
 use Rattle.std.specs.Str.{bytes_eq}
-use Rattle.indexmap.specs.IndexSet.{IndexSet, keys}
 
 -- words without where they lie in memory
 abbrev pub words_of : List (Bor (List ℕ)) → List (List ℕ)
@@ -12,7 +11,3 @@ words_of words = map (λ (w : Bor (List ℕ)). w.now) words
 -- a word is among these
 abbrev pub is_listed : List (List ℕ) → List ℕ → Bool
 is_listed words word = list_any (λ listed. bytes_eq listed word) words
-
--- a word is in an index
-abbrev pub is_kept : {S : Type 0} → IndexSet (Bor (List ℕ)) S → List ℕ → Bool
-is_kept index word = list_any (λ (k : Bor (List ℕ)). bytes_eq word k.now) (keys index)

@@ -6,7 +6,9 @@ ghost use Rattle.std.specs.List.{list_any};
 ghost use Rattle.std.specs.Str.{bytes_eq};
 ghost use Rattle.stil_form.specs.Lexeme.{lexemes};
 ghost use Rattle.stil_form.specs.Reading.{is_skipped};
-ghost use Rattle.stil_form.specs.Skipping.{is_kept, is_listed, words_of};
+ghost use Rattle.text_bytes.specs.Texts.{is_among};
+ghost use Rattle.indexmap.specs.IndexSet.{keys};
+ghost use Rattle.stil_form.specs.Skipping.{is_listed, words_of};
 
 use crate::part::Part;
 use crate::source::{Source, first_part};
@@ -29,13 +31,15 @@ pub struct Words<'a> {
 impl<'a> Model for Words<'a> {
     ghost use Rattle.std.specs.Prelude.{◌≡◌, ℕ, List, map};
     ghost use Rattle.std.specs.Borrow.{Bor};
-    ghost use Rattle.stil_form.specs.Skipping.{is_kept, is_listed, words_of};
+    ghost use Rattle.text_bytes.specs.Texts.{is_among};
+    ghost use Rattle.indexmap.specs.IndexSet.{keys};
+    ghost use Rattle.stil_form.specs.Skipping.{is_listed, words_of};
 
     ghost Value = { List (List ℕ) };
 
     ghost view = { λ w. words_of w.words.items };
 
-    ghost invariant = { λ w. (word : List ℕ) → is_kept w.index word ≡ is_listed (words_of w.words.items) word };
+    ghost invariant = { λ w. (word : List ℕ) → is_among (keys w.index) word ≡ is_listed (words_of w.words.items) word };
 }
 
 impl<'a> Words<'a> {
@@ -106,14 +110,14 @@ fn is_listed(words: &[&[u8]], word: &[u8]) -> bool
 }
 
 fn is_kept(index: &IndexSet<&[u8]>, word: &[u8]) -> bool
-    ensures { result ≡ is_kept index.now word.now }
+    ensures { result ≡ is_among (keys index.now) word.now }
 {
     index.contains(word)
 }
 
 fn add_word<'a>(index: &mut IndexSet<&'a [u8]>, word: &'a [u8]) -> Result<(), AllocError>
     ensures { OnOk result ((other : List ℕ) →
-        is_kept index.new other ≡ (is_kept index.old other || bytes_eq word.now other)) }
+        is_among (keys index.new) other ≡ (is_among (keys index.old) other || bytes_eq word.now other)) }
 {
     index.insert(word)?;
     Ok(())

@@ -14,12 +14,13 @@ use Rattle.stil_program.specs.Program.{IsTextFault}
 use Rattle.stil_tool.specs.Offline.{IsListed, HasTooMany}
 use Rattle.stil_tool.specs.TextListing.{text_listing, signal_names}
 use Rattle.std.specs.Prelude.{Some}
+use Rattle.text_bytes.specs.Limits.{most_listed}
 
 -- up to this executive there are more than 65,536 cycles, and before it there aren't
 pub record Crosses (code : Program) (exec : ℕ) : Type 0 where
   pub within : exec < length code.execs
-  pub before : cycles_among (take exec code.execs) ≤ 65536
-  pub beyond : 65536 < cycles_among (take (exec + 1) code.execs)
+  pub before : cycles_among (take exec code.execs) ≤ most_listed
+  pub beyond : most_listed < cycles_among (take (exec + 1) code.execs)
 
 -- a code lists what its text does, which isn't too much
 pub record IsListedCode (bytes : List ℕ) (code : Program) : Type 0 where
@@ -27,7 +28,7 @@ pub record IsListedCode (bytes : List ℕ) (code : Program) : Type 0 where
   pub listed : IsListed bytes blocks
   pub listing : listing_of code ≡ text_listing blocks
   pub names : names_of code ≡ signal_names blocks
-  pub few : length (cycles_in (listing_of code)) ≤ 65536
+  pub few : length (cycles_in (listing_of code)) ≤ most_listed
 
 -- why a text isn't listed
 abbrev pub IsListRefused : List ℕ → StilRefusal → Type 0

@@ -2,6 +2,7 @@
 use Rattle.std.specs.Prelude.{◌≡◌, ℕ, ◌<◌, ◌≤◌, List, [], ◌∷◌, ◌++◌, Option, Some, None, map, length, codes, decimal, ◌⊎◌, String, string_bytes}
 use Rattle.std.specs.Option.{option_map_or}
 use Rattle.std.specs.declared.alloc.Global.{Global}
+use Rattle.text_bytes.specs.Limits.{most_bytes}
 use Rattle.tester_types.specs.Outside.{HasRisen, gained, GainsFront, Files, TellsFile, LacksFile, file_of}
 use Rattle.tester_types.specs.Printing.{printed_name, printed_title}
 use Rattle.stil_ast.specs.Data.KindName.{kind_name}
@@ -38,7 +39,7 @@ AreOf words command file = words ≡ command_word command ∷ file ∷ []
 
 -- the most bytes that a file may have
 abbrev pub limit : ℕ
-limit = 16777216
+limit = most_bytes
 
 -- what is written where the words are none of the forms
 abbrev pub usage_line : List ℕ

@@ -1,6 +1,7 @@
 //! The commands that need no tester: what each answers, and the line of each refusal.
 
 ghost use Rattle.std.specs.Prelude.{◌≡◌, ◌≤◌, ℕ, List, length};
+ghost use Rattle.text_bytes.specs.Limits.{most_bytes};
 ghost use Rattle.page_code.specs.Conditions.{IsProgram};
 ghost use Rattle.stil_tool.specs.Offline.{words_seen, saved_form, Answers, Ends, Wants, FileWants, BytesWant, IsFine, IsDone};
 ghost use Rattle.stil_tool.specs.declared.status.Status.TheVariants.{Done};
@@ -16,9 +17,10 @@ use page_code::{Code, save, saved_len};
 use std::alloc::Global;
 use stil_program::program;
 use tester_types::{Piece, Shelf, ShelfFault, Sink};
+use text_bytes::MOST_BYTES;
 
 /// The most bytes that a file may have.
-pub const LIMIT: usize = 16_777_216;
+pub const LIMIT: usize = MOST_BYTES;
 
 /// Runs a command that needs no tester on a STIL text: `check FILE` prints the numbers of its code, `cycles FILE` its dated
 /// cycles, `events FILE` the moments of its cycles, and `save FILE` writes its code as a saved program. The words, the file
@@ -92,7 +94,7 @@ fn run_text<K: Sink>(
     bytes: &[u8],
     out: &mut K,
 ) -> Status
-    requires { length bytes.now ≤ 16777216 }
+    requires { length bytes.now ≤ most_bytes }
     ensures answers { Answers (BytesWant command file.now bytes.now)
         (K.told out.old) (K.faults out.old) result (K.told out.new) (K.faults out.new) }
     ensures puts { K.faults out.old ≤ K.faults out.new }
@@ -107,7 +109,7 @@ fn run_text<K: Sink>(
 
 /// Prints the numbers of a text's code.
 fn check<K: Sink>(alloc: Global, bytes: &[u8], out: &mut K) -> Status
-    requires { length bytes.now ≤ 16777216 }
+    requires { length bytes.now ≤ most_bytes }
     ensures answers { (file : List ℕ) → Answers (BytesWant Check file bytes.now)
         (K.told out.old) (K.faults out.old) result (K.told out.new) (K.faults out.new) }
     ensures puts { K.faults out.old ≤ K.faults out.new }
@@ -123,7 +125,7 @@ fn check<K: Sink>(alloc: Global, bytes: &[u8], out: &mut K) -> Status
 
 /// Prints the dated cycles of a text.
 fn cycles<K: Sink>(alloc: Global, bytes: &[u8], out: &mut K) -> Status
-    requires { length bytes.now ≤ 16777216 }
+    requires { length bytes.now ≤ most_bytes }
     ensures answers { (file : List ℕ) → Answers (BytesWant Cycles file bytes.now)
         (K.told out.old) (K.faults out.old) result (K.told out.new) (K.faults out.new) }
     ensures puts { K.faults out.old ≤ K.faults out.new }
@@ -141,7 +143,7 @@ fn cycles<K: Sink>(alloc: Global, bytes: &[u8], out: &mut K) -> Status
 
 /// Prints the moments of a text's cycles.
 fn events<K: Sink>(alloc: Global, bytes: &[u8], out: &mut K) -> Status
-    requires { length bytes.now ≤ 16777216 }
+    requires { length bytes.now ≤ most_bytes }
     ensures answers { (file : List ℕ) → Answers (BytesWant Events file bytes.now)
         (K.told out.old) (K.faults out.old) result (K.told out.new) (K.faults out.new) }
     ensures puts { K.faults out.old ≤ K.faults out.new }
@@ -159,7 +161,7 @@ fn events<K: Sink>(alloc: Global, bytes: &[u8], out: &mut K) -> Status
 
 /// Writes a text's code as a saved program.
 fn save_text<K: Sink>(alloc: Global, file: &str, bytes: &[u8], out: &mut K) -> Status
-    requires { length bytes.now ≤ 16777216 }
+    requires { length bytes.now ≤ most_bytes }
     ensures answers { Answers (BytesWant Save file.now bytes.now)
         (K.told out.old) (K.faults out.old) result (K.told out.new) (K.faults out.new) }
     ensures puts { K.faults out.old ≤ K.faults out.new }

@@ -1,6 +1,7 @@
 //! Texts with few enough cycles to be printed one by one.
 
 ghost use Rattle.std.specs.Prelude.{◌≡◌, ◌<◌, ◌≤◌, ℕ, IfOk, IfErr, IfSome, IfNone, length};
+ghost use Rattle.text_bytes.specs.Limits.{most_listed, most_bytes};
 ghost use Rattle.stil_ast.specs.Faults.Found.{fault_at};
 ghost use Rattle.stil_ast.specs.Faults.BurstFaults.{exec_place};
 ghost use Rattle.stil_ast.specs.declared.fault.StilKind.TheVariants.{TooManyCycles};
@@ -12,14 +13,12 @@ use std::alloc::{AllocError, Global};
 use stil_ast::{StilFault, StilKind, StilRefusal};
 use stil_program::{CompiledText, compiled};
 use tester_types::Text;
-
-/// The most cycles that are printed one by one.
-const MOST_LISTED: u64 = 65_536;
+use text_bytes::MOST_LISTED;
 
 /// The first executive up to which a code has more cycles than are printed.
 fn crossing(code: &Code) -> Option<u16>
     ensures found { IfSome result (Crosses code.now) }
-    ensures none { IfNone result (cycles_among code.now.execs ≤ 65536) }
+    ensures none { IfNone result (cycles_among code.now.execs ≤ most_listed) }
 {
     let _conditions = code.signals();
     let mut total: u64 = 0;
@@ -64,7 +63,7 @@ fn refusal_at(alloc: Global, text: &CompiledText, exec: u16) -> StilRefusal
 
 /// The code of a text with at most 65,536 cycles, or why the text is refused.
 pub(crate) fn listed_code(alloc: Global, bytes: &[u8]) -> Result<Code, StilRefusal>
-    requires { length bytes.now ≤ 16777216 }
+    requires { length bytes.now ≤ most_bytes }
     ensures found { IfOk result (IsListedCode bytes.now) }
     ensures refused { IfErr result (IsListRefused bytes.now) }
 {

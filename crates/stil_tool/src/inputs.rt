@@ -3,6 +3,7 @@
 ghost use Rattle.std.specs.Prelude.{◌≡◌, ◌≤◌, ◌++◌, ◌∷◌, [], true, IfOk, IfErr, OnOk, length, map};
 ghost use Rattle.std.specs.Arc.{arc_value};
 ghost use Rattle.std.specs.List.{list_all};
+ghost use Rattle.text_bytes.specs.Limits.{most_bytes};
 ghost use Rattle.text_bytes.specs.Bytes.{is_printing};
 ghost use Rattle.plan_rows.specs.Rows.{files_of};
 ghost use Rattle.page_code.specs.Saved.{Saved};
@@ -46,7 +47,7 @@ fn load<F: Shelf>(alloc: Global, file: &str, shelf: &mut F) -> Result<Vec<u8>, R
 
 /// The code of a text, or why it has none.
 fn text_code(alloc: Global, bytes: &[u8]) -> Result<Code, Refusal>
-    requires few { length bytes.now ≤ 16777216 }
+    requires few { length bytes.now ≤ most_bytes }
     ensures found { IfOk result (IsProgramOf bytes.now) }
     ensures refused { IfErr result (IsTextRefusal bytes.now) }
 {

@@ -49,7 +49,8 @@ begun os o done next start =
 pub finished : (os : List Open) (o : Open) (done now : List Entry) (next : ℕ) → Stand (o ∷ os) (length done) →
     now ≡ take o.start done ++ record { first = o.first; count = o.count; body = Some (trees_from (drop o.start done)) } ∷ [] →
     going (frames os now) (trees_from (level os now)) next
-    ≡ going (frames os (take o.start done)) (join (trees_from (level os (take o.start done))) (block o.first o.count (trees_from (level (o ∷ os) done)) end)) next
+    ≡ going (frames os (take o.start done))
+    (join (trees_from (level os (take o.start done))) (block o.first o.count (trees_from (level (o ∷ os) done)) end)) next
 finished os o done now next stand is =
     let before = take o.start done in
     let e : Entry = record { first = o.first; count = o.count; body = Some (trees_from (drop o.start done)) } in

@@ -1,5 +1,5 @@
--- The grammar of statements (the block structure of IEEE 1450-1999): a list of head tokens that `;` ends, or with a block
--- in braces.
+-- The grammar of statements (the block structure of IEEE 1450-1999): a list of head tokens that `;` ends, or with a
+-- block in braces.
 use Rattle.std.specs.Prelude.{◌≡◌, ℕ, suc, ◌+◌, ◌<◌, true, false, List, [], ◌∷◌, ◌++◌, length}
 use Rattle.std.specs.List.{list_any}
 use Rattle.stil_lex.specs.declared.token.Token.{Token}

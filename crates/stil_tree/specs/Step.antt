@@ -24,8 +24,8 @@ pub record Frame : Type 0 where
 abbrev pub brace_of : Frame → ℕ
 brace_of f = f.first + f.count
 
--- the open blocks, the innermost first, the statements done in the innermost, and where its unfinished head begins; or a
--- fault
+-- the open blocks, the innermost first, the statements done in the innermost, and where its unfinished head begins; or
+-- a fault
 pub data State : Type 0 where
   going : List Frame → Trees → ℕ → State
   failed : TreeFault → State

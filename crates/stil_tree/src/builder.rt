@@ -67,7 +67,11 @@ fn close(done: &mut Vec<Stmt>, block: &Open) -> Result<(), AllocError>
     requires { block.now.start ≤ length done.old.items }
     ensures { OnOk result (map entry_of done.new.items
         ≡ take block.now.start (map entry_of done.old.items)
-        ++ record { first = block.now.first; count = block.now.count; body = Some (trees_from (drop block.now.start (map entry_of done.old.items))) } ∷ []) }
+        ++ record {
+          first = block.now.first;
+          count = block.now.count;
+          body = Some (trees_from (drop block.now.start (map entry_of done.old.items)));
+        } ∷ []) }
 {
     let body = done.split_off(block.start)?;
     done.push(Stmt {

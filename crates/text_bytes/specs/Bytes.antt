@@ -16,7 +16,8 @@ begins_name b = (nat_le 0x61 b && nat_le b 0x7A) || (nat_le 0x41 b && nat_le b 0
 -- a letter, a digit or the low line
 unfoldable pub is_word : ℕ → Bool
 is_word b =
-    (nat_le 0x61 b && nat_le b 0x7A) || (nat_le 0x41 b && nat_le b 0x5A) || (nat_le 0x30 b && nat_le b 0x39) || b == 0x5F
+    (nat_le 0x61 b && nat_le b 0x7A) || (nat_le 0x41 b && nat_le b 0x5A) || (nat_le 0x30 b && nat_le b 0x39)
+    || b == 0x5F
 
 -- a waveform character: a letter or a digit
 unfoldable pub is_character : ℕ → Bool

@@ -4,7 +4,8 @@ use Rattle.std.specs.List.{list_all}
 use Rattle.text_bytes.specs.Bytes.{is_blank}
 
 -- a text of blanks, this lexeme as it is written, and the rest
-pub record Begins {L : Type 0} (IsLexeme : L → List ℕ → Type 0) (lexeme : L) (Rest : List ℕ → Type 0) (text : List ℕ) : Type 0 where
+pub record Begins {L : Type 0} (IsLexeme : L → List ℕ → Type 0) (lexeme : L) (Rest : List ℕ → Type 0) (text : List ℕ)
+    : Type 0 where
   pub blanks : List ℕ
   pub piece : List ℕ
   pub rest : List ℕ

@@ -49,6 +49,18 @@ most_variables = 1024
 abbrev pub most_tables : ℕ
 most_tables = 64
 
+-- the most tables of all executives
+abbrev pub most_code_tables : ℕ
+most_code_tables = 4096
+
+-- the most patterns that an executive plays
+abbrev pub most_patterns : ℕ
+most_patterns = 4096
+
+-- the most cycles that are printed one by one
+abbrev pub most_listed : ℕ
+most_listed = 65536
+
 -- the most events of a waveform
 abbrev pub most_events : ℕ
 most_events = 16

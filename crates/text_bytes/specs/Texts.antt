@@ -1,5 +1,5 @@
 -- Lists of texts, owned and lent.
-use Rattle.std.specs.Prelude.{ℕ, Vec, List, [], ◌∷◌, ◌++◌, map, if◌then◌else◌}
+use Rattle.std.specs.Prelude.{ℕ, Bool, Vec, List, [], ◌∷◌, ◌++◌, map, if◌then◌else◌}
 use Rattle.std.specs.List.{list_any}
 use Rattle.std.specs.Str.{bytes_eq}
 use Rattle.std.specs.Borrow.{Bor}
@@ -16,3 +16,7 @@ key_texts keys = map (λ k. k.items) keys
 -- what references lead to
 abbrev pub behind : {X : Type 0} → List (Bor X) → List X
 behind references = map (λ b. b.now) references
+
+-- whether a text is one of those that are lent
+abbrev pub is_among : List (Bor (List ℕ)) → List ℕ → Bool
+is_among texts text = list_any (λ (b : Bor (List ℕ)). bytes_eq text b.now) texts

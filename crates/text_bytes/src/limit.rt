@@ -2,7 +2,7 @@
 
 ghost use Rattle.std.specs.Prelude.{◌≡◌};
 ghost use Rattle.text_bytes.specs.Limits as limits;
-ghost use Rattle.text_bytes.specs.declared.limit.TheConstants.{MOST_BYTES, LONGEST_NAME, LONGEST_LABEL, MOST_SIGNALS, MOST_GROUPS, MOST_EXECUTIVES, MOST_CHAINS, MOST_CELLS, MOST_REPEATS, MOST_PASSES, MOST_VARIABLES, MOST_TABLES, MOST_EVENTS, LONGEST_PERIOD, MOST_WAVES, DEEPEST_CALLS, DEEPEST_LOOPS, MOST_WALKED, MOST_MEASURE, MOST_CYCLES, MOST_ROW_CHARACTERS, MOST_NETS, MOST_INPUTS};
+ghost use Rattle.text_bytes.specs.declared.limit.TheConstants.{MOST_BYTES, LONGEST_NAME, LONGEST_LABEL, MOST_SIGNALS, MOST_GROUPS, MOST_EXECUTIVES, MOST_CHAINS, MOST_CELLS, MOST_REPEATS, MOST_PASSES, MOST_VARIABLES, MOST_TABLES, MOST_CODE_TABLES, MOST_PATTERNS, MOST_LISTED, MOST_EVENTS, LONGEST_PERIOD, MOST_WAVES, DEEPEST_CALLS, DEEPEST_LOOPS, MOST_WALKED, MOST_MEASURE, MOST_CYCLES, MOST_ROW_CHARACTERS, MOST_NETS, MOST_INPUTS};
 
 /// The most bytes of a file.
 pub const MOST_BYTES: usize = 16_777_216;
@@ -39,6 +39,15 @@ pub const MOST_VARIABLES: usize = 1024;
 
 /// The most tables of a Timing.
 pub const MOST_TABLES: usize = 64;
+
+/// The most tables of all executives.
+pub const MOST_CODE_TABLES: usize = 4096;
+
+/// The most patterns that an executive plays.
+pub const MOST_PATTERNS: usize = 4096;
+
+/// The most cycles that are printed one by one.
+pub const MOST_LISTED: u64 = 65_536;
 
 /// The most events of a waveform.
 pub const MOST_EVENTS: usize = 16;
@@ -87,6 +96,9 @@ pub fn limits_agree()
     ensures passes { MOST_PASSES ≡ limits.most_passes }
     ensures variables { MOST_VARIABLES ≡ limits.most_variables }
     ensures tables { MOST_TABLES ≡ limits.most_tables }
+    ensures code_tables { MOST_CODE_TABLES ≡ limits.most_code_tables }
+    ensures patterns { MOST_PATTERNS ≡ limits.most_patterns }
+    ensures listed { MOST_LISTED ≡ limits.most_listed }
     ensures events { MOST_EVENTS ≡ limits.most_events }
     ensures period { LONGEST_PERIOD ≡ limits.longest_period }
     ensures waves { MOST_WAVES ≡ limits.most_waves }

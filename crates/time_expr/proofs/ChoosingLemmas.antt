@@ -18,7 +18,7 @@ use Rattle.time_expr.specs.Value.{named_of}
 use Rattle.time_expr.specs.NamedValue.{met_of}
 use Rattle.time_expr.specs.TimesOf.{times_of}
 use Rattle.time_expr.specs.Picked.{variable_of, variables_of}
-use Rattle.time_expr.specs.Choosing.{variable_named, IsRefusal, IsOpen, IsNext, AreKnown, IsWalked, KeepsValues, own_fault, AreValues, Chooses, has_no_value}
+use Rattle.time_expr.specs.Choosing.{variable_named, TellsOf, IsOpen, IsNext, AreKnown, IsWalked, KeepsValues, own_fault, AreValues, Chooses, has_no_value}
 use Rattle.time_expr.specs.declared.picked.Picked.{Picked}
 use Rattle.time_expr.proofs.ReachLemmas.{variable-named, variable-first}
 use Rattle.time_expr.proofs.KnownLemmas.{known-value, known-added, added-keeps, added-fewer}
@@ -45,7 +45,7 @@ unknown-value vs name none =
     ap (λ o. value_of_found false o (times_of.value (value_within times_of vs (length vs) (name ∷ [])))) none
 
 pub unknown-first : (vs : List Variable) (p : Place) (name : List ℕ) (e : StilRefusal) → variable_named vs name ≡ None
-    → IsRefusal (fault_at p UnknownName) e → IsRefusal (value_fault p (value_of times_of vs name)) e
+    → TellsOf (fault_at p UnknownName) e → IsRefusal (value_fault p (value_of times_of vs name)) e
 unknown-first vs p name refusal.NoMemory none told = tt
 unknown-first vs p name (refusal.Fault f) none told =
     ap (value_fault p) (unknown-value vs name none) ∙ ap Some (sym told)

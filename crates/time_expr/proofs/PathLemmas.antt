@@ -11,7 +11,7 @@ use Rattle.stil_ast.specs.Meaning.Variables.{Variable, value_of, value_fault}
 use Rattle.stil_ast.specs.declared.fault.StilRefusal.{StilRefusal}
 use Rattle.time_expr.specs.Ratio.{Ratio}
 use Rattle.time_expr.specs.TimesOf.{times_of}
-use Rattle.time_expr.specs.Selected.{is_kept}
+use Rattle.text_bytes.specs.Texts.{is_among}
 use Rattle.time_expr.specs.Picked.{variable_of, place_of}
 use Rattle.time_expr.specs.Path.{last_of}
 use Rattle.time_expr.specs.Choosing.{IsOpen, GoesUnless, Steps, IsFresh, evaluated, IsNext, AreKnown, is_free, IsWalk}
@@ -24,7 +24,7 @@ use Rattle.time_expr.proofs.WalkLemmas.{walk-starts, walk-ends, walk-finds, walk
 
 -- an empty index keeps nothing
 pub none-running : {S : Type 0} (index : IndexSet (Bor (List ℕ)) S) → keys index ≡ [] → (name : List ℕ)
-    → is_kept index name ≡ false
+    → is_among (keys index) name ≡ false
 none-running index empty name = ap (list_any (λ (k : Bor (List ℕ)). bytes_eq name k.now)) empty
 
 last_of-push : (path : List Visit) (visit first : Visit) → last_of (path ++ visit ∷ []) first ≡ visit

@@ -41,9 +41,9 @@ abbrev pub variable_in : {S : Type 0} → IndexMap (Bor (List ℕ)) (Bor Picked)
 variable_in index name = variable_at (get_by (λ k. bytes_eq name k.now) index)
 
 -- a refusal tells of this fault, unless memory ran out
-abbrev pub IsRefusal : StilFault → StilRefusal → Type 0
-IsRefusal fault refusal.NoMemory = Unit {0}
-IsRefusal fault (refusal.Fault told) = told ≡ fault
+abbrev pub TellsOf : StilFault → StilRefusal → Type 0
+TellsOf fault refusal.NoMemory = Unit {0}
+TellsOf fault (refusal.Fault told) = told ≡ fault
 
 -- a variable may stand behind so many others, where that of its name is this
 abbrev pub next_fault : ℕ → Option Variable → Place → Option StilFault → Option StilFault

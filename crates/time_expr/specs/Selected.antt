@@ -1,10 +1,8 @@
 -- Indices of the names of categories, and of what a Selector takes. No public clause cites this file.
-use Rattle.std.specs.Prelude.{ℕ, Bool, List, Option, Some, None}
+use Rattle.std.specs.Prelude.{ℕ, List, Option, Some, None}
 use Rattle.std.specs.Borrow.{Bor}
-use Rattle.std.specs.List.{list_any}
 use Rattle.std.specs.Str.{bytes_eq}
 use Rattle.indexmap.specs.IndexMap.{IndexMap, get_by}
-use Rattle.indexmap.specs.IndexSet.{IndexSet, keys}
 use Rattle.stil_ast.specs.declared.name.Named.{Named}
 use Rattle.stil_ast.specs.declared.variable.Choice.{Choice}
 use Rattle.stil_ast.specs.declared.variable.Choice.TheVariants.{Typ}
@@ -12,10 +10,6 @@ use Rattle.stil_ast.specs.declared.variable.Choice.TheVariants.{Typ}
 -- the name of such a statement
 abbrev pub named : Named → List ℕ
 named n = n.name
-
--- a name is in an index
-abbrev pub is_kept : {S : Type 0} → IndexSet (Bor (List ℕ)) S → List ℕ → Bool
-is_kept index name = list_any (λ (k : Bor (List ℕ)). bytes_eq name k.now) (keys index)
 
 -- what is kept for a name
 abbrev pub kept_choice : {S : Type 0} → IndexMap (Bor (List ℕ)) Choice S → List ℕ → Option Choice

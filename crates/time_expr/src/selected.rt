@@ -5,7 +5,9 @@ ghost use Rattle.std.specs.Option.{option_or, option_copied};
 ghost use Rattle.std.specs.Str.{bytes_eq};
 ghost use Rattle.stil_ast.specs.Data.Texts.{has_name};
 ghost use Rattle.stil_ast.specs.Meaning.Variables.{choice_in, selector_of, text_of};
-ghost use Rattle.time_expr.specs.Selected.{is_kept, kept_choice, choice_of, named};
+ghost use Rattle.text_bytes.specs.Texts.{is_among};
+ghost use Rattle.indexmap.specs.IndexSet.{keys};
+ghost use Rattle.time_expr.specs.Selected.{kept_choice, choice_of, named};
 
 use indexmap::{IndexMap, IndexSet};
 use std::alloc::{AllocError, Global};
@@ -23,13 +25,15 @@ impl<'a> Model for Categories<'a> {
     ghost use Rattle.std.specs.Prelude.{◌≡◌, ℕ, List, map};
     ghost use Rattle.stil_ast.specs.Data.Texts.{has_name};
     ghost use Rattle.stil_ast.specs.declared.name.Named.{Named};
-    ghost use Rattle.time_expr.specs.Selected.{is_kept, named};
+    ghost use Rattle.text_bytes.specs.Texts.{is_among};
+    ghost use Rattle.indexmap.specs.IndexSet.{keys};
+    ghost use Rattle.time_expr.specs.Selected.{named};
 
     ghost Value = { List Named };
 
     ghost view = { λ c. c.names.now };
 
-    ghost invariant = { λ c. (name : List ℕ) → is_kept c.index name ≡ has_name (map named c.names.now) name };
+    ghost invariant = { λ c. (name : List ℕ) → is_among (keys c.index) name ≡ has_name (map named c.names.now) name };
 }
 
 impl<'a> Categories<'a> {
@@ -50,14 +54,14 @@ impl<'a> Categories<'a> {
 }
 
 pub(crate) fn is_kept(index: &IndexSet<&[u8]>, name: &[u8]) -> bool
-    ensures { result ≡ is_kept index.now name.now }
+    ensures { result ≡ is_among (keys index.now) name.now }
 {
     index.contains(name)
 }
 
 pub(crate) fn add_name<'a>(index: &mut IndexSet<&'a [u8]>, name: &'a [u8]) -> Result<(), AllocError>
     ensures { OnOk result ((other : List ℕ) →
-        is_kept index.new other ≡ (is_kept index.old other || bytes_eq other name.now)) }
+        is_among (keys index.new) other ≡ (is_among (keys index.old) other || bytes_eq other name.now)) }
 {
     index.insert(name)?;
     Ok(())
@@ -65,7 +69,8 @@ pub(crate) fn add_name<'a>(index: &mut IndexSet<&'a [u8]>, name: &'a [u8]) -> Re
 
 /// An index of names.
 fn index_of<'a>(alloc: Global, names: &'a [Named]) -> Result<IndexSet<&'a [u8]>, AllocError>
-    ensures { IfOk result (λ index. (name : List ℕ) → is_kept index name ≡ has_name (map named names.now) name) }
+    ensures { IfOk result (λ index.
+        (name : List ℕ) → is_among (keys index) name ≡ has_name (map named names.now) name) }
 {
     let mut index = IndexSet::new(alloc);
     for named in names {

@@ -6,7 +6,7 @@ ghost use Rattle.time_expr.specs.Tree.{tree_of};
 ghost use Rattle.time_expr.specs.TimesOf.{times_of};
 ghost use Rattle.time_expr.specs.NamedValue.{value_by};
 ghost use Rattle.time_expr.specs.Picked.{place_of, variable_of, variables_of};
-ghost use Rattle.time_expr.specs.Choosing.{variable_named, variable_at, variable_in, IsRefusal, Follows, Keeps, AreApart, StopsAt, IsStopBy, Reaches};
+ghost use Rattle.time_expr.specs.Choosing.{variable_named, variable_at, variable_in, TellsOf, Follows, Keeps, AreApart, StopsAt, IsStopBy, Reaches};
 ghost use Rattle.time_expr.specs.Value.{value_of};
 ghost use Rattle.time_expr.specs.Names.{names_of, first_missing};
 
@@ -41,7 +41,7 @@ fn fault_at(alloc: Global, spot: Spot, kind: StilKind) -> Result<StilFault, Allo
 
 /// The refusal for a fault at a spot.
 pub(crate) fn refused(alloc: Global, spot: Spot, kind: StilKind) -> StilRefusal
-    ensures { IsRefusal (fault_at (place_of spot.entry) kind) result }
+    ensures { TellsOf (fault_at (place_of spot.entry) kind) result }
 {
     match fault_at(alloc, spot, kind) {
         Ok(fault) => StilRefusal::Fault(fault),

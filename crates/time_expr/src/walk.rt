@@ -4,7 +4,8 @@ ghost use Rattle.std.specs.Prelude.{◌≡◌, false};
 ghost use Rattle.stil_ast.specs.Data.Places.{Place};
 ghost use Rattle.stil_ast.specs.Meaning.Variables.{placed};
 ghost use Rattle.time_expr.specs.TimesOf.{times_of};
-ghost use Rattle.time_expr.specs.Selected.{is_kept};
+ghost use Rattle.text_bytes.specs.Texts.{is_among};
+ghost use Rattle.indexmap.specs.IndexSet.{keys};
 ghost use Rattle.time_expr.specs.Picked.{place_of, variable_of};
 ghost use Rattle.time_expr.specs.Path.{last_of};
 ghost use Rattle.time_expr.specs.Choosing.{IsOpen, GoesBy, GoesUnless, Steps, IsFresh, evaluated, AreKnown, IsWalked};
@@ -79,9 +80,10 @@ fn look<'a>(
     spot: Spot<'a>,
 ) -> Result<Fraction, Step<'a>>
     ensures steps { Steps variables.now vars.now
-        (GoesUnless (is_kept running.now here.now.name.now) variables.now vars.now)
-        (evaluated (is_kept running.now here.now.name.now) (variable_of here.now)) (place_of spot.entry) result }
-    ensures fresh { IsFresh (is_kept running.now here.now.name.now) result }
+        (GoesUnless (is_among (keys running.now) here.now.name.now) variables.now vars.now)
+        (evaluated (is_among (keys running.now) here.now.name.now) (variable_of here.now))
+        (place_of spot.entry) result }
+    ensures fresh { IsFresh (is_among (keys running.now) here.now.name.now) result }
 {
     if is_kept(running, here.name) {
         return Err(Step::Ends(refused(alloc, spot, StilKind::Cyclic)));

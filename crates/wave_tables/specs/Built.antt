@@ -5,7 +5,6 @@ use Rattle.stil_ast.specs.Meaning.Tables.{made_tables}
 use Rattle.stil_ast.specs.Faults.TableFaults.{Timed, tables_fault}
 use Rattle.stil_ast.specs.declared.fault.StilFault.{StilFault}
 use Rattle.stil_ast.specs.declared.fault.StilRefusal.{StilRefusal}
-use Rattle.stil_ast.specs.declared.fault.StilRefusal.TheVariants as refusal
 use Rattle.tester_types.specs.declared.wave.Table.{Table}
 use Rattle.time_expr.specs.Ratio.{Ratio}
 use Rattle.wave_tables.specs.declared.trouble.Trouble.{Trouble}

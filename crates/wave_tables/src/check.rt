@@ -18,6 +18,7 @@ use crate::times::{ReadEvent, ReadTime};
 use crate::trouble::Trouble;
 use std::alloc::Global;
 use stil_ast::{EventDecl, Named, SigRef, SignalWaves, StilKind, WaveDecl};
+use text_bytes::LONGEST_PERIOD;
 
 /// Whether a table is there.
 fn is_there(wholes: &[Option<Whole>], table: usize) -> bool
@@ -63,7 +64,7 @@ pub(crate) fn check_period(
         Some(read) => match read.time {
             Err(kind) => Err(Trouble::At(kind, read.line)),
             Ok(time) => {
-                if 1 <= time && time <= 1_000_000_000_000 {
+                if 1 <= time && time <= LONGEST_PERIOD as i128 {
                     Ok(time as u64)
                 } else {
                     Err(Trouble::At(StilKind::OutOfRange, read.line))

@@ -17,6 +17,7 @@ use crate::times::{ReadTime, ReadWave};
 use std::alloc::{AllocError, Global};
 use stil_ast::TableDecl;
 use tester_types::{Items, Table, Text};
+use text_bytes::LONGEST_PERIOD;
 
 /// The period of a table. It was judged before: one that is out of range is answered as want of memory.
 fn period_of(period: Option<ReadTime>) -> Result<u64, AllocError>
@@ -28,7 +29,7 @@ fn period_of(period: Option<ReadTime>) -> Result<u64, AllocError>
         Some(read) => match read.time {
             Err(_kind) => Err(AllocError),
             Ok(time) => {
-                if 1 <= time && time <= 1_000_000_000_000 {
+                if 1 <= time && time <= LONGEST_PERIOD as i128 {
                     Ok(time as u64)
                 } else {
                     Err(AllocError)

@@ -10,6 +10,7 @@ use crate::source::Source;
 use crate::times::{ReadEvent, ReadWave};
 use std::alloc::{AllocError, Global};
 use tester_types::{Act, Event, EventList, Items, Wave};
+use text_bytes::LONGEST_PERIOD;
 
 /// The act of an event for a character: one act is for all characters, else there is one for each.
 fn act_of(letters: &[u8], letter: u8, acts: &[Act]) -> Option<Act>
@@ -38,7 +39,7 @@ fn event_for(letters: &[u8], letter: u8, event: &ReadEvent) -> Result<Option<Eve
         act_of(letters, letter, event.acts.as_slice()),
     ) {
         (Ok(time), Some(act)) => {
-            if 0 <= time && time <= 1_000_000_000_000 {
+            if 0 <= time && time <= LONGEST_PERIOD as i128 {
                 Ok(Some(Event {
                     time: time as u64,
                     act,

@@ -10,7 +10,7 @@ mod report;
 mod run;
 
 use crate::reader::read_cases;
-use crate::report::Tally;
+use crate::report::CaseTally;
 use std::rt::{Env, Files};
 use std::sync::Wait;
 use std::thread::Threads;
@@ -20,7 +20,7 @@ use std::{env, fs, io};
 fn judge_file<R: Files + Print + AllocGlobal + Threads + Wait + Sync>(
     rt: &R,
     file: &str,
-    tally: &mut Tally,
+    tally: &mut CaseTally,
 ) -> io::Result<()> {
     let text = fs::read_to_string(rt, file)?;
     match read_cases(rt.alloc(), text.as_str()) {
@@ -33,7 +33,7 @@ fn judge_file<R: Files + Print + AllocGlobal + Threads + Wait + Sync>(
 fn judge_files<R: Files + Env + Print + AllocGlobal + Threads + Wait + Sync>(
     rt: &R,
 ) -> io::Result<()> {
-    let mut tally = Tally::default();
+    let mut tally = CaseTally::default();
     for file in env::args(rt)?.skip(1) {
         judge_file(rt, file.as_str(), &mut tally)?;
     }

@@ -9,7 +9,7 @@ use std::thread::Threads;
 
 /// How many cases there were, and how many of them answered otherwise.
 #[derive(Clone, Copy, Debug, Default)]
-pub struct Tally {
+pub struct CaseTally {
     cases: u64,
     differ: u64,
 }
@@ -29,7 +29,7 @@ fn first_difference<'a>(found: &'a [u8], wanted: &'a [u8]) -> Option<(u64, &'a [
 }
 
 /// The bytes as a text that can be printed.
-fn shown(bytes: &[u8]) -> &str {
+fn printable(bytes: &[u8]) -> &str {
     str::from_utf8(bytes).unwrap_or("(no text)")
 }
 
@@ -46,7 +46,7 @@ fn print_difference<R: Print + AllocGlobal>(
     let (found, wanted) = (answer.sink.bytes(), case.text.as_slice());
     match first_difference(found, wanted) {
         Some((number, found, wanted)) => {
-            let (found, wanted) = (shown(found), shown(wanted));
+            let (found, wanted) = (printable(found), printable(wanted));
             println!(rt; "  line {number} is `{found}`, and `{wanted}` is wanted")
         }
         None => {
@@ -61,7 +61,7 @@ fn agrees(case: &Case, answer: &Answer) -> bool {
     answer.status.number() == case.status && answer.sink.bytes() == case.text.as_slice()
 }
 
-impl Tally {
+impl CaseTally {
     /// Runs a case through each of its calls, and counts it.
     fn judge<R: Print + AllocGlobal + Threads + Wait + Sync>(
         &mut self,

@@ -1,6 +1,7 @@
 -- The first fault of an executive's names (IEEE 1450-1999, clauses 16 and 17).
 use Rattle.std.specs.Prelude.{ℕ, zero, suc, ◌&&◌, ◌||◌, Bool, true, false, not, List, [], ◌∷◌, Option, Some, None, length, flat_map, is_some, nat_le, codes, if◌then◌else◌}
 use Rattle.std.specs.List.{list_any}
+use Rattle.text_bytes.specs.Limits.{most_patterns}
 use Rattle.stil_ast.specs.Data.Places.{Place}
 use Rattle.stil_ast.specs.Data.Texts.{same, has_name}
 use Rattle.stil_ast.specs.Faults.Found.{fault_at, unless, refuse_if, or_else, first_in}
@@ -126,4 +127,4 @@ exec_names_fault blocks e =
     (or_else (named_fault e (is_burst blocks) e.burst)
     (or_else (first_in unknown_fault (mentions blocks (burst_named blocks e.burst.name)))
     (or_else (first_in cyclic_fault (mentions blocks (burst_named blocks e.burst.name)))
-    (unless (nat_le (length (played blocks e)) 4096) (fault_at (exec_place e.name e.line) TooLarge) None))))))
+    (unless (nat_le (length (played blocks e)) most_patterns) (fault_at (exec_place e.name e.line) TooLarge) None))))))

@@ -2,6 +2,7 @@
 -- signals and groups, executives, and what they compile to. And the most cycles that are printed.
 use Rattle.std.specs.Prelude.{◌≡◌, ℕ, ◌+◌, List, Option, Some, None, length, nat_le, sum_by, take}
 use Rattle.std.specs.List.{enumerate_from}
+use Rattle.text_bytes.specs.Limits.{most_listed}
 use Rattle.stil_ast.specs.Faults.Found.{fault_at, unless, first_in}
 use Rattle.stil_ast.specs.Faults.BurstFaults.{exec_place}
 use Rattle.stil_ast.specs.Faults.TextFaults.{blocks_fault}
@@ -43,4 +44,4 @@ too_many_beyond most blocks = first_in (too_many_with most blocks) (enumerate_fr
 
 -- at most 65,536 cycles of a text are printed one by one
 abbrev pub too_many_at : Blocks → Option StilFault
-too_many_at blocks = too_many_beyond 65536 blocks
+too_many_at blocks = too_many_beyond most_listed blocks

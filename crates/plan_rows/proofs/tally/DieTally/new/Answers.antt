@@ -1,5 +1,5 @@
 use Rattle.std.proofs.Common.{refl, ap, lit≤}
-use Rattle.plan_rows.specs.Inside.{key_texts}
+use Rattle.text_bytes.specs.Texts.{key_texts}
 use Rattle.plan_rows.proofs.TallyLemmas.{none_kept}
 use Rattle.plan_rows.proofs.tally.DieTally.new.Goals as goal
 

@@ -1,7 +1,7 @@
 use Rattle.std.proofs.Common.{List, ℕ, sym, ap, ◌∙◌}
 use Rattle.std.specs.List.{position}
 use Rattle.std.specs.Str.{bytes_eq}
-use Rattle.plan_rows.specs.Inside.{key_texts}
+use Rattle.text_bytes.specs.Texts.{key_texts}
 use Rattle.plan_rows.proofs.TallyLemmas.{kept_at, position-map}
 use Rattle.plan_rows.proofs.tally.DieTally.place_of.Goals as goal
 

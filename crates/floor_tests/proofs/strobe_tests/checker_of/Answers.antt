@@ -1,6 +1,6 @@
 use Rattle.std.proofs.Common.{length, ap, arith}
 use Rattle.strobe_check.proofs.HistoryLemmas.{length-numbered}
-use Rattle.floor_tests.proofs.strobe_tests.shown.Goals as goal
+use Rattle.floor_tests.proofs.strobe_tests.checker_of.Goals as goal
 
 pub loop-at-init : goal.loop-at-init
 loop-at-init c =
