@@ -17,7 +17,8 @@ use Rattle.stil_ast.specs.declared.executive.BurstWord.{BurstWord}
 use Rattle.stil_ast.specs.declared.executive.BurstWord.TheVariants as word
 use Rattle.pat_read.specs.Statements.{only_name}
 use Rattle.stil_read.specs.Heads.{where_so, name_or_empty, rest_at, bare_block, named_block}
-use Rattle.stil_read.specs.Bursts.{word_of, item_on, stands_already, with_item, burst_name, named_step, left_out, entry_step, list_step, by_word, burst_step, items_in, burst_called, burst_block}
+use Rattle.stil_read.specs.Keywords.{first_meaning}
+use Rattle.stil_read.specs.Bursts.{burst_words, item_on, stands_already, with_item, burst_name, named_step, left_out, entry_step, list_step, by_word, burst_step, items_in, burst_called, burst_block}
 use Rattle.pat_read.proofs.AcceptedLemmas.{said_at, list_all-one}
 use Rattle.pat_read.proofs.AcceptedBodies.{is_name-only_name}
 use Rattle.stil_read.proofs.AcceptedLemmas.{both_taken, kept, IsLined, HasLine, inner_lined}
@@ -150,7 +151,7 @@ by_word_fits s before next e (Some word.ScanStructures) lined fit is =
 -- one more statement
 step_fits : (s : Setting) (before next : List BurstItem) (e : Entry) → IsLined s e → Fit before
     → burst_step s before e ≡ Ok next → Fit next
-step_fits s before next e lined fit is = by_word_fits s before next e (word_of (lexemes_at s e)) lined fit is
+step_fits s before next e lined fit is = by_word_fits s before next e (first_meaning burst_words (lexemes_at s e)) lined fit is
 
 -- a burst that is read has its form
 pub burst_block-is : (s : Setting) (e : Entry) (b : Burst) → IsLined s e → burst_block s e ≡ Ok b

@@ -30,7 +30,8 @@ use Rattle.pat_read.specs.Statements.{only_name}
 use Rattle.stil_read.specs.Heads.{where_so, title_of, rest_at, titled_block, count_under, under}
 use Rattle.stil_read.specs.Named.{Names, named_on}
 use Rattle.stil_read.specs.Cells.{cells_said}
-use Rattle.stil_read.specs.Chains.{names_of, word_of, word_number, same_word, only_number, length_by, end_by, inversion_by, cells_on, stmt_said, plain_said, with_said, with_stmt, by_word, chain_step, no_parts, is_chain, chain_name, one_more, new_chain, chain_on, parts_in, chain_said, judge_chain, chains_in, scans_called, scan_block}
+use Rattle.stil_read.specs.Keywords.{first_meaning}
+use Rattle.stil_read.specs.Chains.{names_of, chain_words, word_number, same_word, only_number, length_by, end_by, inversion_by, cells_on, stmt_said, plain_said, with_said, with_stmt, by_word, chain_step, no_parts, is_chain, chain_name, one_more, new_chain, chain_on, parts_in, chain_said, judge_chain, chains_in, scans_called, scan_block}
 use Rattle.pat_read.proofs.AcceptedLemmas.{said_at, list_all-one}
 use Rattle.pat_read.proofs.AcceptedBodies.{is_name-only_name}
 use Rattle.stil_read.proofs.AcceptedLemmas.{both_taken, kept, kept_each, kept_read, IsLined, HasLine, inner_lined}
@@ -183,7 +184,7 @@ by_word_fits s before next e (Some w) lined fit is =
 
 step_fits : (s : Setting) (before next : ChainParts) (e : Entry) → IsLined s e → Fit before
     → chain_step s before e ≡ Ok next → Fit next
-step_fits s before next e lined fit is = by_word_fits s before next e (word_of (lexemes_at s e)) lined.0 fit is
+step_fits s before next e lined fit is = by_word_fits s before next e (first_meaning chain_words (lexemes_at s e)) lined.0 fit is
 
 -- the name of a chain
 name_fits : (s : Setting) (e : Entry) (b : Bool) (c : List ℕ) → chain_name s e b ≡ Ok c → is_name c ≡ true

@@ -17,7 +17,8 @@ use Rattle.stil_read.specs.declared.executive.ExecParts.{ExecParts}
 use Rattle.first_fault.specs.Reading.{stepping}
 use Rattle.stil_read.specs.Heads.{where_so, title_of, rest_at, titled_block}
 use Rattle.stil_read.specs.Named.{named_on}
-use Rattle.stil_read.specs.Executives.{exec_word, name_behind, with_name, by_word, exec_said, first_named, with_named, with_category, with_selector, with_timing, with_burst, exec_step, no_parts, exec_by, exec_in, exec_block}
+use Rattle.stil_read.specs.Keywords.{meaning}
+use Rattle.stil_read.specs.Executives.{exec_words, name_behind, with_name, by_word, exec_said, first_named, with_named, with_category, with_selector, with_timing, with_burst, exec_step, no_parts, exec_by, exec_in, exec_block}
 use Rattle.pat_read.proofs.AcceptedLemmas.{said_at, list_all-one}
 use Rattle.pat_read.proofs.AcceptedBodies.{is_name-only_name}
 use Rattle.stil_read.proofs.AcceptedLemmas.{both_taken, kept, IsLined, inner_lined}
@@ -58,7 +59,7 @@ by_word-is (Some found) b rest said is =
 exec_said-is : (b : Bool) (ls : List Lexeme) (said : ExecWord × List ℕ)
     → exec_said b ls ≡ Ok said → fits_word said.0 said.1 ≡ true
 exec_said-is b [] said is = cc
-exec_said-is b (one ∷ rest) said is = by_word-is (exec_word one) b rest said is
+exec_said-is b (one ∷ rest) said is = by_word-is (meaning exec_words one) b rest said is
 
 -- what an executive names has its form
 abbrev Fit : ExecParts → Type 0

@@ -5,6 +5,7 @@ pub mod DeclaredForms
 pub mod TimingForms
 pub mod TableNames
 mod TableLemmas
+pub mod KeywordLemmas
 mod WaveformLemmas
 pub mod SelectorLemmas
 pub mod SignalForms

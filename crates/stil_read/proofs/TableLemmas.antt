@@ -1,5 +1,5 @@
 -- A table that was read has the name that stands behind its keyword.
-use Rattle.std.proofs.Common.{◌≡◌, ℕ, List, Ok, Option, Some, None, is_some, refl, ap, sym, ◌∙◌}
+use Rattle.std.proofs.Common.{◌≡◌, ℕ, ◌+◌, List, Ok, Option, Some, None, is_some, refl, ap, sym, ◌∙◌}
 use Rattle.stil_tree.specs.Trees.{Entry}
 use Rattle.stil_form.specs.declared.fault.FormKind.TheVariants.{Twice}
 use Rattle.stil_form.specs.Setting.{Setting, lexemes_at, inner_of, unskipped}
@@ -11,7 +11,10 @@ use Rattle.pat_read.proofs.AcceptedLemmas.{both_ok, said_at}
 use Rattle.stil_read.proofs.FormLemmas.{made_where, stepping-keeps}
 use Rattle.stil_read.specs.Heads.{bare_block}
 use Rattle.stil_read.specs.Waveforms.{signals_of}
-use Rattle.stil_read.specs.Timings.{plain_text, plain_name, with_period, with_inherit, with_waveforms, text_at, name_at, table_by, first_word, table_step, empty_table, table_of}
+use Rattle.stil_read.specs.Named.{named_on}
+use Rattle.stil_read.specs.Quotes.{quoted_at}
+use Rattle.stil_read.specs.Keywords.{first_meaning}
+use Rattle.stil_read.specs.Timings.{plain_text, plain_name, with_period, with_inherit, with_waveforms, table_by, table_words, table_step, empty_table, table_of}
 
 -- a period leaves a table its name
 period-name : (table next : TableDecl) (period : Quoted) → with_period table period ≡ Ok next → next.name ≡ table.name
@@ -27,10 +30,10 @@ step-name : (s : Setting) (table : TableDecl) (e : Entry) (next : TableDecl) (fi
 step-name s table e next None is = cc
 step-name s table e next (Some word.Period) is =
     let both = both_ok (plain_text s e) _ next is in
-    period-name table next (text_at s e both.given) (said_at e.first _ next both.made)
+    period-name table next (quoted_at s (e.first + 1) both.given) (said_at e.first _ next both.made)
 step-name s table e next (Some word.Inherit) is =
     let both = both_ok (plain_name s e) _ next is in
-    let same : with_inherit table (name_at s e both.given) ≡ next = cc in
+    let same : with_inherit table (named_on s e both.given) ≡ next = cc in
     sym (ap (λ (t : TableDecl). t.name) same)
 step-name s table e next (Some word.Waveforms) is =
     let outer = both_ok (bare_block s e) _ next is in
@@ -43,5 +46,5 @@ pub name-table_of : (s : Setting) (called : List ℕ) (line : ℕ) (es : List En
     → table_of s called line es ≡ Ok table → table.name ≡ called
 name-table_of s called line es table is =
     stepping-keeps (table_step s) (λ (t : TableDecl). t.name ≡ called)
-    (λ state e next stepped held. step-name s state e next (first_word (lexemes_at s e)) stepped ∙ held)
+    (λ state e next stepped held. step-name s state e next (first_meaning table_words (lexemes_at s e)) stepped ∙ held)
     (empty_table called line) (unskipped s es) table is refl

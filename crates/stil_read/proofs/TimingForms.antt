@@ -1,5 +1,5 @@
 -- What is read of a Timing block has its form.
-use Rattle.std.proofs.Common.{◌≡◌, ℕ, ◌<◌, List, [], ◌∷◌, ◌++◌, length, not, Result, Ok, Err, Option, Some, None, Bool, true, false, ◌&&◌, ◌||◌, cond, nat_lt, nat_le, nat_eq, is_some, refl, ap, sym, subst, ◌∙◌, arith}
+use Rattle.std.proofs.Common.{◌≡◌, ℕ, ◌+◌, ◌<◌, List, [], ◌∷◌, ◌++◌, length, not, Result, Ok, Err, Option, Some, None, Bool, true, false, ◌&&◌, ◌||◌, cond, nat_lt, nat_le, nat_eq, is_some, refl, ap, sym, subst, ◌∙◌, arith}
 use Rattle.std.specs.Prelude.{◌==◌}
 use Rattle.std.specs.List.{list_all}
 use Rattle.std.proofs.lemmas.Bool.{and_parts, and_from, ltb-true, le-leb}
@@ -31,10 +31,14 @@ use Rattle.stil_read.specs.declared.timings.TableWord.TheVariants as word_of
 use Rattle.pat_read.specs.Statements.{only_name}
 use Rattle.stil_read.specs.Heads.{where_so, only_text, rest_at, bare_block, named_block, titled_block, is_declared, count_under, under}
 use Rattle.stil_read.specs.Waveforms.{time_of, acts_of, event_at, new_event, judge_event, are_letters, letters_of, in_block, letters_at, judge_wave, lone, lone_ref, ref_at, judge_signal, signals_of}
-use Rattle.stil_read.specs.Timings.{plain_text, plain_name, with_period, with_inherit, with_waveforms, text_at, name_at, table_by, first_word, table_step, empty_table, table_of, is_table, new_name, table_name, table_names, table_said, judge_table, timing_block}
+use Rattle.stil_read.specs.Named.{named_on}
+use Rattle.stil_read.specs.Quotes.{quoted_at}
+use Rattle.stil_read.specs.Keywords.{first_meaning}
+use Rattle.stil_read.specs.Timings.{plain_text, plain_name, with_period, with_inherit, with_waveforms, table_by, table_words, table_step, empty_table, table_of, is_table, new_name, table_name, table_names, table_said, judge_table, timing_block}
 use Rattle.pat_read.specs.Accepted.{HasLines}
-use Rattle.pat_read.proofs.AcceptedLemmas.{both_ok, said_at, reading-each, list_all-one, first_line, second_line, FitsRef, fits_front, is_sig_ref-ref_of}
+use Rattle.pat_read.proofs.AcceptedLemmas.{both_ok, said_at, reading-each, list_all-one, first_line, FitsRef, fits_front, is_sig_ref-ref_of}
 use Rattle.pat_read.proofs.AcceptedBodies.{is_name-only_name}
+use Rattle.stil_read.proofs.SignalForms.{line_in_head}
 use Rattle.stil_read.proofs.FormLemmas.{said_where, said_so, made_where, stepping-keeps, reading-within, is_name-named_block, is_optional_name-titled_block, behind_keyword}
 
 -- an event begins with a lexeme
@@ -189,16 +193,16 @@ step_fits : (s : Setting) → HasLines s → (table : TableDecl) (e : Entry) (ne
 step_fits s lines table e next None is fits = cc
 step_fits s lines table e next (Some word_of.Period) is fits =
     let both = both_ok (plain_text s e) _ next is in
-    let period : Quoted = text_at s e both.given in
+    let period : Quoted = quoted_at s (e.first + 1) both.given in
     let made : TableDecl = record { name = table.name; period = Some period; inherits = table.inherits; waveforms = table.waveforms; line = table.line } in
     let same = made_where (is_some table.period) Twice made next (said_at e.first (with_period table period) next both.made) in
     let said = said_plain e.first (not (is_some e.body)) (only_text (rest_at s e)) both.given both.met in
-    let line = second_line s lines e (behind_keyword only_text (lexemes_at s e) both.given (λ other bad. cc) said) in
+    let line = line_in_head s lines e 1 (behind_keyword only_text (lexemes_at s e) both.given (λ other bad. cc) said) in
     subst TableFits same
     (record { named = fits.named; period = line; inherits = fits.inherits; waveforms = fits.waveforms; line = fits.line })
 step_fits s lines table e next (Some word_of.Inherit) is fits =
     let both = both_ok (plain_name s e) _ next is in
-    let inherited : Named = name_at s e both.given in
+    let inherited : Named = named_on s e both.given in
     let same : with_inherit table inherited ≡ next = cc in
     let said = said_plain e.first (not (is_some e.body)) (only_name (rest_at s e)) both.given both.met in
     let two = behind_keyword only_name (lexemes_at s e) both.given (λ other bad. cc) said in
@@ -232,7 +236,7 @@ table_fits : (s : Setting) → HasLines s → (called : List ℕ) (line : ℕ) (
     → is_name called ≡ true → is_line line ≡ true → table_of s called line es ≡ Ok table → TableFits table
 table_fits s lines called line es table named on_line is =
     stepping-keeps (table_step s) TableFits
-    (λ state e next stepped fits. step_fits s lines state e next (first_word (lexemes_at s e)) stepped fits)
+    (λ state e next stepped fits. step_fits s lines state e next (first_meaning table_words (lexemes_at s e)) stepped fits)
     (empty_table called line) (unskipped s es) table is
     (record { named = named; period = refl; inherits = refl; waveforms = refl; line = on_line })
 

@@ -28,9 +28,10 @@ use Rattle.stil_ast.specs.declared.variable.SpecBlock.{SpecBlock}
 use Rattle.stil_ast.specs.declared.variable.Selection.{Selection}
 use Rattle.stil_ast.specs.declared.variable.Selector.{Selector}
 use Rattle.pat_read.specs.Statements.{is_there, only_name}
-use Rattle.stil_read.specs.Heads.{where_so, only_text, named_block, titled_block}
+use Rattle.stil_read.specs.Keywords.{meaning}
+use Rattle.stil_read.specs.Heads.{is_first, where_so, only_text, named_block, titled_block}
 use Rattle.stil_read.specs.Quotes.{equal_text_at, quoted_at}
-use Rattle.stil_read.specs.Variables.{choice_of, chosen_text, choice_by, choice_said, choice_at, given_for, given, none_given, give_once, choice_step, choices_of, variable_of, variable_name_at, chosen_variable, same_variable, judge_variable, variables_of, is_first, category_at, category_of, judge_category, categories_of, spec_of, spec_block}
+use Rattle.stil_read.specs.Variables.{choice_words, chosen_text, choice_by, choice_said, choice_at, given_for, given, none_given, give_once, choice_step, choices_of, variable_of, variable_name_at, chosen_variable, same_variable, judge_variable, variables_of, category_at, category_of, judge_category, categories_of, spec_of, spec_block}
 use Rattle.stil_read.specs.Selectors.{only_choice, selected, selection_said, selection_at, is_selected, select_once, selection_step, selections_of, selector_of, selector_block}
 use Rattle.pat_read.proofs.AcceptedBodies.{all_three, is_name-only_name}
 use Rattle.stil_read.proofs.DeclaredForms.{all_differ-push}
@@ -57,7 +58,7 @@ choice_said-length : (has_block : Bool) (head : List Lexeme) (said : Choice × L
     → choice_said has_block head ≡ Ok said → 1 < length head
 choice_said-length has_block [] said is = cc
 choice_said-length has_block (one ∷ rest) said is =
-    let long = choice_by-length (choice_of one) has_block rest said is in omega (arith, long)
+    let long = choice_by-length (meaning choice_words one) has_block rest said is in omega (arith, long)
 
 -- four tests that pass
 four_are : (a b c d : Bool) → a ≡ true → b ≡ true → c ≡ true → d ≡ true → (a && b && c && d) ≡ true

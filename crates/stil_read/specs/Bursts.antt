@@ -6,8 +6,6 @@ use Rattle.stil_form.specs.declared.fault.FormFault.{FormFault}
 use Rattle.stil_form.specs.declared.fault.FormFault.TheVariants.{Refused}
 use Rattle.stil_form.specs.declared.fault.FormKind.{FormKind}
 use Rattle.stil_form.specs.declared.fault.FormKind.TheVariants.{LeftOut, Twice}
-use Rattle.stil_form.specs.Lexeme.{Lexeme}
-use Rattle.stil_form.specs.Words.{is_keyword}
 use Rattle.first_fault.specs.Reading.{and_then, stepping}
 use Rattle.stil_form.specs.Setting.{Setting, lexemes_at, line_at, at_statement, inner_of, unskipped}
 use Rattle.stil_ast.specs.Data.BlockForms.{is_macros_word, is_procedures_word, is_scans_word}
@@ -17,22 +15,15 @@ use Rattle.stil_ast.specs.declared.executive.BurstWord.{BurstWord}
 use Rattle.stil_ast.specs.declared.executive.BurstWord.TheVariants as word
 use Rattle.pat_read.specs.Statements.{only_name}
 use Rattle.stil_read.specs.Heads.{name_or_empty, bare_block, named_block, rest_at}
+use Rattle.stil_read.specs.Keywords.{first_meaning}
 use Rattle.stil_read.specs.Named.{without_block}
 
 -- what the names behind a keyword are the names of; those of a PatList are its entries
-abbrev pub burst_word : Lexeme → Option BurstWord
-burst_word one =
-    if is_keyword (codes "SignalGroups") one then Some word.SignalGroups
-    else if is_keyword (codes "MacroDefs") one then Some word.MacroDefs
-    else if is_keyword (codes "Procedures") one then Some word.Procedures
-    else if is_keyword (codes "ScanStructures") one then Some word.ScanStructures
-    else if is_keyword (codes "PatList") one then Some word.Entry
-    else None
-
--- the keyword that begins a head
-abbrev pub word_of : List Lexeme → Option BurstWord
-word_of [] = None
-word_of (one ∷ rest) = burst_word one
+abbrev pub burst_words : List (List ℕ × BurstWord)
+burst_words =
+    (codes "SignalGroups", word.SignalGroups) ∷ (codes "MacroDefs", word.MacroDefs)
+    ∷ (codes "Procedures", word.Procedures) ∷ (codes "ScanStructures", word.ScanStructures)
+    ∷ (codes "PatList", word.Entry) ∷ []
 
 -- a name on the line of its statement
 abbrev pub item_on : Setting → Entry → BurstWord → List ℕ → BurstItem
@@ -86,7 +77,7 @@ by_word s before e (Some word.ScanStructures) = named_step s before e word.ScanS
 
 -- a statement behind those before it
 abbrev pub burst_step : Setting → List BurstItem → Entry → Result (List BurstItem) FormFault
-burst_step s before e = by_word s before e (word_of (lexemes_at s e))
+burst_step s before e = by_word s before e (first_meaning burst_words (lexemes_at s e))
 
 -- a burst of this name
 abbrev pub burst_called : List ℕ → List BurstItem → Burst

@@ -7,7 +7,6 @@ use Rattle.stil_form.specs.declared.fault.FormFault.TheVariants.{Refused}
 use Rattle.stil_form.specs.declared.fault.FormKind.{FormKind}
 use Rattle.stil_form.specs.declared.fault.FormKind.TheVariants.{Shape, LeftOut, OutOfRange, Twice}
 use Rattle.stil_form.specs.Lexeme.{Lexeme}
-use Rattle.stil_form.specs.Words.{is_keyword}
 use Rattle.stil_form.specs.Fronts.{index_by}
 use Rattle.first_fault.specs.Reading.{and_then, reading, stepping}
 use Rattle.stil_form.specs.Setting.{Setting, lexemes_at, line_at, at_statement, inner_of, unskipped}
@@ -21,24 +20,16 @@ use Rattle.stil_read.specs.declared.chain.ChainWord.{ChainWord}
 use Rattle.stil_read.specs.declared.chain.ChainWord.TheVariants as word
 use Rattle.stil_read.specs.declared.chain.ChainParts.{ChainParts}
 use Rattle.pat_read.specs.Statements.{is_there, only_name}
-use Rattle.stil_read.specs.Heads.{named_block, titled_block, rest_at, count_under, under}
+use Rattle.stil_read.specs.Heads.{is_first, named_block, titled_block, rest_at, count_under, under}
+use Rattle.stil_read.specs.Keywords.{first_meaning}
 use Rattle.stil_read.specs.Named.{Names, named_on}
 use Rattle.stil_read.specs.Cells.{cells_said}
 
--- the keyword that a token is
-abbrev pub chain_word : Lexeme → Option ChainWord
-chain_word one =
-    if is_keyword (codes "ScanLength") one then Some word.Length
-    else if is_keyword (codes "ScanIn") one then Some word.In
-    else if is_keyword (codes "ScanOut") one then Some word.Out
-    else if is_keyword (codes "ScanCells") one then Some word.Cells
-    else if is_keyword (codes "ScanInversion") one then Some word.Inversion
-    else None
-
--- the keyword that begins a head
-abbrev pub word_of : List Lexeme → Option ChainWord
-word_of [] = None
-word_of (one ∷ rest) = chain_word one
+-- the keywords of a chain's statements
+abbrev pub chain_words : List (List ℕ × ChainWord)
+chain_words =
+    (codes "ScanLength", word.Length) ∷ (codes "ScanIn", word.In) ∷ (codes "ScanOut", word.Out)
+    ∷ (codes "ScanCells", word.Cells) ∷ (codes "ScanInversion", word.Inversion) ∷ []
 
 -- the number of a word, in the order of the table of forms
 abbrev pub word_number : ChainWord → ℕ
@@ -108,7 +99,7 @@ by_word s before e (Some word) =
 
 -- a statement behind those before it
 abbrev pub chain_step : Setting → ChainParts → Entry → Result ChainParts FormFault
-chain_step s before e = by_word s before e (word_of (lexemes_at s e))
+chain_step s before e = by_word s before e (first_meaning chain_words (lexemes_at s e))
 
 -- before the first statement
 abbrev pub no_parts : ChainParts
@@ -116,8 +107,7 @@ no_parts = record { words = []; stmts = [] }
 
 -- a statement that begins a chain
 abbrev pub is_chain : List Lexeme → Bool
-is_chain [] = false
-is_chain (one ∷ rest) = is_keyword (codes "ScanChain") one
+is_chain head = is_first (codes "ScanChain") head
 
 -- `ScanChain name { .. }`: its name; a statement of another keyword is left out
 abbrev pub chain_name : Setting → Entry → Bool → Result (List ℕ) FormFault

@@ -1,11 +1,10 @@
 -- PatternExec blocks (IEEE 1450-1999, clause 16).
-use Rattle.std.specs.Prelude.{ℕ, Bool, List, [], ◌∷◌, ◌++◌, codes, Option, Some, None, is_some, if◌then◌else◌, Result, Ok, Err}
+use Rattle.std.specs.Prelude.{ℕ, Bool, List, [], ◌∷◌, ◌++◌, codes, Option, Some, None, is_some, Result, Ok, Err}
 use Rattle.stil_tree.specs.Trees.{Entry}
 use Rattle.stil_form.specs.declared.fault.FormFault.{FormFault}
 use Rattle.stil_form.specs.declared.fault.FormKind.{FormKind}
 use Rattle.stil_form.specs.declared.fault.FormKind.TheVariants.{Shape, LeftOut, Twice}
 use Rattle.stil_form.specs.Lexeme.{Lexeme}
-use Rattle.stil_form.specs.Words.{is_keyword}
 use Rattle.first_fault.specs.Reading.{and_then, stepping}
 use Rattle.stil_form.specs.Setting.{Setting, lexemes_at, at_statement, line_at, inner_of, unskipped}
 use Rattle.stil_ast.specs.declared.name.Named.{Named}
@@ -15,16 +14,14 @@ use Rattle.stil_read.specs.declared.executive.ExecWord.TheVariants as word
 use Rattle.stil_read.specs.declared.executive.ExecParts.{ExecParts}
 use Rattle.pat_read.specs.Statements.{only_name}
 use Rattle.stil_read.specs.Heads.{name_or_empty, titled_block}
+use Rattle.stil_read.specs.Keywords.{meaning}
 use Rattle.stil_read.specs.Named.{without_block, named_on}
 
--- the keyword that a token is
-abbrev pub exec_word : Lexeme → Option ExecWord
-exec_word one =
-    if is_keyword (codes "Category") one then Some word.Category
-    else if is_keyword (codes "Selector") one then Some word.Selector
-    else if is_keyword (codes "Timing") one then Some word.Timing
-    else if is_keyword (codes "PatternBurst") one then Some word.Burst
-    else None
+-- the keywords of an executive's statements
+abbrev pub exec_words : List (List ℕ × ExecWord)
+exec_words =
+    (codes "Category", word.Category) ∷ (codes "Selector", word.Selector) ∷ (codes "Timing", word.Timing)
+    ∷ (codes "PatternBurst", word.Burst) ∷ []
 
 -- the name behind a keyword; a Timing may be the unnamed one
 abbrev pub name_behind : ExecWord → List Lexeme → Result (List ℕ) FormKind
@@ -46,7 +43,7 @@ by_word (Some found) has_block rest = without_block has_block (with_name found (
 -- what a statement with this head says, with a block or without
 abbrev pub exec_said : Bool → List Lexeme → Result (ExecWord × List ℕ) FormKind
 exec_said has_block [] = Err LeftOut
-exec_said has_block (one ∷ rest) = by_word (exec_word one) has_block rest
+exec_said has_block (one ∷ rest) = by_word (meaning exec_words one) has_block rest
 
 -- a name for what has none yet
 abbrev pub first_named : Option Named → Named → Result (Option Named) FormKind

@@ -7,6 +7,7 @@ use Rattle.stil_form.specs.declared.fault.FormFault.{FormFault}
 use Rattle.stil_form.specs.declared.fault.FormKind.{FormKind}
 use Rattle.stil_form.specs.declared.fault.FormKind.TheVariants.{Shape}
 use Rattle.stil_form.specs.Lexeme.{Lexeme, name, text}
+use Rattle.stil_form.specs.Words.{is_keyword}
 use Rattle.stil_form.specs.Setting.{Setting, lexemes_at, at_statement}
 use Rattle.stil_ast.specs.Data.Texts.{same}
 use Rattle.pat_read.specs.Statements.{only_name}
@@ -20,6 +21,16 @@ Says view (Err kind) wanted = wanted ≡ Err kind
 abbrev pub where_so : {X : Type 0} → Bool → Result X FormKind → Result X FormKind
 where_so true said = said
 where_so false said = Err Shape
+
+-- the first lexeme of a head, if there is one
+abbrev pub first_of : List Lexeme → Option Lexeme
+first_of [] = None
+first_of (one ∷ rest) = Some one
+
+-- a head begins with this keyword
+abbrev pub is_first : List ℕ → List Lexeme → Bool
+is_first keyword [] = false
+is_first keyword (one ∷ rest) = is_keyword keyword one
 
 -- the one lexeme of a head, if there is just one
 abbrev pub only_of : List Lexeme → Option Lexeme

@@ -1,5 +1,6 @@
 -- Read Heads first (what stands behind a keyword), then the blocks, each in its own file.
 pub mod Heads
+pub mod Keywords
 pub mod Indices
 pub mod Quotes
 pub mod Signals

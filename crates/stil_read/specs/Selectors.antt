@@ -17,12 +17,12 @@ use Rattle.stil_ast.specs.declared.variable.Selector.{Selector}
 use Rattle.stil_read.specs.declared.selectors.Selected.{Selected}
 use Rattle.pat_read.specs.Statements.{is_there}
 use Rattle.stil_read.specs.Heads.{where_so, named_block, under}
-use Rattle.stil_read.specs.Variables.{choice_of}
+use Rattle.stil_read.specs.Keywords.{only_meaning}
+use Rattle.stil_read.specs.Variables.{choice_words}
 
 -- the one choice that stands behind a name
 abbrev pub only_choice : List Lexeme → Result Choice FormKind
-only_choice (one ∷ []) = is_there (choice_of one)
-only_choice _ = Err Shape
+only_choice rest = is_there (only_meaning choice_words rest)
 
 -- a name with this choice
 abbrev pub selected : List ℕ → Choice → Result Selection FormKind

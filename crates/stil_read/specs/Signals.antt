@@ -1,5 +1,5 @@
 -- Signals blocks (IEEE 1450-1999, clause 14).
-use Rattle.std.specs.Prelude.{ℕ, Bool, true, false, List, [], ◌∷◌, codes, Option, Some, None, option_map, Result, Ok, Err, if◌then◌else◌}
+use Rattle.std.specs.Prelude.{ℕ, Bool, true, false, List, [], ◌∷◌, codes, Option, Some, None, option_map, Result, Ok, Err}
 use Rattle.stil_tree.specs.Trees.{Entry}
 use Rattle.first_fault.specs.Reading.{and_then, reading}
 use Rattle.tester_types.specs.declared.signal.Direction.{Direction}
@@ -10,7 +10,7 @@ use Rattle.stil_form.specs.declared.fault.FormKind.TheVariants.{Shape}
 use Rattle.stil_form.specs.declared.front.Span.{Span}
 use Rattle.stil_form.specs.declared.part.SignKind.TheVariants.{Open, Dot}
 use Rattle.stil_form.specs.Lexeme.{Lexeme, sign}
-use Rattle.stil_form.specs.Words.{is_keyword, named_by}
+use Rattle.stil_form.specs.Words.{named_by}
 use Rattle.stil_form.specs.Fronts.{index_front}
 use Rattle.stil_form.specs.Setting.{Setting, lexemes_at, line_at, at_statement, inner_of, unskipped}
 use Rattle.pat_read.specs.References.{range_of}
@@ -18,22 +18,18 @@ use Rattle.stil_ast.specs.declared.signal.SignalDecl.{SignalDecl}
 use Rattle.stil_read.specs.declared.signals.SignalHead.{SignalHead}
 use Rattle.pat_read.specs.Statements.{is_there}
 use Rattle.stil_read.specs.Heads.{bare_block}
+use Rattle.stil_read.specs.Keywords.{only_meaning}
 use Rattle.stil_read.specs.Quotes.{attributes}
 
 -- what a signal is for
-abbrev pub direction_of : Lexeme → Option Direction
-direction_of one =
-    if is_keyword (codes "In") one then Some direction.In
-    else if is_keyword (codes "Out") one then Some direction.Out
-    else if is_keyword (codes "InOut") one then Some direction.InOut
-    else if is_keyword (codes "Supply") one then Some direction.Supply
-    else if is_keyword (codes "Pseudo") one then Some direction.Pseudo
-    else None
+abbrev pub directions : List (List ℕ × Direction)
+directions =
+    (codes "In", direction.In) ∷ (codes "Out", direction.Out) ∷ (codes "InOut", direction.InOut)
+    ∷ (codes "Supply", direction.Supply) ∷ (codes "Pseudo", direction.Pseudo) ∷ []
 
 -- a direction, and nothing behind it
 abbrev pub only_direction : List Lexeme → Result Direction FormKind
-only_direction (one ∷ []) = is_there (direction_of one)
-only_direction _ = Err Shape
+only_direction rest = is_there (only_meaning directions rest)
 
 -- behind a `[`: two indices begin, with dots between them
 abbrev pub are_two : List Lexeme → Bool

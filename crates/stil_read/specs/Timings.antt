@@ -1,5 +1,5 @@
 -- Timing blocks and their waveform tables (IEEE 1450-1999, clause 18).
-use Rattle.std.specs.Prelude.{ℕ, suc, not, nat_lt, Bool, false, List, [], ◌∷◌, ◌++◌, map, codes, Option, Some, None, is_some, Result, Ok, Err, if◌then◌else◌}
+use Rattle.std.specs.Prelude.{ℕ, ◌+◌, not, nat_lt, Bool, List, [], ◌∷◌, ◌++◌, map, codes, Option, Some, None, is_some, Result, Ok, Err, if◌then◌else◌}
 use Rattle.text_bytes.specs.Limits.{most_tables}
 use Rattle.first_fault.specs.Reading.{and_then, reading, stepping}
 use Rattle.stil_tree.specs.Trees.{Entry}
@@ -8,7 +8,6 @@ use Rattle.stil_form.specs.declared.fault.FormFault.TheVariants.{Refused}
 use Rattle.stil_form.specs.declared.fault.FormKind.{FormKind}
 use Rattle.stil_form.specs.declared.fault.FormKind.TheVariants.{LeftOut, OutOfRange, Twice}
 use Rattle.stil_form.specs.Lexeme.{Lexeme}
-use Rattle.stil_form.specs.Words.{is_keyword}
 use Rattle.stil_form.specs.Setting.{Setting, lexemes_at, line_at, at_statement, inner_of, unskipped}
 use Rattle.stil_ast.specs.declared.name.Named.{Named}
 use Rattle.stil_ast.specs.declared.name.Quoted.{Quoted}
@@ -18,21 +17,17 @@ use Rattle.stil_ast.specs.declared.timing.TimingBlock.{TimingBlock}
 use Rattle.stil_read.specs.declared.timings.TableWord.{TableWord}
 use Rattle.stil_read.specs.declared.timings.TableWord.TheVariants as word
 use Rattle.pat_read.specs.Statements.{only_name}
-use Rattle.stil_read.specs.Heads.{where_so, only_text, rest_at, bare_block, named_block, titled_block, is_declared, count_under, under}
+use Rattle.stil_read.specs.Named.{named_on}
+use Rattle.stil_read.specs.Quotes.{quoted_at}
+use Rattle.stil_read.specs.Keywords.{first_meaning}
+use Rattle.stil_read.specs.Heads.{is_first, where_so, only_text, rest_at, bare_block, named_block, titled_block, is_declared, count_under, under}
 use Rattle.stil_read.specs.Waveforms.{signals_of}
 
--- the keyword that a token is in a waveform table
-abbrev pub table_word : Lexeme → Option TableWord
-table_word one =
-    if is_keyword (codes "Period") one then Some word.Period
-    else if is_keyword (codes "InheritWaveformTable") one then Some word.Inherit
-    else if is_keyword (codes "Waveforms") one then Some word.Waveforms
-    else None
-
--- the keyword of a statement in a waveform table
-abbrev pub first_word : List Lexeme → Option TableWord
-first_word [] = None
-first_word (one ∷ rest) = table_word one
+-- the keywords in a waveform table
+abbrev pub table_words : List (List ℕ × TableWord)
+table_words =
+    (codes "Period", word.Period) ∷ (codes "InheritWaveformTable", word.Inherit)
+    ∷ (codes "Waveforms", word.Waveforms) ∷ []
 
 -- a keyword and a text, without a block
 abbrev pub plain_text : Setting → Entry → Result (List ℕ) FormFault
@@ -76,28 +71,20 @@ with_waveforms table waveforms =
       line = table.line;
     }
 
--- the text behind the keyword, on its line
-abbrev pub text_at : Setting → Entry → List ℕ → Quoted
-text_at s e text = record { text = text; line = line_at s.tokens (suc e.first) }
-
--- the name behind the keyword, on the statement's line
-abbrev pub name_at : Setting → Entry → List ℕ → Named
-name_at s e called = record { name = called; line = line_at s.tokens e.first }
-
 -- `Period Text;`, `InheritWaveformTable name;` and `Waveforms { }` in a table; any other statement is left out
 abbrev pub table_by : Setting → TableDecl → Entry → Option TableWord → Result TableDecl FormFault
 table_by s table e None = Err (Refused LeftOut e.first)
 table_by s table e (Some word.Period) =
-    and_then (plain_text s e) (λ text. at_statement e.first (with_period table (text_at s e text)))
+    and_then (plain_text s e) (λ text. at_statement e.first (with_period table (quoted_at s (e.first + 1) text)))
 table_by s table e (Some word.Inherit) =
-    and_then (plain_name s e) (λ called. Ok (with_inherit table (name_at s e called)))
+    and_then (plain_name s e) (λ called. Ok (with_inherit table (named_on s e called)))
 table_by s table e (Some word.Waveforms) =
     and_then (bare_block s e) (λ nothing. and_then (signals_of s (inner_of e.body)) (λ waveforms.
     Ok (with_waveforms table waveforms)))
 
 -- a table with one more of its statements
 abbrev pub table_step : Setting → TableDecl → Entry → Result TableDecl FormFault
-table_step s table e = table_by s table e (first_word (lexemes_at s e))
+table_step s table e = table_by s table e (first_meaning table_words (lexemes_at s e))
 
 -- a table of which nothing was read but its name
 abbrev pub empty_table : List ℕ → ℕ → TableDecl
@@ -109,8 +96,7 @@ table_of s called line es = stepping (table_step s) (empty_table called line) (u
 
 -- the keyword that a Timing may hold
 abbrev pub is_table : List Lexeme → Bool
-is_table [] = false
-is_table (one ∷ rest) = is_keyword (codes "WaveformTable") one
+is_table head = is_first (codes "WaveformTable") head
 
 -- one more name of a table: a Timing has at most 64, each once
 abbrev pub new_name : List (List ℕ × List ℕ) → List ℕ → List ℕ → Result (List ℕ) FormKind

@@ -1,5 +1,5 @@
 -- A text's statements at the top level, and its blocks by their kinds (IEEE 1450-1999, clauses 8 to 24).
-use Rattle.std.specs.Prelude.{ℕ, Bool, true, false, ◌&&◌, nat_lt, List, [], ◌∷◌, ◌++◌, length, map, flat_map, codes, Option, Some, None, is_some, option_and_then, Result, Ok, Err, if◌then◌else◌}
+use Rattle.std.specs.Prelude.{ℕ, Bool, true, false, ◌&&◌, nat_lt, List, [], ◌∷◌, ◌++◌, length, map, flat_map, codes, Option, Some, None, is_some, Result, Ok, Err, if◌then◌else◌}
 use Rattle.stil_lex.specs.declared.token.Token.{Token}
 use Rattle.stil_tree.specs.Trees.{Entry}
 use Rattle.stil_form.specs.declared.fault.FormKind.{FormKind}
@@ -40,27 +40,20 @@ use Rattle.stil_read.specs.Defs.{defs_block, pattern_block}
 use Rattle.stil_read.specs.Bursts.{burst_block}
 use Rattle.stil_read.specs.Executives.{exec_block}
 use Rattle.pat_read.specs.Statements.{is_there}
+use Rattle.stil_read.specs.Keywords.{first_meaning}
 use Rattle.stil_read.specs.Heads.{rest_at, bare_block, named_block, titled_block, is_declared, under}
 
--- the keyword that begins a statement at the top level
-abbrev pub keyword_of : Lexeme → Option Keyword
-keyword_of one =
-    if is_keyword (codes "Signals") one then Some keyword.Signals
-    else if is_keyword (codes "SignalGroups") one then Some keyword.SignalGroups
-    else if is_keyword (codes "Spec") one then Some keyword.Spec
-    else if is_keyword (codes "Selector") one then Some keyword.Selector
-    else if is_keyword (codes "Timing") one then Some keyword.Timing
-    else if is_keyword (codes "ScanStructures") one then Some keyword.ScanStructures
-    else if is_keyword (codes "MacroDefs") one then Some keyword.MacroDefs
-    else if is_keyword (codes "Procedures") one then Some keyword.Procedures
-    else if is_keyword (codes "PatternBurst") one then Some keyword.PatternBurst
-    else if is_keyword (codes "PatternExec") one then Some keyword.PatternExec
-    else if is_keyword (codes "Pattern") one then Some keyword.Pattern
-    else if is_keyword (codes "Header") one then Some keyword.Header
-    else if is_keyword (codes "UserKeywords") one then Some keyword.UserKeywords
-    else if is_keyword (codes "UserFunctions") one then Some keyword.UserFunctions
-    else if is_keyword (codes "STIL") one then Some keyword.Stil
-    else None
+-- the keywords that begin statements at the top level
+abbrev pub keywords : List (List ℕ × Keyword)
+keywords =
+    (codes "Signals", keyword.Signals) ∷ (codes "SignalGroups", keyword.SignalGroups)
+    ∷ (codes "Spec", keyword.Spec) ∷ (codes "Selector", keyword.Selector)
+    ∷ (codes "Timing", keyword.Timing) ∷ (codes "ScanStructures", keyword.ScanStructures)
+    ∷ (codes "MacroDefs", keyword.MacroDefs) ∷ (codes "Procedures", keyword.Procedures)
+    ∷ (codes "PatternBurst", keyword.PatternBurst) ∷ (codes "PatternExec", keyword.PatternExec)
+    ∷ (codes "Pattern", keyword.Pattern) ∷ (codes "Header", keyword.Header)
+    ∷ (codes "UserKeywords", keyword.UserKeywords)
+    ∷ (codes "UserFunctions", keyword.UserFunctions) ∷ (codes "STIL", keyword.Stil) ∷ []
 
 -- what stands so far: the words of UserKeywords statements, and the blocks
 pub record Top : Type 0 where
@@ -210,14 +203,9 @@ with_words t words = record { words = words; blocks = t.blocks }
 abbrev pub with_blocks : Top → Blocks → Top
 with_blocks t blocks = record { words = t.words; blocks = blocks }
 
--- the first lexeme of a head
-abbrev pub first_lexeme : List Lexeme → Option Lexeme
-first_lexeme [] = None
-first_lexeme (one ∷ rest) = Some one
-
 -- the keyword of a statement
 abbrev pub keyword_at : Setting → Entry → Option Keyword
-keyword_at s e = option_and_then keyword_of (first_lexeme (lexemes_at s e))
+keyword_at s e = first_meaning keywords (lexemes_at s e)
 
 -- what stands behind a statement of this keyword
 abbrev pub keyword_step : Setting → Top → Entry → Keyword → Result Top FormFault

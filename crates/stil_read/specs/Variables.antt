@@ -1,5 +1,5 @@
 -- Spec blocks (IEEE 1450-1999, clause 19).
-use Rattle.std.specs.Prelude.{ℕ, ◌+◌, not, Bool, false, List, [], ◌∷◌, codes, Option, Some, None, is_some, Result, Ok, Err, if◌then◌else◌}
+use Rattle.std.specs.Prelude.{ℕ, ◌+◌, not, Bool, List, [], ◌∷◌, codes, Option, Some, None, is_some, Result, Ok, Err, if◌then◌else◌}
 use Rattle.stil_tree.specs.Trees.{Entry}
 use Rattle.first_fault.specs.Reading.{and_then, reading, stepping}
 use Rattle.stil_form.specs.declared.fault.FormFault.{FormFault}
@@ -7,7 +7,6 @@ use Rattle.stil_form.specs.declared.fault.FormFault.TheVariants.{Refused}
 use Rattle.stil_form.specs.declared.fault.FormKind.{FormKind}
 use Rattle.stil_form.specs.declared.fault.FormKind.TheVariants.{LeftOut, Twice}
 use Rattle.stil_form.specs.Lexeme.{Lexeme}
-use Rattle.stil_form.specs.Words.{is_keyword}
 use Rattle.stil_form.specs.Setting.{Setting, lexemes_at, line_at, at_statement, inner_of, unskipped}
 use Rattle.stil_ast.specs.declared.name.Quoted.{Quoted}
 use Rattle.stil_ast.specs.declared.variable.Choice.{Choice}
@@ -19,17 +18,13 @@ use Rattle.stil_ast.specs.declared.variable.VariableDecl.{VariableDecl}
 use Rattle.stil_ast.specs.declared.variable.Category.{Category}
 use Rattle.stil_ast.specs.declared.variable.SpecBlock.{SpecBlock}
 use Rattle.pat_read.specs.Statements.{only_name}
-use Rattle.stil_read.specs.Heads.{where_so, only_text, named_block, titled_block}
+use Rattle.stil_read.specs.Keywords.{meaning}
+use Rattle.stil_read.specs.Heads.{is_first, where_so, only_text, named_block, titled_block}
 use Rattle.stil_read.specs.Quotes.{equal_text_at, quoted_at}
 
--- the choice that a keyword names
-abbrev pub choice_of : Lexeme → Option Choice
-choice_of one =
-    if is_keyword (codes "Min") one then Some Min
-    else if is_keyword (codes "Typ") one then Some Typ
-    else if is_keyword (codes "Max") one then Some Max
-    else if is_keyword (codes "Meas") one then Some Meas
-    else None
+-- the keywords that name choices
+abbrev pub choice_words : List (List ℕ × Choice)
+choice_words = (codes "Min", Min) ∷ (codes "Typ", Typ) ∷ (codes "Max", Max) ∷ (codes "Meas", Meas) ∷ []
 
 -- a choice with this text
 abbrev pub chosen_text : Choice → List ℕ → Result (Choice × List ℕ) FormKind
@@ -43,7 +38,7 @@ choice_by (Some choice) has_block rest = where_so (not has_block) (and_then (onl
 -- `Min 'text'` and the like, which has no block
 abbrev pub choice_said : Bool → List Lexeme → Result (Choice × List ℕ) FormKind
 choice_said has_block [] = Err LeftOut
-choice_said has_block (one ∷ rest) = choice_by (choice_of one) has_block rest
+choice_said has_block (one ∷ rest) = choice_by (meaning choice_words one) has_block rest
 
 -- the text that is given for a choice
 abbrev pub given_for : Choice → Choices → Option Quoted
@@ -108,11 +103,6 @@ judge_variable s before e = if is_some e.body then chosen_variable s e else same
 -- the variables of a category's statements
 abbrev pub variables_of : Setting → List Entry → Result (List VariableDecl) FormFault
 variables_of s es = reading (judge_variable s) [] (unskipped s es)
-
--- the first lexeme is the keyword
-abbrev pub is_first : List ℕ → List Lexeme → Bool
-is_first keyword [] = false
-is_first keyword (one ∷ rest) = is_keyword keyword one
 
 -- the name of `Category name { }`; any other statement is left out
 abbrev pub category_at : Setting → Entry → Result (List ℕ) FormFault

@@ -1,14 +1,12 @@
 -- Waveforms: what a table says of signals by their waveform characters (IEEE 1450-1999, clause 18).
-use Rattle.std.specs.Prelude.{ℕ, ◌==◌, ◌&&◌, ◌||◌, not, nat_eq, nat_lt, Bool, true, false, List, [], ◌∷◌, ◌++◌, length, codes, Option, Some, None, option_map, is_some, Result, Ok, Err, if◌then◌else◌}
+use Rattle.std.specs.Prelude.{ℕ, ◌==◌, ◌&&◌, ◌||◌, not, nat_eq, nat_lt, Bool, true, false, List, [], ◌∷◌, ◌++◌, length, codes, Option, Some, None, is_some, Result, Ok, Err, if◌then◌else◌}
 use Rattle.std.specs.List.{list_all}
 use Rattle.text_bytes.specs.Bytes.{is_character}
 use Rattle.text_bytes.specs.Limits.{most_events}
 use Rattle.first_fault.specs.Reading.{and_then, reading}
 use Rattle.tester_types.specs.declared.wave.Act.{Act}
 use Rattle.tester_types.specs.declared.wave.Act.TheVariants as act
-use Rattle.tester_types.specs.declared.wave.Push.{Push}
 use Rattle.tester_types.specs.declared.wave.Push.TheVariants as push
-use Rattle.tester_types.specs.declared.wave.Look.{Look}
 use Rattle.tester_types.specs.declared.wave.Look.TheVariants as look
 use Rattle.stil_tree.specs.Trees.{Entry}
 use Rattle.stil_form.specs.declared.fault.FormFault.{FormFault}
@@ -16,55 +14,35 @@ use Rattle.stil_form.specs.declared.fault.FormKind.{FormKind}
 use Rattle.stil_form.specs.declared.fault.FormKind.TheVariants.{Shape, LeftOut, OutOfRange}
 use Rattle.stil_form.specs.declared.part.SignKind.TheVariants.{Slash}
 use Rattle.stil_form.specs.Lexeme.{Lexeme, word, text, sign}
-use Rattle.stil_form.specs.Words.{is_keyword}
 use Rattle.stil_form.specs.Fronts.{Ref, reference_front}
 use Rattle.stil_form.specs.Setting.{Setting, lexemes_at, line_at, at_statement, inner_of, unskipped}
 use Rattle.pat_read.specs.References.{ref_of}
+use Rattle.stil_read.specs.Keywords.{meaning}
 use Rattle.stil_ast.specs.Data.Forms.{all_differ}
 use Rattle.stil_ast.specs.declared.timing.EventDecl.{EventDecl}
 use Rattle.stil_ast.specs.declared.timing.WaveDecl.{WaveDecl}
 use Rattle.stil_ast.specs.declared.timing.SignalWaves.{SignalWaves}
 
--- a word that may be written short or long
-abbrev pub is_either : Lexeme → List ℕ → List ℕ → Bool
-is_either one short long = is_keyword short one || is_keyword long one
-
--- the drive acts, by their letters and their long names
-abbrev pub push_of : Lexeme → Option Push
-push_of one =
-    if is_either one (codes "D") (codes "ForceDown") then Some push.Down
-    else if is_either one (codes "U") (codes "ForceUp") then Some push.Up
-    else if is_either one (codes "Z") (codes "ForceOff") then Some push.Off
-    else if is_either one (codes "N") (codes "ForceUnknown") then Some push.Unknown
-    else if is_either one (codes "P") (codes "ForcePrior") then Some push.Prior
-    else None
-
--- the look acts in a window; `x` and `X` are one
-abbrev pub window_of : Lexeme → Option Look
-window_of one =
-    if is_either one (codes "l") (codes "CompareLowWindow") then Some look.LowWindow
-    else if is_either one (codes "h") (codes "CompareHighWindow") then Some look.HighWindow
-    else if is_either one (codes "t") (codes "CompareOffWindow") then Some look.OffWindow
-    else if is_keyword (codes "x") one then Some look.Close
-    else None
-
--- the look acts, by their letters and their long names
-abbrev pub look_of : Lexeme → Option Look
-look_of one =
-    if is_either one (codes "L") (codes "CompareLow") then Some look.Low
-    else if is_either one (codes "H") (codes "CompareHigh") then Some look.High
-    else if is_either one (codes "T") (codes "CompareOff") then Some look.Off
-    else if is_either one (codes "X") (codes "CompareUnknown") then Some look.Close
-    else window_of one
-
--- a drive act, or else a look act
-abbrev pub act_by : Option Push → Option Look → Option Act
-act_by (Some found) other = Some (act.Push found)
-act_by None other = option_map act.Look other
+-- the acts by their letters and their long names; `x` and `X` are one
+abbrev pub acts : List (List ℕ × Act)
+acts =
+    (codes "D", act.Push push.Down) ∷ (codes "ForceDown", act.Push push.Down)
+    ∷ (codes "U", act.Push push.Up) ∷ (codes "ForceUp", act.Push push.Up)
+    ∷ (codes "Z", act.Push push.Off) ∷ (codes "ForceOff", act.Push push.Off)
+    ∷ (codes "N", act.Push push.Unknown) ∷ (codes "ForceUnknown", act.Push push.Unknown)
+    ∷ (codes "P", act.Push push.Prior) ∷ (codes "ForcePrior", act.Push push.Prior)
+    ∷ (codes "L", act.Look look.Low) ∷ (codes "CompareLow", act.Look look.Low)
+    ∷ (codes "H", act.Look look.High) ∷ (codes "CompareHigh", act.Look look.High)
+    ∷ (codes "T", act.Look look.Off) ∷ (codes "CompareOff", act.Look look.Off)
+    ∷ (codes "X", act.Look look.Close) ∷ (codes "x", act.Look look.Close)
+    ∷ (codes "CompareUnknown", act.Look look.Close)
+    ∷ (codes "l", act.Look look.LowWindow) ∷ (codes "CompareLowWindow", act.Look look.LowWindow)
+    ∷ (codes "h", act.Look look.HighWindow) ∷ (codes "CompareHighWindow", act.Look look.HighWindow)
+    ∷ (codes "t", act.Look look.OffWindow) ∷ (codes "CompareOffWindow", act.Look look.OffWindow) ∷ []
 
 -- the act that a token is
 abbrev pub act_of : Lexeme → Option Act
-act_of one = act_by (push_of one) (look_of one)
+act_of one = meaning acts one
 
 -- one more act; a token in its place that is none is left out
 abbrev pub with_act : List Act → Option Act → Result (List Act) FormKind

@@ -3,17 +3,17 @@
 ghost use Rattle.std.specs.Prelude.{◌≡◌, ◌∷◌, ◌++◌, [], List, ℕ, Result, Ok, IfOk, map};
 ghost use Rattle.stil_tree.specs.Trees.{entry_of};
 ghost use Rattle.stil_form.specs.Reading.{Answers, AnswersBy, and_then};
-ghost use Rattle.stil_form.specs.Setting.{setting_of, at_statement};
+ghost use Rattle.stil_form.specs.Setting.{setting_of};
 ghost use Rattle.stil_read.specs.Heads.{under};
 ghost use Rattle.stil_read.specs.Defs as defs;
-ghost use Rattle.stil_read.specs.Defs.{body_in, names_of, def_name, new_def, def_said, defs_in};
+ghost use Rattle.stil_read.specs.Defs.{body_in, names_of, new_def, def_said, defs_in};
 
 use crate::declared::Declared;
-use crate::head::{named_block, only_name, titled_block};
+use crate::head::{named_block, only_name, titled_block, with_block};
 use pat_read::{BodyPlace, read_written};
 use std::alloc::Global;
 use stil_ast::{BodyDef, DefBlock, PatBody, Pattern};
-use stil_form::{FormFault, FormKind, Reader, first_of, has_block, head_at, inner_of, skips};
+use stil_form::{FormFault, FormKind, Reader, first_of, head_at, inner_of, skips};
 use stil_tree::Stmt;
 use tester_types::Items;
 
@@ -42,21 +42,7 @@ pub fn read_pattern_block(alloc: Global, reader: &Reader, stmt: &Stmt) -> Result
     Ok(Pattern { name, body })
 }
 
-/// The name of a macro or a procedure.
-fn def_name<'a>(reader: &Reader<'_, 'a>, stmt: &Stmt) -> Result<&'a [u8], FormFault>
-    ensures { AnswersBy (λ called. called.now) result
-        (at_statement (entry_of stmt.now).first (def_name (setting_of reader.now) (entry_of stmt.now))) }
-{
-    if !has_block(stmt) {
-        return Err(FormFault::Refused(FormKind::Shape, first_of(stmt)));
-    }
-    match only_name(head_at(reader.source, stmt)) {
-        Ok(called) => Ok(called),
-        Err(kind) => Err(FormFault::Refused(kind, first_of(stmt))),
-    }
-}
-
-/// The same, where it is not declared under the title.
+/// The name of a macro or a procedure, which is not declared under the title.
 fn new_def<'a>(
     reader: &Reader<'_, 'a>,
     title: &'a [u8],
@@ -66,7 +52,7 @@ fn new_def<'a>(
     ensures { AnswersBy (λ called. called.now) result
         (new_def (setting_of reader.now) title.entry.now declared.now (entry_of stmt.now)) }
 {
-    let called = def_name(reader, stmt)?;
+    let called = with_block(stmt, only_name(head_at(reader.source, stmt)))?;
     if declared.has(title, called) {
         return Err(FormFault::Refused(FormKind::Twice, first_of(stmt)));
     }

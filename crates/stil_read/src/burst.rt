@@ -5,52 +5,31 @@ ghost use Rattle.std.specs.List.{list_any};
 ghost use Rattle.stil_tree.specs.Trees.{entry_of};
 ghost use Rattle.stil_form.specs.Reading.{Answers, AnswersBy};
 ghost use Rattle.stil_form.specs.Setting.{setting_of, lexemes_at, at_statement};
-ghost use Rattle.stil_form.specs.Lexeme.{lexeme_of, lexemes};
 ghost use Rattle.stil_ast.specs.Data.BlockForms.{is_macros_word, is_procedures_word, is_scans_word};
 ghost use Rattle.stil_ast.specs.declared.executive.BurstItem.{BurstItem};
 ghost use Rattle.pat_read.specs.Statements as statements;
-ghost use Rattle.stil_read.specs.Heads as heads;
 ghost use Rattle.stil_read.specs.Bursts as bursts;
-ghost use Rattle.stil_read.specs.Bursts.{word_of, item_on, stands_already, with_item, burst_name, named_step, left_out, entry_step, list_step, by_word, burst_step, items_in};
+ghost use Rattle.stil_read.specs.Bursts.{item_on, stands_already, named_step, left_out, entry_step, burst_step, items_in};
 
-use crate::head::{bare_block, name_or_empty, named_block, only_name, rest_at};
+use crate::head::{bare_block, name_or_empty, named_block, only_name, rest_at, without_block};
+use crate::keyword::first_keyword;
 use std::alloc::{AllocError, Global};
 use stil_ast::{Burst, BurstItem, BurstItemList, BurstWord};
 use stil_form::{
-    FormFault, FormKind, Part, Reader, Source, StepForm, first_of, first_part, has_block, head_at,
-    inner_of, is_word, line_at, read_unskipped_steps,
+    FormFault, FormKind, Reader, StepForm, first_of, head_at, inner_of, line_at,
+    read_unskipped_steps,
 };
 use stil_tree::Stmt;
 use tester_types::Items;
 
 /// What the names behind a keyword are the names of.
-fn burst_word(part: &Part) -> Option<BurstWord>
-    ensures { result ≡ bursts.burst_word (lexeme_of part.now) }
-{
-    if is_word(part, b"SignalGroups") {
-        Some(BurstWord::SignalGroups)
-    } else if is_word(part, b"MacroDefs") {
-        Some(BurstWord::MacroDefs)
-    } else if is_word(part, b"Procedures") {
-        Some(BurstWord::Procedures)
-    } else if is_word(part, b"ScanStructures") {
-        Some(BurstWord::ScanStructures)
-    } else if is_word(part, b"PatList") {
-        Some(BurstWord::Entry)
-    } else {
-        None
-    }
-}
-
-/// The keyword that begins a head.
-fn word_of(head: Source) -> Option<BurstWord>
-    ensures { result ≡ word_of (lexemes head.entry) }
-{
-    match first_part(head) {
-        Some((one, _)) => burst_word(&one),
-        None => None,
-    }
-}
+const BURST_WORDS: [(&[u8], BurstWord); 5] = [
+    (b"SignalGroups", BurstWord::SignalGroups),
+    (b"MacroDefs", BurstWord::MacroDefs),
+    (b"Procedures", BurstWord::Procedures),
+    (b"ScanStructures", BurstWord::ScanStructures),
+    (b"PatList", BurstWord::Entry),
+];
 
 /// A name on the line of its statement.
 fn item_on(
@@ -127,30 +106,6 @@ fn with_one(before: BurstItemList, item: BurstItem) -> Result<BurstItemList, For
     Ok(Items::from_vec(items))
 }
 
-/// One more name, by a statement with this first token.
-fn with_item(before: BurstItemList, item: BurstItem, first: u32) -> Result<BurstItemList, FormFault>
-    ensures { Answers result (at_statement first (with_item before item)) }
-{
-    if stands_already(item.word, before.as_slice()) {
-        return Err(FormFault::Refused(FormKind::Twice, first));
-    }
-    with_one(before, item)
-}
-
-/// The name behind a keyword of a statement that `;` ends.
-fn burst_name<'a>(reader: &Reader<'_, 'a>, stmt: &Stmt) -> Result<&'a [u8], FormFault>
-    ensures { AnswersBy (λ called. called.now) result
-        (at_statement (entry_of stmt.now).first (burst_name (setting_of reader.now) (entry_of stmt.now))) }
-{
-    if has_block(stmt) {
-        return Err(FormFault::Refused(FormKind::Shape, first_of(stmt)));
-    }
-    match name_or_empty(rest_at(reader, stmt)) {
-        Ok(called) => Ok(called),
-        Err(kind) => Err(FormFault::Refused(kind, first_of(stmt))),
-    }
-}
-
 /// The names up to a statement with this word.
 fn named_step(
     alloc: Global,
@@ -161,9 +116,12 @@ fn named_step(
 ) -> Result<BurstItemList, FormFault>
     ensures { Answers result (named_step (setting_of reader.now) before (entry_of stmt.now) word) }
 {
-    let called = burst_name(reader, stmt)?;
+    let called = without_block(stmt, name_or_empty(rest_at(reader, stmt)))?;
+    if stands_already(word, before.as_slice()) {
+        return Err(FormFault::Refused(FormKind::Twice, first_of(stmt)));
+    }
     let item = item_on(alloc, reader, stmt, word, called)?;
-    with_item(before, item, first_of(stmt))
+    with_one(before, item)
 }
 
 /// Statements in the block of an entry, which are left out.
@@ -220,37 +178,6 @@ impl StepForm for EntryForm<'_, '_> {
     }
 }
 
-/// The names up to a PatList, and its own.
-fn list_step(
-    alloc: Global,
-    reader: &Reader,
-    before: BurstItemList,
-    stmt: &Stmt,
-) -> Result<BurstItemList, FormFault>
-    ensures { Answers result (list_step (setting_of reader.now) before (entry_of stmt.now)) }
-{
-    bare_block(reader, stmt)?;
-    let form = EntryForm { reader: *reader };
-    read_unskipped_steps(alloc, &form, reader, before, inner_of(stmt))
-}
-
-/// The names up to a statement with this keyword, and its own.
-fn by_word(
-    alloc: Global,
-    reader: &Reader,
-    before: BurstItemList,
-    stmt: &Stmt,
-    word: Option<BurstWord>,
-) -> Result<BurstItemList, FormFault>
-    ensures { Answers result (by_word (setting_of reader.now) before (entry_of stmt.now) word) }
-{
-    match word {
-        None => Err(FormFault::Refused(FormKind::LeftOut, first_of(stmt))),
-        Some(BurstWord::Entry) => list_step(alloc, reader, before, stmt),
-        Some(word) => named_step(alloc, reader, before, stmt, word),
-    }
-}
-
 /// Statements of a PatternBurst.
 #[derive(Clone, Copy)]
 struct BurstForm<'k, 'a> {
@@ -268,8 +195,16 @@ impl StepForm for BurstForm<'_, '_> {
         before: BurstItemList,
         stmt: &Stmt,
     ) -> Result<BurstItemList, FormFault> {
-        let word = word_of(head_at(self.reader.source, stmt));
-        by_word(alloc, &self.reader, before, stmt, word)
+        let reader = &self.reader;
+        match first_keyword(&BURST_WORDS, head_at(reader.source, stmt)) {
+            None => Err(FormFault::Refused(FormKind::LeftOut, first_of(stmt))),
+            Some(BurstWord::Entry) => {
+                bare_block(reader, stmt)?;
+                let form = EntryForm { reader: *reader };
+                read_unskipped_steps(alloc, &form, reader, before, inner_of(stmt))
+            }
+            Some(word) => named_step(alloc, reader, before, stmt, word),
+        }
     }
 }
 

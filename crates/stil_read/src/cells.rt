@@ -7,7 +7,6 @@ ghost use Rattle.stil_form.specs.Setting.{at_statement};
 ghost use Rattle.stil_form.specs.Lexeme.{lexeme_of, lexemes};
 ghost use Rattle.stil_form.specs.Fronts.{index_by};
 ghost use Rattle.stil_ast.specs.Data.BlockForms as forms;
-ghost use Rattle.stil_read.specs.Heads.{Says};
 ghost use Rattle.stil_read.specs.Cells as cells;
 
 use std::alloc::{AllocError, Global};
@@ -49,6 +48,14 @@ pub(crate) struct CellsRead {
     awaited: Awaited,
 }
 
+impl CellsRead {
+    fn new(cells: Option<CellsLeft>, awaited: Awaited) -> CellsRead
+        ensures { result ≡ record { cells = cells; awaited = awaited } }
+    {
+        CellsRead { cells, awaited }
+    }
+}
+
 /// The number that a word of digits is.
 pub(crate) fn index_of(part: &Part) -> Option<u64>
     ensures { result ≡ index_by (lexeme_of part.now) }
@@ -80,16 +87,6 @@ fn cell_size(range: Option<IndexRange>) -> u64
         None => 1,
         Some(range) => range_size(range),
     }
-}
-
-/// Before the first cell.
-fn no_cells(alloc: Global) -> Option<CellsLeft>
-    ensures { result ≡ cells.no_cells }
-{
-    Some(CellsLeft {
-        cells: Items::from_vec(Vec::new(alloc)),
-        left: MOST_CELLS as u64,
-    })
 }
 
 /// One more in a list.
@@ -129,20 +126,6 @@ fn with_cell(
     }))
 }
 
-/// A name with these indices, each at most 2^32 - 1.
-fn with_indices(
-    before: Option<CellsLeft>,
-    called: Text,
-    pair: Option<(u32, u32)>,
-) -> Result<Option<CellsLeft>, AllocError>
-    ensures { IfOk result (λ more. more ≡ cells.with_indices before called pair) }
-{
-    match pair {
-        None => Ok(None),
-        Some((first, last)) => with_cell(before, called, Some(IndexRange { first, last })),
-    }
-}
-
 /// A cell begins.
 fn cell_begins(
     alloc: Global,
@@ -153,150 +136,32 @@ fn cell_begins(
     ensures { Answers result (at_statement first (cells.cell_begins before (lexeme_of part.now))) }
 {
     if let Part::Sign(SignKind::Bang) = part {
-        return Ok(CellsRead {
-            cells: before,
-            awaited: Awaited::Cell,
-        });
+        return Ok(CellsRead::new(before, Awaited::Cell));
     }
     match name_of(part) {
-        Some(called) => Ok(CellsRead {
-            cells: before,
-            awaited: Awaited::Indices(Items::from_slice(alloc, called)?),
-        }),
-        None => Err(FormFault::Refused(FormKind::Shape, first)),
-    }
-}
-
-/// What stands behind a name.
-fn behind_name(
-    alloc: Global,
-    first: u32,
-    before: Option<CellsLeft>,
-    called: Text,
-    part: &Part,
-) -> Result<CellsRead, FormFault>
-    ensures { Answers result (at_statement first (cells.behind_name before called (lexeme_of part.now))) }
-{
-    if let Part::Sign(SignKind::Open) = part {
-        return Ok(CellsRead {
-            cells: before,
-            awaited: Awaited::First(called),
-        });
-    }
-    let before = with_cell(before, called, None)?;
-    cell_begins(alloc, first, before, part)
-}
-
-/// The indices of a name end.
-fn indexed(before: Option<CellsLeft>, called: Text, span: Span) -> Result<CellsRead, AllocError>
-    ensures { IfOk result (λ read. cells.indexed before called span.first span.last ≡ Ok read) }
-{
-    let cells = with_indices(before, called, span.indices())?;
-    Ok(CellsRead {
-        cells,
-        awaited: Awaited::Cell,
-    })
-}
-
-/// What stands behind the first index.
-fn behind_index(
-    first: u32,
-    before: Option<CellsLeft>,
-    called: Text,
-    index: u64,
-    part: &Part,
-) -> Result<CellsRead, FormFault>
-    ensures { Answers result (at_statement first (cells.behind_index before called index (lexeme_of part.now))) }
-{
-    match part {
-        Part::Sign(SignKind::Close) => {
-            Ok(indexed(
-                before,
-                called,
-                Span {
-                    first: index,
-                    last: index,
-                },
-            )?)
+        Some(called) => {
+            let called = Items::from_slice(alloc, called)?;
+            Ok(CellsRead::new(before, Awaited::Indices(called)))
         }
-        Part::Sign(SignKind::Dot) => Ok(CellsRead {
-            cells: before,
-            awaited: Awaited::Dot(called, index),
-        }),
-        _ => Err(FormFault::Refused(FormKind::Shape, first)),
-    }
-}
-
-/// The second dot.
-fn second_dot(
-    first: u32,
-    before: Option<CellsLeft>,
-    called: Text,
-    index: u64,
-    part: &Part,
-) -> Result<CellsRead, FormFault>
-    ensures { Answers result (at_statement first (cells.second_dot before called index (lexeme_of part.now))) }
-{
-    match part {
-        Part::Sign(SignKind::Dot) => Ok(CellsRead {
-            cells: before,
-            awaited: Awaited::Last(called, index),
-        }),
-        _ => Err(FormFault::Refused(FormKind::Shape, first)),
-    }
-}
-
-/// The `]` behind the last index.
-fn closed(
-    first: u32,
-    before: Option<CellsLeft>,
-    called: Text,
-    span: Span,
-    part: &Part,
-) -> Result<CellsRead, FormFault>
-    ensures { Answers result
-        (at_statement first (cells.closed before called span.first span.last (lexeme_of part.now))) }
-{
-    match part {
-        Part::Sign(SignKind::Close) => Ok(indexed(before, called, span)?),
-        _ => Err(FormFault::Refused(FormKind::Shape, first)),
-    }
-}
-
-/// The first index, or no index.
-fn first_index(
-    first: u32,
-    before: Option<CellsLeft>,
-    called: Text,
-    index: Option<u64>,
-) -> Result<CellsRead, FormFault>
-    ensures { Answers result (at_statement first (cells.first_index before called index)) }
-{
-    match index {
-        Some(index) => Ok(CellsRead {
-            cells: before,
-            awaited: Awaited::Behind(called, index),
-        }),
         None => Err(FormFault::Refused(FormKind::Shape, first)),
     }
 }
 
-/// The last index, or no index.
-fn last_index(
-    first: u32,
+/// The indices of a name end, each of which is at most 2^32 - 1.
+fn indexed(
     before: Option<CellsLeft>,
     called: Text,
-    index: u64,
-    last: Option<u64>,
-) -> Result<CellsRead, FormFault>
-    ensures { Answers result (at_statement first (cells.last_index before called index last)) }
+    first: u64,
+    last: u64,
+) -> Result<CellsRead, AllocError>
+    ensures { IfOk result (λ read. cells.indexed before called first last ≡ Ok read) }
 {
-    match last {
-        Some(last) => Ok(CellsRead {
-            cells: before,
-            awaited: Awaited::End(called, index, last),
-        }),
-        None => Err(FormFault::Refused(FormKind::Shape, first)),
+    match (Span { first, last }).indices() {
+        None => Ok(CellsRead::new(None, Awaited::Cell)),
+        Some((first, last)) => {
+            let range = Some(IndexRange { first, last });
+            Ok(CellsRead::new(with_cell(before, called, range)?, Awaited::Cell))
+        }
     }
 }
 
@@ -312,14 +177,31 @@ fn cells_step(
     let CellsRead { cells, awaited } = before;
     match awaited {
         Awaited::Cell => cell_begins(alloc, first, cells, part),
-        Awaited::Indices(called) => behind_name(alloc, first, cells, called, part),
-        Awaited::First(called) => first_index(first, cells, called, index_of(part)),
-        Awaited::Behind(called, index) => behind_index(first, cells, called, index, part),
-        Awaited::Dot(called, index) => second_dot(first, cells, called, index, part),
-        Awaited::Last(called, index) => last_index(first, cells, called, index, index_of(part)),
-        Awaited::End(called, index, last) => {
-            closed(first, cells, called, Span { first: index, last }, part)
-        }
+        Awaited::Indices(called) => match part {
+            Part::Sign(SignKind::Open) => Ok(CellsRead::new(cells, Awaited::First(called))),
+            _ => cell_begins(alloc, first, with_cell(cells, called, None)?, part),
+        },
+        Awaited::First(called) => match index_of(part) {
+            Some(index) => Ok(CellsRead::new(cells, Awaited::Behind(called, index))),
+            None => Err(FormFault::Refused(FormKind::Shape, first)),
+        },
+        Awaited::Behind(called, index) => match part {
+            Part::Sign(SignKind::Close) => Ok(indexed(cells, called, index, index)?),
+            Part::Sign(SignKind::Dot) => Ok(CellsRead::new(cells, Awaited::Dot(called, index))),
+            _ => Err(FormFault::Refused(FormKind::Shape, first)),
+        },
+        Awaited::Dot(called, index) => match part {
+            Part::Sign(SignKind::Dot) => Ok(CellsRead::new(cells, Awaited::Last(called, index))),
+            _ => Err(FormFault::Refused(FormKind::Shape, first)),
+        },
+        Awaited::Last(called, index) => match index_of(part) {
+            Some(last) => Ok(CellsRead::new(cells, Awaited::End(called, index, last))),
+            None => Err(FormFault::Refused(FormKind::Shape, first)),
+        },
+        Awaited::End(called, index, last) => match part {
+            Part::Sign(SignKind::Close) => Ok(indexed(cells, called, index, last)?),
+            _ => Err(FormFault::Refused(FormKind::Shape, first)),
+        },
     }
 }
 
@@ -327,24 +209,15 @@ fn cells_step(
 fn read_parts(alloc: Global, first: u32, head: Source) -> Result<CellsRead, FormFault>
     ensures { Answers result (stepping (cells.cells_step first) cells.cells_start (lexemes head.entry)) }
 {
-    let mut read = CellsRead {
-        cells: no_cells(alloc),
-        awaited: Awaited::Cell,
+    let none = CellsLeft {
+        cells: Items::from_vec(Vec::new(alloc)),
+        left: MOST_CELLS as u64,
     };
+    let mut read = CellsRead::new(Some(none), Awaited::Cell);
     for token in head.tokens {
         read = cells_step(alloc, first, read, &part_of(head.bytes, token))?;
     }
     Ok(read)
-}
-
-/// The cells, where they are within their limits.
-fn within_limits(read: Option<CellsLeft>) -> Result<CellDeclList, FormKind>
-    ensures { Says (λ list. list) result (cells.within_limits read) }
-{
-    match read {
-        Some(CellsLeft { cells, .. }) => Ok(cells),
-        None => Err(FormKind::OutOfRange),
-    }
 }
 
 /// The cells where the statement ends.
@@ -357,9 +230,9 @@ fn ended(first: u32, read: CellsRead) -> Result<CellDeclList, FormFault>
         Awaited::Indices(called) => with_cell(cells, called, None)?,
         _ => return Err(FormFault::Refused(FormKind::Shape, first)),
     };
-    match within_limits(cells) {
-        Ok(read) => Ok(read),
-        Err(kind) => Err(FormFault::Refused(kind, first)),
+    match cells {
+        Some(CellsLeft { cells, .. }) => Ok(cells),
+        None => Err(FormFault::Refused(FormKind::OutOfRange, first)),
     }
 }
 

@@ -4,21 +4,22 @@ ghost use Rattle.std.specs.Prelude.{◌≡◌, ◌∷◌, ◌++◌, [], Ok, IfOk
 ghost use Rattle.std.specs.List.{list_any};
 ghost use Rattle.stil_tree.specs.Trees.{entry_of};
 ghost use Rattle.stil_form.specs.Reading.{Answers, AnswersBy};
-ghost use Rattle.stil_form.specs.Setting.{setting_of, lexemes_at, at_statement};
-ghost use Rattle.stil_form.specs.Lexeme.{lexeme_of, lexemes};
+ghost use Rattle.stil_form.specs.Setting.{setting_of, at_statement};
+ghost use Rattle.stil_form.specs.Lexeme.{lexemes};
 ghost use Rattle.stil_read.specs.declared.chain.ChainWord.TheVariants as word;
 ghost use Rattle.stil_read.specs.Heads.{Says, under};
 ghost use Rattle.stil_read.specs.Chains as chains;
 
 use crate::cells::{index_of, read_cells};
 use crate::declared::Declared;
-use crate::head::{named_block, only_name, rest_at, titled_block};
+use crate::head::{is_first, named_block, only_name, rest_at, titled_block};
+use crate::keyword::first_keyword;
 use crate::named::named_on;
 use std::alloc::Global;
 use stil_ast::{CellsDecl, ChainDecl, ChainStmt, ChainStmtList, ScanBlock};
 use stil_form::{
-    FormFault, FormKind, Part, Reader, Source, StepForm, first_of, first_part, has_block, head_at,
-    inner_of, is_word, line_at, read_unskipped_steps, skips,
+    FormFault, FormKind, Reader, Source, StepForm, first_of, first_part, has_block, head_at,
+    inner_of, line_at, read_unskipped_steps, skips,
 };
 use stil_tree::Stmt;
 use tester_types::Items;
@@ -41,34 +42,14 @@ pub(crate) struct ChainParts {
     stmts: ChainStmtList,
 }
 
-/// The keyword that a part is.
-fn chain_word(part: &Part) -> Option<ChainWord>
-    ensures { result ≡ chains.chain_word (lexeme_of part.now) }
-{
-    if is_word(part, b"ScanLength") {
-        Some(ChainWord::Length)
-    } else if is_word(part, b"ScanIn") {
-        Some(ChainWord::In)
-    } else if is_word(part, b"ScanOut") {
-        Some(ChainWord::Out)
-    } else if is_word(part, b"ScanCells") {
-        Some(ChainWord::Cells)
-    } else if is_word(part, b"ScanInversion") {
-        Some(ChainWord::Inversion)
-    } else {
-        None
-    }
-}
-
-/// The keyword that begins a head.
-fn word_of(head: Source) -> Option<ChainWord>
-    ensures { result ≡ chains.word_of (lexemes head.entry) }
-{
-    match first_part(head) {
-        Some((one, _)) => chain_word(&one),
-        None => None,
-    }
-}
+/// The keywords of a ScanChain.
+const CHAIN_WORDS: [(&[u8], ChainWord); 5] = [
+    (b"ScanLength", ChainWord::Length),
+    (b"ScanIn", ChainWord::In),
+    (b"ScanOut", ChainWord::Out),
+    (b"ScanCells", ChainWord::Cells),
+    (b"ScanInversion", ChainWord::Inversion),
+];
 
 fn word_number(word: ChainWord) -> u8
     ensures { result ≡ chains.word_number word }
@@ -82,16 +63,12 @@ fn word_number(word: ChainWord) -> u8
     }
 }
 
-fn same_word(a: ChainWord, b: ChainWord) -> bool
-    ensures { result ≡ chains.same_word a b }
-{
-    word_number(a) == word_number(b)
-}
-
 fn has_word(words: &[ChainWord], word: ChainWord) -> bool
     ensures { result ≡ list_any (chains.same_word word) words.now }
 {
-    words.iter().any(|before| same_word(word, *before))
+    words
+        .iter()
+        .any(|before| word_number(word) == word_number(*before))
 }
 
 /// One number behind a keyword.
@@ -162,36 +139,7 @@ fn out_said(alloc: Global, reader: &Reader, stmt: &Stmt) -> Result<Option<ChainS
     }
 }
 
-/// The cells.
-fn cells_said(alloc: Global, reader: &Reader, stmt: &Stmt) -> Result<Option<ChainStmt>, FormFault>
-    ensures { Answers result (chains.stmt_said (setting_of reader.now) (entry_of stmt.now) word.Cells) }
-{
-    let cells = read_cells(alloc, first_of(stmt), rest_at(reader, stmt))?;
-    Ok(Some(ChainStmt::Cells(CellsDecl {
-        cells,
-        line: line_at(reader.source.tokens, first_of(stmt) as usize),
-    })))
-}
-
-/// What a statement with this keyword says.
-fn stmt_said(
-    alloc: Global,
-    reader: &Reader,
-    stmt: &Stmt,
-    word: ChainWord,
-) -> Result<Option<ChainStmt>, FormFault>
-    ensures { Answers result (chains.stmt_said (setting_of reader.now) (entry_of stmt.now) word) }
-{
-    match word {
-        ChainWord::Length => at_stmt(stmt, length_said(rest_at(reader, stmt))),
-        ChainWord::In => in_said(alloc, reader, stmt),
-        ChainWord::Out => out_said(alloc, reader, stmt),
-        ChainWord::Cells => cells_said(alloc, reader, stmt),
-        ChainWord::Inversion => at_stmt(stmt, inversion_said(rest_at(reader, stmt))),
-    }
-}
-
-/// The same, where it has no block.
+/// What a statement with this keyword says, which has no block.
 fn plain_said(
     alloc: Global,
     reader: &Reader,
@@ -204,19 +152,17 @@ fn plain_said(
     if has_block(stmt) {
         return Err(FormFault::Refused(FormKind::Shape, first_of(stmt)));
     }
-    stmt_said(alloc, reader, stmt, word)
-}
-
-/// One more statement, where it has an effect.
-fn with_said(before: ChainStmtList, said: Option<ChainStmt>) -> Result<ChainStmtList, FormFault>
-    ensures { Answers result (Ok (chains.with_said before said)) }
-{
-    let Some(said) = said else {
-        return Ok(before);
-    };
-    let mut stmts = before.into_vec();
-    stmts.push(said)?;
-    Ok(Items::from_vec(stmts))
+    match word {
+        ChainWord::Length => at_stmt(stmt, length_said(rest_at(reader, stmt))),
+        ChainWord::In => in_said(alloc, reader, stmt),
+        ChainWord::Out => out_said(alloc, reader, stmt),
+        ChainWord::Cells => {
+            let cells = read_cells(alloc, first_of(stmt), rest_at(reader, stmt))?;
+            let line = line_at(reader.source.tokens, first_of(stmt) as usize);
+            Ok(Some(ChainStmt::Cells(CellsDecl { cells, line })))
+        }
+        ChainWord::Inversion => at_stmt(stmt, inversion_said(rest_at(reader, stmt))),
+    }
 }
 
 /// One more keyword.
@@ -242,25 +188,13 @@ fn with_stmt(
         return Err(FormFault::Refused(FormKind::Twice, first));
     }
     let words = with_word(words, word)?;
-    let stmts = with_said(stmts, said)?;
-    Ok(ChainParts { words, stmts })
-}
-
-/// The statements up to one with this keyword, and itself.
-fn by_word(
-    alloc: Global,
-    reader: &Reader,
-    before: ChainParts,
-    stmt: &Stmt,
-    word: Option<ChainWord>,
-) -> Result<ChainParts, FormFault>
-    ensures { Answers result (chains.by_word (setting_of reader.now) before (entry_of stmt.now) word) }
-{
-    let Some(word) = word else {
-        return Ok(before);
+    let Some(said) = said else {
+        return Ok(ChainParts { words, stmts });
     };
-    let said = plain_said(alloc, reader, stmt, word)?;
-    with_stmt(before, word, said, first_of(stmt))
+    let mut stmts = stmts.into_vec();
+    stmts.push(said)?;
+    let stmts = Items::from_vec(stmts);
+    Ok(ChainParts { words, stmts })
 }
 
 /// Statements of a ScanChain.
@@ -280,18 +214,12 @@ impl StepForm for ChainForm<'_, '_> {
         before: ChainParts,
         stmt: &Stmt,
     ) -> Result<ChainParts, FormFault> {
-        let word = word_of(head_at(self.reader.source, stmt));
-        by_word(alloc, &self.reader, before, stmt, word)
-    }
-}
-
-/// Before the first statement.
-fn no_parts(alloc: Global) -> ChainParts
-    ensures { result ≡ chains.no_parts }
-{
-    ChainParts {
-        words: Items::from_vec(Vec::new(alloc)),
-        stmts: Items::from_vec(Vec::new(alloc)),
+        let head = head_at(self.reader.source, stmt);
+        let Some(word) = first_keyword(&CHAIN_WORDS, head) else {
+            return Ok(before);
+        };
+        let said = plain_said(alloc, &self.reader, stmt, word)?;
+        with_stmt(before, word, said, first_of(stmt))
     }
 }
 
@@ -300,29 +228,11 @@ fn read_parts(alloc: Global, reader: &Reader, stmts: &[Stmt]) -> Result<ChainPar
     ensures { Answers result (chains.parts_in (setting_of reader.now) (map entry_of stmts.now)) }
 {
     let form = ChainForm { reader: *reader };
-    read_unskipped_steps(alloc, &form, reader, no_parts(alloc), stmts)
-}
-
-/// Whether a statement begins a chain.
-fn is_chain(head: Source) -> bool
-    ensures { result ≡ chains.is_chain (lexemes head.entry) }
-{
-    match first_part(head) {
-        Some((one, _)) => is_word(&one, b"ScanChain"),
-        None => false,
-    }
-}
-
-/// The name of a chain.
-fn chain_name<'a>(reader: &Reader<'_, 'a>, stmt: &Stmt) -> Result<&'a [u8], FormFault>
-    ensures { AnswersBy (λ called. called.now) result (chains.chain_name (setting_of reader.now) (entry_of stmt.now)
-        (chains.is_chain (lexemes_at (setting_of reader.now) (entry_of stmt.now)))) }
-{
-    if is_chain(head_at(reader.source, stmt)) {
-        named_block(reader, stmt)
-    } else {
-        Err(FormFault::Refused(FormKind::LeftOut, first_of(stmt)))
-    }
+    let start = ChainParts {
+        words: Items::from_vec(Vec::new(alloc)),
+        stmts: Items::from_vec(Vec::new(alloc)),
+    };
+    read_unskipped_steps(alloc, &form, reader, start, stmts)
 }
 
 /// The name of one more chain under a title.
@@ -335,7 +245,10 @@ fn new_chain<'a>(
     ensures { AnswersBy (λ called. called.now) result
         (chains.new_chain (setting_of reader.now) title.now declared.now (entry_of stmt.now)) }
 {
-    let called = chain_name(reader, stmt)?;
+    if !is_first(b"ScanChain", head_at(reader.source, stmt)) {
+        return Err(FormFault::Refused(FormKind::LeftOut, first_of(stmt)));
+    }
+    let called = named_block(reader, stmt)?;
     if declared.count(title) >= MOST_CHAINS {
         return Err(FormFault::Refused(FormKind::OutOfRange, first_of(stmt)));
     }

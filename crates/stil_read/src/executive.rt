@@ -1,24 +1,26 @@
 //! PatternExec blocks (IEEE 1450-1999, clause 16).
 
-ghost use Rattle.std.specs.Prelude.{◌≡◌, [], ◌∷◌, ◌++◌, Ok, is_some};
+ghost use Rattle.std.specs.Prelude.{◌≡◌, [], ◌∷◌, ◌++◌, Ok, is_some, map};
+ghost use Rattle.first_fault.specs.Reading.{stepping};
 ghost use Rattle.stil_tree.specs.Trees.{entry_of};
 ghost use Rattle.stil_form.specs.Reading.{Answers, AnswersBy};
-ghost use Rattle.stil_form.specs.Setting.{setting_of, lexemes_at, at_statement};
-ghost use Rattle.stil_form.specs.Lexeme.{lexeme_of, lexemes};
+ghost use Rattle.stil_form.specs.Setting.{setting_of, lexemes_at, at_statement, unskipped};
+ghost use Rattle.stil_form.specs.Lexeme.{lexemes};
 ghost use Rattle.stil_read.specs.Heads.{Says};
 ghost use Rattle.stil_read.specs.Executives as executives;
-ghost use Rattle.stil_read.specs.Executives.{name_behind, by_word, exec_said, first_named, with_named, exec_step, no_parts, exec_by, exec_in};
+ghost use Rattle.stil_read.specs.Executives.{name_behind, exec_said, first_named, with_named, exec_step, no_parts};
 
 use crate::head::{name_or_empty, only_name, titled_block};
+use crate::keyword::keyword_in;
 use crate::named::named_on;
 use std::alloc::Global;
 use stil_ast::{ExecDecl, Named, NamedList};
 use stil_form::{
-    FormFault, FormKind, Part, Reader, Source, StepForm, first_of, first_part, has_block, head_at,
-    inner_of, is_word, line_at, read_unskipped_steps,
+    FormFault, FormKind, Reader, Source, StepForm, first_of, first_part, has_block, head_at,
+    inner_of, line_at, read_unskipped_steps,
 };
 use stil_tree::Stmt;
-use tester_types::{Items, Text};
+use tester_types::Items;
 
 /// The keywords of a PatternExec.
 #[derive(Clone, Copy, Debug, PartialEq, Eq)]
@@ -38,22 +40,13 @@ pub(crate) struct ExecParts {
     burst: Option<Named>,
 }
 
-/// The keyword that a part is.
-fn exec_word(part: &Part) -> Option<ExecWord>
-    ensures { result ≡ executives.exec_word (lexeme_of part.now) }
-{
-    if is_word(part, b"Category") {
-        Some(ExecWord::Category)
-    } else if is_word(part, b"Selector") {
-        Some(ExecWord::Selector)
-    } else if is_word(part, b"Timing") {
-        Some(ExecWord::Timing)
-    } else if is_word(part, b"PatternBurst") {
-        Some(ExecWord::Burst)
-    } else {
-        None
-    }
-}
+/// The keywords of a PatternExec.
+const EXEC_WORDS: [(&[u8], ExecWord); 4] = [
+    (b"Category", ExecWord::Category),
+    (b"Selector", ExecWord::Selector),
+    (b"Timing", ExecWord::Timing),
+    (b"PatternBurst", ExecWord::Burst),
+];
 
 /// The name behind a keyword.
 fn name_behind<'a>(word: ExecWord, rest: Source<'a>) -> Result<&'a [u8], FormKind>
@@ -65,15 +58,14 @@ fn name_behind<'a>(word: ExecWord, rest: Source<'a>) -> Result<&'a [u8], FormKin
     }
 }
 
-/// A statement by its keyword.
-fn by_word<'a>(
-    word: Option<ExecWord>,
-    has_block: bool,
-    rest: Source<'a>,
-) -> Result<(ExecWord, &'a [u8]), FormKind>
-    ensures { Says (λ said. (said.0, said.1.now)) result (by_word word has_block (lexemes rest.entry)) }
+/// What a statement with this head says.
+fn exec_said<'a>(has_block: bool, head: Source<'a>) -> Result<(ExecWord, &'a [u8]), FormKind>
+    ensures { Says (λ said. (said.0, said.1.now)) result (exec_said has_block (lexemes head.entry)) }
 {
-    let Some(word) = word else {
+    let Some((one, rest)) = first_part(head) else {
+        return Err(FormKind::LeftOut);
+    };
+    let Some(word) = keyword_in(&EXEC_WORDS, &one) else {
         return Err(FormKind::LeftOut);
     };
     if has_block {
@@ -82,16 +74,6 @@ fn by_word<'a>(
     match name_behind(word, rest) {
         Ok(called) => Ok((word, called)),
         Err(kind) => Err(kind),
-    }
-}
-
-/// What a statement with this head says.
-fn exec_said<'a>(has_block: bool, head: Source<'a>) -> Result<(ExecWord, &'a [u8]), FormKind>
-    ensures { Says (λ said. (said.0, said.1.now)) result (exec_said has_block (lexemes head.entry)) }
-{
-    match first_part(head) {
-        Some((one, rest)) => by_word(exec_word(&one), has_block, rest),
-        None => Err(FormKind::LeftOut),
     }
 }
 
@@ -171,56 +153,19 @@ impl StepForm for ExecForm<'_, '_> {
     }
 }
 
-/// Before the first statement.
-fn no_parts(alloc: Global) -> ExecParts
-    ensures { result ≡ no_parts }
+/// What the statements of an executive name.
+fn read_parts(alloc: Global, reader: &Reader, stmts: &[Stmt]) -> Result<ExecParts, FormFault>
+    ensures { Answers result (stepping (exec_step (setting_of reader.now)) no_parts
+        (unskipped (setting_of reader.now) (map entry_of stmts.now))) }
 {
-    ExecParts {
+    let form = ExecForm { reader: *reader };
+    let start = ExecParts {
         categories: Items::from_vec(Vec::new(alloc)),
         selector: None,
         timing: None,
         burst: None,
-    }
-}
-
-/// The executive that these names make.
-fn exec_by(line: u32, title: Text, parts: ExecParts) -> Result<ExecDecl, FormKind>
-    ensures { Says (λ read. read) result (exec_by line title parts parts.burst) }
-{
-    let ExecParts {
-        categories,
-        selector,
-        timing,
-        burst,
-    } = parts;
-    match burst {
-        Some(burst) => Ok(ExecDecl {
-            name: title,
-            categories,
-            selector,
-            timing,
-            burst,
-            line,
-        }),
-        None => Err(FormKind::Shape),
-    }
-}
-
-/// An executive of this title.
-fn exec_in(alloc: Global, reader: &Reader, stmt: &Stmt, title: &[u8]) -> Result<ExecDecl, FormFault>
-    ensures { Answers result (exec_in (setting_of reader.now) (entry_of stmt.now) title.now) }
-{
-    let form = ExecForm { reader: *reader };
-    let parts = read_unskipped_steps(alloc, &form, reader, no_parts(alloc), inner_of(stmt))?;
-    let title = Items::from_slice(alloc, title)?;
-    match exec_by(
-        line_at(reader.source.tokens, first_of(stmt) as usize),
-        title,
-        parts,
-    ) {
-        Ok(read) => Ok(read),
-        Err(kind) => Err(FormFault::Refused(kind, first_of(stmt))),
-    }
+    };
+    read_unskipped_steps(alloc, &form, reader, start, stmts)
 }
 
 /// The PatternExec that a statement is.
@@ -228,5 +173,22 @@ pub fn read_exec_block(alloc: Global, reader: &Reader, stmt: &Stmt) -> Result<Ex
     ensures { Answers result (executives.exec_block (setting_of reader.now) (entry_of stmt.now)) }
 {
     let title = titled_block(reader, stmt)?;
-    exec_in(alloc, reader, stmt, title)
+    let parts = read_parts(alloc, reader, inner_of(stmt))?;
+    let ExecParts {
+        categories,
+        selector,
+        timing,
+        burst,
+    } = parts;
+    let Some(burst) = burst else {
+        return Err(FormFault::Refused(FormKind::Shape, first_of(stmt)));
+    };
+    Ok(ExecDecl {
+        name: Items::from_slice(alloc, title)?,
+        categories,
+        selector,
+        timing,
+        burst,
+        line: line_at(reader.source.tokens, first_of(stmt) as usize),
+    })
 }

@@ -1,6 +1,6 @@
 //! What stands behind the keyword of a statement.
 
-ghost use Rattle.std.specs.Prelude.{◌≡◌, ℕ, List, None, Some, Result, is_some, MatchOption};
+ghost use Rattle.std.specs.Prelude.{◌≡◌, ℕ, List, None, Some, Result, is_some, MatchOption, not};
 ghost use Rattle.std.specs.Borrow.{Bor};
 ghost use Rattle.stil_tree.specs.Trees.{entry_of};
 ghost use Rattle.stil_form.specs.declared.fault.FormKind.{FormKind};
@@ -12,9 +12,20 @@ ghost use Rattle.stil_read.specs.Heads as heads;
 ghost use Rattle.stil_read.specs.Heads.{Says, only_of, where_so};
 
 use stil_form::{
-    FormFault, FormKind, Part, Reader, Source, first_of, first_part, has_block, head_at, name_of,
+    FormFault, FormKind, Part, Reader, Source, first_of, first_part, has_block, head_at, is_word,
+    name_of,
 };
 use stil_tree::Stmt;
+
+/// Whether a head begins with this keyword.
+pub(crate) fn is_first(keyword: &[u8], head: Source) -> bool
+    ensures { result ≡ heads.is_first keyword.now (lexemes head.entry) }
+{
+    match first_part(head) {
+        Some((one, _)) => is_word(&one, keyword),
+        None => false,
+    }
+}
 
 /// The one part of a head, if there is just one.
 pub(crate) fn only_part<'a>(rest: Source<'a>) -> Option<Part<'a>>
@@ -87,12 +98,30 @@ pub(crate) fn rest_at<'a>(reader: &Reader<'_, 'a>, stmt: &Stmt) -> Source<'a>
 }
 
 /// What a statement says, as a fault of the statement where it has no form, or no block.
-fn with_block<'a>(stmt: &Stmt, said: Result<&'a [u8], FormKind>) -> Result<&'a [u8], FormFault>
+pub(crate) fn with_block<'a>(
+    stmt: &Stmt,
+    said: Result<&'a [u8], FormKind>,
+) -> Result<&'a [u8], FormFault>
     ensures { (wanted : Result (List ℕ) FormKind) → Says (λ (b : Bor (List ℕ)). b.now) said.entry wanted
         → AnswersBy (λ (b : Bor (List ℕ)). b.now) result
         (at_statement (entry_of stmt.now).first (where_so (is_some (entry_of stmt.now).body) wanted)) }
 {
     if !has_block(stmt) {
+        return Err(FormFault::Refused(FormKind::Shape, first_of(stmt)));
+    }
+    said.map_err(|kind| FormFault::Refused(kind, first_of(stmt)))
+}
+
+/// What a statement says, as a fault of the statement where it has no form, or a block.
+pub(crate) fn without_block<'a>(
+    stmt: &Stmt,
+    said: Result<&'a [u8], FormKind>,
+) -> Result<&'a [u8], FormFault>
+    ensures { (wanted : Result (List ℕ) FormKind) → Says (λ (b : Bor (List ℕ)). b.now) said.entry wanted
+        → AnswersBy (λ (b : Bor (List ℕ)). b.now) result
+        (at_statement (entry_of stmt.now).first (where_so (not (is_some (entry_of stmt.now).body)) wanted)) }
+{
+    if has_block(stmt) {
         return Err(FormFault::Refused(FormKind::Shape, first_of(stmt)));
     }
     said.map_err(|kind| FormFault::Refused(kind, first_of(stmt)))
@@ -112,19 +141,12 @@ pub(crate) fn titled_block<'a>(reader: &Reader<'_, 'a>, stmt: &Stmt) -> Result<&
     with_block(stmt, title_of(rest_at(reader, stmt)))
 }
 
-/// Nothing behind a keyword.
-fn nothing<'a>(rest: Source<'a>) -> Result<&'a [u8], FormKind>
-    ensures { Says (λ called. called.now) result (heads.nothing (lexemes rest.entry)) }
-{
-    match rest.tokens {
-        [] => Ok(b""),
-        _ => Err(FormKind::Shape),
-    }
-}
-
 /// A keyword alone, with a block.
 pub(crate) fn bare_block<'a>(reader: &Reader<'_, 'a>, stmt: &Stmt) -> Result<&'a [u8], FormFault>
     ensures { AnswersBy (λ called. called.now) result (heads.bare_block (setting_of reader.now) (entry_of stmt.now)) }
 {
-    with_block(stmt, nothing(rest_at(reader, stmt)))
+    match rest_at(reader, stmt).tokens {
+        [] if has_block(stmt) => Ok(b""),
+        _ => Err(FormFault::Refused(FormKind::Shape, first_of(stmt))),
+    }
 }

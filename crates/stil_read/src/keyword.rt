@@ -1,10 +1,14 @@
-//! The keywords of statements at the top level.
+//! Keywords by their tables, and those of statements at the top level.
 
-ghost use Rattle.std.specs.Prelude.{◌≡◌};
-ghost use Rattle.stil_form.specs.Lexeme.{lexeme_of};
-ghost use Rattle.stil_read.specs.Top.{keyword_of};
+ghost use Rattle.std.specs.Prelude.{◌≡◌, map};
+ghost use Rattle.std.specs.List.{find};
+ghost use Rattle.std.specs.Option.{option_copied};
+ghost use Rattle.stil_form.specs.Words.{is_keyword};
+ghost use Rattle.stil_form.specs.Lexeme.{lexeme_of, lexemes};
+ghost use Rattle.stil_read.specs.Keywords.{meaning, first_meaning, only_meaning};
 
-use stil_form::{Part, is_word};
+use crate::head::only_part;
+use stil_form::{Part, Source, first_part, is_word};
 
 /// What begins a statement at the top level.
 #[derive(Clone, Copy, Debug, PartialEq, Eq)]
@@ -26,41 +30,54 @@ pub(crate) enum Keyword {
     Stil,
 }
 
-/// The keyword that a part is.
-pub(crate) fn keyword_of(part: &Part) -> Option<Keyword>
-    ensures { result ≡ keyword_of (lexeme_of part.now) }
+/// The keywords of statements at the top level.
+pub(crate) const KEYWORDS: [(&[u8], Keyword); 15] = [
+    (b"Signals", Keyword::Signals),
+    (b"SignalGroups", Keyword::SignalGroups),
+    (b"Spec", Keyword::Spec),
+    (b"Selector", Keyword::Selector),
+    (b"Timing", Keyword::Timing),
+    (b"ScanStructures", Keyword::ScanStructures),
+    (b"MacroDefs", Keyword::MacroDefs),
+    (b"Procedures", Keyword::Procedures),
+    (b"PatternBurst", Keyword::PatternBurst),
+    (b"PatternExec", Keyword::PatternExec),
+    (b"Pattern", Keyword::Pattern),
+    (b"Header", Keyword::Header),
+    (b"UserKeywords", Keyword::UserKeywords),
+    (b"UserFunctions", Keyword::UserFunctions),
+    (b"STIL", Keyword::Stil),
+];
+
+/// The row of a part's word.
+fn row_of<'w, 'a, K: Copy>(words: &'w [(&'a [u8], K)], part: &Part) -> Option<&'w (&'a [u8], K)>
+    ensures { option_copied result ≡ find (λ row. is_keyword row.0.now (lexeme_of part.now)) words.now }
 {
-    if is_word(part, b"Signals") {
-        Some(Keyword::Signals)
-    } else if is_word(part, b"SignalGroups") {
-        Some(Keyword::SignalGroups)
-    } else if is_word(part, b"Spec") {
-        Some(Keyword::Spec)
-    } else if is_word(part, b"Selector") {
-        Some(Keyword::Selector)
-    } else if is_word(part, b"Timing") {
-        Some(Keyword::Timing)
-    } else if is_word(part, b"ScanStructures") {
-        Some(Keyword::ScanStructures)
-    } else if is_word(part, b"MacroDefs") {
-        Some(Keyword::MacroDefs)
-    } else if is_word(part, b"Procedures") {
-        Some(Keyword::Procedures)
-    } else if is_word(part, b"PatternBurst") {
-        Some(Keyword::PatternBurst)
-    } else if is_word(part, b"PatternExec") {
-        Some(Keyword::PatternExec)
-    } else if is_word(part, b"Pattern") {
-        Some(Keyword::Pattern)
-    } else if is_word(part, b"Header") {
-        Some(Keyword::Header)
-    } else if is_word(part, b"UserKeywords") {
-        Some(Keyword::UserKeywords)
-    } else if is_word(part, b"UserFunctions") {
-        Some(Keyword::UserFunctions)
-    } else if is_word(part, b"STIL") {
-        Some(Keyword::Stil)
-    } else {
-        None
+    words.iter().find(|row| is_word(part, row.0))
+}
+
+/// What a part stands for by a table of words.
+pub(crate) fn keyword_in<K: Copy>(words: &[(&[u8], K)], part: &Part) -> Option<K>
+    ensures { result ≡ meaning (map (λ row. (row.0.now, row.1)) words.now) (lexeme_of part.now) }
+{
+    match row_of(words, part) {
+        Some(row) => Some(row.1),
+        None => None,
     }
+}
+
+/// What the first part of a head stands for.
+pub(crate) fn first_keyword<K: Copy>(words: &[(&[u8], K)], head: Source) -> Option<K>
+    ensures { result ≡ first_meaning (map (λ row. (row.0.now, row.1)) words.now) (lexemes head.entry) }
+{
+    let (first, _) = first_part(head)?;
+    keyword_in(words, &first)
+}
+
+/// What the one part of a head stands for, if there is just one.
+pub(crate) fn only_keyword<K: Copy>(words: &[(&[u8], K)], head: Source) -> Option<K>
+    ensures { result ≡ only_meaning (map (λ row. (row.0.now, row.1)) words.now) (lexemes head.entry) }
+{
+    let only = only_part(head)?;
+    keyword_in(words, &only)
 }

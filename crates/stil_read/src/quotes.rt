@@ -8,25 +8,15 @@ ghost use Rattle.stil_form.specs.Setting.{setting_of, inner_of};
 ghost use Rattle.stil_read.specs.Heads.{Says};
 ghost use Rattle.stil_read.specs.Quotes as quotes;
 
-use crate::head::only_text;
+use crate::head::{is_first, only_text};
 use std::alloc::{AllocError, Global};
 use stil_ast::Quoted;
 use stil_form::{
     FormFault, FormKind, Part, Reader, SignKind, Source, StepForm, first_of, first_part, head_at,
-    inner_of, is_word, line_at, name_of, read_unskipped_steps,
+    inner_of, line_at, name_of, read_unskipped_steps,
 };
 use stil_tree::Stmt;
 use tester_types::Items;
-
-/// The text behind an `=`.
-fn text_behind<'a>(rest: Source<'a>) -> Result<&'a [u8], FormKind>
-    ensures { Says (λ bytes. bytes.now) result (quotes.text_behind (lexemes rest.entry)) }
-{
-    match first_part(rest) {
-        Some((Part::Sign(SignKind::Equals), behind)) => only_text(behind),
-        _ => Err(FormKind::Shape),
-    }
-}
 
 /// The name and the text of `name = 'text'`.
 fn equal_text<'a>(head: Source<'a>) -> Result<(&'a [u8], &'a [u8]), FormKind>
@@ -38,7 +28,10 @@ fn equal_text<'a>(head: Source<'a>) -> Result<(&'a [u8], &'a [u8]), FormKind>
     let Some(called) = name_of(&one) else {
         return Err(FormKind::Shape);
     };
-    match text_behind(rest) {
+    let Some((Part::Sign(SignKind::Equals), behind)) = first_part(rest) else {
+        return Err(FormKind::Shape);
+    };
+    match only_text(behind) {
         Ok(bytes) => Ok((called, bytes)),
         Err(kind) => Err(kind),
     }
@@ -73,16 +66,6 @@ pub(crate) fn quoted_at(
     })
 }
 
-/// What an attribute says, which is nothing.
-fn attribute_said(head: Source) -> Result<(), FormKind>
-    ensures { result ≡ quotes.attribute_said (lexemes head.entry) }
-{
-    match first_part(head) {
-        Some((one, _)) if is_word(&one, b"Termination") => Err(FormKind::LeftOut),
-        _ => Ok(()),
-    }
-}
-
 /// Statements of a block of attributes.
 #[derive(Clone, Copy)]
 struct AttributeForm<'k, 'a> {
@@ -96,10 +79,10 @@ impl StepForm for AttributeForm<'_, '_> {
 
     fn take(&self, alloc: Global, before: (), stmt: &Stmt) -> Result<(), FormFault> {
         let _ = (alloc, before);
-        match attribute_said(head_at(self.reader.source, stmt)) {
-            Ok(()) => Ok(()),
-            Err(kind) => Err(FormFault::Refused(kind, first_of(stmt))),
+        if is_first(b"Termination", head_at(self.reader.source, stmt)) {
+            return Err(FormFault::Refused(FormKind::LeftOut, first_of(stmt)));
         }
+        Ok(())
     }
 }
 

@@ -11,7 +11,8 @@ ghost use Rattle.stil_read.specs.Selectors.{selection_of, is_selected};
 
 use crate::declared::Declared;
 use crate::head::named_block;
-use crate::variables::choice_of;
+use crate::keyword::only_keyword;
+use crate::variables::CHOICES;
 use std::alloc::{AllocError, Global};
 use std::marker::Model;
 use stil_ast::{Choice, Selection, SelectionList, Selector};
@@ -29,19 +30,6 @@ pub(crate) struct Selected<'a> {
     choice: Choice,
 }
 
-/// The one choice that stands behind a name.
-fn only_choice(rest: Source) -> Result<Choice, FormKind>
-    ensures { result ≡ selectors.only_choice (lexemes rest.entry) }
-{
-    let Some((one, behind)) = first_part(rest) else {
-        return Err(FormKind::Shape);
-    };
-    match first_part(behind) {
-        None => choice_of(&one).ok_or(FormKind::Shape),
-        Some(_) => Err(FormKind::Shape),
-    }
-}
-
 /// What `name Min` and the like says.
 fn selection_said<'a>(head: Source<'a>) -> Result<Selected<'a>, FormKind>
     ensures { Says selection_of result (selectors.selection_said (lexemes head.entry)) }
@@ -52,8 +40,10 @@ fn selection_said<'a>(head: Source<'a>) -> Result<Selected<'a>, FormKind>
     let Some(name) = name_of(&one) else {
         return Err(FormKind::Shape);
     };
-    let choice = only_choice(rest)?;
-    Ok(Selected { name, choice })
+    match only_keyword(&CHOICES, rest) {
+        Some(choice) => Ok(Selected { name, choice }),
+        None => Err(FormKind::Shape),
+    }
 }
 
 /// What a statement of a Selector says, which has no block.

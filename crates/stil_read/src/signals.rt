@@ -2,8 +2,8 @@
 
 ghost use Rattle.std.specs.Prelude.{◌≡◌, None, Some, MatchOption};
 ghost use Rattle.stil_tree.specs.Trees.{entry_of};
-ghost use Rattle.stil_form.specs.Lexeme.{lexeme_of, lexemes};
-ghost use Rattle.stil_form.specs.Reading.{Answers, AnswersBy};
+ghost use Rattle.stil_form.specs.Lexeme.{lexemes};
+ghost use Rattle.stil_form.specs.Reading.{Answers};
 ghost use Rattle.stil_form.specs.Setting.{setting_of};
 ghost use Rattle.pat_read.specs.References as references;
 ghost use Rattle.stil_read.specs.Heads.{Says};
@@ -11,12 +11,13 @@ ghost use Rattle.stil_read.specs.Signals as signals;
 ghost use Rattle.stil_read.specs.Signals.{signal_of};
 
 use crate::head::bare_block;
+use crate::keyword::only_keyword;
 use crate::quotes::skip_attributes;
 use std::alloc::Global;
 use stil_ast::{Direction, IndexRange, SignalDecl, SignalDeclList};
 use stil_form::{
     Form, FormFault, FormKind, Part, Reader, SignKind, Source, Span, first_of, first_part, head_at,
-    index_front, inner_of, is_word, line_at, name_of, read_unskipped,
+    index_front, inner_of, line_at, name_of, read_unskipped,
 };
 use stil_tree::Stmt;
 use tester_types::Items;
@@ -31,36 +32,13 @@ pub(crate) struct SignalHead<'a> {
 }
 
 /// What a signal is for.
-fn direction_of(part: &Part) -> Option<Direction>
-    ensures { result ≡ signals.direction_of (lexeme_of part.now) }
-{
-    if is_word(part, b"In") {
-        Some(Direction::In)
-    } else if is_word(part, b"Out") {
-        Some(Direction::Out)
-    } else if is_word(part, b"InOut") {
-        Some(Direction::InOut)
-    } else if is_word(part, b"Supply") {
-        Some(Direction::Supply)
-    } else if is_word(part, b"Pseudo") {
-        Some(Direction::Pseudo)
-    } else {
-        None
-    }
-}
-
-/// A direction, and nothing behind it.
-fn only_direction(rest: Source) -> Result<Direction, FormKind>
-    ensures { Says (λ direction. direction) result (signals.only_direction (lexemes rest.entry)) }
-{
-    let Some((one, behind)) = first_part(rest) else {
-        return Err(FormKind::Shape);
-    };
-    match first_part(behind) {
-        None => direction_of(&one).ok_or(FormKind::Shape),
-        Some(_) => Err(FormKind::Shape),
-    }
-}
+const DIRECTIONS: [(&[u8], Direction); 5] = [
+    (b"In", Direction::In),
+    (b"Out", Direction::Out),
+    (b"InOut", Direction::InOut),
+    (b"Supply", Direction::Supply),
+    (b"Pseudo", Direction::Pseudo),
+];
 
 /// Whether two indices begin behind a `[`, with dots between them.
 fn are_two(inside: Source) -> bool
@@ -102,24 +80,6 @@ fn range_of(span: Option<Span>) -> Result<Option<IndexRange>, FormKind>
     }
 }
 
-/// The signal of a name by what stands behind it.
-fn signal_named<'a>(line: u32, name: &'a [u8], rest: Source<'a>) -> Result<SignalHead<'a>, FormKind>
-    ensures { Says signal_of result
-        (signals.signal_named line name.now (signals.span_front (lexemes rest.entry))) }
-{
-    let Some((span, behind)) = span_front(rest) else {
-        return Err(FormKind::Shape);
-    };
-    let direction = only_direction(behind)?;
-    let range = range_of(span)?;
-    Ok(SignalHead {
-        name,
-        range,
-        direction,
-        line,
-    })
-}
-
 /// What `name dir` or `name[n..n] dir` says, on a line.
 fn signal_said<'a>(line: u32, head: Source<'a>) -> Result<SignalHead<'a>, FormKind>
     ensures { Says signal_of result (signals.signal_said line (lexemes head.entry)) }
@@ -127,21 +87,22 @@ fn signal_said<'a>(line: u32, head: Source<'a>) -> Result<SignalHead<'a>, FormKi
     let Some((one, rest)) = first_part(head) else {
         return Err(FormKind::Shape);
     };
-    match name_of(&one) {
-        Some(name) => signal_named(line, name, rest),
-        None => Err(FormKind::Shape),
-    }
-}
-
-/// What a statement's head says.
-fn signal_at<'a>(reader: &Reader<'_, 'a>, stmt: &Stmt) -> Result<SignalHead<'a>, FormFault>
-    ensures { AnswersBy signal_of result (signals.signal_at (setting_of reader.now) (entry_of stmt.now)) }
-{
-    let line = line_at(reader.source.tokens, first_of(stmt) as usize);
-    match signal_said(line, head_at(reader.source, stmt)) {
-        Ok(said) => Ok(said),
-        Err(kind) => Err(FormFault::Refused(kind, first_of(stmt))),
-    }
+    let Some(name) = name_of(&one) else {
+        return Err(FormKind::Shape);
+    };
+    let Some((span, behind)) = span_front(rest) else {
+        return Err(FormKind::Shape);
+    };
+    let Some(direction) = only_keyword(&DIRECTIONS, behind) else {
+        return Err(FormKind::Shape);
+    };
+    let range = range_of(span)?;
+    Ok(SignalHead {
+        name,
+        range,
+        direction,
+        line,
+    })
 }
 
 /// Statements of Signals blocks.
@@ -162,7 +123,10 @@ impl Form for SignalForm<'_, '_> {
         stmt: &Stmt,
     ) -> Result<SignalDecl, FormFault> {
         let _ = before;
-        let said = signal_at(&self.reader, stmt)?;
+        let line = line_at(self.reader.source.tokens, first_of(stmt) as usize);
+        let said = signal_said(line, head_at(self.reader.source, stmt)).map_err(
+            |kind| FormFault::Refused(kind, first_of(stmt)),
+        )?;
         skip_attributes(alloc, &self.reader, stmt)?;
         Ok(SignalDecl {
             name: Items::from_slice(alloc, said.name)?,

@@ -1,21 +1,25 @@
 //! Timing blocks and their waveform tables (IEEE 1450-1999, clause 18).
 
-ghost use Rattle.std.specs.Prelude.{◌≡◌, [], ◌∷◌, ◌++◌, IfOk, OnOk, map};
+ghost use Rattle.std.specs.Prelude.{◌≡◌, [], ◌∷◌, ◌++◌, Ok, IfOk, OnOk, map};
 ghost use Rattle.stil_tree.specs.Trees.{entry_of};
-ghost use Rattle.stil_form.specs.Lexeme.{lexeme_of, lexemes};
 ghost use Rattle.stil_form.specs.Reading.{Answers, AnswersBy};
-ghost use Rattle.stil_form.specs.Setting.{setting_of, at_statement};
-ghost use Rattle.stil_read.specs.Heads.{Says, under};
+ghost use Rattle.stil_form.specs.Setting.{setting_of};
+ghost use Rattle.stil_read.specs.Heads.{under};
 ghost use Rattle.stil_read.specs.Timings as timings;
 
 use crate::declared::Declared;
-use crate::head::{bare_block, named_block, only_name, only_text, rest_at, titled_block};
+use crate::head::{
+    bare_block, is_first, named_block, only_name, only_text, rest_at, titled_block, without_block,
+};
+use crate::keyword::first_keyword;
+use crate::named::named_on;
+use crate::quotes::quoted_at;
 use crate::waveforms::read_signals;
 use std::alloc::{AllocError, Global};
-use stil_ast::{Named, Quoted, SignalWaves, TableDecl, TimingBlock};
+use stil_ast::{Named, NamedList, SignalWaves, SignalWavesList, TableDecl, TimingBlock};
 use stil_form::{
-    FormFault, FormKind, Part, Reader, Source, StepForm, first_of, first_part, has_block, head_at,
-    inner_of, is_word, line_at, read_unskipped_steps, skips,
+    FormFault, FormKind, Reader, StepForm, first_of, head_at, inner_of, line_at,
+    read_unskipped_steps, skips,
 };
 use stil_tree::Stmt;
 use tester_types::Items;
@@ -29,100 +33,20 @@ enum TableWord {
     Waveforms,
 }
 
-/// The keyword that a part is in a waveform table.
-fn table_word(part: &Part) -> Option<TableWord>
-    ensures { result ≡ timings.table_word (lexeme_of part.now) }
-{
-    if is_word(part, b"Period") {
-        Some(TableWord::Period)
-    } else if is_word(part, b"InheritWaveformTable") {
-        Some(TableWord::Inherit)
-    } else if is_word(part, b"Waveforms") {
-        Some(TableWord::Waveforms)
-    } else {
-        None
-    }
-}
+/// The keywords in a waveform table.
+const TABLE_WORDS: [(&[u8], TableWord); 3] = [
+    (b"Period", TableWord::Period),
+    (b"InheritWaveformTable", TableWord::Inherit),
+    (b"Waveforms", TableWord::Waveforms),
+];
 
-/// The keyword of a statement in a waveform table.
-fn first_word(head: Source) -> Option<TableWord>
-    ensures { result ≡ timings.first_word (lexemes head.entry) }
+/// One more table that is inherited.
+fn with_one(list: NamedList, named: Named) -> Result<NamedList, FormFault>
+    ensures { Answers result (Ok (list ++ named ∷ [])) }
 {
-    let (one, _) = first_part(head)?;
-    table_word(&one)
-}
-
-/// A keyword and a text, without a block: the text.
-fn plain_text<'a>(reader: &Reader<'_, 'a>, stmt: &Stmt) -> Result<&'a [u8], FormFault>
-    ensures { AnswersBy (λ text. text.now) result (timings.plain_text (setting_of reader.now) (entry_of stmt.now)) }
-{
-    if has_block(stmt) {
-        return Err(FormFault::Refused(FormKind::Shape, first_of(stmt)));
-    }
-    only_text(rest_at(reader, stmt)).map_err(|kind| FormFault::Refused(kind, first_of(stmt)))
-}
-
-/// A keyword and a name, without a block: the name.
-fn plain_name<'a>(reader: &Reader<'_, 'a>, stmt: &Stmt) -> Result<&'a [u8], FormFault>
-    ensures { AnswersBy (λ called. called.now) result
-        (timings.plain_name (setting_of reader.now) (entry_of stmt.now)) }
-{
-    if has_block(stmt) {
-        return Err(FormFault::Refused(FormKind::Shape, first_of(stmt)));
-    }
-    only_name(rest_at(reader, stmt)).map_err(|kind| FormFault::Refused(kind, first_of(stmt)))
-}
-
-/// The text behind the keyword of a statement.
-fn text_at(alloc: Global, reader: &Reader, stmt: &Stmt, text: &[u8]) -> Result<Quoted, AllocError>
-    ensures { IfOk result
-        (λ found. found ≡ timings.text_at (setting_of reader.now) (entry_of stmt.now) text.now) }
-{
-    let line = line_at(reader.source.tokens, first_of(stmt) as usize + 1);
-    let text = Items::from_slice(alloc, text)?;
-    Ok(Quoted { text, line })
-}
-
-/// The name behind the keyword of a statement.
-fn name_at(alloc: Global, reader: &Reader, stmt: &Stmt, called: &[u8]) -> Result<Named, AllocError>
-    ensures { IfOk result
-        (λ found. found ≡ timings.name_at (setting_of reader.now) (entry_of stmt.now) called.now) }
-{
-    let line = line_at(reader.source.tokens, first_of(stmt) as usize);
-    let name = Items::from_slice(alloc, called)?;
-    Ok(Named { name, line })
-}
-
-/// A table with a period, where it has none.
-fn with_period(table: TableDecl, period: Quoted, stmt: &Stmt) -> Result<TableDecl, FormFault>
-    ensures { Answers result
-        (at_statement (entry_of stmt.now).first (timings.with_period table period)) }
-{
-    if table.period.is_some() {
-        return Err(FormFault::Refused(FormKind::Twice, first_of(stmt)));
-    }
-    Ok(TableDecl {
-        name: table.name,
-        period: Some(period),
-        inherits: table.inherits,
-        waveforms: table.waveforms,
-        line: table.line,
-    })
-}
-
-/// A table that inherits one more.
-fn with_inherit(table: TableDecl, inherited: Named) -> Result<TableDecl, AllocError>
-    ensures { IfOk result (λ found. found ≡ timings.with_inherit table inherited) }
-{
-    let mut inherits = table.inherits.into_vec();
-    inherits.push(inherited)?;
-    Ok(TableDecl {
-        name: table.name,
-        period: table.period,
-        inherits: Items::from_vec(inherits),
-        waveforms: table.waveforms,
-        line: table.line,
-    })
+    let mut list = list.into_vec();
+    list.push(named)?;
+    Ok(Items::from_vec(list))
 }
 
 /// Puts more waveforms behind others.
@@ -132,19 +56,13 @@ fn append(waveforms: &mut Vec<SignalWaves>, more: Vec<SignalWaves>) -> Result<()
     waveforms.extend(more)
 }
 
-/// A table with more waveforms.
-fn with_waveforms(table: TableDecl, more: Vec<SignalWaves>) -> Result<TableDecl, AllocError>
-    ensures { IfOk result (λ found. found ≡ timings.with_waveforms table more.items) }
+/// More waveforms behind those of a table.
+fn with_more(list: SignalWavesList, more: Vec<SignalWaves>) -> Result<SignalWavesList, FormFault>
+    ensures { Answers result (Ok (list ++ more.items)) }
 {
-    let mut waveforms = table.waveforms.into_vec();
-    append(&mut waveforms, more)?;
-    Ok(TableDecl {
-        name: table.name,
-        period: table.period,
-        inherits: table.inherits,
-        waveforms: Items::from_vec(waveforms),
-        line: table.line,
-    })
+    let mut list = list.into_vec();
+    append(&mut list, more)?;
+    Ok(Items::from_vec(list))
 }
 
 /// Statements of a waveform table.
@@ -160,24 +78,28 @@ impl StepForm for TableForm<'_, '_> {
 
     fn take(&self, alloc: Global, before: TableDecl, stmt: &Stmt) -> Result<TableDecl, FormFault> {
         let reader = &self.reader;
-        match first_word(head_at(reader.source, stmt)) {
+        let mut table = before;
+        match first_keyword(&TABLE_WORDS, head_at(reader.source, stmt)) {
             Some(TableWord::Period) => {
-                let text = plain_text(reader, stmt)?;
-                let period = text_at(alloc, reader, stmt, text)?;
-                with_period(before, period, stmt)
+                let text = without_block(stmt, only_text(rest_at(reader, stmt)))?;
+                if table.period.is_some() {
+                    return Err(FormFault::Refused(FormKind::Twice, first_of(stmt)));
+                }
+                table.period = Some(quoted_at(alloc, reader, first_of(stmt) as usize + 1, text)?);
             }
             Some(TableWord::Inherit) => {
-                let called = plain_name(reader, stmt)?;
-                let inherited = name_at(alloc, reader, stmt, called)?;
-                Ok(with_inherit(before, inherited)?)
+                let called = without_block(stmt, only_name(rest_at(reader, stmt)))?;
+                let inherited = named_on(alloc, reader, stmt, called)?;
+                table.inherits = with_one(table.inherits, inherited)?;
             }
             Some(TableWord::Waveforms) => {
                 bare_block(reader, stmt)?;
                 let more = read_signals(alloc, reader, inner_of(stmt))?;
-                Ok(with_waveforms(before, more)?)
+                table.waveforms = with_more(table.waveforms, more)?;
             }
-            None => Err(FormFault::Refused(FormKind::LeftOut, first_of(stmt))),
+            None => return Err(FormFault::Refused(FormKind::LeftOut, first_of(stmt))),
         }
+        Ok(table)
     }
 }
 
@@ -202,34 +124,6 @@ fn read_table(
     read_unskipped_steps(alloc, &form, reader, start, stmts)
 }
 
-/// Whether a statement begins with the keyword that a Timing may hold.
-fn is_table(head: Source) -> bool
-    ensures { result ≡ timings.is_table (lexemes head.entry) }
-{
-    match first_part(head) {
-        Some((one, _)) => is_word(&one, b"WaveformTable"),
-        None => false,
-    }
-}
-
-/// One more name of a table of a Timing.
-fn new_name<'a>(
-    declared: &Declared<'a>,
-    title: &'a [u8],
-    called: &'a [u8],
-) -> Result<&'a [u8], FormKind>
-    ensures { Says (λ name. name.now) result (timings.new_name declared.now title.now called.now) }
-{
-    if declared.count(title) >= MOST_TABLES {
-        return Err(FormKind::OutOfRange);
-    }
-    if declared.has(title, called) {
-        Err(FormKind::Twice)
-    } else {
-        Ok(called)
-    }
-}
-
 /// The name of one more table of a Timing.
 fn table_name<'a>(
     reader: &Reader<'_, 'a>,
@@ -240,11 +134,17 @@ fn table_name<'a>(
     ensures { AnswersBy (λ called. called.now) result
         (timings.table_name (setting_of reader.now) declared.now title.now (entry_of stmt.now)) }
 {
-    if !is_table(head_at(reader.source, stmt)) {
+    if !is_first(b"WaveformTable", head_at(reader.source, stmt)) {
         return Err(FormFault::Refused(FormKind::LeftOut, first_of(stmt)));
     }
     let called = named_block(reader, stmt)?;
-    new_name(declared, title, called).map_err(|kind| FormFault::Refused(kind, first_of(stmt)))
+    if declared.count(title) >= MOST_TABLES {
+        return Err(FormFault::Refused(FormKind::OutOfRange, first_of(stmt)));
+    }
+    if declared.has(title, called) {
+        return Err(FormFault::Refused(FormKind::Twice, first_of(stmt)));
+    }
+    Ok(called)
 }
 
 /// One more table of a Timing of this title, and the names declared so far with its own.

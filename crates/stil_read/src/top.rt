@@ -9,11 +9,11 @@ ghost use Rattle.stil_form.specs.Reading.{Answers, AnswersBy};
 ghost use Rattle.stil_form.specs.Setting.{setting, setting_of, at_statement};
 ghost use Rattle.pat_read.specs.Statements.{is_there};
 ghost use Rattle.stil_read.specs.Reads.{blocks_by, top_by, AreNames};
-ghost use Rattle.stil_read.specs.Top.{no_blocks, word_in, words_in, more_words, words_said, keyword_at, keyword_step, top_step, is_stil_1_0, start};
+ghost use Rattle.stil_read.specs.Top.{no_blocks, word_in, words_in, words_said, keyword_step, top_step, is_stil_1_0, start};
 
 use crate::head::{bare_block, behind_first};
 use crate::kept::put_block;
-use crate::keyword::{Keyword, keyword_of};
+use crate::keyword::{KEYWORDS, Keyword, first_keyword};
 use crate::read::{Lists, Names};
 use std::alloc::Global;
 use std::mem;
@@ -54,24 +54,6 @@ fn words_in<'a>(words: Words<'a>, first: u32, rest: Source<'a>) -> Result<Words<
     Ok(words)
 }
 
-/// These words, and those of a UserKeywords statement with this first token.
-fn more_words<'a>(words: Words<'a>, first: u32, rest: Source<'a>) -> Result<Words<'a>, FormFault>
-    ensures { Answers result (more_words first words.entry (lexemes rest.entry)) }
-{
-    match rest.tokens {
-        [] => Err(FormFault::Refused(FormKind::Shape, first)),
-        _ => words_in(words, first, rest),
-    }
-}
-
-/// The keyword of a statement.
-fn keyword_at(reader: &Reader, stmt: &Stmt) -> Option<Keyword>
-    ensures { result ≡ keyword_at (setting_of reader.now) (entry_of stmt.now) }
-{
-    let (first, _) = first_part(head_at(reader.source, stmt))?;
-    keyword_of(&first)
-}
-
 /// These words, and those of a UserKeywords statement.
 fn read_words<'a>(source: Source<'a>, words: Words<'a>, stmt: &Stmt) -> Result<Words<'a>, FormFault>
     ensures { Answers result
@@ -80,7 +62,11 @@ fn read_words<'a>(source: Source<'a>, words: Words<'a>, stmt: &Stmt) -> Result<W
     if has_block(stmt) {
         return Err(refused(FormKind::Shape, stmt));
     }
-    more_words(words, first_of(stmt), behind_first(head_at(source, stmt)))
+    let rest = behind_first(head_at(source, stmt));
+    match rest.tokens {
+        [] => Err(refused(FormKind::Shape, stmt)),
+        _ => words_in(words, first_of(stmt), rest),
+    }
 }
 
 /// These words, and those of a UserKeywords statement.
@@ -146,7 +132,7 @@ fn take<'a>(
     if skips(&reader, stmt) {
         return Ok(());
     }
-    match keyword_at(&reader, stmt) {
+    match first_keyword(&KEYWORDS, head_at(source, stmt)) {
         Some(found) => take_keyword(alloc, source, found, words, lists, names, stmt),
         None => Err(refused(FormKind::LeftOut, stmt)),
     }

@@ -2,39 +2,31 @@
 
 ghost use Rattle.std.specs.Prelude.{◌≡◌, is_some};
 ghost use Rattle.stil_tree.specs.Trees.{entry_of};
-ghost use Rattle.stil_form.specs.Lexeme.{lexeme_of, lexemes};
+ghost use Rattle.stil_form.specs.Lexeme.{lexemes};
 ghost use Rattle.stil_form.specs.Reading.{Answers, AnswersBy};
 ghost use Rattle.stil_form.specs.Setting.{setting_of, inner_of};
 ghost use Rattle.stil_read.specs.Heads.{Says};
 ghost use Rattle.stil_read.specs.Variables as variables;
 
-use crate::head::{named_block, only_name, only_text, titled_block};
+use crate::head::{is_first, named_block, only_name, only_text, titled_block};
+use crate::keyword::keyword_in;
 use crate::quotes::{equal_text_at, quoted_at};
 use std::alloc::Global;
 use stil_ast::{Category, Choice, Choices, Quoted, SpecBlock, VariableDecl, VariableValue};
 use stil_form::{
-    Form, FormFault, FormKind, Part, Reader, Source, StepForm, first_of, first_part, has_block,
-    head_at, inner_of, is_word, line_at, read_unskipped, read_unskipped_steps,
+    Form, FormFault, FormKind, Reader, Source, StepForm, first_of, first_part, has_block, head_at,
+    inner_of, line_at, read_unskipped, read_unskipped_steps,
 };
 use stil_tree::Stmt;
 use tester_types::Items;
 
-/// The choice that a keyword names.
-pub(crate) fn choice_of(part: &Part) -> Option<Choice>
-    ensures { result ≡ variables.choice_of (lexeme_of part.now) }
-{
-    if is_word(part, b"Min") {
-        Some(Choice::Min)
-    } else if is_word(part, b"Typ") {
-        Some(Choice::Typ)
-    } else if is_word(part, b"Max") {
-        Some(Choice::Max)
-    } else if is_word(part, b"Meas") {
-        Some(Choice::Meas)
-    } else {
-        None
-    }
-}
+/// The keywords that name choices.
+pub(crate) const CHOICES: [(&[u8], Choice); 4] = [
+    (b"Min", Choice::Min),
+    (b"Typ", Choice::Typ),
+    (b"Max", Choice::Max),
+    (b"Meas", Choice::Meas),
+];
 
 /// What `Min 'text'` and the like says, which has no block.
 fn choice_said<'a>(has_block: bool, head: Source<'a>) -> Result<(Choice, &'a [u8]), FormKind>
@@ -43,7 +35,7 @@ fn choice_said<'a>(has_block: bool, head: Source<'a>) -> Result<(Choice, &'a [u8
     let Some((one, rest)) = first_part(head) else {
         return Err(FormKind::LeftOut);
     };
-    let Some(choice) = choice_of(&one) else {
+    let Some(choice) = keyword_in(&CHOICES, &one) else {
         return Err(FormKind::LeftOut);
     };
     if has_block {
@@ -52,17 +44,6 @@ fn choice_said<'a>(has_block: bool, head: Source<'a>) -> Result<(Choice, &'a [u8
     match only_text(rest) {
         Ok(text) => Ok((choice, text)),
         Err(kind) => Err(kind),
-    }
-}
-
-/// What a statement of a variable's block says.
-fn choice_at<'a>(reader: &Reader<'_, 'a>, stmt: &Stmt) -> Result<(Choice, &'a [u8]), FormFault>
-    ensures { AnswersBy (λ said. (said.0, said.1.now)) result
-        (variables.choice_at (setting_of reader.now) (entry_of stmt.now)) }
-{
-    match choice_said(has_block(stmt), head_at(reader.source, stmt)) {
-        Ok(said) => Ok(said),
-        Err(kind) => Err(FormFault::Refused(kind, first_of(stmt))),
     }
 }
 
@@ -129,7 +110,11 @@ impl StepForm for ChoiceForm<'_, '_> {
     ghost step = { λ form before e. variables.choice_step (setting_of form.reader) before e };
 
     fn take(&self, alloc: Global, before: Choices, stmt: &Stmt) -> Result<Choices, FormFault> {
-        let (choice, text) = choice_at(&self.reader, stmt)?;
+        let head = head_at(self.reader.source, stmt);
+        let (choice, text) = choice_said(has_block(stmt), head).map_err(|kind| FormFault::Refused(
+            kind,
+            first_of(stmt),
+        ))?;
         if is_given(choice, &before) {
             return Err(FormFault::Refused(FormKind::Twice, first_of(stmt)));
         }
@@ -153,22 +138,14 @@ fn read_choices(alloc: Global, reader: &Reader, stmt: &Stmt) -> Result<Choices, 
     read_unskipped_steps(alloc, &form, reader, start, inner_of(stmt))
 }
 
-/// The name in front of a variable's block.
-fn variable_name_at<'a>(reader: &Reader<'_, 'a>, stmt: &Stmt) -> Result<&'a [u8], FormFault>
-    ensures { AnswersBy (λ called. called.now) result
-        (variables.variable_name_at (setting_of reader.now) (entry_of stmt.now)) }
-{
-    match only_name(head_at(reader.source, stmt)) {
-        Ok(called) => Ok(called),
-        Err(kind) => Err(FormFault::Refused(kind, first_of(stmt))),
-    }
-}
-
 /// A variable with a block.
 fn read_chosen(alloc: Global, reader: &Reader, stmt: &Stmt) -> Result<VariableDecl, FormFault>
     ensures { Answers result (variables.chosen_variable (setting_of reader.now) (entry_of stmt.now)) }
 {
-    let called = variable_name_at(reader, stmt)?;
+    let called = only_name(head_at(reader.source, stmt)).map_err(|kind| FormFault::Refused(
+        kind,
+        first_of(stmt),
+    ))?;
     let choices = read_choices(alloc, reader, stmt)?;
     Ok(VariableDecl {
         name: Items::from_slice(alloc, called)?,
@@ -229,28 +206,6 @@ fn read_variables(
     read_unskipped(alloc, &form, reader, inner_of(stmt))
 }
 
-/// Whether the keyword stands first.
-fn is_first(keyword: &[u8], head: Source) -> bool
-    ensures { result ≡ variables.is_first keyword.now (lexemes head.entry) }
-{
-    match first_part(head) {
-        Some((one, _)) => is_word(&one, keyword),
-        None => false,
-    }
-}
-
-/// The name of `Category name { }`.
-fn category_at<'a>(reader: &Reader<'_, 'a>, stmt: &Stmt) -> Result<&'a [u8], FormFault>
-    ensures { AnswersBy (λ called. called.now) result
-        (variables.category_at (setting_of reader.now) (entry_of stmt.now)) }
-{
-    if is_first(b"Category", head_at(reader.source, stmt)) {
-        named_block(reader, stmt)
-    } else {
-        Err(FormFault::Refused(FormKind::LeftOut, first_of(stmt)))
-    }
-}
-
 /// Statements of Spec blocks.
 #[derive(Clone, Copy)]
 struct CategoryForm<'k, 'a> {
@@ -269,7 +224,10 @@ impl Form for CategoryForm<'_, '_> {
         stmt: &Stmt,
     ) -> Result<Category, FormFault> {
         let _ = before;
-        let called = category_at(&self.reader, stmt)?;
+        if !is_first(b"Category", head_at(self.reader.source, stmt)) {
+            return Err(FormFault::Refused(FormKind::LeftOut, first_of(stmt)));
+        }
+        let called = named_block(&self.reader, stmt)?;
         let variables = read_variables(alloc, &self.reader, stmt)?;
         Ok(Category {
             name: Items::from_slice(alloc, called)?,

@@ -6,101 +6,53 @@ ghost use Rattle.text_bytes.specs.Bytes.{is_character};
 ghost use Rattle.stil_tree.specs.Trees.{entry_of};
 ghost use Rattle.stil_ast.specs.Data.Forms.{all_differ};
 ghost use Rattle.stil_form.specs.Lexeme.{lexeme_of, lexemes};
-ghost use Rattle.stil_form.specs.Fronts.{ref_of, reference_front};
+ghost use Rattle.stil_form.specs.Fronts.{ref_of};
 ghost use Rattle.stil_form.specs.Reading.{Answers, AnswersBy};
 ghost use Rattle.stil_form.specs.Setting.{setting_of, lexemes_at, at_statement};
 ghost use Rattle.pat_read.specs.References as references;
-ghost use Rattle.stil_read.specs.Heads.{Says};
 ghost use Rattle.stil_read.specs.Waveforms as waveforms;
 
 use crate::head::only_part;
+use crate::keyword::keyword_in;
 use pat_read::read_ref;
 use std::alloc::Global;
 use stil_ast::{EventDecl, Quoted, SigRef, SignalWaves, WaveDecl};
 use stil_form::{
     Form, FormFault, FormKind, Part, Reader, Reference, SignKind, Source, first_of, first_part,
-    has_block, head_at, inner_of, is_word, line_at, part_of, read_unskipped, reference_front,
+    has_block, head_at, inner_of, line_at, part_of, read_unskipped, reference_front,
 };
 use stil_tree::Stmt;
 use tester_types::{Act, Items, Look, Push};
 use text_bytes::{MOST_EVENTS, is_character};
 
-/// Whether a part is this word, short or long.
-fn is_either(part: &Part, short: &[u8], long: &[u8]) -> bool
-    ensures { result ≡ waveforms.is_either (lexeme_of part.now) short.now long.now }
-{
-    is_word(part, short) || is_word(part, long)
-}
-
-/// The drive act that a part is.
-fn push_of(part: &Part) -> Option<Push>
-    ensures { result ≡ waveforms.push_of (lexeme_of part.now) }
-{
-    if is_either(part, b"D", b"ForceDown") {
-        Some(Push::Down)
-    } else if is_either(part, b"U", b"ForceUp") {
-        Some(Push::Up)
-    } else if is_either(part, b"Z", b"ForceOff") {
-        Some(Push::Off)
-    } else if is_either(part, b"N", b"ForceUnknown") {
-        Some(Push::Unknown)
-    } else if is_either(part, b"P", b"ForcePrior") {
-        Some(Push::Prior)
-    } else {
-        None
-    }
-}
-
-/// The look act in a window that a part is, or the `x` that is an `X`.
-fn window_of(part: &Part) -> Option<Look>
-    ensures { result ≡ waveforms.window_of (lexeme_of part.now) }
-{
-    if is_either(part, b"l", b"CompareLowWindow") {
-        Some(Look::LowWindow)
-    } else if is_either(part, b"h", b"CompareHighWindow") {
-        Some(Look::HighWindow)
-    } else if is_either(part, b"t", b"CompareOffWindow") {
-        Some(Look::OffWindow)
-    } else if is_word(part, b"x") {
-        Some(Look::Close)
-    } else {
-        None
-    }
-}
-
-/// The look act that a part is.
-fn look_of(part: &Part) -> Option<Look>
-    ensures { result ≡ waveforms.look_of (lexeme_of part.now) }
-{
-    if is_either(part, b"L", b"CompareLow") {
-        Some(Look::Low)
-    } else if is_either(part, b"H", b"CompareHigh") {
-        Some(Look::High)
-    } else if is_either(part, b"T", b"CompareOff") {
-        Some(Look::Off)
-    } else if is_either(part, b"X", b"CompareUnknown") {
-        Some(Look::Close)
-    } else {
-        window_of(part)
-    }
-}
-
-/// The act that a part is.
-fn act_of(part: &Part) -> Option<Act>
-    ensures { result ≡ waveforms.act_of (lexeme_of part.now) }
-{
-    match push_of(part) {
-        Some(push) => Some(Act::Push(push)),
-        None => look_of(part).map(Act::Look),
-    }
-}
-
-/// Whether a part is a `/`.
-fn is_slash(part: &Part) -> bool
-    ensures { result ≡ waveforms.is_slash (lexeme_of part.now) }
-{
-    matches!(part, Part::Sign(SignKind::Slash))
-}
+/// The acts, by their letters and their long names; an `x` is an `X`.
+const ACTS: [(&[u8], Act); 25] = [
+    (b"D", Act::Push(Push::Down)),
+    (b"ForceDown", Act::Push(Push::Down)),
+    (b"U", Act::Push(Push::Up)),
+    (b"ForceUp", Act::Push(Push::Up)),
+    (b"Z", Act::Push(Push::Off)),
+    (b"ForceOff", Act::Push(Push::Off)),
+    (b"N", Act::Push(Push::Unknown)),
+    (b"ForceUnknown", Act::Push(Push::Unknown)),
+    (b"P", Act::Push(Push::Prior)),
+    (b"ForcePrior", Act::Push(Push::Prior)),
+    (b"L", Act::Look(Look::Low)),
+    (b"CompareLow", Act::Look(Look::Low)),
+    (b"H", Act::Look(Look::High)),
+    (b"CompareHigh", Act::Look(Look::High)),
+    (b"T", Act::Look(Look::Off)),
+    (b"CompareOff", Act::Look(Look::Off)),
+    (b"X", Act::Look(Look::Close)),
+    (b"x", Act::Look(Look::Close)),
+    (b"CompareUnknown", Act::Look(Look::Close)),
+    (b"l", Act::Look(Look::LowWindow)),
+    (b"CompareLowWindow", Act::Look(Look::LowWindow)),
+    (b"h", Act::Look(Look::HighWindow)),
+    (b"CompareHighWindow", Act::Look(Look::HighWindow)),
+    (b"t", Act::Look(Look::OffWindow)),
+    (b"CompareOffWindow", Act::Look(Look::OffWindow)),
+];
 
 /// Takes one more part of the acts of the statement with this first token: a `/`, or an act.
 fn take_part(
@@ -113,13 +65,12 @@ fn take_part(
         (at_statement first (waveforms.with_token slash_next acts.old.items (lexeme_of part.now))) }
 {
     if slash_next {
-        return if is_slash(part) {
-            Ok(())
-        } else {
-            Err(FormFault::Refused(FormKind::Shape, first))
+        return match part {
+            Part::Sign(SignKind::Slash) => Ok(()),
+            _ => Err(FormFault::Refused(FormKind::Shape, first)),
         };
     }
-    match act_of(part) {
+    match keyword_in(&ACTS, part) {
         Some(act) => Ok(acts.push(act)?),
         None => Err(FormFault::Refused(FormKind::LeftOut, first)),
     }
@@ -129,7 +80,7 @@ fn take_part(
 fn is_no_act(at_act: bool, part: &Part) -> bool
     ensures { result ≡ (at_act && not (is_some (waveforms.act_of (lexeme_of part.now)))) }
 {
-    at_act && act_of(part).is_none()
+    at_act && keyword_in(&ACTS, part).is_none()
 }
 
 /// Whether a part at an act's place is no act. Such a place is the first one, and each behind a `/`.
@@ -142,7 +93,7 @@ fn lacks_act(rest: Source) -> bool
         if is_no_act(at_act, &part) {
             return true;
         }
-        at_act = is_slash(&part);
+        at_act = matches!(part, Part::Sign(SignKind::Slash));
     }
     false
 }
@@ -175,21 +126,14 @@ fn acts_between(alloc: Global, rest: Source, first: u32) -> Result<Items<Act>, F
 }
 
 /// The text in quotes with which an event begins, which gives its time, and what stands behind it.
-fn time_of<'a>(head: Source<'a>) -> Result<(&'a [u8], Source<'a>), FormKind>
-    ensures { Says (λ said. (said.0.now, lexemes said.1)) result (waveforms.time_of (lexemes head.entry)) }
-{
-    match first_part(head) {
-        Some((Part::Text(time), rest)) => Ok((time, rest)),
-        _ => Err(FormKind::LeftOut),
-    }
-}
-
-/// The same of a statement, as a fault of the statement.
 fn time_at<'a>(reader: &Reader<'_, 'a>, stmt: &Stmt) -> Result<(&'a [u8], Source<'a>), FormFault>
     ensures { AnswersBy (λ said. (said.0.now, lexemes said.1)) result (at_statement (entry_of stmt.now).first
         (waveforms.time_of (lexemes_at (setting_of reader.now) (entry_of stmt.now)))) }
 {
-    time_of(head_at(reader.source, stmt)).map_err(|kind| FormFault::Refused(kind, first_of(stmt)))
+    match first_part(head_at(reader.source, stmt)) {
+        Some((Part::Text(time), rest)) => Ok((time, rest)),
+        _ => Err(FormFault::Refused(FormKind::LeftOut, first_of(stmt))),
+    }
 }
 
 /// Whether an event has one act for so many characters, or one for each.
@@ -273,17 +217,7 @@ fn are_letters(letters: &[u8]) -> bool
     !letters.is_empty() && are_characters(letters) && all_differ(letters)
 }
 
-/// The waveform characters that a head is.
-fn letters_of<'a>(head: Source<'a>) -> Result<&'a [u8], FormKind>
-    ensures { Says (λ letters. letters.now) result (waveforms.letters_of (lexemes head.entry)) }
-{
-    match only_part(head) {
-        Some(Part::Word(letters)) if are_letters(letters) => Ok(letters),
-        _ => Err(FormKind::Shape),
-    }
-}
-
-/// The same of a statement with a block.
+/// The waveform characters that the head of a statement with a block is.
 fn letters_at<'a>(reader: &Reader<'_, 'a>, stmt: &Stmt) -> Result<&'a [u8], FormFault>
     ensures { AnswersBy (λ letters. letters.now) result
         (waveforms.letters_at (setting_of reader.now) (entry_of stmt.now)) }
@@ -291,10 +225,10 @@ fn letters_at<'a>(reader: &Reader<'_, 'a>, stmt: &Stmt) -> Result<&'a [u8], Form
     if !has_block(stmt) {
         return Err(FormFault::Refused(FormKind::LeftOut, first_of(stmt)));
     }
-    letters_of(head_at(reader.source, stmt)).map_err(|kind| FormFault::Refused(
-        kind,
-        first_of(stmt),
-    ))
+    match only_part(head_at(reader.source, stmt)) {
+        Some(Part::Word(letters)) if are_letters(letters) => Ok(letters),
+        _ => Err(FormFault::Refused(FormKind::Shape, first_of(stmt))),
+    }
 }
 
 /// Statements that are waveforms of a signal.
@@ -327,19 +261,6 @@ impl Form for WaveForm<'_, '_> {
     }
 }
 
-/// The reference that a head is.
-fn lone_ref<'a>(head: Source<'a>) -> Result<Reference<'a>, FormKind>
-    ensures { Says (λ found. ref_of found) result (waveforms.lone_ref (reference_front (lexemes head.entry))) }
-{
-    let Some((found, rest)) = reference_front(head) else {
-        return Err(FormKind::Shape);
-    };
-    match rest.tokens {
-        [] => Ok(found),
-        _ => Err(FormKind::Shape),
-    }
-}
-
 /// The reference of a statement with a block.
 fn ref_at<'a>(reader: &Reader<'_, 'a>, stmt: &Stmt) -> Result<Reference<'a>, FormFault>
     ensures { AnswersBy (λ found. ref_of found) result
@@ -348,7 +269,10 @@ fn ref_at<'a>(reader: &Reader<'_, 'a>, stmt: &Stmt) -> Result<Reference<'a>, For
     if !has_block(stmt) {
         return Err(FormFault::Refused(FormKind::LeftOut, first_of(stmt)));
     }
-    lone_ref(head_at(reader.source, stmt)).map_err(|kind| FormFault::Refused(kind, first_of(stmt)))
+    match reference_front(head_at(reader.source, stmt)) {
+        Some((found, rest)) if rest.tokens.is_empty() => Ok(found),
+        _ => Err(FormFault::Refused(FormKind::Shape, first_of(stmt))),
+    }
 }
 
 /// A reference of a statement with this first token, on this line, with its indices judged.
