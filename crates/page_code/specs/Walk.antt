@@ -1,5 +1,5 @@
 -- What a walk over a code still gives.
-use Rattle.std.specs.Prelude.{◌≡◌, ℕ, ◌+◌, ◌*◌, ◌^◌, ◌<◌, ◌≤◌, true, List, length}
+use Rattle.std.specs.Prelude.{◌≡◌, ℕ, ◌+◌, ◌*◌, ◌<◌, ◌≤◌, true, List, length}
 use Rattle.std.specs.List.{AllByRecursion}
 use Rattle.text_bytes.specs.Limits.{longest_period, most_cycles}
 use Rattle.tester_types.specs.declared.cycle.Cycle.{Cycle}

@@ -1,5 +1,5 @@
 -- A small die and a program for it, of which known facts speak.
-use Rattle.std.proofs.Common.{ℕ, true, false, List, [], ◌∷◌}
+use Rattle.std.proofs.Common.{ℕ, true, false, [], ◌∷◌}
 use Rattle.std.specs.Prelude.{codes}
 use Rattle.bench_net.specs.Circuit.{Circuit}
 use Rattle.bench_net.specs.declared.gate.Driver.TheVariants as driver

@@ -1,10 +1,10 @@
 -- A text has one first fault, or none; and that of blocks is found pass by pass.
-use Rattle.std.proofs.Common.{◌≡◌, ◌⊎◌, ℕ, List, Option, Some, None, Result, Ok, Err, refl, sym, ap, ◌∙◌, inl, inr}
+use Rattle.std.proofs.Common.{◌≡◌, ◌⊎◌, ℕ, List, Option, Some, None, Result, Ok, Err, sym, ap, ◌∙◌, inl, inr}
 use Rattle.std.specs.Prelude.{IfOk, IfErr}
 use Rattle.stil_ast.specs.Faults.CodeFaults.{sixth_fault}
 use Rattle.stil_ast.specs.Faults.ExecutiveFaults.{fifth_fault}
 use Rattle.stil_ast.specs.Faults.Found.{or_else, IsRefusal}
-use Rattle.stil_ast.specs.Faults.FrontFaults.{Front, refused_by, read_as, fault_of_front}
+use Rattle.stil_ast.specs.Faults.FrontFaults.{fault_of_front}
 use Rattle.stil_ast.specs.Faults.SignalFaults.{fourth_fault}
 use Rattle.stil_ast.specs.Meaning.ExecutiveData.{Executive}
 use Rattle.stil_ast.specs.Meaning.Signals.{names_of}

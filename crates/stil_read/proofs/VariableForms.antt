@@ -4,6 +4,7 @@ use Rattle.std.specs.Prelude.{codes}
 use Rattle.std.specs.List.{list_all}
 use Rattle.std.proofs.lemmas.Bool.{and_parts, and_from}
 use Rattle.std.proofs.lemmas.List.{map-append}
+use Rattle.stil_ast.specs.Meaning.Variables.{chosen_of}
 use Rattle.text_bytes.proofs.ListLemmas.{list_any-map}
 use Rattle.first_fault.specs.Reading.{and_then}
 use Rattle.stil_tree.specs.Trees.{Entry}
@@ -31,7 +32,7 @@ use Rattle.pat_read.specs.Statements.{is_there, only_name}
 use Rattle.stil_read.specs.Keywords.{meaning}
 use Rattle.stil_read.specs.Heads.{is_first, where_so, only_text, named_block, titled_block}
 use Rattle.stil_read.specs.Quotes.{equal_text_at, quoted_at}
-use Rattle.stil_read.specs.Variables.{choice_words, chosen_text, choice_by, choice_said, choice_at, given_for, given, none_given, give_once, choice_step, choices_of, variable_of, variable_name_at, chosen_variable, same_variable, judge_variable, variables_of, category_at, category_of, judge_category, categories_of, spec_of, spec_block}
+use Rattle.stil_read.specs.Variables.{choice_words, chosen_text, choice_by, choice_said, choice_at, given, none_given, give_once, choice_step, choices_of, variable_of, variable_name_at, chosen_variable, same_variable, judge_variable, variables_of, category_at, category_of, judge_category, categories_of, spec_of, spec_block}
 use Rattle.stil_read.specs.Selectors.{only_choice, selected, selection_said, selection_at, is_selected, select_once, selection_step, selections_of, selector_of, selector_block}
 use Rattle.pat_read.proofs.AcceptedBodies.{all_three, is_name-only_name}
 use Rattle.stil_read.proofs.DeclaredForms.{all_differ-push}
@@ -106,7 +107,7 @@ choice_step-are s lines before e next is held =
     let long = choice_said-length (is_some e.body) (lexemes_at s e) both.given
     (said_at e.first (choice_said (is_some e.body) (lexemes_at s e)) both.given both.met) in
     let q : Quoted = quoted_at s (e.first + 1) both.given.1 in
-    let answered = answered_unless (is_some (given_for both.given.0 before)) (Refused Twice e.first)
+    let answered = answered_unless (is_some (chosen_of both.given.0 before)) (Refused Twice e.first)
     (given both.given.0 q before) next both.made in
     subst (λ (c : Choices). are_choices c ≡ true) answered.1
     (given-are both.given.0 q before (line_in_head s lines e 1 long) held)

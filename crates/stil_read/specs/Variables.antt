@@ -1,5 +1,6 @@
 -- Spec blocks (IEEE 1450-1999, clause 19).
 use Rattle.std.specs.Prelude.{ℕ, ◌+◌, not, Bool, List, [], ◌∷◌, codes, Option, Some, None, is_some, Result, Ok, Err, if◌then◌else◌}
+use Rattle.stil_ast.specs.Meaning.Variables.{chosen_of}
 use Rattle.stil_tree.specs.Trees.{Entry}
 use Rattle.first_fault.specs.Reading.{and_then, reading, stepping}
 use Rattle.stil_form.specs.declared.fault.FormFault.{FormFault}
@@ -40,13 +41,6 @@ abbrev pub choice_said : Bool → List Lexeme → Result (Choice × List ℕ) Fo
 choice_said has_block [] = Err LeftOut
 choice_said has_block (one ∷ rest) = choice_by (meaning choice_words one) has_block rest
 
--- the text that is given for a choice
-abbrev pub given_for : Choice → Choices → Option Quoted
-given_for Min c = c.min
-given_for Typ c = c.typ
-given_for Max c = c.max
-given_for Meas c = c.meas
-
 -- a text more
 abbrev pub given : Choice → Quoted → Choices → Choices
 given Min q c = record { min = Some q; typ = c.typ; max = c.max; meas = c.meas }
@@ -65,7 +59,7 @@ choice_at s e = at_statement e.first (choice_said (is_some e.body) (lexemes_at s
 -- a text for a choice that has none yet; it is the second token of its statement
 abbrev pub give_once : Setting → Choices → Entry → Choice × List ℕ → Result Choices FormFault
 give_once s before e said =
-    if is_some (given_for said.0 before) then Err (Refused Twice e.first)
+    if is_some (chosen_of said.0 before) then Err (Refused Twice e.first)
     else Ok (given said.0 (quoted_at s (e.first + 1) said.1) before)
 
 -- one more statement of a variable's block

@@ -1,6 +1,7 @@
 //! Spec blocks (IEEE 1450-1999, clause 19).
 
 ghost use Rattle.std.specs.Prelude.{◌≡◌, is_some};
+ghost use Rattle.stil_ast.specs.Meaning.Variables.{chosen_of};
 ghost use Rattle.stil_tree.specs.Trees.{entry_of};
 ghost use Rattle.stil_form.specs.Lexeme.{lexemes};
 ghost use Rattle.stil_form.specs.Reading.{Answers, AnswersBy};
@@ -49,7 +50,7 @@ fn choice_said<'a>(has_block: bool, head: Source<'a>) -> Result<(Choice, &'a [u8
 
 /// Whether a text is given for a choice.
 fn is_given(choice: Choice, choices: &Choices) -> bool
-    ensures { result ≡ is_some (variables.given_for choice choices.now) }
+    ensures { result ≡ is_some (chosen_of choice choices.now) }
 {
     match choice {
         Choice::Min => choices.min.is_some(),

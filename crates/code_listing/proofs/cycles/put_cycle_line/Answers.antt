@@ -1,4 +1,4 @@
-use Rattle.std.proofs.Common.{◌∙◌, sym, ap, length, get_or, subst, List, [], ℕ, map}
+use Rattle.std.proofs.Common.{◌∙◌, sym, ap, get_or, subst, List, [], ℕ, map}
 use Rattle.std.proofs.lemmas.Option.{get_or_from_slice_get}
 use Rattle.tester_types.specs.Outside.{Puts}
 use Rattle.tester_types.specs.declared.wave.Table.{Table}
