@@ -1,5 +1,5 @@
 -- A table that was read has the name that stands behind its keyword.
-use Rattle.std.proofs.Common.{◌≡◌, ℕ, ◌+◌, List, Ok, Option, Some, None, is_some, refl, ap, sym, ◌∙◌}
+use Rattle.std.proofs.Common.{◌≡◌, ℕ, suc, List, Ok, Option, Some, None, is_some, refl, ap, sym, ◌∙◌}
 use Rattle.stil_tree.specs.Trees.{Entry}
 use Rattle.stil_form.specs.declared.fault.FormKind.TheVariants.{Twice}
 use Rattle.stil_form.specs.Setting.{Setting, lexemes_at, inner_of, unskipped}
@@ -30,7 +30,7 @@ step-name : (s : Setting) (table : TableDecl) (e : Entry) (next : TableDecl) (fi
 step-name s table e next None is = cc
 step-name s table e next (Some word.Period) is =
     let both = both_ok (plain_text s e) _ next is in
-    period-name table next (quoted_at s (e.first + 1) both.given) (said_at e.first _ next both.made)
+    period-name table next (quoted_at s (suc e.first) both.given) (said_at e.first _ next both.made)
 step-name s table e next (Some word.Inherit) is =
     let both = both_ok (plain_name s e) _ next is in
     let same : with_inherit table (named_on s e both.given) ≡ next = cc in

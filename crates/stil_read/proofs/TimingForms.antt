@@ -1,5 +1,5 @@
 -- What is read of a Timing block has its form.
-use Rattle.std.proofs.Common.{◌≡◌, ℕ, ◌+◌, ◌<◌, List, [], ◌∷◌, ◌++◌, length, not, Result, Ok, Err, Option, Some, None, Bool, true, false, ◌&&◌, ◌||◌, cond, nat_lt, nat_le, nat_eq, is_some, refl, ap, sym, subst, ◌∙◌, arith}
+use Rattle.std.proofs.Common.{◌≡◌, ℕ, suc, ◌<◌, List, [], ◌∷◌, ◌++◌, length, not, Result, Ok, Err, Option, Some, None, Bool, true, false, ◌&&◌, ◌||◌, cond, nat_lt, nat_le, nat_eq, is_some, refl, ap, sym, subst, ◌∙◌, arith}
 use Rattle.std.specs.Prelude.{◌==◌}
 use Rattle.std.specs.List.{list_all}
 use Rattle.std.proofs.lemmas.Bool.{and_parts, and_from, ltb-true, le-leb}
@@ -36,9 +36,8 @@ use Rattle.stil_read.specs.Quotes.{quoted_at}
 use Rattle.stil_read.specs.Keywords.{first_meaning}
 use Rattle.stil_read.specs.Timings.{plain_text, plain_name, with_period, with_inherit, with_waveforms, table_by, table_words, table_step, empty_table, table_of, is_table, new_name, table_name, table_names, table_said, judge_table, timing_block}
 use Rattle.pat_read.specs.Accepted.{HasLines}
-use Rattle.pat_read.proofs.AcceptedLemmas.{both_ok, said_at, reading-each, list_all-one, first_line, FitsRef, fits_front, is_sig_ref-ref_of}
+use Rattle.pat_read.proofs.AcceptedLemmas.{both_ok, said_at, reading-each, list_all-one, first_line, second_line, FitsRef, fits_front, is_sig_ref-ref_of}
 use Rattle.pat_read.proofs.AcceptedBodies.{is_name-only_name}
-use Rattle.stil_read.proofs.SignalForms.{line_in_head}
 use Rattle.stil_read.proofs.FormLemmas.{said_where, said_so, made_where, stepping-keeps, reading-within, is_name-named_block, is_optional_name-titled_block, behind_keyword}
 
 -- an event begins with a lexeme
@@ -193,11 +192,11 @@ step_fits : (s : Setting) → HasLines s → (table : TableDecl) (e : Entry) (ne
 step_fits s lines table e next None is fits = cc
 step_fits s lines table e next (Some word_of.Period) is fits =
     let both = both_ok (plain_text s e) _ next is in
-    let period : Quoted = quoted_at s (e.first + 1) both.given in
+    let period : Quoted = quoted_at s (suc e.first) both.given in
     let made : TableDecl = record { name = table.name; period = Some period; inherits = table.inherits; waveforms = table.waveforms; line = table.line } in
     let same = made_where (is_some table.period) Twice made next (said_at e.first (with_period table period) next both.made) in
     let said = said_plain e.first (not (is_some e.body)) (only_text (rest_at s e)) both.given both.met in
-    let line = line_in_head s lines e 1 (behind_keyword only_text (lexemes_at s e) both.given (λ other bad. cc) said) in
+    let line = second_line s lines e (behind_keyword only_text (lexemes_at s e) both.given (λ other bad. cc) said) in
     subst TableFits same
     (record { named = fits.named; period = line; inherits = fits.inherits; waveforms = fits.waveforms; line = fits.line })
 step_fits s lines table e next (Some word_of.Inherit) is fits =

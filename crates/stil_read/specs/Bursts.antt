@@ -1,5 +1,5 @@
 -- PatternBurst blocks and their PatLists (IEEE 1450-1999, clause 17).
-use Rattle.std.specs.Prelude.{ℕ, Bool, false, List, [], ◌∷◌, ◌++◌, codes, Option, Some, None, is_some, if◌then◌else◌, Result, Ok, Err}
+use Rattle.std.specs.Prelude.{ℕ, Bool, false, List, [], ◌∷◌, ◌++◌, codes, Option, Some, None, is_some, not, if◌then◌else◌, Result, Ok, Err}
 use Rattle.std.specs.List.{list_any}
 use Rattle.stil_tree.specs.Trees.{Entry}
 use Rattle.stil_form.specs.declared.fault.FormFault.{FormFault}
@@ -14,9 +14,8 @@ use Rattle.stil_ast.specs.declared.executive.BurstItem.{BurstItem}
 use Rattle.stil_ast.specs.declared.executive.BurstWord.{BurstWord}
 use Rattle.stil_ast.specs.declared.executive.BurstWord.TheVariants as word
 use Rattle.pat_read.specs.Statements.{only_name}
-use Rattle.stil_read.specs.Heads.{name_or_empty, bare_block, named_block, rest_at}
+use Rattle.stil_read.specs.Heads.{where_so, name_or_empty, bare_block, named_block, rest_at}
 use Rattle.stil_read.specs.Keywords.{first_meaning}
-use Rattle.stil_read.specs.Named.{without_block}
 
 -- what the names behind a keyword are the names of; those of a PatList are its entries
 abbrev pub burst_words : List (List ℕ × BurstWord)
@@ -43,7 +42,7 @@ with_item before item = if stands_already item.word before then Err Twice else O
 
 -- `keyword name;`, or `""` for the unnamed block
 abbrev pub burst_name : Setting → Entry → Result (List ℕ) FormKind
-burst_name s e = without_block (is_some e.body) (name_or_empty (rest_at s e))
+burst_name s e = where_so (not (is_some e.body)) (name_or_empty (rest_at s e))
 
 -- a statement of these
 abbrev pub named_step : Setting → List BurstItem → Entry → BurstWord → Result (List BurstItem) FormFault

@@ -1,5 +1,5 @@
 -- PatternExec blocks (IEEE 1450-1999, clause 16).
-use Rattle.std.specs.Prelude.{ℕ, Bool, List, [], ◌∷◌, ◌++◌, codes, Option, Some, None, is_some, Result, Ok, Err}
+use Rattle.std.specs.Prelude.{ℕ, Bool, List, [], ◌∷◌, ◌++◌, codes, Option, Some, None, is_some, not, Result, Ok, Err}
 use Rattle.stil_tree.specs.Trees.{Entry}
 use Rattle.stil_form.specs.declared.fault.FormFault.{FormFault}
 use Rattle.stil_form.specs.declared.fault.FormKind.{FormKind}
@@ -13,9 +13,9 @@ use Rattle.stil_read.specs.declared.executive.ExecWord.{ExecWord}
 use Rattle.stil_read.specs.declared.executive.ExecWord.TheVariants as word
 use Rattle.stil_read.specs.declared.executive.ExecParts.{ExecParts}
 use Rattle.pat_read.specs.Statements.{only_name}
-use Rattle.stil_read.specs.Heads.{name_or_empty, titled_block}
+use Rattle.stil_read.specs.Heads.{where_so, name_or_empty, titled_block}
 use Rattle.stil_read.specs.Keywords.{meaning}
-use Rattle.stil_read.specs.Named.{without_block, named_on}
+use Rattle.stil_read.specs.Named.{named_on}
 
 -- the keywords of an executive's statements
 abbrev pub exec_words : List (List ℕ × ExecWord)
@@ -38,7 +38,7 @@ with_name found (Err kind) = Err kind
 -- a statement by its keyword; one without is left out
 abbrev pub by_word : Option ExecWord → Bool → List Lexeme → Result (ExecWord × List ℕ) FormKind
 by_word None has_block rest = Err LeftOut
-by_word (Some found) has_block rest = without_block has_block (with_name found (name_behind found rest))
+by_word (Some found) has_block rest = where_so (not has_block) (with_name found (name_behind found rest))
 
 -- what a statement with this head says, with a block or without
 abbrev pub exec_said : Bool → List Lexeme → Result (ExecWord × List ℕ) FormKind

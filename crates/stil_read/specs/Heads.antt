@@ -23,9 +23,9 @@ where_so true said = said
 where_so false said = Err Shape
 
 -- the first lexeme of a head, if there is one
-abbrev pub first_of : List Lexeme → Option Lexeme
-first_of [] = None
-first_of (one ∷ rest) = Some one
+abbrev pub first_lexeme : List Lexeme → Option Lexeme
+first_lexeme [] = None
+first_lexeme (one ∷ rest) = Some one
 
 -- a head begins with this keyword
 abbrev pub is_first : List ℕ → List Lexeme → Bool

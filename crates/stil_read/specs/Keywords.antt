@@ -4,7 +4,7 @@ use Rattle.std.specs.Option.{option_and_then}
 use Rattle.std.specs.List.{find}
 use Rattle.stil_form.specs.Lexeme.{Lexeme}
 use Rattle.stil_form.specs.Words.{is_keyword}
-use Rattle.stil_read.specs.Heads.{first_of, only_of}
+use Rattle.stil_read.specs.Heads.{first_lexeme, only_of}
 
 -- what a token stands for: the first row of its word says it
 abbrev pub meaning : {K : Type 0} → List (List ℕ × K) → Lexeme → Option K
@@ -13,7 +13,7 @@ meaning {K} words one =
 
 -- what the first token of a head stands for
 abbrev pub first_meaning : {K : Type 0} → List (List ℕ × K) → List Lexeme → Option K
-first_meaning words head = option_and_then (meaning words) (first_of head)
+first_meaning words head = option_and_then (meaning words) (first_lexeme head)
 
 -- what the one token of a head stands for, if there is just one
 abbrev pub only_meaning : {K : Type 0} → List (List ℕ × K) → List Lexeme → Option K

@@ -1,5 +1,5 @@
 -- Timing blocks and their waveform tables (IEEE 1450-1999, clause 18).
-use Rattle.std.specs.Prelude.{ℕ, ◌+◌, not, nat_lt, Bool, List, [], ◌∷◌, ◌++◌, map, codes, Option, Some, None, is_some, Result, Ok, Err, if◌then◌else◌}
+use Rattle.std.specs.Prelude.{ℕ, suc, not, nat_lt, Bool, List, [], ◌∷◌, ◌++◌, map, codes, Option, Some, None, is_some, Result, Ok, Err, if◌then◌else◌}
 use Rattle.text_bytes.specs.Limits.{most_tables}
 use Rattle.first_fault.specs.Reading.{and_then, reading, stepping}
 use Rattle.stil_tree.specs.Trees.{Entry}
@@ -75,7 +75,7 @@ with_waveforms table waveforms =
 abbrev pub table_by : Setting → TableDecl → Entry → Option TableWord → Result TableDecl FormFault
 table_by s table e None = Err (Refused LeftOut e.first)
 table_by s table e (Some word.Period) =
-    and_then (plain_text s e) (λ text. at_statement e.first (with_period table (quoted_at s (e.first + 1) text)))
+    and_then (plain_text s e) (λ text. at_statement e.first (with_period table (quoted_at s (suc e.first) text)))
 table_by s table e (Some word.Inherit) =
     and_then (plain_name s e) (λ called. Ok (with_inherit table (named_on s e called)))
 table_by s table e (Some word.Waveforms) =

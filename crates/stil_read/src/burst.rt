@@ -12,6 +12,7 @@ ghost use Rattle.stil_read.specs.Bursts as bursts;
 ghost use Rattle.stil_read.specs.Bursts.{item_on, stands_already, named_step, left_out, entry_step, burst_step, items_in};
 
 use crate::head::{bare_block, name_or_empty, named_block, only_name, rest_at, without_block};
+use crate::items::with_one;
 use crate::keyword::first_keyword;
 use std::alloc::{AllocError, Global};
 use stil_ast::{Burst, BurstItem, BurstItemList, BurstWord};
@@ -97,15 +98,6 @@ fn stands_already(word: BurstWord, before: &[BurstItem]) -> bool
     }
 }
 
-/// One more name behind the others.
-fn with_one(before: BurstItemList, item: BurstItem) -> Result<BurstItemList, FormFault>
-    ensures { Answers result (Ok (before ++ item ∷ [])) }
-{
-    let mut items = before.into_vec();
-    items.push(item)?;
-    Ok(Items::from_vec(items))
-}
-
 /// The names up to a statement with this word.
 fn named_step(
     alloc: Global,
@@ -121,7 +113,7 @@ fn named_step(
         return Err(FormFault::Refused(FormKind::Twice, first_of(stmt)));
     }
     let item = item_on(alloc, reader, stmt, word, called)?;
-    with_one(before, item)
+    Ok(with_one(before, item)?)
 }
 
 /// Statements in the block of an entry, which are left out.

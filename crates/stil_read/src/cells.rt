@@ -9,6 +9,7 @@ ghost use Rattle.stil_form.specs.Fronts.{index_by};
 ghost use Rattle.stil_ast.specs.Data.BlockForms as forms;
 ghost use Rattle.stil_read.specs.Cells as cells;
 
+use crate::items::with_one;
 use std::alloc::{AllocError, Global};
 use stil_ast::{CellDeclList, IndexRange, NameRef};
 use stil_form::{FormFault, FormKind, Part, SignKind, Source, Span, name_of, part_of};
@@ -87,15 +88,6 @@ fn cell_size(range: Option<IndexRange>) -> u64
         None => 1,
         Some(range) => range_size(range),
     }
-}
-
-/// One more in a list.
-fn with_one(list: CellDeclList, cell: NameRef) -> Result<CellDeclList, AllocError>
-    ensures { IfOk result (λ more. more ≡ list ++ cell ∷ []) }
-{
-    let mut list = list.into_vec();
-    list.push(cell)?;
-    Ok(Items::from_vec(list))
 }
 
 /// A name, or one name for each index, where so many are left.

@@ -13,6 +13,7 @@ ghost use Rattle.stil_read.specs.Chains as chains;
 use crate::cells::{index_of, read_cells};
 use crate::declared::Declared;
 use crate::head::{is_first, named_block, only_name, rest_at, titled_block};
+use crate::items::with_one;
 use crate::keyword::first_keyword;
 use crate::named::named_on;
 use std::alloc::Global;
@@ -165,15 +166,6 @@ fn plain_said(
     }
 }
 
-/// One more keyword.
-fn with_word(before: Items<ChainWord>, word: ChainWord) -> Result<Items<ChainWord>, FormFault>
-    ensures { Answers result (Ok (before ++ word ∷ [])) }
-{
-    let mut words = before.into_vec();
-    words.push(word)?;
-    Ok(Items::from_vec(words))
-}
-
 /// One more statement, by a statement with this first token.
 fn with_stmt(
     before: ChainParts,
@@ -187,14 +179,14 @@ fn with_stmt(
     if has_word(words.as_slice(), word) {
         return Err(FormFault::Refused(FormKind::Twice, first));
     }
-    let words = with_word(words, word)?;
-    let Some(said) = said else {
-        return Ok(ChainParts { words, stmts });
-    };
-    let mut stmts = stmts.into_vec();
-    stmts.push(said)?;
-    let stmts = Items::from_vec(stmts);
-    Ok(ChainParts { words, stmts })
+    let words = with_one(words, word)?;
+    match said {
+        Some(said) => {
+            let stmts = with_one(stmts, said)?;
+            Ok(ChainParts { words, stmts })
+        }
+        None => Ok(ChainParts { words, stmts }),
+    }
 }
 
 /// Statements of a ScanChain.

@@ -44,7 +44,7 @@ impl<'a> Declared<'a> {
     pub fn has(&self, title: &'a [u8], called: &'a [u8]) -> bool
         ensures { result ≡ is_declared self.now title.now called.now }
     {
-        has_pair(&self.index, title, called)
+        self.index.contains(&(title, called))
     }
 
     /// How many names were declared under the title.
@@ -72,12 +72,6 @@ impl<'a> Declared<'a> {
             counts,
         })
     }
-}
-
-fn has_pair<'a>(index: &IndexSet<(&'a [u8], &'a [u8])>, title: &'a [u8], called: &'a [u8]) -> bool
-    ensures { result ≡ has_pair index.now title.now called.now }
-{
-    index.contains(&(title, called))
 }
 
 fn count_in(counts: &IndexMap<&[u8], usize>, title: &[u8]) -> usize

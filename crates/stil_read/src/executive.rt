@@ -11,6 +11,7 @@ ghost use Rattle.stil_read.specs.Executives as executives;
 ghost use Rattle.stil_read.specs.Executives.{name_behind, exec_said, first_named, with_named, exec_step, no_parts};
 
 use crate::head::{name_or_empty, only_name, titled_block};
+use crate::items::with_one;
 use crate::keyword::keyword_in;
 use crate::named::named_on;
 use std::alloc::Global;
@@ -97,15 +98,6 @@ fn first_named(before: Option<Named>, named: Named, first: u32) -> Result<Option
         None => Ok(Some(named)),
         Some(_) => Err(FormFault::Refused(FormKind::Twice, first)),
     }
-}
-
-/// One more name in a list.
-fn with_one(list: NamedList, named: Named) -> Result<NamedList, FormFault>
-    ensures { Answers result (Ok (list ++ named ∷ [])) }
-{
-    let mut list = list.into_vec();
-    list.push(named)?;
-    Ok(Items::from_vec(list))
 }
 
 /// One more name among those of an executive.

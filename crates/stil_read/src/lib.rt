@@ -10,6 +10,7 @@ mod declared;
 mod executive;
 mod groups;
 mod head;
+mod items;
 mod kept;
 mod keyword;
 mod laws;

@@ -11,6 +11,7 @@ use crate::declared::Declared;
 use crate::head::{
     bare_block, is_first, named_block, only_name, only_text, rest_at, titled_block, without_block,
 };
+use crate::items::with_one;
 use crate::keyword::first_keyword;
 use crate::named::named_on;
 use crate::quotes::quoted_at;
@@ -39,15 +40,6 @@ const TABLE_WORDS: [(&[u8], TableWord); 3] = [
     (b"InheritWaveformTable", TableWord::Inherit),
     (b"Waveforms", TableWord::Waveforms),
 ];
-
-/// One more table that is inherited.
-fn with_one(list: NamedList, named: Named) -> Result<NamedList, FormFault>
-    ensures { Answers result (Ok (list ++ named ∷ [])) }
-{
-    let mut list = list.into_vec();
-    list.push(named)?;
-    Ok(Items::from_vec(list))
-}
 
 /// Puts more waveforms behind others.
 fn append(waveforms: &mut Vec<SignalWaves>, more: Vec<SignalWaves>) -> Result<(), AllocError>
