@@ -212,11 +212,14 @@ fn read_parts(alloc: Global, first: u32, head: Source) -> Result<CellsRead, Form
     Ok(read)
 }
 
-/// The cells where the statement ends.
-fn ended(first: u32, read: CellsRead) -> Result<CellDeclList, FormFault>
-    ensures { Answers result (at_statement first (cells.ended read.cells read.awaited)) }
+/// The cells that stand behind the keyword of the statement with this first token.
+pub(crate) fn read_cells(alloc: Global, first: u32, rest: Source) -> Result<CellDeclList, FormFault>
+    ensures { Answers result (cells.cells_said first (lexemes rest.entry)) }
 {
-    let CellsRead { cells, awaited } = read;
+    if rest.tokens.is_empty() {
+        return Err(FormFault::Refused(FormKind::Shape, first));
+    }
+    let CellsRead { cells, awaited } = read_parts(alloc, first, rest)?;
     let cells = match awaited {
         Awaited::Cell => cells,
         Awaited::Indices(called) => with_cell(cells, called, None)?,
@@ -226,15 +229,4 @@ fn ended(first: u32, read: CellsRead) -> Result<CellDeclList, FormFault>
         Some(CellsLeft { cells, .. }) => Ok(cells),
         None => Err(FormFault::Refused(FormKind::OutOfRange, first)),
     }
-}
-
-/// The cells that stand behind the keyword of the statement with this first token.
-pub(crate) fn read_cells(alloc: Global, first: u32, rest: Source) -> Result<CellDeclList, FormFault>
-    ensures { Answers result (cells.cells_said first (lexemes rest.entry)) }
-{
-    if rest.tokens.is_empty() {
-        return Err(FormFault::Refused(FormKind::Shape, first));
-    }
-    let read = read_parts(alloc, first, rest)?;
-    ended(first, read)
 }

@@ -8,7 +8,7 @@ ghost use Rattle.stil_form.specs.Setting.{setting_of, lexemes_at, at_statement, 
 ghost use Rattle.stil_form.specs.Lexeme.{lexemes};
 ghost use Rattle.stil_read.specs.Heads.{Says};
 ghost use Rattle.stil_read.specs.Executives as executives;
-ghost use Rattle.stil_read.specs.Executives.{name_behind, exec_said, first_named, with_named, exec_step, no_parts};
+ghost use Rattle.stil_read.specs.Executives.{exec_said, first_named, with_named, exec_step, no_parts};
 
 use crate::head::{name_or_empty, only_name, titled_block};
 use crate::items::with_one;
@@ -49,16 +49,6 @@ const EXEC_WORDS: [(&[u8], ExecWord); 4] = [
     (b"PatternBurst", ExecWord::Burst),
 ];
 
-/// The name behind a keyword.
-fn name_behind<'a>(word: ExecWord, rest: Source<'a>) -> Result<&'a [u8], FormKind>
-    ensures { Says (λ called. called.now) result (name_behind word (lexemes rest.entry)) }
-{
-    match word {
-        ExecWord::Timing => name_or_empty(rest),
-        ExecWord::Category | ExecWord::Selector | ExecWord::Burst => only_name(rest),
-    }
-}
-
 /// What a statement with this head says.
 fn exec_said<'a>(has_block: bool, head: Source<'a>) -> Result<(ExecWord, &'a [u8]), FormKind>
     ensures { Says (λ said. (said.0, said.1.now)) result (exec_said has_block (lexemes head.entry)) }
@@ -72,7 +62,11 @@ fn exec_said<'a>(has_block: bool, head: Source<'a>) -> Result<(ExecWord, &'a [u8
     if has_block {
         return Err(FormKind::Shape);
     }
-    match name_behind(word, rest) {
+    let called = match word {
+        ExecWord::Timing => name_or_empty(rest),
+        ExecWord::Category | ExecWord::Selector | ExecWord::Burst => only_name(rest),
+    };
+    match called {
         Ok(called) => Ok((word, called)),
         Err(kind) => Err(kind),
     }

@@ -3,7 +3,7 @@
 ghost use Rattle.std.specs.Prelude.{◌≡◌, List, [], ◌∷◌, ◌++◌, IfOk};
 ghost use Rattle.stil_tree.specs.Trees.{entry_of};
 ghost use Rattle.stil_form.specs.Lexeme.{lexemes};
-ghost use Rattle.stil_form.specs.Reading.{Answers, AnswersBy};
+ghost use Rattle.stil_form.specs.Reading.{Answers};
 ghost use Rattle.stil_form.specs.Setting.{setting_of, inner_of};
 ghost use Rattle.stil_read.specs.Heads.{Says};
 ghost use Rattle.stil_read.specs.Selectors as selectors;
@@ -43,19 +43,6 @@ fn selection_said<'a>(head: Source<'a>) -> Result<Selected<'a>, FormKind>
     match only_keyword(&CHOICES, rest) {
         Some(choice) => Ok(Selected { name, choice }),
         None => Err(FormKind::Shape),
-    }
-}
-
-/// What a statement of a Selector says, which has no block.
-fn selection_at<'a>(reader: &Reader<'_, 'a>, stmt: &Stmt) -> Result<Selected<'a>, FormFault>
-    ensures { AnswersBy selection_of result (selectors.selection_at (setting_of reader.now) (entry_of stmt.now)) }
-{
-    if has_block(stmt) {
-        return Err(FormFault::Refused(FormKind::Shape, first_of(stmt)));
-    }
-    match selection_said(head_at(reader.source, stmt)) {
-        Ok(said) => Ok(said),
-        Err(kind) => Err(FormFault::Refused(kind, first_of(stmt))),
     }
 }
 
@@ -136,7 +123,12 @@ impl<'k, 'a> StepForm for SelectionForm<'k, 'a> {
         before: Selections<'a>,
         stmt: &Stmt,
     ) -> Result<Selections<'a>, FormFault> {
-        let said = selection_at(&self.reader, stmt)?;
+        if has_block(stmt) {
+            return Err(FormFault::Refused(FormKind::Shape, first_of(stmt)));
+        }
+        let said = selection_said(head_at(self.reader.source, stmt)).map_err(
+            |kind| FormFault::Refused(kind, first_of(stmt)),
+        )?;
         if before.has(said.name) {
             return Err(FormFault::Refused(FormKind::Twice, first_of(stmt)));
         }

@@ -14,9 +14,10 @@ ghost use Rattle.stil_read.specs.Waveforms as waveforms;
 
 use crate::head::only_part;
 use crate::keyword::keyword_in;
+use crate::quotes::quoted_at;
 use pat_read::read_ref;
 use std::alloc::Global;
-use stil_ast::{EventDecl, Quoted, SigRef, SignalWaves, WaveDecl};
+use stil_ast::{EventDecl, SigRef, SignalWaves, WaveDecl};
 use stil_form::{
     Form, FormFault, FormKind, Part, Reader, Reference, SignKind, Source, first_of, first_part,
     has_block, head_at, inner_of, line_at, part_of, read_unskipped, reference_front,
@@ -143,26 +144,6 @@ fn fits_letters(letters: usize, acts: &Items<Act>) -> bool
     acts.len() == 1 || acts.len() == letters
 }
 
-/// One more event of a waveform.
-fn new_event(
-    letters: usize,
-    before: &[EventDecl],
-    stmt: &Stmt,
-    event: EventDecl,
-) -> Result<EventDecl, FormFault>
-    ensures { Answers result (at_statement (entry_of stmt.now).first
-        (waveforms.new_event letters before.now (is_some (entry_of stmt.now).body) event)) }
-{
-    if has_block(stmt) || !fits_letters(letters, &event.acts) {
-        return Err(FormFault::Refused(FormKind::Shape, first_of(stmt)));
-    }
-    if before.len() < MOST_EVENTS {
-        Ok(event)
-    } else {
-        Err(FormFault::Refused(FormKind::OutOfRange, first_of(stmt)))
-    }
-}
-
 /// Statements that are events of a waveform of so many characters.
 #[derive(Clone, Copy)]
 struct EventForm<'k, 'a> {
@@ -183,11 +164,14 @@ impl Form for EventForm<'_, '_> {
     ) -> Result<EventDecl, FormFault> {
         let (time, rest) = time_at(&self.reader, stmt)?;
         let acts = acts_of(alloc, rest, first_of(stmt))?;
-        let time = Quoted {
-            text: Items::from_slice(alloc, time)?,
-            line: line_at(self.reader.source.tokens, first_of(stmt) as usize),
-        };
-        new_event(self.letters, before, stmt, EventDecl { time, acts })
+        if has_block(stmt) || !fits_letters(self.letters, &acts) {
+            return Err(FormFault::Refused(FormKind::Shape, first_of(stmt)));
+        }
+        if before.len() >= MOST_EVENTS {
+            return Err(FormFault::Refused(FormKind::OutOfRange, first_of(stmt)));
+        }
+        let time = quoted_at(alloc, &self.reader, first_of(stmt) as usize, time)?;
+        Ok(EventDecl { time, acts })
     }
 }
 
