@@ -6,7 +6,7 @@ ghost use Rattle.stil_form.specs.Reading.{Answers, AnswersBy, and_then};
 ghost use Rattle.stil_form.specs.Setting.{setting_of};
 ghost use Rattle.stil_read.specs.Heads.{under};
 ghost use Rattle.stil_read.specs.Defs as defs;
-ghost use Rattle.stil_read.specs.Defs.{body_in, names_of, new_def, def_said, defs_in};
+ghost use Rattle.stil_read.specs.Defs.{body_in, names_of, def_said, defs_in};
 
 use crate::declared::Declared;
 use crate::head::{named_block, only_name, titled_block, with_block};
@@ -42,23 +42,6 @@ pub fn read_pattern_block(alloc: Global, reader: &Reader, stmt: &Stmt) -> Result
     Ok(Pattern { name, body })
 }
 
-/// The name of a macro or a procedure, which is not declared under the title.
-fn new_def<'a>(
-    reader: &Reader<'_, 'a>,
-    title: &'a [u8],
-    declared: &Declared<'a>,
-    stmt: &Stmt,
-) -> Result<&'a [u8], FormFault>
-    ensures { AnswersBy (λ called. called.now) result
-        (new_def (setting_of reader.now) title.entry.now declared.now (entry_of stmt.now)) }
-{
-    let called = with_block(stmt, only_name(head_at(reader.source, stmt)))?;
-    if declared.has(title, called) {
-        return Err(FormFault::Refused(FormKind::Twice, first_of(stmt)));
-    }
-    Ok(called)
-}
-
 /// A macro or a procedure, and the names that are declared with it.
 fn read_def<'a>(
     alloc: Global,
@@ -72,7 +55,10 @@ fn read_def<'a>(
         (def_said (setting_of reader.now) place title.entry.now declared.entry (entry_of stmt.now)) }
     ensures declared { IfOk result (λ read. read.1 ≡ declared.entry ++ (title.entry.now, read.0.name) ∷ []) }
 {
-    let called = new_def(reader, title, &declared, stmt)?;
+    let called = with_block(stmt, only_name(head_at(reader.source, stmt)))?;
+    if declared.has(title, called) {
+        return Err(FormFault::Refused(FormKind::Twice, first_of(stmt)));
+    }
     let body = body_in(alloc, reader, place, stmt)?;
     let name = Items::from_slice(alloc, called)?;
     let declared = declared.with(title, called)?;

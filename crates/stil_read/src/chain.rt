@@ -166,29 +166,6 @@ fn plain_said(
     }
 }
 
-/// One more statement, by a statement with this first token.
-fn with_stmt(
-    before: ChainParts,
-    word: ChainWord,
-    said: Option<ChainStmt>,
-    first: u32,
-) -> Result<ChainParts, FormFault>
-    ensures { Answers result (at_statement first (chains.with_stmt before word said)) }
-{
-    let ChainParts { words, stmts } = before;
-    if has_word(words.as_slice(), word) {
-        return Err(FormFault::Refused(FormKind::Twice, first));
-    }
-    let words = with_one(words, word)?;
-    match said {
-        Some(said) => {
-            let stmts = with_one(stmts, said)?;
-            Ok(ChainParts { words, stmts })
-        }
-        None => Ok(ChainParts { words, stmts }),
-    }
-}
-
 /// Statements of a ScanChain.
 #[derive(Clone, Copy)]
 struct ChainForm<'k, 'a> {
@@ -211,7 +188,18 @@ impl StepForm for ChainForm<'_, '_> {
             return Ok(before);
         };
         let said = plain_said(alloc, &self.reader, stmt, word)?;
-        with_stmt(before, word, said, first_of(stmt))
+        let ChainParts { words, stmts } = before;
+        if has_word(words.as_slice(), word) {
+            return Err(FormFault::Refused(FormKind::Twice, first_of(stmt)));
+        }
+        let words = with_one(words, word)?;
+        match said {
+            Some(said) => {
+                let stmts = with_one(stmts, said)?;
+                Ok(ChainParts { words, stmts })
+            }
+            None => Ok(ChainParts { words, stmts }),
+        }
     }
 }
 
@@ -227,26 +215,6 @@ fn read_parts(alloc: Global, reader: &Reader, stmts: &[Stmt]) -> Result<ChainPar
     read_unskipped_steps(alloc, &form, reader, start, stmts)
 }
 
-/// The name of one more chain under a title.
-fn new_chain<'a>(
-    reader: &Reader<'_, 'a>,
-    title: &[u8],
-    declared: &Declared<'a>,
-    stmt: &Stmt,
-) -> Result<&'a [u8], FormFault>
-    ensures { AnswersBy (λ called. called.now) result
-        (chains.new_chain (setting_of reader.now) title.now declared.now (entry_of stmt.now)) }
-{
-    if !is_first(b"ScanChain", head_at(reader.source, stmt)) {
-        return Err(FormFault::Refused(FormKind::LeftOut, first_of(stmt)));
-    }
-    let called = named_block(reader, stmt)?;
-    if declared.count(title) >= MOST_CHAINS {
-        return Err(FormFault::Refused(FormKind::OutOfRange, first_of(stmt)));
-    }
-    Ok(called)
-}
-
 /// A chain, and the names that are declared with it.
 fn read_chain<'a>(
     alloc: Global,
@@ -259,7 +227,13 @@ fn read_chain<'a>(
         (chains.chain_said (setting_of reader.now) title.entry.now declared.entry (entry_of stmt.now)) }
     ensures declared { IfOk result (λ read. read.1 ≡ declared.entry ++ (title.entry.now, read.0.name) ∷ []) }
 {
-    let called = new_chain(reader, title, &declared, stmt)?;
+    if !is_first(b"ScanChain", head_at(reader.source, stmt)) {
+        return Err(FormFault::Refused(FormKind::LeftOut, first_of(stmt)));
+    }
+    let called = named_block(reader, stmt)?;
+    if declared.count(title) >= MOST_CHAINS {
+        return Err(FormFault::Refused(FormKind::OutOfRange, first_of(stmt)));
+    }
     let ChainParts { stmts, .. } = read_parts(alloc, reader, inner_of(stmt))?;
     let name = Items::from_slice(alloc, called)?;
     let line = line_at(reader.source.tokens, first_of(stmt) as usize);

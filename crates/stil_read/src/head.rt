@@ -60,16 +60,6 @@ pub(crate) fn name_or_empty<'a>(rest: Source<'a>) -> Result<&'a [u8], FormKind>
     }
 }
 
-/// The title of a block, empty where it has none.
-pub(crate) fn title_of<'a>(rest: Source<'a>) -> Result<&'a [u8], FormKind>
-    ensures { Says (λ called. called.now) result (heads.title_of (lexemes rest.entry)) }
-{
-    match rest.tokens {
-        [] => Ok(b""),
-        _ => name_or_empty(rest),
-    }
-}
-
 /// The one text behind a keyword.
 pub(crate) fn only_text<'a>(rest: Source<'a>) -> Result<&'a [u8], FormKind>
     ensures { Says (λ bytes. bytes.now) result (heads.only_text (lexemes rest.entry)) }
@@ -138,7 +128,11 @@ pub(crate) fn named_block<'a>(reader: &Reader<'_, 'a>, stmt: &Stmt) -> Result<&'
 pub(crate) fn titled_block<'a>(reader: &Reader<'_, 'a>, stmt: &Stmt) -> Result<&'a [u8], FormFault>
     ensures { AnswersBy (λ called. called.now) result (heads.titled_block (setting_of reader.now) (entry_of stmt.now)) }
 {
-    with_block(stmt, title_of(rest_at(reader, stmt)))
+    let rest = rest_at(reader, stmt);
+    match rest.tokens {
+        [] => with_block(stmt, Ok(b"")),
+        _ => with_block(stmt, name_or_empty(rest)),
+    }
 }
 
 /// A keyword alone, with a block.

@@ -116,29 +116,6 @@ fn read_table(
     read_unskipped_steps(alloc, &form, reader, start, stmts)
 }
 
-/// The name of one more table of a Timing.
-fn table_name<'a>(
-    reader: &Reader<'_, 'a>,
-    declared: &Declared<'a>,
-    title: &'a [u8],
-    stmt: &Stmt,
-) -> Result<&'a [u8], FormFault>
-    ensures { AnswersBy (λ called. called.now) result
-        (timings.table_name (setting_of reader.now) declared.now title.now (entry_of stmt.now)) }
-{
-    if !is_first(b"WaveformTable", head_at(reader.source, stmt)) {
-        return Err(FormFault::Refused(FormKind::LeftOut, first_of(stmt)));
-    }
-    let called = named_block(reader, stmt)?;
-    if declared.count(title) >= MOST_TABLES {
-        return Err(FormFault::Refused(FormKind::OutOfRange, first_of(stmt)));
-    }
-    if declared.has(title, called) {
-        return Err(FormFault::Refused(FormKind::Twice, first_of(stmt)));
-    }
-    Ok(called)
-}
-
 /// One more table of a Timing of this title, and the names declared so far with its own.
 fn read_one<'a>(
     alloc: Global,
@@ -151,7 +128,16 @@ fn read_one<'a>(
         (timings.table_said (setting_of reader.now) declared.entry title.now (entry_of stmt.now)) }
     ensures names { IfOk result (λ read. read.1 ≡ declared.entry ++ (title.now, read.0.name) ∷ []) }
 {
-    let called = table_name(reader, &declared, title, stmt)?;
+    if !is_first(b"WaveformTable", head_at(reader.source, stmt)) {
+        return Err(FormFault::Refused(FormKind::LeftOut, first_of(stmt)));
+    }
+    let called = named_block(reader, stmt)?;
+    if declared.count(title) >= MOST_TABLES {
+        return Err(FormFault::Refused(FormKind::OutOfRange, first_of(stmt)));
+    }
+    if declared.has(title, called) {
+        return Err(FormFault::Refused(FormKind::Twice, first_of(stmt)));
+    }
     let line = line_at(reader.source.tokens, first_of(stmt) as usize);
     let table = read_table(alloc, reader, called, line, inner_of(stmt))?;
     let declared = declared.with(title, called)?;
