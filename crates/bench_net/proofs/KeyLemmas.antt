@@ -7,7 +7,6 @@ use Rattle.std.specs.Cmp.Lexicographic.{bytes_decides}
 use Rattle.std.proofs.lemmas.List.{map-append, take_rest}
 use Rattle.std.proofs.lemmas.List.Folds.{list_any-append}
 use Rattle.std.proofs.Math.Bool.{or-false}
-use Rattle.text_bytes.specs.Texts.{added}
 use Rattle.bench_net.specs.declared.line.Line.{Line}
 use Rattle.bench_net.specs.Line.{Form}
 use Rattle.bench_net.specs.Net.{used, shown}
@@ -19,25 +18,6 @@ pub list_any-map : {X : Type 0} (f : X → List ℕ) (p : List ℕ → Bool) →
     → list_any p (map f xs) ≡ list_any (λ x. p (f x)) xs
 list_any-map f p [] = refl
 list_any-map f p (x ∷ xs) = ap (λ b. p (f x) || b) (list_any-map f p xs)
-
--- a name that is there stays alone
-pub added-present : {X : Type 0} (f : X → List ℕ) (keys : List X) (name : List ℕ) → true
-    ≡ list_any (λ k. bytes_eq name (f k)) keys → map f keys ≡ added (map f keys) name
-added-present f keys name h = rw (list_any-map f (bytes_eq name) keys, sym h) refl
-
--- a new name goes behind the others
-pub added-absent : {X : Type 0} (f : X → List ℕ) (keys keys' : List X) (name : List ℕ) (k : X)
-    → false ≡ list_any (λ k. bytes_eq name (f k)) keys → f k ≡ name → keys'
-    ≡ cond (list_any (λ j. bytes_eq (f k) (f j)) keys) keys (keys ++ k ∷ []) → map f keys'
-    ≡ added (map f keys) name
-added-absent f keys keys' name k h e put =
-    let fresh : list_any (λ j. bytes_eq (f k) (f j)) keys
-    ≡ false = ap (λ (n : List ℕ). list_any (λ j. bytes_eq n (f j)) keys) e ∙ sym h in
-    ap (map f) (put ∙ ap (λ b. cond b keys (keys ++ k ∷ [])) fresh)
-    ∙ map-append f keys (k ∷ [])
-    ∙ ap (λ n. map f keys ++ n ∷ []) e
-    ∙ sym (ap (λ b. cond b (map f keys) (map f keys ++ name ∷ []))
-    (list_any-map f (bytes_eq name) keys ∙ sym h))
 
 -- a new key goes behind the others
 pub keys-absent : {X : Type 0} (f : X → List ℕ) (keys keys' : List X) (k : X) → false

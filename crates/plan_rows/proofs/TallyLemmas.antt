@@ -1,28 +1,24 @@
 -- The names of the dies, site by site.
-use Rattle.std.proofs.Common.{◌≡◌, ℕ, zero, suc, ◌<◌, ◌≤◌, ◌*◌, Bool, true, false, not, ◌+◌, cond, List, [], ◌∷◌, ◌++◌, length, map, get_or, All, refl, sym, ap, ◌∙◌, arith}
+use Rattle.std.proofs.Common.{◌≡◌, ℕ, zero, suc, ◌<◌, ◌≤◌, ◌*◌, Bool, not, ◌+◌, cond, List, [], ◌∷◌, length, map, get_or, All, refl, sym, ap, ◌∙◌, arith, true, ◌++◌, inl, inr}
 use Rattle.std.specs.List.{position, position_or_len, list_any}
-use Rattle.std.specs.Str.{bytes_eq}
-use Rattle.std.proofs.lemmas.List.{map-append, map-set, get_or-map, length-map}
+use Rattle.std.proofs.lemmas.List.{map-set, get_or-map, length-map}
 use Rattle.std.proofs.Math.ListN.{set}
 use Rattle.std.proofs.lemmas.Nat.{mul-le}
+use Rattle.std.specs.Str.{bytes_eq}
+use Rattle.std.proofs.lemmas.Bool.{cases_Bool}
+use Rattle.text_bytes.proofs.TextLemmas.{added-present, added-absent}
 use Rattle.text_bytes.specs.Texts.{added}
-use Rattle.text_bytes.proofs.ListLemmas.{list_any-map}
 
--- a name that is there stays alone
-pub added-present : {X : Type 0} (f : X → List ℕ) (keys : List X) (name : List ℕ) → true ≡ list_any (λ k. bytes_eq name (f k)) keys →
-    map f keys ≡ added (map f keys) name
-added-present f keys name h = rw (list_any-map f (bytes_eq name) keys, sym h) refl
-
--- a new name goes behind the others
-pub added-absent : {X : Type 0} (f : X → List ℕ) (keys keys' : List X) (name : List ℕ) (k : X) →
-    false ≡ list_any (λ k. bytes_eq name (f k)) keys → f k ≡ name →
-    keys' ≡ cond (list_any (λ j. bytes_eq (f k) (f j)) keys) keys (keys ++ k ∷ []) → map f keys' ≡ added (map f keys) name
-added-absent f keys keys' name k h e put =
-    let fresh : list_any (λ j. bytes_eq (f k) (f j)) keys ≡ false = ap (λ (n : List ℕ). list_any (λ j. bytes_eq n (f j)) keys) e ∙ sym h in
-    ap (map f) (put ∙ ap (λ b. cond b keys (keys ++ k ∷ [])) fresh)
-    ∙ map-append f keys (k ∷ [])
-    ∙ ap (λ n. map f keys ++ n ∷ []) e
-    ∙ sym (ap (λ b. cond b (map f keys) (map f keys ++ name ∷ [])) (list_any-map f (bytes_eq name) keys ∙ sym h))
+-- a name goes behind the others where it is none of them
+pub added-put : {X : Type 0} (f : X → List ℕ) (keys keys' : List X) (name : List ℕ) (k : X) → f k ≡ name
+    → keys' ≡ cond (list_any (λ j. bytes_eq (f k) (f j)) keys) keys (keys ++ k ∷ []) → map f keys' ≡ added (map f keys) name
+added-put f keys keys' name k e put =
+    elim (cases_Bool (list_any (λ j. bytes_eq name (f j)) keys)) [
+      | inl there ↦
+          let same : list_any (λ j. bytes_eq (f k) (f j)) keys ≡ true = ap (λ (n : List ℕ). list_any (λ j. bytes_eq n (f j)) keys) e ∙ there in
+          ap (map f) (put ∙ ap (λ b. cond b keys (keys ++ k ∷ [])) same) ∙ added-present f keys name (sym there)
+      | inr new ↦ added-absent f keys keys' name k (sym new) e put
+    ]
 
 -- a bound of two factors
 pub small_product : (a b : ℕ) → a < 256 → b < 65536 → a * b ≤ 16711425

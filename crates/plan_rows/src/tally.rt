@@ -31,9 +31,6 @@ pub(crate) struct DieTally {
 fn put_name(alloc: Global, names: &mut IndexSet<Vec<u8>>, name: &[u8]) -> Result<(), AllocError>
     ensures { OnOk result (key_texts names.new.keys ≡ added (key_texts names.old.keys) name.now) }
 {
-    if names.contains(name) {
-        return Ok(());
-    }
     let name = Vec::from_slice(alloc, name)?;
     names.insert(name)?;
     Ok(())

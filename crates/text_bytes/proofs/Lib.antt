@@ -7,3 +7,4 @@ pub mod StandardFacts
 pub mod LexemeLemmas
 pub mod OptionLemmas
 pub mod SumLemmas
+pub mod TextLemmas

@@ -1,5 +1,5 @@
-use Rattle.bench_net.proofs.KeyLemmas.{added-present, added-absent}
 use Rattle.bench_net.proofs.build.add.Goals as goal
+use Rattle.text_bytes.proofs.TextLemmas.{added-present, added-absent}
 
 pub returns-then-contains : goal.returns-then-contains
 returns-then-contains c = added-present

@@ -1,9 +1,6 @@
-use Rattle.plan_rows.proofs.TallyLemmas.{added-present, added-absent}
+use Rattle.plan_rows.proofs.TallyLemmas.{added-put}
 use Rattle.plan_rows.proofs.tally.put_name.Goals as goal
 
-pub returns-then-contains : goal.returns-then-contains
-returns-then-contains c = added-present (λ k. k.items) c.args.names.now.keys c.args.name.now c.if-contains.ensures
-
 pub returns : goal.returns
-returns c = added-absent (λ k. k.items) c.args.names.now.keys c.insert.new.self.keys c.args.name.now c.in_ok-name.name
-    c.if-contains.ensures c.in_ok-name.ensures.items c.in_ok-insert.ensures.keys
+returns c = added-put (λ k. k.items) c.args.names.now.keys c.insert.new.self.keys c.args.name.now c.in_ok-name.name
+    c.in_ok-name.ensures.items c.in_ok-insert.ensures.keys
