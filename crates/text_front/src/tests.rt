@@ -16,7 +16,9 @@ fn read(alloc: Global, text: &[u8]) -> Option<Result<Blocks, StilRefusal>> {
 #[test]
 fn a_byte_beyond_ascii_is_told(rt: HostRuntime) {
     let blocks = read(rt.alloc(), b"STIL 1.0;\nSignals {\n\x80");
-    assert!(rt; matches!(&blocks, Some(Err(StilRefusal::Fault(fault))) if fault.kind == BadByte && fault.line == 3));
+    assert!(rt;
+        matches!(&blocks, Some(Err(StilRefusal::Fault(fault))) if fault.kind == BadByte && fault.line == 3)
+    );
 }
 
 #[test]
