@@ -1,17 +1,17 @@
 #!/usr/bin/env python3
-"""Measures the processor time of the moments of a full cycle (1,024 signals of 16 events each) through the crate measure_moments: where
+"""Measures the processor time of the moments of a full cycle (1,024 signals of 16 events each) by the word moments of the crate measure: where
 they are made, and where they are lent from among 64 that are held. Each time is the least of several runs.
 
 Usage: bench/moments.py [PROGRAM]"""
 import os, subprocess, sys
 
-program = sys.argv[1] if len(sys.argv) > 1 else os.path.join(os.path.dirname(__file__), "../crates/measure_moments/out/measure_moments")
+program = sys.argv[1] if len(sys.argv) > 1 else os.path.join(os.path.dirname(__file__), "../crates/measure/out/measure")
 cycles, lent = 51, 100_000_000
 runs = 5
 
 
 def measured(*words):
-    child = subprocess.Popen([program, *map(str, words)], stdout=subprocess.PIPE)
+    child = subprocess.Popen([program, "moments", *map(str, words)], stdout=subprocess.PIPE)
     printed = child.stdout.read().decode().strip()
     _, _, usage = os.wait4(child.pid, 0)
     return usage.ru_utime + usage.ru_stime, usage.ru_maxrss >> 10, printed

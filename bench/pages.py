@@ -1,17 +1,17 @@
 #!/usr/bin/env python3
-"""Measures the processor time of compiled code through the crate measure_pages: cycles of a walk and of a cursor over two loops, the same
+"""Measures the processor time of compiled code by the word pages of the crate measure: cycles of a walk and of a cursor over two loops, the same
 over a loop of three pages with 1, 2 and 64 frames, and the saving and the loading, in version 1 and in version 2, of a program of a million
 instructions, 16 MB, and of one of 4,096 rows of 200 signals. Each time is the least of several runs.
 
 Usage: bench/pages.py [PROGRAM]"""
 import os, subprocess, sys
 
-program = sys.argv[1] if len(sys.argv) > 1 else os.path.join(os.path.dirname(__file__), "../crates/measure_pages/out/measure_pages")
+program = sys.argv[1] if len(sys.argv) > 1 else os.path.join(os.path.dirname(__file__), "../crates/measure/out/measure")
 runs = 5
 
 
 def measured(*words):
-    child = subprocess.Popen([program, *map(str, words)], stdout=subprocess.PIPE)
+    child = subprocess.Popen([program, "pages", *map(str, words)], stdout=subprocess.PIPE)
     printed = int(child.stdout.read())
     _, _, usage = os.wait4(child.pid, 0)
     return usage.ru_utime + usage.ru_stime, printed

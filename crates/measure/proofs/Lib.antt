@@ -1,0 +1,2 @@
+pub mod OneInputLemmas
+pub mod HeldLemmas

@@ -1,0 +1,5 @@
+use Rattle.page_code.specs.Walk.{IsOver}
+use Rattle.measure.proofs.pages.walked.Given as goal
+
+abbrev pub invariant-loop : goal.invariant-loop
+invariant-loop l = IsOver l.code l.place

@@ -1,5 +1,0 @@
-use Rattle.page_code.specs.Walk.{IsOver}
-use Rattle.measure_pages.proofs.walked.Given as goal
-
-abbrev pub invariant-loop : goal.invariant-loop
-invariant-loop l = IsOver l.code l.place
