@@ -10,7 +10,8 @@ use Rattle.bench_net.specs.Circuit.{Circuit, IsWhole}
 use Rattle.die_sim.specs.Spread.{Reads}
 use Rattle.die_sim.specs.Pending.{PendingGates, place_at, is_pending, nowhere, HasPlace, AreApart, SameSeats, AreSeats, SetsPending, ActivatesEach, ActivatesReaders, SeatedTo}
 use Rattle.bench_net.specs.Sorting.{times}
-use Rattle.die_sim.proofs.OrderLemmas.{All-times, gate_in_order, place_of, order_apart, reader_is_gate, reads_is_times}
+use Rattle.bench_net.proofs.SortLemmas.{times-there}
+use Rattle.die_sim.proofs.OrderLemmas.{times-StandsAt, All-times, gate_in_order, place_of, order_apart, reader_is_gate, reads_is_times}
 
 -- a net whose gate has a place is one of the nets
 pub place_within : (m : PendingGates) (n : ℕ) → AreApart m → HasPlace m n → n < length m.places
@@ -103,6 +104,28 @@ ActivatesReaders-each c n old new w l h = record {
     | inr m ↦ omega (arith, m, reads_is_times c w n g l)
   ]);
 }
+
+-- all gates have become pending
+pub ActivatesEach-all : (drivers : List Driver) (order : List ℕ) → IsOrder drivers order → (old new : PendingGates)
+    → ((n : ℕ) → is_pending old n ≡ false) → ActivatesEach order old new
+    → (n : ℕ) → is_pending new n ≡ gate_at drivers n
+ActivatesEach-all drivers order o old new clear h n = elim (cases_Bool (gate_at drivers n)) [
+  | inl is ↦
+      let p = place_of drivers order o n is in
+      let there : 0 < times n order = subst (λ (m : ℕ). 0 < times m order) p.is (times-there order p.place p.within) in
+      h.active n there ∙ sym is
+  | inr not ↦
+      let none : times n order ≡ 0 = elim (cases_lt 0 (times n order)) [
+        | inl l ↦
+            let s = times-StandsAt n order l in
+            absurd (cc_of not (subst (λ (m : ℕ). gate_at drivers m ≡ true) s.is (gate_in_order drivers order o s.place s.within)))
+        | inr z ↦ omega arith
+      ] in
+      h.others n none ∙ clear n ∙ sym not
+]
+  where
+    cc_of : gate_at drivers n ≡ false → gate_at drivers n ≡ true → ⊥
+    cc_of a b = cc
 
 -- no gate has its place yet
 pub SeatedTo-none : (order : List ℕ) (n : ℕ) (bits : List Bool) → SeatedTo order (replicate n nowhere) bits 0

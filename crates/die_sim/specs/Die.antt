@@ -63,6 +63,12 @@ device_of i =
           (length i.circuit.net.names) i.faults;
     }
 
+-- a die has the netlist and the binding of an image, whatever its faults are
+pub record IsOfNet (d : Device) (i : Image) : Type 0 where
+  pub circuit : d.circuit ≡ i.circuit
+  pub clock : d.clock ≡ i.clock
+  pub binds : d.binds ≡ i.binds
+
 -- what a net's own driver gives it: an input or a flip-flop its own level, a gate its function of the nets that it
 -- reads
 abbrev pub driven : Driver → Level → List Level → Level

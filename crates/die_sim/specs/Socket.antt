@@ -5,7 +5,7 @@ use Rattle.tester_types.specs.Memory.{one_more}
 use Rattle.tester_types.specs.declared.level.Level.{Level}
 use Rattle.tester_types.specs.declared.level.Level.TheVariants.{X}
 use Rattle.tester_types.specs.declared.level.Drive.{Drive}
-use Rattle.die_sim.specs.Die.{Image, Device, State, Die, device_of, IsFresh, IsBoundTo, is_clock, bind_at, level_of}
+use Rattle.die_sim.specs.Die.{Image, Device, State, Die, device_of, IsOfNet, IsFresh, IsBoundTo, is_clock, bind_at, level_of}
 use Rattle.die_sim.specs.Moment.{AreDrives, IsStep}
 use Rattle.die_sim.specs.Tape.{TapeState}
 
@@ -57,6 +57,11 @@ CanSense (Some d) signal = (is_clock d.clock signal ≡ true) ⊎ IsBoundTo (bin
 pub record IsLoaded (image : Image) (now : Told) : Type 0 where
   pub loaded : now.loaded ≡ Some (device_of image)
   pub fresh : IsFresh (device_of image) now.state
+
+-- a die is loaded that has the netlist and the binding of this image
+abbrev pub HoldsNetOf : Option Die → Image → Type 0
+HoldsNetOf None image = ⊥
+HoldsNetOf (Some d) image = IsOfNet d.device image
 
 -- the loaded die made one step
 abbrev pub Moves : Option Device → State → State → List (ℕ × Drive) → Type 0

@@ -2,7 +2,7 @@
 ghost use Rattle.std.specs.Prelude.{◌≡◌, ℕ, ◌<◌, ◌≤◌, ◌+◌, ◌⊎◌, Bool, true, length, IfOk, Option, None, fold, replicate, count_by, map, unwrap_or, slice_index_or, take};
 ghost use Rattle.tester_types.specs.declared.level.Level.TheVariants.{X};
 ghost use Rattle.bench_net.specs.Circuit.{IsWhole};
-ghost use Rattle.die_sim.specs.Die.{device_of, stuck, with_fault, fixed_of, is_clock, bind_at, IsBoundTo, IsFresh, level_of};
+ghost use Rattle.die_sim.specs.Die.{device_of, IsOfNet, stuck, with_fault, fixed_of, is_clock, bind_at, IsBoundTo, IsFresh, level_of};
 ghost use Rattle.die_sim.specs.Moment.{AreDrives, IsStep};
 ghost use Rattle.die_sim.specs.Spread.{IsSpread};
 ghost use Rattle.die_sim.specs.Walk.{AreFaultsWithin};
@@ -10,7 +10,7 @@ ghost use Rattle.die_sim.specs.Walk.{AreFaultsWithin};
 use crate::image::{Bind, Binding, DieImage, StuckAt};
 use crate::moment::{capture_each, capturing, clock_after, clock_edge, flip_flops, put_all};
 use crate::pending::Pending;
-use crate::settle::{refresh_driven, refresh_each, walk};
+use crate::settle::{activate_all, refresh_driven, refresh_each, walk};
 use crate::steps::Steps;
 use bench_net::Netlist;
 use std::alloc::{AllocError, Global};
@@ -92,6 +92,23 @@ impl DieState {
         })
     }
 
+    /// Lays another image of the same netlist and binding: a die as `make` makes it, without memory.
+    pub fn lay(&mut self, die: &DieImage)
+        requires { IsOfNet self.old.device die.now }
+        ensures device { self.new.device ≡ device_of die.now }
+        ensures fresh { IsFresh self.new.device self.new.state }
+    {
+        let net: &Netlist = &self.net;
+        fix_anew(&mut self.fixed, die.faults.as_slice());
+        let fixed = self.fixed.as_slice();
+        self.held.as_mut_slice().fill(Level::X);
+        put_first(fixed, &mut self.levels);
+        activate_all(net, &mut self.pending);
+        self.clock = Level::X;
+        let held = self.held.as_slice();
+        walk(net, fixed, held, &mut self.levels, &mut self.pending);
+    }
+
     /// One moment: the flip-flops capture where the clock rises, the inputs take their levels, and all settles. Each
     /// evaluation of a gate is one step.
     pub fn apply<L>(&mut self, drives: &[(u16, Drive)], steps: &mut Steps<L>)
@@ -166,6 +183,28 @@ fn unfixed(alloc: Global, nets: u32) -> Result<Vec<Option<Level>>, AllocError>
     vec![in alloc; None; nets as usize]
 }
 
+/// Fixes the levels of nets at which these faults are, and no others.
+fn fix_anew(fixed: &mut Vec<Option<Level>>, faults: &[StuckAt])
+    requires { AreFaultsWithin (length fixed.old.items) faults.now }
+    ensures all { fixed.new.items ≡ fixed_of (length fixed.old.items) faults.now }
+    ensures count { length fixed.new.items ≡ length fixed.old.items }
+{
+    fixed.as_mut_slice().fill(None);
+    fix_each(fixed, faults);
+}
+
+/// Fixes the levels of nets at which these faults are, where none is fixed.
+fn fix_each(fixed: &mut Vec<Option<Level>>, faults: &[StuckAt])
+    requires none { fixed.old.items ≡ replicate (length fixed.old.items) None }
+    requires within { AreFaultsWithin (length fixed.old.items) faults.now }
+    ensures all { fixed.new.items ≡ fixed_of (length fixed.old.items) faults.now }
+    ensures count { length fixed.new.items ≡ length fixed.old.items }
+{
+    for fault in faults {
+        fixed[fault.net as usize] = Some(stuck(fault.value));
+    }
+}
+
 /// For each net the level at which a fault fixes it.
 fn fixed_levels(
     alloc: Global,
@@ -177,9 +216,7 @@ fn fixed_levels(
     ensures count { IfOk result (λ fixed. length fixed.items ≡ nets) }
 {
     let mut fixed = unfixed(alloc, nets)?;
-    for fault in faults {
-        fixed[fault.net as usize] = Some(stuck(fault.value));
-    }
+    fix_each(&mut fixed, faults);
     Ok(fixed)
 }
 
@@ -199,4 +236,14 @@ fn first_levels(alloc: Global, fixed: &[Option<Level>]) -> Result<Vec<Level>, Al
         levels.push(level.unwrap_or(Level::X))?;
     }
     Ok(levels)
+}
+
+/// Puts for each net the level at which it is stuck, else X.
+fn put_first(fixed: &[Option<Level>], levels: &mut Vec<Level>)
+    requires { length levels.old.items ≡ length fixed.now }
+    ensures { levels.new.items ≡ map (λ f. unwrap_or f X) fixed.now }
+{
+    for (net, level) in fixed.iter().enumerate() {
+        levels[net] = level.unwrap_or(Level::X);
+    }
 }

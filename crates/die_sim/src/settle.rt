@@ -77,6 +77,17 @@ fn activate_each(pending: &mut Pending, nets: &[u32])
     }
 }
 
+/// All gates are pending, where none is.
+pub(crate) fn activate_all(net: &Netlist, pending: &mut Pending)
+    requires whole { IsWhole net.now }
+    requires seats { AreSeats net.now.order pending.old }
+    requires clear { (n : ℕ) → is_pending pending.old n ≡ false }
+    ensures seats { AreSeats net.now.order pending.new }
+    ensures pending { (n : ℕ) → is_pending pending.new n ≡ gate_at net.now.net.drivers n }
+{
+    activate_each(pending, net.order());
+}
+
 /// The gates that read a net are pending.
 fn activate_readers(net: &Netlist, pending: &mut Pending, n: u32)
     requires whole { IsWhole net.now }

@@ -1,6 +1,6 @@
 //! A socket that holds a simulated die.
 ghost use Rattle.std.specs.Prelude.{◌≡◌, None, IfOk};
-ghost use Rattle.die_sim.specs.Socket.{loaded_of, state_of, holding, CanDrive, CanSense, Moves, Shows};
+ghost use Rattle.die_sim.specs.Socket.{loaded_of, state_of, holding, HoldsNetOf, IsLoaded, CanDrive, CanSense, Moves, Shows};
 
 use crate::die::DieState;
 use crate::image::DieImage;
@@ -59,6 +59,17 @@ impl SimSocket {
         ensures { result ≡ None }
     {
         SimSocket { alloc, die: None }
+    }
+
+    /// Loads another image of the netlist and the binding that are loaded, without memory.
+    pub fn lay(&mut self, die: &DieImage)
+        requires { HoldsNetOf self.old die.now }
+        ensures { IsLoaded die.now (holding self.new None 0) }
+    {
+        match &mut self.die {
+            Some(state) => state.lay(die),
+            None => unreachable!(),
+        }
     }
 }
 

@@ -1,5 +1,5 @@
 //! A tape of drive calls, over flat data whose room is reserved when it is made.
-ghost use Rattle.std.specs.Prelude.{◌≡◌, ℕ, ◌+◌, ◌<◌, ◌≤◌, [], ◌∷◌, ◌++◌, length, IfOk, take, drop, slice_index_or, IsTrue, ◌↔◌};
+ghost use Rattle.std.specs.Prelude.{◌≡◌, ℕ, ◌+◌, ◌<◌, ◌≤◌, [], ◌∷◌, ◌++◌, length, IfOk, OnOk, OnErr, ◌^◌, take, drop, slice_index_or, IsTrue, ◌↔◌};
 ghost use Rattle.die_sim.specs.Tape.{TapeState};
 
 use std::alloc::Global;
@@ -49,6 +49,20 @@ impl Tape {
             drives,
             left: room,
         })
+    }
+
+    /// More room. Where memory for it is wanting, the tape is as it was.
+    pub fn reserve(&mut self, room: u32) -> Result<(), NoMemory>
+        requires { self.old.left + room < 2 ^ 32 }
+        ensures calls { self.new.calls ≡ self.old.calls }
+        ensures more { OnOk result (self.new.left ≡ self.old.left + room) }
+        ensures same { OnErr result (self.new.left ≡ self.old.left) }
+    {
+        let left = self.left + room;
+        self.calls.reserve(left as usize)?;
+        self.drives.reserve(left as usize)?;
+        self.left = left;
+        Ok(())
     }
 
     /// One more call.

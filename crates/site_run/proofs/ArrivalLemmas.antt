@@ -14,9 +14,9 @@ use Rattle.strobe_check.specs.History.{HasSeen}
 use Rattle.pattern_mem.specs.declared.cursor.Cursor.{Cursor}
 use Rattle.site_meaning.specs.Part.{Part, stand_for}
 use Rattle.site_meaning.specs.Polls.{Running, ended_now, fresh_try}
-use Rattle.site_run.specs.declared.bench.Bench.{Bench}
+use Rattle.cycle_run.specs.declared.bench.Bench.{Bench}
 use Rattle.site_run.specs.declared.run.Run.{Run}
-use Rattle.site_run.specs.Cycle.{closed_with}
+use Rattle.cycle_run.specs.Cycle.{closed_with}
 use Rattle.site_run.specs.Seat.{running_of, IsBefore, without_cycles}
 use Rattle.site_run.proofs.RunLemmas.{counted}
 

@@ -18,7 +18,7 @@ use Rattle.site_meaning.proofs.PartLemmas.{order_in-part_of}
 use Rattle.site_run.specs.declared.site.Site.{Site}
 use Rattle.site_run.specs.declared.run.Run.{Run}
 use Rattle.site_run.specs.declared.run.Move.{Move}
-use Rattle.site_run.specs.Cycle.{stand_of}
+use Rattle.cycle_run.specs.Cycle.{stand_of}
 use Rattle.site_run.specs.Taped.{calls_of_batch, calls_of_next, IsTaped}
 use Rattle.site_run.specs.Seat.{running_of, IsPlanned, IsMove, contact_of}
 use Rattle.site_run.specs.Site.{try_of, IsSeatOf}

@@ -24,11 +24,11 @@ use Rattle.die_sim.specs.Die.{Device}
 use Rattle.strobe_check.specs.Entry.{Entry}
 use Rattle.site_meaning.specs.Playing.{Stand, Going, Along, Whose, PlayedMoment, along_of, whose_next, moments_in, after_moment, entry_of, makes_call, played_moment, moments_played, played_cycle, after_cycle}
 use Rattle.site_meaning.specs.Trials.{played, after_cycles, fails_in, is_hit, Lost, behind_cycle, lost_at, reached}
-use Rattle.site_run.specs.Cycle.{IsCallAt, played_behind}
-use Rattle.site_run.specs.Step.{FitCode}
-use Rattle.site_run.proofs.MomentLemmas.{StayInside, instants_inside, moved_fit}
-use Rattle.site_run.proofs.CycleLemmas.{played-split}
-use Rattle.site_run.proofs.BatchLemmas.{after_cycles-none, after_cycles-next, fails_in-none, fails_in-next}
+use Rattle.cycle_run.specs.Cycle.{IsCallAt, played_behind}
+use Rattle.cycle_run.specs.Step.{FitCode}
+use Rattle.cycle_run.proofs.MomentLemmas.{StayInside, instants_inside, moved_fit}
+use Rattle.cycle_run.proofs.CycleLemmas.{played-split}
+use Rattle.cycle_run.proofs.BatchLemmas.{after_cycles-none, after_cycles-next, fails_in-none, fails_in-next}
 
 -- ---- the instants of a cycle
 

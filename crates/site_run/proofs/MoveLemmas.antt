@@ -16,8 +16,8 @@ use Rattle.site_meaning.specs.Part.{Part}
 use Rattle.site_meaning.specs.Polls.{Running, Step, goes, ends, ended_now, with_exec, next_exec, onward, settled}
 use Rattle.site_run.specs.declared.run.Run.{Run}
 use Rattle.site_run.specs.declared.run.Move.{Move}
-use Rattle.site_run.specs.Cycle.{closed_with}
-use Rattle.site_run.specs.Step.{FitsBench}
+use Rattle.cycle_run.specs.Cycle.{closed_with}
+use Rattle.cycle_run.specs.Step.{FitsBench}
 use Rattle.site_run.specs.Seat.{running_of, IsRunOn, IsBefore, IsSeen, IsMove, GoesOnSo}
 use Rattle.site_run.proofs.RunLemmas.{few_cycles}
 

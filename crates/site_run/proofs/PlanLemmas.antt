@@ -21,8 +21,8 @@ use Rattle.lot_plan.specs.Refusal.{IsBound}
 use Rattle.site_meaning.specs.Part.{Part, part_of, lot_in, image_in, stand_for}
 use Rattle.site_meaning.proofs.PartLemmas.{lot_in-part_of, skews_in-part_of, image_in-part_of}
 use Rattle.site_meaning.proofs.SkewLemmas.{accepted_part}
-use Rattle.site_run.specs.Cycle.{stand_of}
-use Rattle.site_run.specs.Step.{FitCode}
+use Rattle.cycle_run.specs.Cycle.{stand_of}
+use Rattle.cycle_run.specs.Step.{FitCode}
 use Rattle.site_run.specs.Seat.{IsPlanned}
 use Rattle.lot_plan.proofs.ReadyLemmas.{circuit-whole, circuit-bound}
 

@@ -22,9 +22,9 @@ use Rattle.site_meaning.specs.Polls.{Running, Step, ends, ended_now, ended_at, m
 use Rattle.site_run.specs.declared.run.Run.{Run}
 use Rattle.site_run.specs.declared.run.Move.{Move}
 use Rattle.site_run.specs.declared.run.Move.TheVariants as move
-use Rattle.site_run.specs.Cycle.{point_at, stand_of, closed_with, IsBetween, played_behind}
-use Rattle.site_run.specs.Batch.{Between, between_at, going_in, PlaysCycles, LosesContactIn}
-use Rattle.site_run.specs.Step.{FitCode, FitsBench}
+use Rattle.cycle_run.specs.Cycle.{point_at, stand_of, closed_with, IsBetween, played_behind}
+use Rattle.cycle_run.specs.Batch.{Between, between_at, going_in, PlaysCycles, LosesContactIn}
+use Rattle.cycle_run.specs.Step.{FitCode, FitsBench}
 use Rattle.site_run.specs.Seat.{running_of, IsRunOn, IsPlanned, IsMove, contact_of, GoesOnSo, KeepsTime, StandsLater}
 use Rattle.site_run.proofs.HitLemmas.{call_late, time_grows, reached_there}
 use Rattle.site_run.proofs.RunLemmas.{counted, counted_open, min_more, take_more_of, drop-both}

@@ -17,7 +17,7 @@ use Rattle.strobe_check.proofs.HistoryLemmas.{fails-none}
 use Rattle.die_sim.specs.Die.{Device}
 use Rattle.site_meaning.specs.Playing.{bound_of}
 use Rattle.site_meaning.specs.Polls.{has_cycles, next_exec}
-use Rattle.site_run.specs.Cycle.{closed_with, HasFound}
+use Rattle.cycle_run.specs.Cycle.{closed_with, HasFound}
 
 -- ---- the cycles of an executive
 

@@ -23,8 +23,8 @@ use Rattle.site_meaning.specs.Playing.{after_moments, entries_in, moments_in, mo
 use Rattle.site_meaning.specs.Part.{Part, part_of, rows_for, circuits_for, skews_in, image_in, order_in}
 use Rattle.site_meaning.specs.Trials.{played, after_cycles, fails_in, reached}
 use Rattle.site_meaning.specs.Polls.{first_seat, with_word, next_exec, onward, arrived, next_cycles, next_played, after_batch, settled, run_batch, before_batch, with_trial, poll}
-use Rattle.site_run.specs.Tape.{calls_in}
-use Rattle.site_run.specs.Batch.{calls_of_cycles}
+use Rattle.cycle_run.specs.Tape.{calls_in}
+use Rattle.cycle_run.specs.Batch.{calls_of_cycles}
 use Rattle.site_run.specs.Taped.{all_cycles, calls_of_try, calls_of, calls_of_batch, calls_of_next, calls_of_poll, calls_before, calls_until}
 use Rattle.site_meaning.proofs.SampleDie.{inverter, wave}
 

@@ -20,14 +20,14 @@ use Rattle.site_meaning.specs.Trials.{after_cycles}
 use Rattle.site_meaning.specs.Polls.{Running, Seat, rests, arrived, next_cycles}
 use Rattle.site_meaning.proofs.AllLemmas.{All-weaker, All-of_any}
 use Rattle.site_run.specs.declared.run.Move.{Move}
-use Rattle.site_run.specs.Tape.{call_at, call_of, calls_in, calls_of_cycle, with_calls}
-use Rattle.site_run.specs.Cycle.{IsCallAt}
-use Rattle.site_run.specs.Batch.{calls_of_cycles, Between, going_in, LosesContactIn}
+use Rattle.cycle_run.specs.Tape.{call_at, call_of, calls_in, calls_of_cycle, with_calls}
+use Rattle.cycle_run.specs.Cycle.{IsCallAt}
+use Rattle.cycle_run.specs.Batch.{calls_of_cycles, Between, going_in, LosesContactIn}
 use Rattle.site_run.specs.Taped.{calls_of_batch, calls_of_step, calls_of_poll, calls_before, calls_until, IsTaped}
-use Rattle.site_run.specs.Step.{FitCode}
+use Rattle.cycle_run.specs.Step.{FitCode}
 use Rattle.site_run.specs.Seat.{IsPlanned, contact_of}
-use Rattle.site_run.proofs.StepLemmas.{calls_in-append, calls_in-next, calls_in-one, with-append}
-use Rattle.site_run.proofs.BatchLemmas.{after_cycles-next, calls-append, calls-next}
+use Rattle.cycle_run.proofs.StepLemmas.{calls_in-append, calls_in-next, calls_in-one, with-append}
+use Rattle.cycle_run.proofs.BatchLemmas.{after_cycles-next, calls-append, calls-next}
 use Rattle.site_run.proofs.HitLemmas.{Rising, cycle_rises, cycle_between, below_one, behind_one, call_inside, time_grows}
 
 -- ---- items that are kept

@@ -25,13 +25,13 @@ use Rattle.site_meaning.proofs.SeatLemmas.{Stands, Outcome, on, over, Polled, on
 use Rattle.site_meaning.proofs.TouchdownLemmas.{uncut_is_touchdown}
 use Rattle.site_run.specs.declared.run.Run.{Run}
 use Rattle.site_run.specs.declared.site.Site.{Site}
-use Rattle.site_run.specs.Tape.{with_calls}
+use Rattle.cycle_run.specs.Tape.{with_calls}
 use Rattle.site_run.specs.Taped.{calls_of, calls_of_poll, calls_so_far, IsTaped}
 use Rattle.site_run.specs.Seat.{running_of}
 use Rattle.site_run.specs.Site.{seat_of, IsSiteOf, IsPolled, without_record}
 use Rattle.site_run.specs.Touchdown.{IsIdle, IsTouchdown}
-use Rattle.site_run.proofs.SocketLemmas.{with-none}
-use Rattle.site_run.proofs.StepLemmas.{with-append}
+use Rattle.cycle_run.proofs.SocketLemmas.{with-none}
+use Rattle.cycle_run.proofs.StepLemmas.{with-append}
 use Rattle.site_run.proofs.StepsLemmas.{risen_from, rests_not}
 use Rattle.site_run.proofs.SoFarLemmas.{Follows, poll_follows, poll_tapes}
 

@@ -1,8 +1,4 @@
-pub mod Tape
-pub mod Cycle
-pub mod Batch
 pub mod Taped
-pub mod Step
 pub mod Seat
 pub mod Contact
 pub mod Site

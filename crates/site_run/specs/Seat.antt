@@ -18,8 +18,8 @@ use Rattle.site_run.specs.declared.run.Move.{Move}
 use Rattle.site_run.specs.declared.run.Move.TheVariants as move
 use Rattle.site_run.specs.declared.arrival.Arrival.{Arrival}
 use Rattle.site_run.specs.declared.arrival.Arrival.TheVariants as arrival
-use Rattle.site_run.specs.Cycle.{closed_with, IsStateOf}
-use Rattle.site_run.specs.Step.{FitsBench}
+use Rattle.cycle_run.specs.Cycle.{closed_with, IsStateOf}
+use Rattle.cycle_run.specs.Step.{FitsBench}
 
 -- ---- a try that runs
 

@@ -20,7 +20,7 @@ use Rattle.site_run.specs.declared.run.Move.TheVariants as move
 use Rattle.site_run.specs.declared.site.Site.{Site}
 use Rattle.site_run.specs.declared.site.BatchEnd.{BatchEnd}
 use Rattle.site_run.specs.declared.site.BatchEnd.TheVariants as end
-use Rattle.site_run.specs.Step.{HoldsSchedules}
+use Rattle.cycle_run.specs.Step.{HoldsSchedules}
 use Rattle.site_run.specs.Taped.{IsTaped, calls_of_next, calls_of_step, calls_of_poll}
 use Rattle.site_run.specs.Contact.{IsLostInPoll}
 use Rattle.site_run.specs.Seat.{running_of, IsRunOn}

@@ -13,8 +13,8 @@ use Rattle.die_sim.specs.Socket.{Calls}
 use Rattle.site_meaning.specs.Playing.{starting}
 use Rattle.site_meaning.specs.Part.{Part, order_in, stand_for}
 use Rattle.site_meaning.specs.Polls.{Running, Seat, Step, goes, ends, try_now, rests, arrived, next_cycles, is_ordered}
-use Rattle.site_run.specs.Tape.{with_calls}
-use Rattle.site_run.specs.Batch.{calls_of_cycles}
+use Rattle.cycle_run.specs.Tape.{with_calls}
+use Rattle.cycle_run.specs.Batch.{calls_of_cycles}
 
 -- ---- a recorded try
 

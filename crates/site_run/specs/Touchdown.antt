@@ -7,7 +7,7 @@ use Rattle.site_meaning.specs.Part.{Part}
 use Rattle.site_meaning.specs.Records.{Sound, touchdown}
 use Rattle.site_meaning.specs.Polls.{live_numbers}
 use Rattle.site_run.specs.declared.site.Site.{Site}
-use Rattle.site_run.specs.Tape.{with_calls}
+use Rattle.cycle_run.specs.Tape.{with_calls}
 use Rattle.site_run.specs.Taped.{calls_of}
 
 -- no touchdown of a site is under way, and no record waits

@@ -10,8 +10,8 @@ ghost use Rattle.site_meaning.specs.Polls.{fresh_try, onward, unloaded, ends};
 ghost use Rattle.site_run.specs.Seat.{running_of, IsBefore, IsArrival, ArrivesSo, load_contact, FailsToLoad, KeepsSo};
 
 use crate::batch::Underway;
-use crate::bench::Bench;
 use crate::run::{Move, Run, onward};
+use cycle_run::Bench;
 use die_sim::{DieImage, Socket, SocketFault};
 use pattern_mem::{PatternMem, at};
 use std::alloc::Global;

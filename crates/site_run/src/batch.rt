@@ -5,14 +5,11 @@ ghost use Rattle.page_code.specs.Walk.{IsOf};
 ghost use Rattle.bench_net.specs.Circuit.{IsWhole};
 ghost use Rattle.die_sim.specs.Die.{device_of};
 ghost use Rattle.pattern_mem.specs.Cursor.{cycles_to_come, IsCursorOf};
-ghost use Rattle.site_run.specs.Cycle.{point_at, stand_of, IsBetween};
-ghost use Rattle.site_run.specs.Batch.{between_at, PlaysCycles, StopsAmong};
-ghost use Rattle.site_run.specs.Step.{FitCode, FitsBench, HoldsSchedules, HasCause};
+ghost use Rattle.cycle_run.specs.Cycle.{point_at, stand_of, IsBetween};
+ghost use Rattle.cycle_run.specs.Batch.{between_at, PlaysCycles, StopsAmong};
+ghost use Rattle.cycle_run.specs.Step.{FitCode, FitsBench, HoldsSchedules, HasCause};
 
-use crate::bench::Bench;
-use crate::cycle::make_cycle;
-use crate::place::Place;
-use crate::stop::Stop;
+use cycle_run::{Bench, Place, Stop, make_cycle};
 use die_sim::{DieImage, Socket};
 use edge_gen::Schedules;
 use pattern_mem::{Cursor, PatternMem, PoolPass};

@@ -3,20 +3,11 @@
 
 mod arrival;
 mod batch;
-mod bench;
-mod cycle;
-mod dated;
-mod drives;
 mod fault;
 mod laws;
-mod moments;
-mod place;
 mod run;
-mod sensing;
-mod signals;
 mod site;
 mod state;
-mod stop;
 mod trial;
 
 pub use fault::SiteFault;

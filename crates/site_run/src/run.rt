@@ -9,13 +9,13 @@ ghost use Rattle.die_sim.specs.Die.{Device, device_of};
 ghost use Rattle.die_sim.specs.Socket.{Told};
 ghost use Rattle.site_meaning.specs.Part.{Part};
 ghost use Rattle.site_meaning.specs.Polls.{next_exec, onward, settled, run_batch};
-ghost use Rattle.site_run.specs.Cycle.{stand_of};
+ghost use Rattle.cycle_run.specs.Cycle.{stand_of};
 ghost use Rattle.site_run.specs.Taped.{IsTaped, calls_of_batch};
-ghost use Rattle.site_run.specs.Step.{FitCode, HoldsSchedules};
+ghost use Rattle.cycle_run.specs.Step.{FitCode, HoldsSchedules};
 ghost use Rattle.site_run.specs.Seat.{running_of, IsRunOn, IsBefore, IsSeen, IsPlanned, IsMove, contact_of, GoesOnSo, KeepsTime, StandsLater};
 
 use crate::batch::{Underway, make_cycles};
-use crate::stop::Stop;
+use cycle_run::Stop;
 use die_sim::{DieImage, Socket};
 use edge_gen::Schedules;
 use page_code::Code;

@@ -13,7 +13,7 @@ ghost use Rattle.lot_plan.specs.Skews.{site_skews};
 ghost use Rattle.std.specs.Option.{option_map};
 ghost use Rattle.site_run.specs.declared.site.BatchEnd.TheVariants as BatchEnd;
 ghost use Rattle.site_run.specs.Taped.{IsTaped, calls_of_next};
-ghost use Rattle.site_run.specs.Step.{HoldsSchedules};
+ghost use Rattle.cycle_run.specs.Step.{HoldsSchedules};
 ghost use Rattle.site_run.specs.Seat.{running_of, IsRunOn, IsSeen, IsMove, contact_of, GoesOnSo, StandsLater};
 ghost use Rattle.site_run.specs.Touchdown.{IsIdle, IsTouchdown};
 ghost use Rattle.site_run.specs.Site.{seat_of, try_of, IsSiteOf, IsSeatOf, Advances, OutcomeFits, KeepsRest, Steps, IsPolled, without_record, end_of};

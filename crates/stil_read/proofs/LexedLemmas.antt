@@ -19,7 +19,7 @@ use Rattle.stil_form.specs.Lexeme.{lexeme_at}
 use Rattle.stil_form.specs.Setting.{Setting, setting, line_at}
 use Rattle.stil_ast.specs.Data.Forms.{is_line}
 use Rattle.pat_read.specs.Accepted.{is_spelled, AreSpelled, HasLines, AreLexed}
-use Rattle.stil_read.proofs.AcceptedLemmas.{HaveLines}
+use Rattle.block_forms.proofs.AcceptedLemmas.{HaveLines}
 
 -- a text behind another and in front of a third
 cut_out : (before middle after : List ℕ) → take (length middle) (drop (length before) (before ++ middle ++ after)) ≡ middle

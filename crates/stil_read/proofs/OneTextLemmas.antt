@@ -43,29 +43,30 @@ use Rattle.pat_read.proofs.AcceptedLemmas.{both_ok, list_all-one}
 use Rattle.pat_read.proofs.AcceptedBodies.{bodies_have_form}
 use Rattle.stil_read.specs.declared.keyword.Keyword.{Keyword}
 use Rattle.stil_read.specs.declared.keyword.Keyword.TheVariants as keyword
-use Rattle.stil_read.specs.Heads.{named_block, titled_block, bare_block, is_declared, under}
-use Rattle.stil_read.specs.Signals.{signals_block}
-use Rattle.stil_read.specs.Groups.{groups_block}
-use Rattle.stil_read.specs.Variables.{spec_block}
-use Rattle.stil_read.specs.Selectors.{selector_block, selector_of, selections_of}
-use Rattle.stil_read.specs.Timings.{timing_block}
-use Rattle.stil_read.specs.Chains.{scan_block}
-use Rattle.stil_read.specs.Defs.{trees_in, body_in, pattern_called, defs_block, pattern_block}
-use Rattle.stil_read.specs.Bursts.{burst_block, burst_called, items_in}
-use Rattle.stil_read.specs.Executives.{exec_block}
+use Rattle.block_forms.specs.Heads.{trees_in, named_block, titled_block, bare_block, is_declared, under}
+use Rattle.signal_blocks.specs.Signals.{signals_block}
+use Rattle.signal_blocks.specs.Groups.{groups_block}
+use Rattle.timing_blocks.specs.Variables.{spec_block}
+use Rattle.timing_blocks.specs.Selectors.{selector_block, selector_of, selections_of}
+use Rattle.timing_blocks.specs.Timings.{timing_block}
+use Rattle.scan_blocks.specs.Chains.{scan_block}
+use Rattle.pattern_blocks.specs.Defs.{body_in, pattern_called, defs_block, pattern_block}
+use Rattle.pattern_blocks.specs.Bursts.{burst_block, burst_called, items_in}
+use Rattle.pattern_blocks.specs.Executives.{exec_block}
 use Rattle.stil_read.specs.Top.{Top, tables_in, chains_in, bodies_in, untitled, once, few, pattern_names, burst_names, selector_names, more_signals, more_groups, more_specs, more_selectors, more_timings, more_scans, more_defs, more_bursts, more_executives, more_patterns, block_step, words_said, with_words, with_blocks, keyword_at, keyword_step, by_keyword, top_step, is_stil_1_0, with_executive, finished, start, behind_header, blocks_of}
-use Rattle.stil_read.proofs.AcceptedLemmas.{HaveLines, IsLined, kept}
-use Rattle.stil_read.proofs.BurstLemmas.{burst_block-is}
-use Rattle.stil_read.proofs.ChainLemmas.{AreFew, scan_block-is, scan_block-few}
-use Rattle.stil_read.proofs.DeclaredForms.{Differ, Differ-push, names_under-under, names_under-blocks, length-names_under}
-use Rattle.stil_read.proofs.DefLemmas.{BodiesFit, pattern_block-is, defs_block-is, defs_block-differ}
-use Rattle.stil_read.proofs.ExecutiveLemmas.{exec_block-is}
+use Rattle.block_forms.proofs.AcceptedLemmas.{HaveLines, IsLined, kept}
+use Rattle.pattern_blocks.proofs.BurstLemmas.{burst_block-is}
+use Rattle.scan_blocks.proofs.ChainLemmas.{AreFew, scan_block-is, scan_block-few}
+use Rattle.block_forms.proofs.FormLemmas.{said_where, said_unless}
+use Rattle.block_forms.proofs.DeclaredForms.{Differ, Differ-push, names_under-under, names_under-blocks, length-names_under}
+use Rattle.pattern_blocks.proofs.DefLemmas.{BodiesFit, pattern_block-is, defs_block-is, defs_block-differ}
+use Rattle.pattern_blocks.proofs.ExecutiveLemmas.{exec_block-is}
 use Rattle.stil_read.proofs.LexedLemmas.{are_lexed, statements_have_lines}
 use Rattle.stil_read.proofs.NameLemmas.{named-by, untitled-more}
-use Rattle.stil_read.proofs.SignalForms.{signals_block-is, groups_block-is}
-use Rattle.stil_read.proofs.TableNames.{AreTableNames, names-timing_block, no_table_names}
-use Rattle.stil_read.proofs.TimingForms.{is_timing_block-timing_block}
-use Rattle.stil_read.proofs.VariableForms.{spec_block-is, selector_block-is}
+use Rattle.signal_blocks.proofs.SignalForms.{signals_block-is, groups_block-is}
+use Rattle.timing_blocks.proofs.TableNames.{AreTableNames, names-timing_block, no_table_names}
+use Rattle.timing_blocks.proofs.TimingForms.{is_timing_block-timing_block}
+use Rattle.timing_blocks.proofs.VariableForms.{spec_block-is, selector_block-is}
 
 -- blocks that have their form, of which no name stands twice
 record FitOnce {X : Type 0} (test : X → Bool) (name : X → List ℕ) (xs : List X) : Type 0 where
@@ -118,16 +119,11 @@ record IsOnce {X : Type 0} (declared : List (List ℕ × List ℕ)) (s : Setting
   pub new : is_declared declared [] called ≡ false
   pub made : read ≡ Ok x
 
-where_new : {X : Type 0} (b : Bool) (fault : FormFault) (read : Result X FormFault) (x : X) → cond b (Err fault) read ≡ Ok x
-    → (b ≡ false) × (read ≡ Ok x)
-where_new true fault read x is = cc
-where_new false fault read x is = (refl, is)
-
 once_made : {X : Type 0} (declared : List (List ℕ × List ℕ)) (s : Setting) (e : Entry) (read : Result X FormFault) (x : X)
     → once declared s e read ≡ Ok x → IsOnce declared s e read x
 once_made declared s e read x is =
     let both = both_ok (named_block s e) (λ called. cond (is_declared declared [] called) (Err (Refused Twice e.first)) read) x is in
-    let parts = where_new (is_declared declared [] both.given) (Refused Twice e.first) read x both.made in
+    let parts = said_unless (is_declared declared [] both.given) (Refused Twice e.first) read x both.made in
     record { called = both.given; met = both.met; new = parts.0; made = parts.1 }
 
 -- one more of those whose names stand once
@@ -247,12 +243,6 @@ macros_bodies s lexed e w lined read = bodies_have_form s place.Macro (trees_in 
 procedures_bodies : (s : Setting) → AreLexed s → BodiesFit s place.Procedure
 procedures_bodies s lexed e w lined read = bodies_have_form s place.Procedure (trees_in e.body) w lexed read
 
--- an executive, where there is room
-where_room : {X : Type 0} (b : Bool) (fault : FormFault) (read : Result X FormFault) (x : X) → cond b read (Err fault) ≡ Ok x
-    → (b ≡ true) × (read ≡ Ok x)
-where_room true fault read x is = (refl, is)
-where_room false fault read x is = cc
-
 executives_fit : (s : Setting) (before next : List ExecDecl) (e : Entry) → IsLined s e → FitExecutives before
     → more_executives s before e ≡ Ok next → FitExecutives next
 unfolding more_executives
@@ -260,7 +250,7 @@ executives_fit s before next e lined held is =
     let one = more_made before (few (length before) s e (exec_block s e)) next is in
     let both = both_ok (titled_block s e)
     (λ title. cond (nat_lt (length before) most_executives) (exec_block s e) (Err (Refused OutOfRange e.first))) one.0 one.1 in
-    let room = where_room (nat_lt (length before) most_executives) (Refused OutOfRange e.first) (exec_block s e) one.0 both.made in
+    let room = said_where (nat_lt (length before) most_executives) (exec_block s e) (Refused OutOfRange e.first) one.0 both.made in
     subst FitExecutives one.2 (record {
       each = list_all-one is_exec_decl before one.0 held.each (exec_block-is s e one.0 lined room.1);
       within = omega (arith, ltb-true (length before) most_executives room.0, length-append before (one.0 ∷ []));
@@ -445,10 +435,7 @@ block_fits s lexed b next e keyword.Pattern lined h is =
       bursts = h.bursts;
       executives = h.executives;
     })
-block_fits s lexed b next e keyword.Header lined h is = cc
-block_fits s lexed b next e keyword.UserKeywords lined h is = cc
-block_fits s lexed b next e keyword.UserFunctions lined h is = cc
-block_fits s lexed b next e keyword.Stil lined h is = cc
+block_fits s lexed b next e _ lined h is = cc
 
 -- what stands so far
 abbrev TopFits : Top → Type 0
@@ -472,17 +459,7 @@ keyword_fits s lexed t next e keyword.UserKeywords lined h is =
     same_top (with_words t both.given) next h both.made
 keyword_fits s lexed t next e keyword.UserFunctions lined h is = same_top t next h is
 keyword_fits s lexed t next e keyword.Stil lined h is = cc
-keyword_fits s lexed t next e keyword.Signals lined h is = behind_block s lexed t next e keyword.Signals lined h is
-keyword_fits s lexed t next e keyword.SignalGroups lined h is = behind_block s lexed t next e keyword.SignalGroups lined h is
-keyword_fits s lexed t next e keyword.Spec lined h is = behind_block s lexed t next e keyword.Spec lined h is
-keyword_fits s lexed t next e keyword.Selector lined h is = behind_block s lexed t next e keyword.Selector lined h is
-keyword_fits s lexed t next e keyword.Timing lined h is = behind_block s lexed t next e keyword.Timing lined h is
-keyword_fits s lexed t next e keyword.ScanStructures lined h is = behind_block s lexed t next e keyword.ScanStructures lined h is
-keyword_fits s lexed t next e keyword.MacroDefs lined h is = behind_block s lexed t next e keyword.MacroDefs lined h is
-keyword_fits s lexed t next e keyword.Procedures lined h is = behind_block s lexed t next e keyword.Procedures lined h is
-keyword_fits s lexed t next e keyword.PatternBurst lined h is = behind_block s lexed t next e keyword.PatternBurst lined h is
-keyword_fits s lexed t next e keyword.PatternExec lined h is = behind_block s lexed t next e keyword.PatternExec lined h is
-keyword_fits s lexed t next e keyword.Pattern lined h is = behind_block s lexed t next e keyword.Pattern lined h is
+keyword_fits s lexed t next e k lined h is = behind_block s lexed t next e k lined h is
 
 by_keyword_fits : (s : Setting) → AreLexed s → (t next : Top) (e : Entry) (o : Option Keyword) → IsLined s e → TopFits t
     → by_keyword s t e o ≡ Ok next → TopFits next

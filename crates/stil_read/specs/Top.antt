@@ -30,18 +30,18 @@ use Rattle.stil_read.specs.declared.keyword.Keyword.TheVariants as keyword
 use Rattle.text_bytes.specs.Limits.{most_executives}
 use Rattle.pat_read.specs.declared.reader.BodyPlace.{BodyPlace}
 use Rattle.pat_read.specs.declared.reader.BodyPlace.TheVariants as place
-use Rattle.stil_read.specs.Signals.{signals_block}
-use Rattle.stil_read.specs.Groups.{groups_block}
-use Rattle.stil_read.specs.Variables.{spec_block}
-use Rattle.stil_read.specs.Selectors.{selector_block}
-use Rattle.stil_read.specs.Timings.{timing_block}
-use Rattle.stil_read.specs.Chains.{scan_block}
-use Rattle.stil_read.specs.Defs.{defs_block, pattern_block}
-use Rattle.stil_read.specs.Bursts.{burst_block}
-use Rattle.stil_read.specs.Executives.{exec_block}
+use Rattle.signal_blocks.specs.Signals.{signals_block}
+use Rattle.signal_blocks.specs.Groups.{groups_block}
+use Rattle.timing_blocks.specs.Variables.{spec_block}
+use Rattle.timing_blocks.specs.Selectors.{selector_block}
+use Rattle.timing_blocks.specs.Timings.{timing_block}
+use Rattle.scan_blocks.specs.Chains.{scan_block}
+use Rattle.pattern_blocks.specs.Defs.{defs_block, pattern_block}
+use Rattle.pattern_blocks.specs.Bursts.{burst_block}
+use Rattle.pattern_blocks.specs.Executives.{exec_block}
 use Rattle.pat_read.specs.Statements.{is_there}
-use Rattle.stil_read.specs.Keywords.{first_meaning}
-use Rattle.stil_read.specs.Heads.{rest_at, bare_block, named_block, titled_block, is_declared, under}
+use Rattle.block_forms.specs.Keywords.{first_meaning}
+use Rattle.block_forms.specs.Heads.{rest_at, bare_block, named_block, titled_block, is_declared, under}
 
 -- the keywords that begin statements at the top level
 abbrev pub keywords : List (List ℕ × Keyword)

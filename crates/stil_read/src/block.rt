@@ -7,18 +7,11 @@ ghost use Rattle.stil_form.specs.Reading.{AnswersBy};
 ghost use Rattle.stil_form.specs.Setting.{setting_of};
 ghost use Rattle.stil_read.specs.Top.{tables_in, chains_in, bodies_in, pattern_names, burst_names, selector_names, more_signals, more_groups, more_specs, more_selectors, more_timings, more_scans, more_defs, more_bursts, more_executives, more_patterns};
 
-use crate::body::{read_defs_block, read_pattern_block};
-use crate::burst::read_burst_block;
-use crate::chain::read_scan_block;
-use crate::declared::Declared;
-use crate::executive::read_exec_block;
-use crate::groups::read_groups_block;
-use crate::head::{named_block, titled_block};
-use crate::selectors::read_selector_block;
-use crate::signals::read_signals_block;
-use crate::timings::read_timing_block;
-use crate::variables::read_spec_block;
+use block_forms::{Declared, named_block, titled_block};
 use pat_read::BodyPlace;
+use pattern_blocks::{read_burst_block, read_defs_block, read_exec_block, read_pattern_block};
+use scan_blocks::read_scan_block;
+use signal_blocks::{read_groups_block, read_signals_block};
 use std::alloc::Global;
 use std::mem;
 use stil_ast::{
@@ -28,6 +21,7 @@ use stil_ast::{
 use stil_form::{FormFault, FormKind, Reader, first_of};
 use stil_tree::Stmt;
 use text_bytes::MOST_EXECUTIVES;
+use timing_blocks::{read_selector_block, read_spec_block, read_timing_block};
 
 /// Adds one more.
 fn add<T: Drop>(list: &mut Vec<T>, one: T) -> Result<(), FormFault>

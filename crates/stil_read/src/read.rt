@@ -4,7 +4,7 @@ ghost use Rattle.std.specs.Prelude.{◌≡◌, []};
 ghost use Rattle.stil_read.specs.Reads.{blocks_by, AreNamesOf};
 ghost use Rattle.stil_read.specs.Top.{no_blocks};
 
-use crate::declared::Declared;
+use block_forms::Declared;
 use std::alloc::Global;
 use stil_ast::{
     Burst, DefBlock, ExecDecl, GroupBlock, Pattern, ScanBlock, Selector, SignalDecl, SpecBlock,

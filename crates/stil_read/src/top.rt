@@ -11,10 +11,10 @@ ghost use Rattle.pat_read.specs.Statements.{is_there};
 ghost use Rattle.stil_read.specs.Reads.{blocks_by, top_by, AreNames};
 ghost use Rattle.stil_read.specs.Top.{no_blocks, word_in, words_in, words_said, keyword_step, top_step, is_stil_1_0, start};
 
-use crate::head::{bare_block, behind_first};
 use crate::kept::put_block;
-use crate::keyword::{KEYWORDS, Keyword, first_keyword};
+use crate::keyword::{KEYWORDS, Keyword};
 use crate::read::{Lists, Names};
+use block_forms::{bare_block, behind_first, first_keyword};
 use std::alloc::Global;
 use std::mem;
 use stil_form::{

@@ -9,7 +9,7 @@ use Rattle.site_meaning.specs.Part.{Part, dies_in}
 use Rattle.site_meaning.specs.Records.{Sound, AreInOrder}
 use Rattle.site_meaning.specs.Polls.{Seat, Arises, with_word, with_none_waiting, poll, live_numbers, Climbs}
 use Rattle.site_meaning.specs.Counting.{polls_of, polls_so_far}
-use Rattle.site_run.specs.Tape.{with_calls}
+use Rattle.cycle_run.specs.Tape.{with_calls}
 use Rattle.site_run.specs.Taped.{calls_of, calls_of_poll, calls_so_far, IsTaped}
 use Rattle.stop_board.specs.Seats.{SiteFacts}
 use Rattle.tester_run.specs.Work.{HasCycle, IsLoaded, HasRisenBy, contacts_in}

@@ -13,7 +13,7 @@ use Rattle.site_meaning.specs.Part.{Part, dies_in}
 use Rattle.site_meaning.specs.Records.{Sound, AreInOrder, records, cuts_of}
 use Rattle.site_meaning.specs.Polls.{live_numbers, Climbs}
 use Rattle.site_meaning.specs.Counting.{polls_of}
-use Rattle.site_run.specs.Tape.{with_calls}
+use Rattle.cycle_run.specs.Tape.{with_calls}
 use Rattle.site_run.specs.Taped.{calls_of}
 use Rattle.stop_board.specs.Seats.{SiteFacts}
 

@@ -10,8 +10,8 @@ use Rattle.tester_types.specs.declared.signal.Direction.{Direction}
 use Rattle.tester_types.specs.declared.signal.Direction.TheVariants.{In, Out}
 use Rattle.stil_ast.specs.declared.signal.SignalDecl.{SignalDecl}
 use Rattle.stil_ast.specs.declared.executive.ExecDecl.{ExecDecl}
-use Rattle.stil_read.proofs.StandardFacts.Signs.{word, name, mark}
-use Rattle.stil_read.proofs.StandardFacts.Lines.{on}
+use Rattle.block_forms.proofs.StandardFacts.Signs.{word, name, mark}
+use Rattle.block_forms.proofs.StandardFacts.Lines.{on}
 use Rattle.stil_read.specs.Top.{no_blocks, in_statement, nowhere, more_signals, more_defs, more_executives, blocks_of}
 
 -- a signal without indices

@@ -2,9 +2,9 @@ use Rattle.std.proofs.Common.{◌∙◌, drop, arith, refl, ap, sym}
 use Rattle.std.proofs.lemmas.Result.{err_from_is_err_and}
 use Rattle.die_sim.specs.Die.{device_of}
 use Rattle.pattern_mem.specs.Cursor.{cycles_to_come}
-use Rattle.site_run.specs.Cycle.{point_at, stand_of}
-use Rattle.site_run.specs.Batch.{between_at}
-use Rattle.site_run.proofs.BatchLemmas.{plays_none, plays-more, stops-more, drop-next}
+use Rattle.cycle_run.specs.Cycle.{point_at, stand_of}
+use Rattle.cycle_run.specs.Batch.{between_at}
+use Rattle.cycle_run.proofs.BatchLemmas.{plays_none, plays-more, stops-more, drop-next}
 use Rattle.site_run.proofs.batch.make_cycles.Goals as goal
 
 pub loop-init : goal.loop-init

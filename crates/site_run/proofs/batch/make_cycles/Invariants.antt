@@ -1,9 +1,9 @@
 use Rattle.std.proofs.Common.{◌≡◌, ◌≤◌, ◌+◌, ◌*◌, length, take, drop}
 use Rattle.die_sim.specs.Die.{device_of}
 use Rattle.pattern_mem.specs.Cursor.{cycles_to_come, IsCursorOf}
-use Rattle.site_run.specs.Cycle.{point_at, stand_of, IsBetween}
-use Rattle.site_run.specs.Batch.{between_at, PlaysCycles}
-use Rattle.site_run.specs.Step.{FitsBench, HoldsSchedules}
+use Rattle.cycle_run.specs.Cycle.{point_at, stand_of, IsBetween}
+use Rattle.cycle_run.specs.Batch.{between_at, PlaysCycles}
+use Rattle.cycle_run.specs.Step.{FitsBench, HoldsSchedules}
 use Rattle.site_run.proofs.batch.make_cycles.Given as goal
 
 -- the cycles so far were made, and the others are to come

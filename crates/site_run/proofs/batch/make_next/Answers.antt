@@ -3,10 +3,10 @@ use Rattle.tester_types.specs.declared.cycle.Cycle.{Cycle}
 use Rattle.page_code.specs.Program.{Program}
 use Rattle.page_code.specs.Cycles.{period_of}
 use Rattle.die_sim.specs.Die.{device_of}
-use Rattle.site_run.specs.Cycle.{point_at, going_at, stand_of, PlaysCycle}
-use Rattle.site_run.specs.Batch.{between_at, PlaysCycles, StopsAmong}
-use Rattle.site_run.specs.Step.{StopsCycle}
-use Rattle.site_run.proofs.BatchLemmas.{period_is, plays_one, stops_one, take-given}
+use Rattle.cycle_run.specs.Cycle.{point_at, going_at, stand_of, PlaysCycle}
+use Rattle.cycle_run.specs.Batch.{between_at, PlaysCycles, StopsAmong}
+use Rattle.cycle_run.specs.Step.{StopsCycle}
+use Rattle.cycle_run.proofs.BatchLemmas.{period_is, plays_one, stops_one, take-given}
 use Rattle.site_run.proofs.batch.make_next.Goals as goal
 
 pub returns-in-Err-make_cycle-clause-stops : goal.returns-in-Err-make_cycle-clause-stops

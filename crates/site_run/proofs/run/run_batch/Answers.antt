@@ -6,8 +6,8 @@ use Rattle.pattern_mem.specs.Cursor.{cycles_to_come}
 use Rattle.die_sim.specs.Die.{device_of}
 use Rattle.strobe_check.specs.History.{Held}
 use Rattle.die_sim.specs.Socket.{Calls}
-use Rattle.site_run.specs.Tape.{with_calls}
-use Rattle.site_run.specs.Cycle.{stand_of}
+use Rattle.cycle_run.specs.Tape.{with_calls}
+use Rattle.cycle_run.specs.Cycle.{stand_of}
 use Rattle.site_run.specs.Taped.{IsTaped}
 use Rattle.site_run.specs.declared.run.Run.{Run}
 use Rattle.site_run.specs.Seat.{running_of, IsSeen}

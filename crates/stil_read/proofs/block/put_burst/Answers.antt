@@ -2,8 +2,8 @@ use Rattle.std.proofs.Common.{◌≡◌, ℕ, List, [], ◌∷◌, ◌++◌, ref
 use Rattle.stil_tree.specs.Trees.{entry_of}
 use Rattle.stil_form.specs.Setting.{setting_of, inner_of}
 use Rattle.stil_ast.specs.declared.executive.Burst.{Burst}
-use Rattle.stil_read.specs.Heads.{named_block}
-use Rattle.stil_read.specs.Bursts.{items_in, burst_called}
+use Rattle.block_forms.specs.Heads.{named_block}
+use Rattle.pattern_blocks.specs.Bursts.{items_in, burst_called}
 use Rattle.stil_read.specs.Top.{burst_names}
 use Rattle.stil_read.proofs.NameLemmas.{named-by, untitled-more}
 use Rattle.stil_read.proofs.block.put_burst.Goals as goal

@@ -3,8 +3,8 @@ use Rattle.stil_tree.specs.Trees.{entry_of}
 use Rattle.stil_form.specs.Setting.{setting_of}
 use Rattle.stil_ast.specs.declared.blocks.Pattern.{Pattern}
 use Rattle.pat_read.specs.declared.reader.BodyPlace.TheVariants as place
-use Rattle.stil_read.specs.Heads.{named_block}
-use Rattle.stil_read.specs.Defs.{body_in, pattern_called}
+use Rattle.block_forms.specs.Heads.{named_block}
+use Rattle.pattern_blocks.specs.Defs.{body_in, pattern_called}
 use Rattle.stil_read.specs.Top.{pattern_names}
 use Rattle.stil_read.proofs.NameLemmas.{named-by, untitled-more}
 use Rattle.stil_read.proofs.block.put_pattern.Goals as goal

@@ -2,8 +2,8 @@ use Rattle.std.proofs.Common.{◌≡◌, ℕ, List, [], ◌∷◌, ◌++◌, ref
 use Rattle.stil_tree.specs.Trees.{entry_of}
 use Rattle.stil_form.specs.Setting.{setting_of, inner_of}
 use Rattle.stil_ast.specs.declared.variable.Selector.{Selector}
-use Rattle.stil_read.specs.Heads.{named_block}
-use Rattle.stil_read.specs.Selectors.{selections_of, selector_of}
+use Rattle.block_forms.specs.Heads.{named_block}
+use Rattle.timing_blocks.specs.Selectors.{selections_of, selector_of}
 use Rattle.stil_read.specs.Top.{selector_names}
 use Rattle.stil_read.proofs.NameLemmas.{named-by, untitled-more}
 use Rattle.stil_read.proofs.block.put_selector.Goals as goal

@@ -1,0 +1,3 @@
+-- What known texts are made of.
+pub mod Signs
+pub mod Lines

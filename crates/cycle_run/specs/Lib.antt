@@ -1,0 +1,4 @@
+pub mod Tape
+pub mod Cycle
+pub mod Batch
+pub mod Step

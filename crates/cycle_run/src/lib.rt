@@ -1,0 +1,17 @@
+//! One cycle at a socket: what a schedule drives, what the checker wants is sensed, and its looks are judged, moment by moment.
+#![tactic(auto)]
+
+mod bench;
+mod cycle;
+mod dated;
+mod drives;
+mod moments;
+mod place;
+mod sensing;
+mod signals;
+mod stop;
+
+pub use bench::Bench;
+pub use cycle::{make_all, make_cycle};
+pub use place::Place;
+pub use stop::Stop;

@@ -1,0 +1,4 @@
+pub mod StandardFacts
+pub mod ExecutiveLemmas
+pub mod BurstLemmas
+pub mod DefLemmas

@@ -1,0 +1,4 @@
+-- Known texts, whose results the definitions give.
+pub mod ExecutiveBlocks
+pub mod BurstBlocks
+pub mod BodyBlocks

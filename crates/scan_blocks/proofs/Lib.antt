@@ -1,0 +1,3 @@
+pub mod StandardFacts
+pub mod CellLemmas
+pub mod ChainLemmas

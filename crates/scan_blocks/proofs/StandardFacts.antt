@@ -1,0 +1,2 @@
+-- Known texts, whose results the definitions give.
+pub mod ScanBlocks

@@ -1,0 +1,3 @@
+-- Signals blocks, and SignalGroups blocks.
+pub mod Signals
+pub mod Groups

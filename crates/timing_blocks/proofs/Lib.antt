@@ -1,0 +1,7 @@
+pub mod StandardFacts
+mod TableLemmas
+mod WaveformLemmas
+pub mod SelectorLemmas
+pub mod TimingForms
+pub mod TableNames
+pub mod VariableForms

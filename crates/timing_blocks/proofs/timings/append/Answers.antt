@@ -1,0 +1,9 @@
+use Rattle.std.proofs.Common.{◌++◌, map-id, ap, sym, ◌∙◌}
+use Rattle.std.proofs.lemmas.Iterator.Adapters.{fact_from_extend, YieldsList-from_vec}
+use Rattle.timing_blocks.proofs.timings.append.Goals as goal
+
+pub returns : goal.returns
+returns c =
+    fact_from_extend (λ x. x) c.extend.result c.extend.ensures.ran
+    (λ it b. YieldsList-from_vec {s = it} _ b.0 (b.1 ∙ c.args.more.ok.0))
+    (λ xs e h. h.0 ∙ ap (λ ys. c.args.waveforms.now.items ++ ys) (sym (map-id xs) ∙ e))
