@@ -25,9 +25,10 @@ use Rattle.instr_writer.specs.Counting.{vector_count}
 use Rattle.instr_writer.specs.Working.{flats_measure}
 use Rattle.instr_writer.proofs.CountLemmas.{run-count}
 use Rattle.instr_writer.proofs.TreeLemmas.{measure_flats}
+use Rattle.instr_writer.proofs.NumberLemmas.{distinct_rows-once, nothing_twice}
 use Rattle.instr_writer.proofs.RowLemmas.{distinct_rows-append}
 use Rattle.instr_writer.proofs.EntryLemmas.{entries-more}
-use Rattle.instr_writer.specs.Written.{IsWritten}
+use Rattle.instr_writer.specs.Written.{HasEachOnce, IsWritten}
 use Rattle.page_meaning.specs.declared.instr.Instr.{Instr}
 use Rattle.stil_ast.specs.declared.fault.StilRefusal.{StilRefusal}
 use Rattle.stil_ast.specs.declared.fault.StilRefusal.TheVariants as refusal
@@ -176,6 +177,7 @@ made_more signals first rows more e m is = record {
   fine = is.fine;
   entries = entries-more first rows more (vectors_of signals e) (Means m.instrs) is.entries;
   size = is.size;
+  least = is.least;
   few = is.few;
   whole = is.whole;
   inside = is.inside;
@@ -202,6 +204,13 @@ made_push signals first rows (b ∷ es) (n ∷ made) e m are is =
     let size : length (tables_of (b ∷ es)) ≡ length b.tables + length (tables_of es) = length-append b.tables (tables_of es) in
     let same : first + length (tables_of (b ∷ es)) ≡ first + length b.tables + length (tables_of es) = omega (arith, size) in
     (are.0, made_push signals (first + length b.tables) rows es made e m are.1 (subst (λ (k : ℕ). IsMade signals k rows e m) same is))
+
+-- none of them stands twice
+rows-once : (signals : ℕ) (before : List Executive) (rows : List (List ℕ)) → rows ≡ rows_of signals before
+    → HasEachOnce rows
+rows-once signals before rows e =
+    subst (λ (r : List (List ℕ)). HasEachOnce r) (sym e)
+    (distinct_rows-once [] (flat_map (λ (e : Executive). map row_of (vectors_of signals e)) before) nothing_twice)
 
 -- the rows behind one executive more
 pub rows_after : (signals first : ℕ) (before : List Executive) (e : Executive) (code : List Instr) (old new : List (List ℕ))
@@ -257,6 +266,7 @@ built-push signals first measure before e code rows old new built at sized fine 
       fine = fine;
       entries = written.entries;
       size = written.size;
+      least = written.least (rows-once signals before old.rows built.rows);
       few = omega (arith, written.size, sized.is, sized.few);
       whole =
           written.whole (omega (arith, sized.is, sized.few))

@@ -25,7 +25,7 @@ use Rattle.page_code.proofs.Lists.{all_each}
 use Rattle.wave_tables.specs.Waves.{AreInOrder}
 use Rattle.wave_tables.proofs.TableLemmas.{within_at}
 use Rattle.instr_writer.specs.Entries.{IsEntry}
-use Rattle.cycle_comp.specs.Compiled.{chain_of, read_cycle, IsExecOf}
+use Rattle.cycle_comp.specs.Compiled.{chain_of, least_of, read_cycle, IsExecOf}
 use Rattle.cycle_comp.specs.Working.{IsInside, IsMade, AreMade}
 use Rattle.cycle_comp.proofs.EachLemmas.{all_weaker, all_map, all_cut, all_both}
 use Rattle.cycle_comp.proofs.FoundLemmas.{all_got}
@@ -291,4 +291,5 @@ exec_at signals code executives before after e are good tables room is =
           (timed_all (λ (t : ℕ). (first ≤ t) × (t < first + length e.tables)) code.tables 0 (Means m.instrs)
           (owned signals code.tables code.rows first e m made own (omega (arith, within, room)) within stands));
       size = subst (λ (x : Exec). length x.instrs ≤ measure_of e + 1) (sym found) made.size;
+      least = subst (λ (x : Exec). length x.instrs ≤ least_of signals e + 1) (sym found) made.least;
     }

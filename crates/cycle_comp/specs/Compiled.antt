@@ -4,6 +4,7 @@ use Rattle.std.specs.Prelude.{◌≡◌, ℕ, ◌+◌, ◌-◌, ◌<◌, ◌≤�
 use Rattle.std.specs.List.{AllByRecursion, enumerate_from}
 use Rattle.stil_ast.specs.Meaning.Signals.{Signal, Names}
 use Rattle.stil_ast.specs.Meaning.Chains.{Chain}
+use Rattle.stil_ast.specs.Meaning.State.{start_of}
 use Rattle.stil_ast.specs.Meaning.Cycles.{Dated}
 use Rattle.stil_ast.specs.Meaning.ExecutiveData.{Executive, cycles_of as text_cycles, measure_of, rows_of, tables_of}
 use Rattle.stil_ast.specs.Faults.CodeFaults.{compile_faults}
@@ -14,6 +15,7 @@ use Rattle.tester_types.specs.declared.cycle.Cycle.{Cycle}
 use Rattle.page_code.specs.Program.{Program}
 use Rattle.page_code.specs.Conditions.{letters_of}
 use Rattle.page_code.specs.Cycles.{cycles_of, exec_of}
+use Rattle.instr_writer.specs.Least.{least_in}
 
 -- a signal of a code
 abbrev pub signal_of : Signal → CodeSignal
@@ -49,8 +51,13 @@ read_cycle first rows cycle = record {
 abbrev pub read_cycles : ℕ → Program → ℕ → List Dated
 read_cycles first code exec = map (read_cycle first code.rows) (enumerate_from 0 (cycles_of code exec))
 
+-- how few instructions keep the loops of an executive, where a Loop whose passes make equal vectors stands once
+abbrev pub least_of : ℕ → Executive → ℕ
+least_of signals e = least_in e.trees (start_of signals)
+
 -- An executive of a code is one of a text over so many signals: its name, its chains, and its cycles one by one, which
--- run in its own tables. No loop is unrolled, since the number of its instructions is that of its measure at most.
+-- run in its own tables. No loop is unrolled, since the number of its instructions is that of its measure at most; and
+-- a Loop whose passes make equal vectors stands once.
 pub record IsExecOf (signals first : ℕ) (e : Executive) (code : Program) (number : ℕ) : Type 0 where
   pub name : (exec_of code number).name ≡ e.name
   pub chains : (exec_of code number).chains ≡ map chain_of e.chains
@@ -58,6 +65,7 @@ pub record IsExecOf (signals first : ℕ) (e : Executive) (code : Program) (numb
   pub inside : AllByRecursion (λ cycle. (first ≤ cycle.table) × (cycle.table < first + length e.tables))
       (cycles_of code number)
   pub size : length (exec_of code number).instrs ≤ measure_of e + 1
+  pub least : length (exec_of code number).instrs ≤ least_of signals e + 1
 
 -- the code of executives: their signals, their tables one after another, the rows of their vectors, each once, and each
 -- executive under its number

@@ -16,7 +16,7 @@ use Rattle.page_meaning.specs.Meaning.{Means}
 use Rattle.page_meaning.specs.Whole.{IsWhole}
 use Rattle.page_code.specs.Program.{Exec}
 use Rattle.instr_writer.specs.Entries.{AreEntries}
-use Rattle.cycle_comp.specs.Compiled.{chain_of}
+use Rattle.cycle_comp.specs.Compiled.{chain_of, least_of}
 use Rattle.cycle_comp.specs.declared.building.Building.{Building}
 
 -- a Run names one of so many tables, and its mark is a number of 32 bits
@@ -33,6 +33,7 @@ pub record IsMade (signals first : ℕ) (rows : List (List ℕ)) (e : Executive)
   pub fine : trees_fault e.tables e.trees (start_of signals) ≡ None
   pub entries : AreEntries first rows (vectors_of signals e) (Means made.instrs)
   pub size : length made.instrs ≤ measure_of e + 1
+  pub least : length made.instrs ≤ least_of signals e + 1
   pub few : length made.instrs ≤ 4194305
   pub whole : IsWhole made.instrs
   pub inside : AllByRecursion (IsInside (first + length e.tables)) made.instrs

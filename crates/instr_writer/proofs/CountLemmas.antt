@@ -12,13 +12,13 @@ use Rattle.flat_tree.specs.declared.flat.FlatItem.{FlatItem}
 use Rattle.flat_tree.proofs.FlatLemmas.{items_flat-append}
 use Rattle.instr_writer.specs.Counting.{vector_count}
 
-times-count : (n : ℕ) (f : State → Ran State) (k : ℕ) → ((s : State) → length (f s).made ≡ k) → (s : State)
+pub times-count : (n : ℕ) (f : State → Ran State) (k : ℕ) → ((s : State) → length (f s).made ≡ k) → (s : State)
     → length (times n f s).made ≡ n * k
 times-count zero f k e s = omega arith
 times-count (suc n) f k e s =
     length-append (f s).made (times n f (f s).here).made ∙ omega (arith, e s, times-count n f k e (f s).here)
 
-saved-count : (putting : Bool) (s : State) (r : Ran State) → length (saved putting s r).made ≡ length r.made
+pub saved-count : (putting : Bool) (s : State) (r : Ran State) → length (saved putting s r).made ≡ length r.made
 saved-count true s r = refl
 saved-count false s r = refl
 

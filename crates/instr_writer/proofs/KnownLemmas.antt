@@ -99,21 +99,21 @@ known-nothing tables rows told s e =
     record { judged = λ l signal is not. absurd cc; numbered = λ l is unchanged. absurd cc }
 
 -- what a vector tells that was made
-pub known-made : (tables : List Table) (rows : List (List ℕ)) (told : State) (table row : ℕ)
-    → have_waves (slice_get tables table) 0 told.letters ≡ true
-    → slice_get rows row ≡ Some (row_of_letters told.letters) → IsKnown tables rows (known told table row)
-known-made tables rows told table row waves at =
+pub known-made : (tables : List Table) (rows : List (List ℕ)) (s : Known) (table row : ℕ)
+    → have_waves (slice_get tables table) 0 s.told.letters ≡ true
+    → slice_get rows row ≡ Some (row_of_letters s.told.letters) → IsKnown tables rows (known s table row)
+known-made tables rows s table row waves at =
     let own : Latest = record { table = table; row = row } in
     record {
       judged =
           λ l signal e not.
           let same : own ≡ l = cc in
-          subst (λ (x : Latest). has_wave_at tables x.table told.letters signal ≡ true) same
-          (waves_each (slice_get tables table) told.letters waves signal);
+          subst (λ (x : Latest). has_wave_at tables x.table s.told.letters signal ≡ true) same
+          (waves_each (slice_get tables table) s.told.letters waves signal);
       numbered =
           λ l e none.
           let same : own ≡ l = cc in
-          subst (λ (x : Latest). slice_get rows x.row ≡ Some (row_of_letters told.letters)) same at;
+          subst (λ (x : Latest). slice_get rows x.row ≡ Some (row_of_letters s.told.letters)) same at;
     }
 
 -- ---- what stays known

@@ -9,11 +9,17 @@ pub mod TimesLemmas
 pub mod EffectLemmas
 pub mod SettleLemmas
 pub mod CountLemmas
+pub mod SameLemmas
+pub mod NumberLemmas
 pub mod WroteLemmas
+pub mod PassLemmas
 pub mod WalkedLemmas
+pub mod LoopLemmas
 pub mod TreeLemmas
 pub mod WaveLemmas
 pub mod PutLemmas
 pub mod ListLemmas
+pub mod ExactLemmas
+pub mod LeastLemmas
 pub mod VectorLemmas
 pub mod WriteLemmas

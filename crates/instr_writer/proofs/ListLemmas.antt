@@ -23,7 +23,7 @@ use Rattle.instr_writer.proofs.WalkedLemmas.{walked-then, walked-as, walked-alon
 -- ---- items
 
 -- an item behind those before it
-taken_more : (items : List FlatItem) (i : ℕ) (d item : FlatItem) → item ≡ get_or items i d → i < length items
+pub taken_more : (items : List FlatItem) (i : ℕ) (d item : FlatItem) → item ≡ get_or items i d → i < length items
     → items_flat (take (i + 1) items) ≡ joined (items_flat (take i items)) (item_front item done)
 taken_more items i d item e within =
     ap items_flat (take_more items i d within)
@@ -80,7 +80,7 @@ stopped-item tables first items i d item base s size old mid before rows now t e
 
 -- ---- trees
 
-flats_run-append : (flats more : List Flat) (s : State)
+pub flats_run-append : (flats more : List Flat) (s : State)
     → flats_run (flats ++ more) s ≡ then_run (flats_run flats s) (flats_run more)
 flats_run-append [] more s = refl
 flats_run-append (f ∷ flats) more s =

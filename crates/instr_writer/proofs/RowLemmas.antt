@@ -74,7 +74,7 @@ there-adds_none there (row ∷ rows) are =
     ap (λ (b : Bool). distinct_rows (cond b there (there ++ row ∷ [])) rows) are.0 ∙ there-adds_none there rows are.1
 
 -- nor does a row that has a number
-has_row-at : (rows : List (List ℕ)) (n : ℕ) (row : List ℕ) → slice_get rows n ≡ Some row → has_name rows row ≡ true
+pub has_row-at : (rows : List (List ℕ)) (n : ℕ) (row : List ℕ) → slice_get rows n ≡ Some row → has_name rows row ≡ true
 has_row-at [] n row e = absurd cc
 has_row-at (r ∷ rows) zero row e =
     let own : row ≡ r = cc in

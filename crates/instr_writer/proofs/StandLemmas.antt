@@ -1,5 +1,6 @@
 -- Where instructions without an open loop may stand.
 use Rattle.std.proofs.Common.{◌≡◌, ℕ, suc, ◌+◌, ◌-◌, ◌^◌, ◌<◌, ◌≤◌, inl, inr, Bool, true, false, List, [], ◌∷◌, ◌++◌, length, refl, sym, ap, subst, append_assoc, length-append, arith}
+use Rattle.std.proofs.lemmas.List.{append-nil}
 use Rattle.text_bytes.specs.Limits.{most_passes, deepest_loops}
 use Rattle.page_meaning.specs.declared.instr.Instr.{Instr}
 use Rattle.page_meaning.specs.declared.instr.Instr.TheVariants.{Run, Loop, End, Done}
@@ -23,6 +24,12 @@ stands-begins nest (i ∷ old) more b s depth begun rest fits some is =
     let behind = b depth false rest fits is in
     let all = s depth begun (more ++ rest) fits (inr (omega arith)) behind in
     subst (λ (code : List Instr). IsRest depth begun code) (sym (append_assoc (i ∷ old) more rest)) all
+
+-- what may stand anywhere may stand behind others
+pub stands-append : (nest : ℕ) (old more : List Instr) → Stands nest old → Stands nest more → Stands nest (old ++ more)
+stands-append nest old [] s m = subst (λ (code : List Instr). Stands nest code) (sym (append-nil old)) s
+stands-append nest old (i ∷ more) s m =
+    stands-begins nest old (i ∷ more) (λ depth begun rest fits is. m depth begun rest fits (inr (omega arith)) is) s
 
 pub stands-run : (nest table row mark : ℕ) (old : List Instr) → Stands nest old
     → Stands nest (old ++ Run table row mark 1 ∷ [])

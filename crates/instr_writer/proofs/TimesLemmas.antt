@@ -5,7 +5,7 @@ use Rattle.stil_ast.specs.Meaning.Running.{Ran, behind, times}
 use Rattle.instr_writer.specs.Working.{often}
 
 -- so many passes that end where they began
-times-steady : (n : ℕ) (f : State → Ran State) (s : State) → (f s).here ≡ s
+pub times-steady : (n : ℕ) (f : State → Ran State) (s : State) → (f s).here ≡ s
     → times n f s ≡ record { made = often n (f s).made; here = s }
 unfolding often
 times-steady zero f s e = refl

@@ -56,4 +56,5 @@ wrote-vector tables first s mark place table short number old new before after e
       puts = p.puts;
       stands = λ nest low few stands. p.stands nest stands;
       short = p.size;
+      silent = λ none. absurd cc;
     }

@@ -9,13 +9,13 @@ use Rattle.stil_ast.proofs.RunLemmas.{with_made}
 use Rattle.stil_ast.proofs.FlatSteps.{then_run-still}
 use Rattle.page_meaning.specs.declared.instr.Instr.{Instr}
 use Rattle.instr_writer.specs.Counting.{vector_count}
-use Rattle.instr_writer.specs.Working.{often, looped, Wrote, Walked, IsStopped}
+use Rattle.instr_writer.specs.Working.{often, Wrote, Walked, IsStopped}
 use Rattle.instr_writer.specs.declared.trouble.Trouble.{Trouble}
 use Rattle.instr_writer.proofs.CountLemmas.{run-count}
 use Rattle.instr_writer.proofs.FaultLemmas.{stopped-behind, stopped-before}
 use Rattle.instr_writer.proofs.SettleLemmas.{settles}
 use Rattle.instr_writer.proofs.TimesLemmas.{times-later}
-use Rattle.instr_writer.proofs.WroteLemmas.{wrote-nothing, wrote-wider, wrote-then, wrote-loop}
+use Rattle.instr_writer.proofs.WroteLemmas.{wrote-nothing, wrote-wider, wrote-then}
 
 -- nothing is written
 pub walked-still : (tables : List Table) (first size : ℕ) (code : List Instr) (rows : List (List ℕ)) (s here : State)
@@ -123,23 +123,6 @@ walked-silent tables first count body old new before after base s here some none
     ∙ (ap (λ (made : List Made). with_made r.here (r.made ++ made)) nothing
     ∙ ap (with_made r.here) (append-nil r.made))))
     (omega arith) w
-
-pub walked-loop : (tables : List Table) (first count : ℕ) (body : Flat) (old code pass : List Instr)
-    (before rows after : List (List ℕ)) (base s once twice : State) → 1 < count → 0 < vector_count body
-    → Walked tables first (flat_run body base s) (measure body) old code before rows once
-    → Walked tables first (flat_run body base once) (measure body) [] pass rows after twice
-    → Walked tables first (times count (flat_run body base) s) (2 * measure body + 2)
-    old (code ++ looped (count - 1) pass) before after twice
-walked-loop tables first count body old code pass before rows after base s once twice many some p q =
-    let r = flat_run body base s in
-    let same : once ≡ r.here = p.here_is in
-    let second = subst (λ (x : State). Wrote tables first (flat_run body base x).made (measure body) [] pass rows after) same q.wrote in
-    let long = run-count body base r.here in
-    let w = wrote-loop tables first (count - 1) (measure body) r.made (flat_run body base r.here).made old code pass before rows after (omega arith) (omega (arith, long, some)) p.wrote second in
-    let behind : twice ≡ r.here = q.here_is ∙ (ap (λ (x : State). (flat_run body base x).here) same ∙ settles body base s) in
-    subst (λ (x : Ran State). Walked tables first x (2 * measure body + 2) old (code ++ looped (count - 1) pass) before after twice)
-    (sym (later-passes count body base s (omega arith)))
-    (record { wrote = w; here_is = behind })
 
 -- where the first pass stops, and where the second one does
 pub stopped-first : (tables : List Table) (count : ℕ) (body : Flat) (base s : State) (t : Trouble) → 0 < count

@@ -13,7 +13,7 @@ use Rattle.page_meaning.specs.declared.instr.Instr.TheVariants.{End}
 use Rattle.page_meaning.specs.Meaning.{repeated}
 use Rattle.instr_writer.specs.Entries.{AreEntries}
 use Rattle.instr_writer.specs.Working.{Puts, Stands, looped, often, Wrote, row_in}
-use Rattle.instr_writer.proofs.BodyLemmas.{puts-nothing, puts-loop, nothing_puts}
+use Rattle.instr_writer.proofs.BodyLemmas.{puts-nothing, puts-loop, nothing_puts, puts_means}
 use Rattle.instr_writer.proofs.StandLemmas.{stands-nothing, stands-loop}
 use Rattle.instr_writer.proofs.EntryLemmas.{entries-more, entries-append, entries-often, entries-none, map-often}
 use Rattle.instr_writer.proofs.RowLemmas.{distinct_rows-extends, distinct_rows-append, distinct_rows-often}
@@ -35,6 +35,7 @@ wrote-nothing tables first size code rows = record {
   puts = λ cycles p. subst (λ (c : List Entry). Puts code c) (sym (append-nil cycles)) p;
   stands = λ nest fits few s. s;
   short = omega arith;
+  silent = λ none. refl;
 }
 
 pub wrote-wider : (tables : List Table) (first : ℕ) (made : List Made) (size more : ℕ) (old new : List Instr)
@@ -48,6 +49,7 @@ wrote-wider tables first made size more old new before after fits w = record {
   puts = w.puts;
   stands = λ nest low few s. w.stands nest (omega (arith, low, fits)) few s;
   short = omega (arith, w.short, fits);
+  silent = w.silent;
 }
 
 -- ---- one after another
@@ -60,6 +62,11 @@ entries-later tables first made rows after vectors entries e are =
     let x = distinct_rows-extends rows (map row_in made) in
     subst (λ (rs : List (List ℕ)). AreEntries first rs vectors entries) (sym (e ∙ x.are))
     (entries-more first rows x.more vectors entries are)
+
+-- no vectors in two lists are none in each
+none_of : (made more : List Made) → made ++ more ≡ [] → (made ≡ []) × (more ≡ [])
+none_of [] more e = (refl, e)
+none_of (m ∷ made) more e = absurd cc
 
 pub wrote-then : (tables : List Table) (first : ℕ) (made more : List Made) (m n : ℕ) (old mid new : List Instr)
     (before rows after : List (List ℕ)) → Wrote tables first made m old mid before rows
@@ -86,6 +93,8 @@ wrote-then tables first made more m n old mid new before rows after p q =
           λ nest low few s. q.stands nest (omega (arith, low)) (omega (arith, few, long))
           (p.stands nest (omega (arith, low)) (omega (arith, few, long)) s);
       short = omega (arith, p.short, q.short);
+      silent =
+          λ none. (let both = none_of made more none in q.silent both.1 ∙ p.silent both.0);
     }
 
 -- ---- a loop
@@ -104,7 +113,7 @@ factor-le n (suc k) some = omega (arith, factor-more n k)
     factor-more n k = omega arith
 
 -- what writes vectors isn't empty
-body-some : (tables : List Table) (first : ℕ) (made : List Made) (size : ℕ) (body : List Instr) (before after : List (List ℕ))
+pub body-some : (tables : List Table) (first : ℕ) (made : List Made) (size : ℕ) (body : List Instr) (before after : List (List ℕ))
     → 0 < length made → Wrote tables first made size [] body before after → 0 < length body
 body-some tables first made size (i ∷ body) before after some w = omega arith
 body-some tables first made size [] before after some w =
@@ -170,4 +179,42 @@ wrote-loop tables first (suc n) size made pass old code body before rows after s
           (omega (arith, few, long, many, more)) there (omega (arith, few, long, many, one)) low
           (p.stands nest (omega (arith, low)) (omega (arith, few, long)) s);
       short = omega (arith, p.short, q.short, long_code, long_body);
+      silent = λ none. absurd (omega (arith, ap length none, long, many, vectors));
+    }
+
+-- instructions put one list of cycles
+puts_one : (code : List Instr) (cycles more : List Entry) → Puts code cycles → Puts code more → cycles ≡ more
+puts_one code cycles more p q = sym (puts_means code cycles p) ∙ puts_means code more q
+
+-- passes of which the first is written as the others are
+pub wrote-once : (tables : List Table) (first n size : ℕ) (made pass : List Made) (old body : List Instr)
+    (before rows after : List (List ℕ)) → 0 < n → 0 < length made → 0 < length pass
+    → Wrote tables first made size [] body before rows → Wrote tables first pass size [] body rows after
+    → Wrote tables first (made ++ often n pass) (2 * size + 2) old (old ++ looped (suc n) body) before after
+unfolding repeated wrote-loop
+wrote-once tables first zero size made pass old body before rows after some one vectors p q = absurd (omega arith)
+wrote-once tables first (suc n) size made pass old body before rows after some one vectors p q =
+    let w = wrote-loop tables first (suc n) size made pass [] body body before rows after some vectors p q in
+    let same = puts_one body p.entries q.entries (p.puts [] puts-nothing) (q.puts [] puts-nothing) in
+    let there = body-some tables first made size body before rows one p in
+    let passes_long = length-append made (often (suc n) pass) in
+    let many = length-often (suc n) pass in
+    let more = factor-le (suc n) (length pass) vectors in
+    let alone = factor-le (length pass) (suc n) some in
+    let long_code = length-append old (looped (suc (suc n)) body) in
+    let long_body = length-append body (End ∷ []) in
+    record {
+      fine = w.fine;
+      entries = w.entries;
+      are = w.are;
+      rows = w.rows;
+      puts =
+          λ cycles c. subst (λ (es : List Entry). Puts (old ++ looped (suc (suc n)) body) (cycles ++ es))
+          (ap (λ (es : List Entry). p.entries ++ repeated (suc n) es) same)
+          (puts-loop (suc (suc n)) old body cycles p.entries c (p.puts [] puts-nothing));
+      stands =
+          λ nest low few s. stands-looped tables first pass size (suc (suc n)) nest old body rows after q (omega arith)
+          (omega (arith, few, passes_long, many, more, one)) there (omega (arith, few, passes_long, many, alone)) low s;
+      short = omega (arith, p.short, long_code, long_body);
+      silent = λ none. absurd (omega (arith, ap length none, passes_long, one));
     }

@@ -1,24 +1,27 @@
 -- What a state knows of the latest vector that was made in it; no public clause cites it.
-use Rattle.std.specs.Prelude.{◌≡◌, ℕ, Bool, true, false, List, [], ◌∷◌, ◌++◌, Option, Some, None, map, slice_get, slice_index_or, unwrap_or}
+use Rattle.std.specs.Prelude.{◌≡◌, ℕ, ◌+◌, ◌^◌, ◌<◌, ◌≤◌, Bool, true, false, List, [], ◌∷◌, ◌++◌, Option, Some, None, map, slice_get, slice_index_or, unwrap_or}
 use Rattle.tester_types.specs.declared.wave.Table.{Table}
 use Rattle.stil_ast.specs.Meaning.State.{State}
 use Rattle.stil_ast.specs.Meaning.Dealing.{has_signal}
 use Rattle.stil_ast.specs.Faults.CodeFaults.{has_wave}
 use Rattle.instr_writer.specs.declared.state.Latest.{Latest}
 
--- a state of the language, its latest vector where that is known, and the signals whose characters have changed since
+-- a state of the language, its latest vector where that is known, the signals whose characters have changed since, and
+-- how often the table or a character was set to another one
 pub record Known : Type 0 where
   pub told : State
   pub latest : Option Latest
   pub changed : List ℕ
+  pub moves : ℕ
 
 -- nothing is known but the state itself
 abbrev pub unknown : State → Known
-unknown told = record { told = told; latest = None; changed = [] }
+unknown told = record { told = told; latest = None; changed = []; moves = 0 }
 
 -- a vector of this table and of the row with this number was made just now
-abbrev pub known : State → ℕ → ℕ → Known
-known told table row = record { told = told; latest = Some (record { table = table; row = row }); changed = [] }
+abbrev pub known : Known → ℕ → ℕ → Known
+known s table row =
+    record { told = s.told; latest = Some (record { table = table; row = row }); changed = []; moves = s.moves }
 
 -- a row of bytes: the character of each signal, 0 for none
 abbrev pub row_of_letters : List (Option ℕ) → List ℕ
@@ -49,8 +52,15 @@ pub record IsKnown (tables : List Table) (rows : List (List ℕ)) (s : Known) : 
 abbrev pub Keeps : Known → Known → Type 0
 Keeps old new = (tables : List Table) (rows : List (List ℕ)) → IsKnown tables rows old → IsKnown tables rows new
 
+-- from one state on to another one nothing was set to another value, unless their counts differ; a full count says
+-- nothing
+pub record Moves (old new : Known) : Type 0 where
+  pub rises : old.moves ≤ new.moves
+  pub stays : new.moves ≡ old.moves → new.moves + 1 < 2 ^ 64 → new.told ≡ old.told
+
 -- one more signal has changed, or nothing is known any more
 pub record IsNoted (signal : ℕ) (old new : Known) : Type 0 where
   pub told : new.told ≡ old.told
+  pub moves : new.moves ≡ old.moves
   pub latest : (l : Latest) → new.latest ≡ Some l → old.latest ≡ Some l
   pub changed : (l : Latest) → new.latest ≡ Some l → new.changed ≡ old.changed ++ signal ∷ []

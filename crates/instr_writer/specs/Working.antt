@@ -103,8 +103,8 @@ IsOfTree tree (trouble.At place kind) e = e ≡ errors.Fault (record { tree = tr
 abbrev pub row_in : Made → List ℕ
 row_in m = row_of m.vector
 
--- Vectors were written behind instructions, with at most so many instructions more; what was written may stand as deep
--- as that number allows, since each level of loops doubles it.
+-- Vectors were written behind instructions, with at most so many instructions more, and none where there is no vector;
+-- what was written may stand as deep as that number allows, since each level of loops doubles it.
 pub record Wrote (tables : List Table) (first : ℕ) (made : List Made) (size : ℕ) (old new : List Instr)
     (before after : List (List ℕ)) : Type 0 where
   pub fine : AreFine tables made
@@ -114,6 +114,7 @@ pub record Wrote (tables : List Table) (first : ℕ) (made : List Made) (size : 
   pub puts : (cycles : List Entry) → Puts old cycles → Puts new (cycles ++ entries)
   pub stands : (nest : ℕ) → size + 2 ≤ 2 ^ suc nest → length made ≤ most_cycles → Stands nest old → Stands nest new
   pub short : length new ≤ length old + size
+  pub silent : made ≡ [] → new ≡ old
 
 -- a run was written, and this is the state behind it
 pub record Walked (tables : List Table) (first : ℕ) (r : Ran State) (size : ℕ) (old new : List Instr)

@@ -13,6 +13,7 @@ use Rattle.page_meaning.specs.declared.instr.Instr.{Instr}
 use Rattle.page_meaning.specs.Meaning.{Means}
 use Rattle.page_meaning.specs.Whole.{IsWhole}
 use Rattle.instr_writer.specs.Entries.{AreEntries}
+use Rattle.instr_writer.specs.Least.{least_in}
 use Rattle.instr_writer.specs.declared.fault.VectorFault.{VectorFault}
 use Rattle.instr_writer.specs.declared.fault.WriteError.{WriteError}
 use Rattle.instr_writer.specs.declared.fault.WriteError.TheVariants as errors
@@ -25,13 +26,20 @@ flats_of trees = map (λ (t : Tree). t.flat) trees
 abbrev pub made_in : ℕ → List Tree → List Made
 made_in signals trees = (trees_run trees (start_of signals)).made
 
+-- no row stands twice in a list of rows
+abbrev pub HasEachOnce : List (List ℕ) → Type 0
+HasEachOnce rows =
+    (i j : ℕ) (row : List ℕ) → slice_get rows i ≡ Some row → slice_get rows j ≡ Some row → i ≡ j
+
 -- These instructions are those of trees: their cycles run the trees' vectors, one by one; the rows are those before and
--- the vectors' own, each once; no loop is unrolled, since their number doesn't depend on how often loops run.
+-- the vectors' own, each once. No loop is unrolled, since the number of instructions doesn't depend on how often loops
+-- run; and a Loop whose passes make equal vectors stands once, where none of the rows before stands twice.
 pub record IsWritten (first signals : ℕ) (trees : List Tree) (code : List Instr) (before rows : List (List ℕ))
     : Type 0 where
   pub entries : AreEntries first rows (map (λ (m : Made). m.vector) (made_in signals trees)) (Means code)
   pub distinct : rows ≡ distinct_rows before (map (λ (m : Made). row_of m.vector) (made_in signals trees))
   pub size : length code ≤ measure_in trees + 1
+  pub least : HasEachOnce before → length code ≤ least_in trees (start_of signals) + 1
   pub whole : measure_in trees ≤ most_measure → length (made_in signals trees) ≤ most_cycles → IsWhole code
 
 -- the fault of a vector, told with the names of the blocks of its tree

@@ -1,15 +1,17 @@
 //! Cycles as Runs, of which equal neighbours are one.
 
-ghost use Rattle.std.specs.Prelude.{◌≡◌, ◌++◌, ◌∷◌, [], OnOk, IfSome};
+ghost use Rattle.std.specs.Prelude.{◌≡◌, ◌<◌, ◌-◌, ◌++◌, ◌∷◌, [], Some, None, OnOk, IfSome, if◌then◌else◌};
 ghost use Rattle.page_meaning.specs.declared.instr.Instr.TheVariants.{Run};
 ghost use Rattle.instr_writer.specs.Working.{IsOnceMore, IsPut, looped};
+ghost use Rattle.instr_writer.specs.Passes.{has_room, once_more, behind_last, with_entry, same_code, passes};
 
 use page_code::{Entry, Instr};
 use std::alloc::AllocError;
 
 /// The same Run once more, where it runs this entry and has room for it.
 fn once_more(last: Instr, entry: Entry) -> Option<Instr>
-    ensures { IfSome result (λ run. IsOnceMore entry last run) }
+    ensures run { IfSome result (λ run. IsOnceMore entry last run) }
+    ensures is { result ≡ (if has_room entry last then Some (once_more last) else None) }
 {
     match last {
         Instr::Run {
@@ -48,7 +50,8 @@ fn once(entry: Entry) -> Instr
 
 /// Puts a cycle behind instructions without an open loop.
 pub(crate) fn put_cycle(code: &mut Vec<Instr>, entry: Entry) -> Result<(), AllocError>
-    ensures { OnOk result (IsPut entry code.old.items code.new.items) }
+    ensures put { OnOk result (IsPut entry code.old.items code.new.items) }
+    ensures is { OnOk result (code.new.items ≡ with_entry entry code.old.items) }
 {
     match code.pop() {
         Some(last) => put_behind(code, last, entry),
@@ -61,7 +64,8 @@ pub(crate) fn put_cycle(code: &mut Vec<Instr>, entry: Entry) -> Result<(), Alloc
 
 /// The same behind a last instruction that was taken off.
 fn put_behind(code: &mut Vec<Instr>, last: Instr, entry: Entry) -> Result<(), AllocError>
-    ensures { OnOk result (IsPut entry (code.old.items ++ last ∷ []) code.new.items) }
+    ensures put { OnOk result (IsPut entry (code.old.items ++ last ∷ []) code.new.items) }
+    ensures is { OnOk result (code.new.items ≡ code.old.items ++ behind_last entry last) }
 {
     match once_more(last, entry) {
         Some(run) => code.push(run)?,
@@ -85,4 +89,36 @@ pub(crate) fn put_loop(
     code.append(&mut body)?;
     code.push(Instr::End)?;
     Ok(())
+}
+
+/// Whether two lists of instructions are equal.
+fn are_same(first: &[Instr], second: &[Instr]) -> bool
+    ensures { result ≡ same_code first.now second.now }
+{
+    first == second
+}
+
+/// Puts so many passes, of which the first two are written as these, behind instructions without an open loop: nothing
+/// of empty ones; a loop where both are the same; else the first one apart, and the others behind it.
+pub(crate) fn put_passes(
+    code: &mut Vec<Instr>,
+    times: u64,
+    mut first: Vec<Instr>,
+    mut second: Vec<Instr>,
+) -> Result<(), AllocError>
+    requires { 1 < times }
+    ensures { OnOk result (code.new.items ≡ code.old.items ++ passes (times - 2) first.items second.items) }
+{
+    if first.is_empty() {
+        return Ok(());
+    }
+    if are_same(first.as_slice(), second.as_slice()) {
+        return put_loop(code, times, first);
+    }
+    code.append(&mut first)?;
+    if times == 2 {
+        code.append(&mut second)?;
+        return Ok(());
+    }
+    put_loop(code, times - 1, second)
 }

@@ -1,12 +1,12 @@
 //! The table and the characters in which vectors are made, and what is known of the latest one.
 
-ghost use Rattle.std.specs.Prelude.{◌≡◌, ℕ, ◌∷◌, [], List, Some, slice_get, slice_index_or, IfOk, IfSome, OnOk};
+ghost use Rattle.std.specs.Prelude.{◌≡◌, ◌+◌, ◌<◌, ◌^◌, ℕ, ◌∷◌, [], List, Some, true, slice_get, slice_index_or, IfOk, IfSome, OnOk};
 ghost use Rattle.std.specs.List.{list_all};
 ghost use Rattle.stil_ast.specs.Meaning.State.{start_of};
 ghost use Rattle.stil_ast.specs.Meaning.Dealing.{with_letter};
 ghost use Rattle.stil_ast.specs.Meaning.ExecutiveData.{distinct_rows};
 ghost use Rattle.stil_ast.specs.Faults.CodeFaults.{have_waves};
-ghost use Rattle.instr_writer.specs.Known.{row_of_letters, has_wave_at, AreJudged, IsNumbered, Keeps, IsNoted, unknown, known};
+ghost use Rattle.instr_writer.specs.Known.{row_of_letters, has_wave_at, AreJudged, IsNumbered, Keeps, Moves, IsNoted, unknown, known};
 
 use crate::waves::{has_wave, have_waves};
 use page_code::RowList;
@@ -23,13 +23,15 @@ struct Latest {
 
 /// A table or none, and for each signal a character or none: the `State` of the language's definitions. Beside it
 /// stands what is known of the latest vector that was made in it, if anything is, and which signals have got another
-/// character since. They are never more than there are signals: then nothing is known any more.
+/// character since. They are never more than there are signals: then nothing is known any more. A count says how often
+/// the table or a character was set to another one.
 #[derive(Drop)]
 pub(crate) struct State {
     table: Option<u16>,
     letters: Vec<Option<u8>>,
     latest: Option<Latest>,
     changed: Vec<u16>,
+    moves: u64,
 }
 
 impl Model for State {
@@ -42,6 +44,7 @@ impl Model for State {
       told = record { table = s.table; letters = s.letters.items };
       latest = s.latest;
       changed = s.changed.items;
+      moves = s.moves;
     } };
 
     ghost invariant = { λ s. length s.letters.items ≤ 2 ^ 16 };
@@ -58,6 +61,7 @@ impl State {
             letters,
             latest: None,
             changed: Vec::new(alloc),
+            moves: 0,
         })
     }
 
@@ -73,6 +77,7 @@ impl State {
             letters,
             latest: self.latest,
             changed,
+            moves: self.moves,
         })
     }
 
@@ -97,22 +102,42 @@ impl State {
     pub(crate) fn set_table(&mut self, table: u16)
         ensures told { self.new.told ≡ record { table = Some table; letters = self.old.told.letters } }
         ensures known { Keeps self.old self.new }
+        ensures moves { Moves self.old self.new }
     {
-        self.table = Some(table);
+        if self.table != Some(table) {
+            self.table = Some(table);
+            self.moves = self.moves.saturating_add(1);
+        }
     }
 
     /// Sets the character of a signal; nothing of a signal that isn't counted.
     pub(crate) fn set(&mut self, signal: u16, letter: Option<u8>)
         ensures told { self.new.told ≡ with_letter signal letter self.old.told }
         ensures known { Keeps self.old self.new }
+        ensures moves { Moves self.old self.new }
     {
         let place = usize::from(signal);
         if place < self.letters.len() {
             if self.letters[place] != letter {
                 self.letters[place] = letter;
+                self.moves = self.moves.saturating_add(1);
                 self.note(signal);
             }
         }
+    }
+
+    /// How often the table or a character was set to another one.
+    pub(crate) fn moves(&self) -> u64
+        ensures { result ≡ self.now.moves }
+    {
+        self.moves
+    }
+
+    /// Whether nothing was set to another value since it had this count.
+    pub(crate) fn has_stayed(&self, moves: u64) -> bool
+        ensures { result ≡ true → (self.now.moves ≡ moves) × (self.now.moves + 1 < 2 ^ 64) }
+    {
+        self.moves == moves && moves < u64::MAX
     }
 
     /// Takes note that a signal got another character. Where there is no room for more, nothing is known any more.
@@ -189,7 +214,7 @@ impl State {
 
     /// Takes note of a vector that was made in it, under this table and with the row of this number.
     pub(crate) fn know(&mut self, table: u16, row: u32)
-        ensures { self.new ≡ known self.old.told table row }
+        ensures { self.new ≡ known self.old table row }
     {
         self.latest = Some(Latest { table, row });
         self.changed.clear();

@@ -7,6 +7,7 @@ ghost use Rattle.stil_ast.specs.Faults.CodeFaults.{trees_fault};
 ghost use Rattle.stil_ast.specs.declared.fault.StilFault.{StilFault};
 ghost use Rattle.instr_writer.specs.Written.{flats_of, IsWritten, IsFaulty, IsRefusal};
 ghost use Rattle.instr_writer.specs.Working.{flats_run, flats_measure, Wrote, IsOfTree, AreStopped};
+ghost use Rattle.instr_writer.specs.Passes.{IsExact, flats_written};
 ghost use Rattle.instr_writer.specs.declared.fault.WriteError.TheVariants as errors;
 
 use crate::fault::{VectorFault, WriteError};
@@ -80,6 +81,9 @@ fn write_trees(
     ensures done { OnOk result (Wrote source.now.tables.now source.now.first
         (flats_run trees.now (start_of signals)).made (flats_measure trees.now)
         code.old.items code.new.items rows.old rows.new) }
+    ensures exact { OnOk result (IsExact source.now.first
+        (λ entry code. flats_written entry trees.now (start_of signals) code)
+        code.old.items code.new.items rows.new) }
     ensures stopped { IfErr result (AreStopped source.now.tables.now trees.now (start_of signals)) }
 {
     let outside = State::start(source.alloc, 0)?;

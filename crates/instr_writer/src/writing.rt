@@ -4,11 +4,11 @@ ghost use Rattle.std.specs.Prelude.{◌≡◌, ◌∷◌, [], ◌*◌, ◌+◌, 
 ghost use Rattle.stil_ast.specs.Meaning.Running.{times};
 ghost use Rattle.stil_ast.specs.Meaning.Flat.{done, flat_run, measure, repeat, save};
 ghost use Rattle.flat_tree.specs.Items.{item_front};
-ghost use Rattle.instr_writer.specs.Known.{IsKnown};
+ghost use Rattle.instr_writer.specs.Known.{IsKnown, Moves};
 ghost use Rattle.instr_writer.specs.Working.{Walked, Wrote, IsStopped, made_at};
+ghost use Rattle.instr_writer.specs.Passes.{IsExact, vector_at, with_entry, with_passes, written};
 
-use crate::counting::list_cycles;
-use crate::output::{put_cycle, put_loop};
+use crate::output::{put_cycle, put_loop, put_passes};
 use crate::state::State;
 use crate::trouble::Trouble;
 use flat_tree::{FlatItem, FlatList, Origin};
@@ -39,6 +39,10 @@ fn write_vector(
         code.old.items code.new.items rows.old rows.new) }
     ensures here { OnOk result (state.new.told ≡ state.old.told) }
     ensures known { OnOk result (IsKnown source.now.tables.now rows.new state.new) }
+    ensures moves { OnOk result (Moves state.old state.new) }
+    ensures exact { OnOk result (IsExact source.now.first
+        (λ entry code. with_entry (entry (vector_at state.old.told mark)) code)
+        code.old.items code.new.items rows.new) }
     ensures stopped { IfErr result (IsStopped source.now.tables.now (made_at state.old.told mark place ∷ [])) }
 {
     let Some(table) = state.table() else {
@@ -76,6 +80,10 @@ pub(crate) fn write_list(
         (flat_run list.now base.now.told state.old.told) (measure list.now)
         code.old.items code.new.items rows.old rows.new state.new.told) }
     ensures known { OnOk result (IsKnown source.now.tables.now rows.new state.new) }
+    ensures moves { OnOk result (Moves state.old state.new) }
+    ensures exact { OnOk result (IsExact source.now.first
+        (λ entry code. written entry list.now base.now.told state.old.told code)
+        code.old.items code.new.items rows.new) }
     ensures stopped { IfErr result (IsStopped source.now.tables.now
         (flat_run list.now base.now.told state.old.told).made) }
 {
@@ -103,6 +111,10 @@ fn write_item(
         (flat_run (item_front item.now done) base.now.told state.old.told) (measure (item_front item.now done))
         code.old.items code.new.items rows.old rows.new state.new.told) }
     ensures known { OnOk result (IsKnown source.now.tables.now rows.new state.new) }
+    ensures moves { OnOk result (Moves state.old state.new) }
+    ensures exact { OnOk result (IsExact source.now.first
+        (λ entry code. written entry (item_front item.now done) base.now.told state.old.told code)
+        code.old.items code.new.items rows.new) }
     ensures stopped { IfErr result (IsStopped source.now.tables.now
         (flat_run (item_front item.now done) base.now.told state.old.told).made) }
 {
@@ -125,7 +137,8 @@ fn write_item(
     }
 }
 
-/// Writes a loop: its first pass, and behind it a Loop over the second one, which all later ones are like.
+/// Writes a loop. Where its first pass leaves the state as it was, all passes are alike. Else all from the second one
+/// on are, and where that one is written as the first one is, so are all.
 #[cycle(writing)]
 fn write_loop(
     source: &Source,
@@ -141,28 +154,39 @@ fn write_loop(
         (times count (flat_run body.now base.now.told) state.old.told) (2 * measure body.now + 2)
         code.old.items code.new.items rows.old rows.new state.new.told) }
     ensures known { OnOk result (IsKnown source.now.tables.now rows.new state.new) }
+    ensures moves { OnOk result (Moves state.old state.new) }
+    ensures exact { OnOk result (IsExact source.now.first
+        (λ entry code. with_passes count (written entry body.now base.now.told) (flat_run body.now base.now.told)
+        state.old.told code)
+        code.old.items code.new.items rows.new) }
     ensures stopped { IfErr result (IsStopped source.now.tables.now
         (times count (flat_run body.now base.now.told) state.old.told).made) }
 {
     if count == 0 {
         return Ok(());
     }
-    match write_list(source, body, base, state, code, rows) {
-        Ok(()) => {}
-        Err(trouble) => return Err(trouble),
-    }
     if count == 1 {
-        return Ok(());
+        return write_list(source, body, base, state, code, rows);
     }
-    if list_cycles(body) == 0 {
-        return Ok(());
-    }
-    let mut pass = Vec::new(source.alloc);
-    match write_list(source, body, base, state, &mut pass, rows) {
+    let moves = state.moves();
+    let mut first = Vec::new(source.alloc);
+    match write_list(source, body, base, state, &mut first, rows) {
         Ok(()) => {}
         Err(trouble) => return Err(trouble),
     }
-    put_loop(code, count - 1, pass)?;
+    if first.is_empty() {
+        return Ok(());
+    }
+    if state.has_stayed(moves) {
+        put_loop(code, count, first)?;
+        return Ok(());
+    }
+    let mut second = Vec::new(source.alloc);
+    match write_list(source, body, base, state, &mut second, rows) {
+        Ok(()) => {}
+        Err(trouble) => return Err(trouble),
+    }
+    put_passes(code, count, first, second)?;
     Ok(())
 }
 
@@ -181,6 +205,10 @@ fn write_save(
         (flat_run (save putting body.now done) state.old.told state.old.told) (measure body.now)
         code.old.items code.new.items rows.old rows.new state.new.told) }
     ensures known { OnOk result (IsKnown source.now.tables.now rows.new state.new) }
+    ensures moves { OnOk result (Moves state.old state.new) }
+    ensures exact { OnOk result (IsExact source.now.first
+        (λ entry code. written entry body.now state.old.told state.old.told code)
+        code.old.items code.new.items rows.new) }
     ensures stopped { IfErr result (IsStopped source.now.tables.now
         (flat_run body.now state.old.told state.old.told).made) }
 {

@@ -1,17 +1,24 @@
-use Rattle.std.proofs.Common.{List, ◌≡◌, ◌++◌, ◌∷◌, [], sym, ap, subst, ◌∙◌}
+use Rattle.std.proofs.Common.{List, ◌≡◌, ◌++◌, ◌∷◌, [], sym, ap, subst, ◌∙◌, append_assoc}
 use Rattle.page_meaning.specs.declared.instr.Instr.{Instr}
 use Rattle.instr_writer.specs.Working.{IsPut}
 use Rattle.instr_writer.proofs.PutLemmas.{put-once, put-more}
+use Rattle.instr_writer.proofs.SameLemmas.{more-last, none-last}
 use Rattle.instr_writer.proofs.output.put_behind.Goals as goal
 
-pub returns-in_ok-push-in-Some : goal.returns-in_ok-push-in-Some
-returns-in_ok-push-in-Some c =
+pub returns-in_ok-push-in-Some-clause-put : goal.returns-in_ok-push-in-Some-clause-put
+returns-in_ok-push-in-Some-clause-put c =
     let e : c.push.new.self.items ≡ c.args.code.now.items ++ c.in-Some.run' ∷ [] = c.in_ok-push-in-Some.ensures.items in
     subst (λ (code : List Instr). IsPut c.args.entry (c.args.code.now.items ++ c.args.last ∷ []) code) (sym e)
-    (put-more c.args.entry c.args.last c.in-Some.run' c.args.code.now.items c.in-Some.ensures)
+    (put-more c.args.entry c.args.last c.in-Some.run' c.args.code.now.items c.in-Some.ensures.run)
 
-pub returns-in_ok-push-in-None-2 : goal.returns-in_ok-push-in-None-2
-returns-in_ok-push-in-None-2 c =
+pub returns-in_ok-push-in-Some-clause-is : goal.returns-in_ok-push-in-Some-clause-is
+returns-in_ok-push-in-Some-clause-is c =
+    c.in_ok-push-in-Some.ensures.items
+    ∙ ap (λ (more : List Instr). c.args.code.now.items ++ more)
+    (more-last c.args.entry c.args.last c.in-Some.run' c.in-Some.ensures.is)
+
+pub returns-in_ok-push-in-None-2-clause-put : goal.returns-in_ok-push-in-None-2-clause-put
+returns-in_ok-push-in-None-2-clause-put c =
     let old = c.args.code.now.items ++ c.args.last ∷ [] in
     let e : c.push-in-None-2.new.self.items ≡ old ++ c.once.result ∷ [] =
     c.in_ok-push-in-None-2.ensures.items
@@ -19,3 +26,12 @@ returns-in_ok-push-in-None-2 c =
     subst (λ (code : List Instr). IsPut c.args.entry old code)
     (sym (e ∙ ap (λ (i : Instr). old ++ i ∷ []) c.once.ensures))
     (put-once c.args.entry old)
+
+pub returns-in_ok-push-in-None-2-clause-is : goal.returns-in_ok-push-in-None-2-clause-is
+returns-in_ok-push-in-None-2-clause-is c =
+    let front = c.args.code.now.items in
+    c.in_ok-push-in-None-2.ensures.items
+    ∙ (ap (λ (code : List Instr). code ++ c.once.result ∷ []) c.in_ok-push-in-None.ensures.items
+    ∙ (ap (λ (i : Instr). (front ++ c.args.last ∷ []) ++ i ∷ []) c.once.ensures
+    ∙ (append_assoc front (c.args.last ∷ []) _
+    ∙ ap (λ (more : List Instr). front ++ more) (none-last c.args.entry c.args.last c.in-None.ensures.is))))

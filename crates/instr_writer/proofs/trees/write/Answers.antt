@@ -4,6 +4,7 @@ use Rattle.stil_ast.specs.Faults.CodeFaults.{trees_fault}
 use Rattle.page_meaning.specs.declared.instr.Instr.{Instr}
 use Rattle.instr_writer.specs.Written.{IsWritten}
 use Rattle.instr_writer.specs.Working.{flats_run, flats_measure, Wrote}
+use Rattle.instr_writer.specs.Passes.{flats_written, IsExact}
 use Rattle.instr_writer.proofs.WriteLemmas.{wrote_trees, stopped_faulty, faulty_refusal, faulty_memory}
 use Rattle.instr_writer.proofs.trees.write.Goals as goal
 
@@ -28,8 +29,11 @@ returns-clause-found c = λ named same.
     let begun = subst (λ (none : List Instr). Wrote c.args.tables.now c.args.first (flats_run c.args.trees.now s).made
     (flats_measure c.args.trees.now) none code c.args.rows.now c.write_trees.new.rows)
     c.new-code.ensures.items c.in-Ok.ensures.done in
+    let exact = subst (λ (none : List Instr). IsExact c.args.first
+    (λ entry old. flats_written entry c.args.trees.now s old) none code c.write_trees.new.rows)
+    c.new-code.ensures.items c.in-Ok.ensures.exact in
     let all = wrote_trees c.args.tables.now c.args.first c.args.signals named c.args.trees.now code c.args.rows.now
-    c.write_trees.new.rows same begun in (
+    c.write_trees.new.rows same begun exact in (
       all.0,
       subst (λ (instrs : List Instr). IsWritten c.args.first c.args.signals named instrs c.args.rows.now c.write_trees.new.rows)
           (sym (c.from_vec.ensures ∙ c.in_ok-push.ensures.items)) all.1,

@@ -2,6 +2,7 @@ use Rattle.std.proofs.Common.{take}
 use Rattle.stil_ast.specs.Meaning.State.{start_of}
 use Rattle.instr_writer.specs.Known.{IsKnown}
 use Rattle.instr_writer.specs.Working.{flats_run, flats_measure, Walked}
+use Rattle.instr_writer.specs.Passes.{flats_written, IsExact}
 use Rattle.instr_writer.proofs.trees.write_trees.Given as goal
 
 abbrev pub invariant-loop-number : goal.invariant-loop-number
@@ -9,3 +10,5 @@ invariant-loop-number l =
     Walked l.source.tables.now l.source.first (flats_run (take l.number l.trees) (start_of l.signals))
     (flats_measure (take l.number l.trees)) l.fn.code.items l.code.items l.fn.rows l.rows l.state.told
     × IsKnown l.source.tables.now l.rows l.state
+    × IsExact l.source.first (λ entry code. flats_written entry (take l.number l.trees) (start_of l.signals) code)
+    l.fn.code.items l.code.items l.rows

@@ -1,8 +1,9 @@
 use Rattle.std.proofs.Common.{◌≡◌, ◌+◌, ◌*◌, take}
 use Rattle.stil_ast.specs.Meaning.Flat.{done, flat_run, measure}
 use Rattle.flat_tree.specs.Items.{item_front, items_flat, body_count}
-use Rattle.instr_writer.specs.Known.{IsKnown}
+use Rattle.instr_writer.specs.Known.{IsKnown, Moves}
 use Rattle.instr_writer.specs.Working.{Walked}
+use Rattle.instr_writer.specs.Passes.{written, IsExact}
 use Rattle.instr_writer.proofs.writing.+writing.Given as goal
 
 abbrev pub decreases-write_list : goal.decreases-write_list
@@ -24,3 +25,7 @@ invariant-write_list-loop-item l =
     (flat_run (items_flat (take l.item-index l.item-items)) l.base.told l.fn.state.told)
     (measure (items_flat (take l.item-index l.item-items))) l.fn.code.items l.code.items l.fn.rows l.rows l.state.told
     × IsKnown l.source.tables.now l.rows l.state
+    × Moves l.fn.state l.state
+    × IsExact l.source.first
+    (λ entry code. written entry (items_flat (take l.item-index l.item-items)) l.base.told l.fn.state.told code)
+    l.fn.code.items l.code.items l.rows
