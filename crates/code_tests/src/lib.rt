@@ -1,8 +1,6 @@
-//! Known saved programs, read, written, kept in memory and listed through the public calls.
+//! Known saved programs, read, written and kept in memory through the public calls: what no command shows of them.
 #![tactic(auto)]
 
-#[cfg(test)]
-mod listing_tests;
 #[cfg(test)]
 mod memory_tests;
 #[cfg(test)]

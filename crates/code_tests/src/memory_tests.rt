@@ -25,9 +25,6 @@ const RUN: [u8; 16] = [1, 0, 0, 0, 1, 0, 0, 0, 0, 0, 0, 0, 3, 0, 0, 0];
 /// Runs what it encloses twice.
 const TWICE: [u8; 16] = [2, 0, 0, 0, 0, 0, 0, 0, 2, 0, 0, 0, 0, 0, 0, 0];
 
-/// Runs what it encloses once.
-const ONCE: [u8; 16] = [2, 0, 0, 0, 0, 0, 0, 0, 1, 0, 0, 0, 0, 0, 0, 0];
-
 const END: [u8; 16] = [3, 0, 0, 0, 0, 0, 0, 0, 0, 0, 0, 0, 0, 0, 0, 0];
 
 const DONE: [u8; 16] = [4, 0, 0, 0, 0, 0, 0, 0, 0, 0, 0, 0, 0, 0, 0, 0];
@@ -148,19 +145,6 @@ fn a_loop_across_a_border_with_one_frame(rt: HostRuntime) -> Result<(), Fail> {
     for frames in [1, 2, 64] {
         assert_eq!(rt; alike_with(&rt, rt.alloc(), &pieces, frames)?, Some(1674));
     }
-    Ok(())
-}
-
-#[test]
-fn loops_nest_64_deep(rt: HostRuntime) -> Result<(), Fail> {
-    let pieces = [(4, TWICE), (60, ONCE), (1, RUN), (64, END)];
-    assert_eq!(rt; alike_with(&rt, rt.alloc(), &pieces, 1)?, Some(48));
-    Ok(())
-}
-
-#[test]
-fn an_executive_may_have_no_cycle(rt: HostRuntime) -> Result<(), Fail> {
-    assert_eq!(rt; alike_with(&rt, rt.alloc(), &[], 1)?, Some(0));
     Ok(())
 }
 

@@ -3,12 +3,10 @@
 #![tactic(auto)]
 
 mod netlist;
-mod number;
 mod plan;
 mod program;
 
 pub use netlist::net_text;
-pub use number::read_number;
 pub use plan::plan_text;
 pub use program::stil_text;
 

@@ -1,6 +1,6 @@
 //! The texts of small drills, and words that are numbers and that are none.
 
-use crate::{net_text, plan_text, read_number, stil_text};
+use crate::{net_text, plan_text, stil_text};
 use std::test::Fail;
 
 #[test]
@@ -32,22 +32,4 @@ fn the_plan_of_one(rt: HostRuntime) -> Result<(), Fail> {
     assert!(rt; text.ends_with(b"die,3,d,drill.bench,,\nfault,1,b,f1,0,\n".as_slice()));
     assert!(rt; text.len() == 144);
     Ok(())
-}
-
-#[test]
-fn numbers_from_1_to_200_are_read(rt: HostRuntime) {
-    let cases = [
-        ("1", Some(1)),
-        ("37", Some(37)),
-        ("200", Some(200)),
-        ("0", None),
-        ("201", None),
-        ("01", None),
-        ("+1", None),
-        ("", None),
-        ("x", None),
-    ];
-    for (word, number) in cases {
-        assert!(rt; read_number(word) == number);
-    }
 }

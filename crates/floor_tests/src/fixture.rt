@@ -14,7 +14,7 @@ use die_sim::{
 use std::alloc::{AllocError, Global};
 use std::marker::Model;
 use std::sync::Arc;
-use tester_types::{Drive, Level};
+use tester_types::Drive;
 
 /// A die with its image, and the number of its clock.
 #[derive(Drop)]
@@ -57,14 +57,6 @@ impl Fixture {
         }
     }
 
-    /// The number of the signal of this name, the clock's where no net has the name.
-    pub(crate) fn signal(&self, name: &[u8]) -> u16 {
-        match self.image.net.net(name) {
-            Some(net) => u16::try_from(net).unwrap_or(self.clock),
-            None => self.clock,
-        }
-    }
-
     /// One moment. Answers how many gates were evaluated; drives that don't fit do nothing.
     pub(crate) fn drive(&mut self, drives: &[(u16, Drive)]) -> u64 {
         if !are_drives(&self.image.net, self.clock, drives) {
@@ -73,53 +65,6 @@ impl Fixture {
         let mut steps: Steps<()> = Steps::new();
         self.die.apply(drives, &mut steps);
         steps.count()
-    }
-
-    /// One moment in which one signal is driven.
-    pub(crate) fn set(&mut self, name: &[u8], drive: Drive) -> u64 {
-        let signal = self.signal(name);
-        self.drive(&[(signal, drive)])
-    }
-
-    /// The level of a net, off where no net has this name.
-    pub(crate) fn level(&self, name: &[u8]) -> Level {
-        match self.image.net.net(name) {
-            Some(net) => self.level_of(net),
-            None => Level::Z,
-        }
-    }
-
-    /// The level of the net of a number, off where there is none.
-    pub(crate) fn level_of(&self, net: u32) -> Level {
-        if net < self.image.net.nets() {
-            self.die.level(net as u16)
-        } else {
-            Level::Z
-        }
-    }
-
-    /// The levels of these nets, as 0, 1, X and Z.
-    pub(crate) fn shows(&self, names: &[&[u8]], levels: &[u8]) -> bool {
-        names.len() == levels.len()
-            && names
-                .iter()
-                .zip(levels.iter())
-                .all(|(name, level)| letter(self.level(*name)) == *level)
-    }
-
-    /// Whether another die has the same levels at all nets.
-    pub(crate) fn is_like(&self, other: &Fixture) -> bool {
-        (0..self.image.net.nets()).all(|net| self.level_of(net) == other.level_of(net))
-    }
-}
-
-/// The letter of a level.
-pub(crate) fn letter(level: Level) -> u8 {
-    match level {
-        Level::Zero => b'0',
-        Level::One => b'1',
-        Level::X => b'X',
-        Level::Z => b'Z',
     }
 }
 

@@ -1,8 +1,6 @@
-//! Known moments, fails, netlists, dies, sockets and plans, through the public calls.
+//! Moments, fails, dies, sockets, netlists and plans through the public calls: what no command shows of them.
 #![tactic(auto)]
 
-#[cfg(test)]
-mod bind_tests;
 #[cfg(test)]
 mod die_tests;
 #[cfg(test)]
@@ -15,8 +13,6 @@ mod netlist_tests;
 mod plan_tests;
 #[cfg(test)]
 mod programs;
-#[cfg(test)]
-mod row_tests;
 #[cfg(test)]
 mod socket_tests;
 #[cfg(test)]

@@ -4,7 +4,7 @@ ghost use Rattle.floor_tests.specs.Own.{IsOwnImage};
 
 use crate::fixture::{can_show, can_take, own_image};
 use bench_net::{NetFault, read};
-use die_sim::{DieImage, FailingSocket, SimSocket, Socket, SocketBox, TapeSocket};
+use die_sim::{DieImage, SimSocket, Socket, SocketBox, TapeSocket};
 use std::alloc::Global;
 use std::test::*;
 use std::thread::join;
@@ -65,25 +65,6 @@ fn a_tape_keeps_the_drives_that_fit(rt: HostRuntime) -> Result<(), Fail> {
             assert_eq!(rt; tape.drives(1), [(0u16, Drive::Up)].as_slice());
         }
         None => assert!(rt; false),
-    }
-    Ok(())
-}
-
-#[test]
-fn the_call_of_that_number_fails(rt: HostRuntime) -> Result<(), Fail> {
-    let image = flip_flop(rt.alloc())?;
-    let good = (true, true, Some(Level::X));
-    for (call, first, second) in [
-        (1, (false, false, None), good),
-        (2, (true, false, Some(Level::X)), good),
-        (3, (true, true, None), good),
-        (4, good, (false, false, None)),
-        (5, good, (true, false, Some(Level::X))),
-        (6, good, (true, true, None)),
-    ] {
-        let mut socket = FailingSocket::new(rt.alloc(), call);
-        assert_eq!(rt; calls(&mut socket, &image, &[(0, Drive::Up)]), first);
-        assert_eq!(rt; calls(&mut socket, &image, &[(0, Drive::Up)]), second);
     }
     Ok(())
 }

@@ -1,4 +1,4 @@
-//! Whole cycles: known ones, and random-looking ones beside a slow program of the definition.
+//! A random-looking cycle beside a slow program of the definition.
 
 use std::alloc::Global;
 use std::test::Fail as Failure;
@@ -52,113 +52,6 @@ fn fail(at: u64, signal: u16, want: Look, seen: Level) -> Fail {
         seen,
         mark: 0,
     }
-}
-
-/// Whether these entries give these fails, the other signals being at 0 all the time.
-fn gives(alloc: Global, entries: &[Shown], fails: &[Fail]) -> Result<bool, NoMemory> {
-    let checker = checker_of(alloc, ALL, 100, entries)?;
-    let total = checker.total();
-    Ok(total == fails.len() as u64 && checker.kept().as_slice() == fails)
-}
-
-#[test]
-fn window_fails_where_a_drive_changes_the_level(rt: HostRuntime) -> Result<(), Failure> {
-    let high = [ONE, ZERO, ZERO];
-    let low = [ZERO, ZERO, ZERO];
-    assert!(rt;
-        gives(
-            rt.alloc(),
-            &[
-                (0, &[], high),
-                (20_000_000, &[(0, Look::HighWindow)], high),
-                (30_000_000, &[], low),
-                (60_000_000, &[(0, Look::Close)], low),
-            ],
-            &[fail(30_000_000, 0, Look::HighWindow, ZERO)],
-        )?
-    );
-    assert!(rt;
-        gives(
-            rt.alloc(),
-            &[
-                (0, &[], high),
-                (20_000_000, &[(0, Look::High)], high),
-                (30_000_000, &[], low),
-            ],
-            &[],
-        )?
-    );
-    Ok(())
-}
-
-#[test]
-fn window_that_is_closed_at_once_is_never_looked_at(rt: HostRuntime) -> Result<(), Failure> {
-    let zero = [ZERO, X, X];
-    let one = [ONE, X, X];
-    let low: &[(u16, Look)] = &[(0, Look::HighWindow), (0, Look::LowWindow)];
-    let edge: &[(u16, Look)] = &[(0, Look::HighWindow), (0, Look::High)];
-    let close: &[(u16, Look)] = &[(0, Look::HighWindow), (0, Look::Close)];
-    assert!(rt; gives(rt.alloc(), &[(5, low, zero), (9, &[], zero)], &[])?);
-    assert!(rt;
-        gives(
-            rt.alloc(),
-            &[(5, low, zero), (9, &[], one)],
-            &[fail(9, 0, Look::LowWindow, ONE)],
-        )?
-    );
-    assert!(rt;
-        gives(
-            rt.alloc(),
-            &[(5, edge, zero), (9, &[], zero)],
-            &[fail(5, 0, Look::High, ZERO)],
-        )?
-    );
-    assert!(rt; gives(rt.alloc(), &[(5, close, zero), (9, &[], zero)], &[])?);
-    Ok(())
-}
-
-#[test]
-fn window_fails_once_and_ends_with_its_cycle(rt: HostRuntime) -> Result<(), Failure> {
-    let mut checker = checker_of(
-        rt.alloc(),
-        ALL,
-        100,
-        &[
-            (1, &[(2, Look::OffWindow)], [X, X, Z]),
-            (2, &[], [X, X, ONE]),
-            (3, &[], [X, X, ZERO]),
-            (4, &[(1, Look::OffWindow)], [X, Z, Z]),
-        ],
-    )?;
-    checker.close_cycle();
-    let next = moment(rt.alloc(), 9, &[(0, Look::Off)])?;
-    assert!(rt; checker.wanted(&next, 0));
-    assert!(rt; !checker.wanted(&next, 1));
-    assert_eq!(rt; checker.total(), 1);
-    assert!(rt; checker.kept().as_slice() == [fail(2, 2, Look::OffWindow, ONE)].as_slice());
-    Ok(())
-}
-
-#[test]
-fn counts_what_it_does_not_keep(rt: HostRuntime) -> Result<(), Failure> {
-    let looks: &[(u16, Look)] = &[
-        (0, Look::Low),
-        (0, Look::High),
-        (0, Look::Off),
-        (1, Look::Low),
-    ];
-    let checker = checker_of(
-        rt.alloc(),
-        ALL,
-        2,
-        &[(1, looks, [X, X, X]), (2, looks, [Z, Z, Z])],
-    )?;
-    assert_eq!(rt; checker.total(), 7);
-    let kept = checker.kept();
-    assert!(rt;
-        kept.as_slice() == [fail(1, 0, Look::Low, X), fail(1, 0, Look::High, X)].as_slice()
-    );
-    Ok(())
 }
 
 /// Whether the level is what the look wants, by the table of the acts.
@@ -290,7 +183,6 @@ const MIXED: [Shown<'static>; 8] = [
 #[test]
 fn agrees_with_the_slow_program(rt: HostRuntime) -> Result<(), Failure> {
     assert!(rt; agrees(rt.alloc(), ALL, &MIXED)?);
-    assert!(rt; agrees(rt.alloc(), [true, false, true], &MIXED)?);
     assert!(rt; agrees(rt.alloc(), [false, true, false], &MIXED)?);
     for count in 0..MIXED.len() {
         assert!(rt; senses(rt.alloc(), ALL, &MIXED[..count + 1])?);

@@ -1,17 +1,9 @@
-//! Known times, groups, tables, scan chains, orders of patterns and flat trees, through the public calls.
+//! What no text shows of what is built of it: that it crosses threads, and the limit of statements that are walked.
 #![tactic(auto)]
 
 #[cfg(test)]
-mod chain_tests;
-#[cfg(test)]
-mod group_tests;
-#[cfg(test)]
-mod macro_tests;
-#[cfg(test)]
 mod no_blocks;
 #[cfg(test)]
-mod order_tests;
+mod thread_tests;
 #[cfg(test)]
-mod time_tests;
-#[cfg(test)]
-mod wave_tests;
+mod walk_tests;

@@ -1,4 +1,4 @@
-//! Books of no site, and of two sites.
+//! A book of two sites.
 
 use crate::many_dies::plan_of;
 use floor_core::BookState;
@@ -31,21 +31,11 @@ fn dies_of(alloc: Global, book: &BookState, site: u8) -> Result<Vec<u16>, Fail> 
 }
 
 #[test]
-fn a_book_may_have_no_site(rt: HostRuntime) -> Result<(), Fail> {
-    let mut book = BookState::new(rt.alloc(), &plan_of(rt.alloc(), 0, 0)?)?;
-    assert_eq!(rt; book.sites().len(), 0);
-    assert!(rt; !file_where_spare(rt.alloc(), &mut book, 0, 0));
-    Ok(())
-}
-
-#[test]
 fn a_site_has_a_place_for_each_die(rt: HostRuntime) -> Result<(), Fail> {
     let mut book = BookState::new(rt.alloc(), &plan_of(rt.alloc(), 2, 2)?)?;
-    assert!(rt; file_where_spare(rt.alloc(), &mut book, 1, 0));
-    assert!(rt; file_where_spare(rt.alloc(), &mut book, 0, 0));
-    assert!(rt; file_where_spare(rt.alloc(), &mut book, 1, 1));
-    assert!(rt; !file_where_spare(rt.alloc(), &mut book, 1, 2));
+    for (site, die, is_filed) in [(1, 0, true), (0, 0, true), (1, 1, true), (1, 2, false)] {
+        assert!(rt; file_where_spare(rt.alloc(), &mut book, site, die) == is_filed);
+    }
     assert!(rt; dies_of(rt.alloc(), &book, 1)?.as_slice() == [0, 1].as_slice());
-    assert!(rt; dies_of(rt.alloc(), &book, 0)?.as_slice() == [0].as_slice());
     Ok(())
 }

@@ -1,11 +1,10 @@
 //! The work of two sites beside each other, each with one die.
 
 ghost use Rattle.std.specs.Prelude.{◌≡◌, ◌≤◌, All, IfOk, length};
-ghost use Rattle.text_bytes.specs.Limits.{most_bytes};
 
 use crate::gates::{AskedGate, CountedDesk, MeetingGate};
 use crate::sample::{Outcome, bound, code_of, outcomes};
-use die_sim::{FailingSocket, SocketBox};
+use die_sim::{SimSocket, SocketBox};
 use lot_plan::BoundPlan;
 use pattern_mem::{PassList, PatternMem};
 use std::alloc::Global;
@@ -14,7 +13,7 @@ use std::sync::{Arc, Wait};
 use std::test::Fail;
 use std::thread::Threads;
 use tester_run::run_lot;
-use tester_types::{Ask, By, Desk, Gate, ListDesk, OpenGate, SilentDesk, Verdict};
+use tester_types::{Ask, By, Desk, Gate, ListDesk, SilentDesk, Verdict};
 
 /// A plan with a die at each of two sites.
 const PLAN: &[u8] = b"lot,4,1,3,,\nclock,c,,,,\ndie,0,d,inv,,\ndie,1,e,inv,,\n";
@@ -22,26 +21,25 @@ const PLAN: &[u8] = b"lot,4,1,3,,\nclock,c,,,,\ndie,0,d,inv,,\ndie,1,e,inv,,\n";
 /// What the try of a die that is whole comes to.
 const PASSED: Outcome = (1, 10, 0, Verdict::Pass);
 
-/// Two sockets, of which the first loses contact at this call.
-fn two_sockets(alloc: Global, call: u64) -> Result<Vec<SocketBox>, Fail>
+/// Two sockets.
+fn two_sockets(alloc: Global) -> Result<Vec<SocketBox>, Fail>
     ensures { IfOk result (λ sockets. length sockets.items ≡ 2) }
 {
     let mut sockets = Vec::with_capacity(alloc, 2)?;
-    let first: SocketBox = Box::new(alloc, FailingSocket::new(alloc, call))?;
-    let second: SocketBox = Box::new(alloc, FailingSocket::new(alloc, 0))?;
+    let first: SocketBox = Box::new(alloc, SimSocket::new(alloc))?;
+    let second: SocketBox = Box::new(alloc, SimSocket::new(alloc))?;
     sockets.push(first)?;
     sockets.push(second)?;
     Ok(sockets)
 }
 
-/// What the tries of a plan's two sites came to, of a socket at site 0 that loses contact at this call.
+/// What the tries of a plan's two sites came to.
 fn worked<R: Threads + Wait + Sync, D: Desk, G: Gate>(
     rt: &R,
     alloc: Global,
     mem: &PatternMem,
     passes: PassList,
     plan: &BoundPlan,
-    call: u64,
     desk: &mut D,
     gate: &G,
 ) -> Result<(Vec<Outcome>, Vec<Outcome>), Fail>
@@ -52,7 +50,7 @@ fn worked<R: Threads + Wait + Sync, D: Desk, G: Gate>(
     if plan.sites() != 2 {
         return Err("there are two sites".into());
     }
-    let mut sockets = two_sockets(alloc, call)?;
+    let mut sockets = two_sockets(alloc)?;
     let book = run_lot(rt, alloc, mem, passes, plan, &mut sockets, desk, gate)?;
     if book.sites().len() != 2 {
         return Err("the book has two sites".into());
@@ -62,21 +60,17 @@ fn worked<R: Threads + Wait + Sync, D: Desk, G: Gate>(
     Ok((first, second))
 }
 
-/// The same of the plan of a text.
+/// The same of the plan above.
 fn worked_by<R: Threads + Wait + Sync, D: Desk, G: Gate>(
     rt: &R,
     alloc: Global,
-    text: &[u8],
-    call: u64,
     desk: &mut D,
     gate: &G,
-) -> Result<(Vec<Outcome>, Vec<Outcome>), Fail>
-    requires { length text.now ≤ most_bytes }
-{
+) -> Result<(Vec<Outcome>, Vec<Outcome>), Fail> {
     let code = code_of(alloc)?;
-    let plan = bound(alloc, &code, text)?;
+    let plan = bound(alloc, &code, PLAN)?;
     let (mem, passes) = PatternMem::new(alloc, code, 4, 2)?;
-    worked(rt, alloc, &mem, passes, &plan, call, desk, gate)
+    worked(rt, alloc, &mem, passes, &plan, desk, gate)
 }
 
 #[test]
@@ -86,7 +80,7 @@ fn two_sites_run_at_the_same_time(rt: HostRuntime) -> Result<(), Fail> {
         late: AtomicU64::new(0),
     };
     let mut desk = SilentDesk::new();
-    let (first, second) = worked_by(&rt, rt.alloc(), PLAN, 0, &mut desk, &gate)?;
+    let (first, second) = worked_by(&rt, rt.alloc(), &mut desk, &gate)?;
     assert_eq!(rt; gate.late.load(Ordering::SeqCst), 0);
     assert!(rt; first.as_slice() == [PASSED].as_slice());
     assert!(rt; second.as_slice() == [PASSED].as_slice());
@@ -104,18 +98,9 @@ fn a_stop_for_one_site_leaves_the_other(rt: HostRuntime) -> Result<(), Fail> {
         asks,
         late: AtomicU64::new(0),
     };
-    let (first, second) = worked_by(&rt, rt.alloc(), PLAN, 0, &mut desk, &gate)?;
+    let (first, second) = worked_by(&rt, rt.alloc(), &mut desk, &gate)?;
     assert_eq!(rt; gate.late.load(Ordering::SeqCst), 0);
     assert!(rt; first.as_slice() == [PASSED].as_slice());
     assert!(rt; second.as_slice() == [(1, 0, 0, Verdict::Stopped(0, By::Desk(1)))].as_slice());
-    Ok(())
-}
-
-#[test]
-fn contact_lost_at_one_site_leaves_the_other(rt: HostRuntime) -> Result<(), Fail> {
-    let mut desk = SilentDesk::new();
-    let (first, second) = worked_by(&rt, rt.alloc(), PLAN, 3, &mut desk, &OpenGate)?;
-    assert!(rt; first.as_slice() == [(1, 0, 0, Verdict::Contact(40_000_000))].as_slice());
-    assert!(rt; second.as_slice() == [PASSED].as_slice());
     Ok(())
 }

@@ -3,7 +3,7 @@
 ghost use Rattle.std.specs.Prelude.{◌≡◌, ◌≤◌, length, IfOk};
 ghost use Rattle.text_bytes.specs.Limits.{most_bytes};
 
-use bench_net::read;
+use bench_net::{Netlist, read};
 use lot_plan::{BoundPlan, Plan};
 use page_code::{Code, load};
 use std::alloc::{AllocError, Global};
@@ -54,26 +54,29 @@ pub(crate) fn code_of(alloc: Global) -> Result<Code, Fail> {
     Ok(code)
 }
 
-/// The plan of a text with one file, bound to a program and the inverter.
+/// The inverter, once for each of so many files.
+fn nets(alloc: Global, files: usize) -> Result<Vec<Arc<Netlist>>, Fail> {
+    let mut nets = Vec::new(alloc);
+    for _ in 0..files {
+        let Ok(net) = read(alloc, NET) else {
+            return Err("there is a netlist".into());
+        };
+        nets.push(Arc::new(alloc, net)?)?;
+    }
+    Ok(nets)
+}
+
+/// The plan of a text, bound to a program and the inverter.
 pub(crate) fn bound(alloc: Global, code: &Code, text: &[u8]) -> Result<BoundPlan, Fail>
     requires { length text.now ≤ most_bytes }
     ensures program { IfOk result (λ plan. plan.program ≡ code.now) }
 {
-    let Ok(plan) = Plan::read(alloc, text) else {
-        return Err("the text is a plan".into());
-    };
-    if plan.files().len() != 1 {
-        return Err("there is one file".into());
+    let plan = Plan::read(alloc, text)?;
+    let nets = nets(alloc, plan.files().len())?;
+    if nets.len() != plan.files().len() {
+        return Err("there is a netlist for each file".into());
     }
-    let Ok(net) = read(alloc, NET) else {
-        return Err("there is a netlist".into());
-    };
-    let mut nets = Vec::with_capacity(alloc, 1)?;
-    nets.push(Arc::new(alloc, net)?)?;
-    match plan.bind(alloc, code, nets) {
-        Ok(plan) => Ok(plan),
-        Err(_) => Err("the plan fits".into()),
-    }
+    Ok(plan.bind(alloc, code, nets)?)
 }
 
 /// What a try came to: its number, cycles, fails and verdict.

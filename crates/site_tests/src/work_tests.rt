@@ -1,10 +1,9 @@
 //! The work of one site, alone and while it is asked to stop.
 
 ghost use Rattle.std.specs.Prelude.{◌≡◌, ◌<◌, ◌≤◌, length, replicate, IfOk};
-ghost use Rattle.text_bytes.specs.Limits.{most_bytes};
 
 use crate::sample::{Outcome, bound, code_of, outcomes};
-use die_sim::{FailingSocket, SocketBox};
+use die_sim::{SimSocket, SocketBox};
 use lot_book::{Book, ShareList};
 use lot_plan::BoundPlan;
 use pattern_mem::{PatternMem, PoolPass};
@@ -15,6 +14,9 @@ use std::thread::Threads;
 use stop_board::{Board, DeskSeat};
 use tester_run::site_work;
 use tester_types::{By, Items, OpenGate, Verdict};
+
+/// Two dies, of which the first is to be stopped before its first batch.
+const PLAN: &[u8] = b"lot,4,1,3,,\nclock,c,,,,\ndie,0,d,inv,,\ndie,0,e,inv,,\nstop,0,d,1,0,\n";
 
 /// Asks site 0 to stop so often.
 fn ask_often(board: &Board, desk: &mut DeskSeat, times: u8)
@@ -29,15 +31,14 @@ fn ask_often(board: &Board, desk: &mut DeskSeat, times: u8)
     }
 }
 
-/// What the tries of the one site of a plan came to, of a socket that loses contact at this call, once the site was asked
-/// to stop so often; and how many seats have finished.
+/// What the tries of the one site of a plan came to, once the site was asked to stop so often; and how many seats have
+/// finished.
 fn worked<R: Threads + Wait + Sync>(
     rt: &R,
     alloc: Global,
     mem: &PatternMem,
     pass: PoolPass,
     plan: &BoundPlan,
-    call: u64,
     asks: u8,
 ) -> Result<(Vec<Outcome>, u64), Fail>
     requires program { plan.now.program ≡ mem.now.code }
@@ -57,7 +58,7 @@ fn worked<R: Threads + Wait + Sync>(
         return Err("there is a seat".into());
     };
     ask_often(&board, &mut desk, asks);
-    let mut socket: SocketBox = Box::new(alloc, FailingSocket::new(alloc, call))?;
+    let mut socket: SocketBox = Box::new(alloc, SimSocket::new(alloc))?;
     site_work(
         rt,
         alloc,
@@ -80,50 +81,29 @@ fn worked<R: Threads + Wait + Sync>(
     Ok((list, desk.finished(&board)))
 }
 
-/// The same of the plan of a text.
+/// The same of the plan above.
 fn worked_by<R: Threads + Wait + Sync>(
     rt: &R,
     alloc: Global,
-    text: &[u8],
-    call: u64,
     asks: u8,
-) -> Result<(Vec<Outcome>, u64), Fail>
-    requires { length text.now ≤ most_bytes }
-{
+) -> Result<(Vec<Outcome>, u64), Fail> {
     let code = code_of(alloc)?;
-    let plan = bound(alloc, &code, text)?;
+    let plan = bound(alloc, &code, PLAN)?;
     let (mem, passes) = PatternMem::new(alloc, code, 4, 1)?;
     let Some(pass) = passes.into_vec().pop() else {
         return Err("there is a pass".into());
     };
-    worked(rt, alloc, &mem, pass, &plan, call, asks)
+    worked(rt, alloc, &mem, pass, &plan, asks)
 }
 
 #[test]
-fn two_dies_pass(rt: HostRuntime) -> Result<(), Fail> {
-    let text = b"lot,4,1,3,,\nclock,c,,,,\ndie,0,d,inv,,\ndie,0,e,inv,,\n";
-    let (list, finished) = worked_by(&rt, rt.alloc(), text, 0, 0)?;
-    assert!(rt;
-        list.as_slice() == [(1, 10, 0, Verdict::Pass), (1, 10, 0, Verdict::Pass)].as_slice()
-    );
-    assert_eq!(rt; finished, 1);
-    Ok(())
-}
-
-#[test]
-fn a_stop_comes_before_the_first_batch(rt: HostRuntime) -> Result<(), Fail> {
-    let text = b"lot,4,1,3,,\nclock,c,,,,\ndie,0,d,inv,,\n";
-    let (list, finished) = worked_by(&rt, rt.alloc(), text, 0, 2)?;
-    assert!(rt; list.as_slice() == [(1, 0, 0, Verdict::Stopped(0, By::Desk(2)))].as_slice());
-    assert_eq!(rt; finished, 1);
-    Ok(())
-}
-
-#[test]
-fn a_socket_loses_contact_at_the_load(rt: HostRuntime) -> Result<(), Fail> {
-    let text = b"lot,4,3,3,,\nclock,c,,,,\ndie,0,d,inv,,\n";
-    let (list, finished) = worked_by(&rt, rt.alloc(), text, 1, 0)?;
-    assert!(rt; list.as_slice() == [(1, 0, 0, Verdict::Contact(0))].as_slice());
-    assert_eq!(rt; finished, 1);
+fn a_stop_wins_over_an_order_and_leaves_the_next_die(rt: HostRuntime) -> Result<(), Fail> {
+    let (list, finished) = worked_by(&rt, rt.alloc(), 2)?;
+    let wanted = [
+        (1, 0, 0, Verdict::Stopped(0, By::Desk(2))),
+        (1, 10, 0, Verdict::Pass),
+    ];
+    assert!(rt; list.as_slice() == wanted.as_slice());
+    assert!(rt; finished == 1);
     Ok(())
 }

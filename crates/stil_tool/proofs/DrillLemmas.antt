@@ -17,18 +17,19 @@ use Rattle.stil_ast.specs.declared.fault.StilFault.{StilFault}
 use Rattle.stil_ast.specs.declared.fault.StilRefusal.{StilRefusal}
 use Rattle.stil_ast.specs.declared.fault.StilRefusal.TheVariants as stil
 use Rattle.stil_program.specs.Program.{IsTextFault, IsRefusal}
-use Rattle.stil_tool.specs.declared.status.Status.{Status}
-use Rattle.stil_tool.specs.declared.status.Status.TheVariants.{Done, Usage, ReadFault, WriteFault, RefusedStil, RefusedNet, RefusedPlan, TooFewSockets, OutOfMemory, TooLong, RefusedSaved}
-use Rattle.stil_tool.specs.declared.refusal.Refusal.{Refusal}
-use Rattle.stil_tool.specs.declared.refusal.Refusal.TheVariants as refused
-use Rattle.stil_tool.specs.LotText.{status_of, line_of}
-use Rattle.stil_tool.specs.Refused.{IsTextRefusal}
-use Rattle.stil_tool.specs.Lot.{Inputs, bound_of, usable, Floor}
+use Rattle.tool_inputs.specs.declared.status.Status.{Status}
+use Rattle.tool_inputs.specs.declared.status.Status.TheVariants.{Done, Usage, ReadFault, WriteFault, RefusedStil, RefusedNet, RefusedPlan, TooFewSockets, OutOfMemory, TooLong, RefusedSaved, NoDie, TapeTooLong}
+use Rattle.tool_inputs.specs.declared.refusal.Refusal.{Refusal}
+use Rattle.tool_inputs.specs.declared.refusal.Refusal.TheVariants as refused
+use Rattle.tool_inputs.specs.Refusals.{status_of, line_of}
+use Rattle.tool_inputs.specs.Refused.{IsTextRefusal}
+use Rattle.tool_inputs.specs.Inputs.{Inputs, bound_of}
+use Rattle.stil_tool.specs.Lot.{usable, Floor}
 use Rattle.stil_tool.specs.Drill.{AreDrill, AreTexts, drill_file, IsTextRefused, IsDrillRefused, IsDrillReady, IsDrilled, DrillRunWants, DrillWants}
 use Rattle.stil_tool.specs.Drill.IsTextRefused.{no_memory, of_program, of_plan, of_net, unbound}
 use Rattle.stil_tool.specs.Drill.IsDrillRefused.{of_text, few_sockets}
 use Rattle.stil_tool.specs.Drill.DrillWants.{is_run, is_refused}
-use Rattle.stil_tool.proofs.LotLemmas.{text_refusal}
+use Rattle.tool_inputs.proofs.InputLemmas.{text_refusal}
 
 -- ---- the words
 
@@ -117,3 +118,5 @@ run_wants tells number old new code bound RefusedPlan text ready enough want = a
 run_wants tells number old new code bound TooFewSockets text ready enough want = absurd want
 run_wants tells number old new code bound TooLong text ready enough want = absurd want
 run_wants tells number old new code bound RefusedSaved text ready enough want = absurd want
+run_wants tells number old new code bound NoDie text ready enough want = absurd want
+run_wants tells number old new code bound TapeTooLong text ready enough want = absurd want

@@ -1,12 +1,9 @@
 pub mod WordsLemmas
 pub mod CompletenessLemmas
-pub mod ListedLemmas
-pub mod FewLemmas
-pub mod CommandLemmas
 pub mod LotLemmas
-pub mod NetLemmas
 pub mod DrillLemmas
 pub mod FineLotLemmas
 pub mod KnownLemmas
 pub mod PrintableLemmas
 pub mod RunLemmas
+pub mod GradeLemmas

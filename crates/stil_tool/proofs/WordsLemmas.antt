@@ -1,5 +1,5 @@
 -- The words of a command, read one by one.
-use Rattle.std.proofs.Common.{◌≡◌, ℕ, ◌<◌, ◌≤◌, true, List, [], ◌∷◌, length, get_or, nat_eq, sym, ap, ◌∙◌, arith, String, string_bytes}
+use Rattle.std.proofs.Common.{◌≡◌, ℕ, ◌<◌, ◌≤◌, true, false, List, [], ◌∷◌, length, get_or, nat_eq, sym, ap, ◌∙◌, arith, String, string_bytes}
 use Rattle.std.specs.declared.alloc.Global.{Global}
 use Rattle.std.specs.Cmp.Lexicographic.{pointwise, bytes_decides}
 use Rattle.stil_tool.specs.Offline.{words_seen}
@@ -41,3 +41,13 @@ three_words words a b c command seen first_file second_file least below first se
     ap words_seen (three_items words a b c least below first second third)
     ∙ ap (λ w. w ∷ string_bytes b ∷ string_bytes c ∷ []) (sym seen_is ∙ (bytes_decides seen command).0 (sym same))
     ∙ ap (λ w. command ∷ w ∷ string_bytes c ∷ []) (sym first_is) ∙ ap (λ w. command ∷ first_file ∷ w ∷ []) (sym second_is)
+
+-- ---- words whose first is another
+
+pub not_other : (words : List (String Global)) (a : String Global) (command seen first second : List ℕ) → 3 ≤ length words
+    → a ≡ get_or words 0 a → seen ≡ string_bytes a → false ≡ pointwise nat_eq seen command
+    → words_seen words ≡ command ∷ first ∷ second ∷ [] → ⊥
+not_other [] a command seen first second least item seen_is differs are = omega (arith, least)
+not_other (x ∷ words) a command seen first second least item seen_is differs are =
+    let same : seen ≡ command = seen_is ∙ ap string_bytes item ∙ ap (λ (l : List (List ℕ)). get_or l 0 []) are in
+    let never : false ≡ true = differs ∙ (bytes_decides seen command).1 same in cc

@@ -18,13 +18,14 @@ use Rattle.drill_texts.specs.Texts.{vectors, stil_text, net_text, plan_text}
 use Rattle.page_code.specs.Program.{Program}
 use Rattle.stil_ast.specs.declared.fault.StilFault.{StilFault}
 use Rattle.stil_program.specs.Program.{IsTextFault, IsProgramOf}
-use Rattle.stil_tool.specs.declared.status.Status.{Status}
-use Rattle.stil_tool.specs.declared.status.Status.TheVariants.{Done, OutOfMemory}
-use Rattle.stil_tool.specs.declared.refusal.Refusal.{Refusal}
-use Rattle.stil_tool.specs.declared.refusal.Refusal.TheVariants.{Stil, Net, Plan, TooFewSockets}
-use Rattle.stil_tool.specs.Offline.{memory_line}
-use Rattle.stil_tool.specs.LotText.{status_of, line_of}
-use Rattle.stil_tool.specs.Lot.{Inputs, bound_of, usable, Floor, IsBook}
+use Rattle.tool_inputs.specs.declared.status.Status.{Status}
+use Rattle.tool_inputs.specs.declared.status.Status.TheVariants.{Done, OutOfMemory}
+use Rattle.tool_inputs.specs.declared.refusal.Refusal.{Refusal}
+use Rattle.tool_inputs.specs.declared.refusal.Refusal.TheVariants.{Stil, Net, Plan, TooFewSockets}
+use Rattle.tool_inputs.specs.Endings.{memory_line}
+use Rattle.tool_inputs.specs.Refusals.{status_of, line_of}
+use Rattle.tool_inputs.specs.Inputs.{Inputs, bound_of}
+use Rattle.stil_tool.specs.Lot.{usable, Floor, IsBook}
 
 -- the words `drill N`, of a number from 1 to 200
 pub record AreDrill (words : List (List ℕ)) (number : ℕ) : Type 0 where

@@ -12,14 +12,11 @@ ghost use Rattle.plan_rows.specs.Rows.{sites_of};
 ghost use Rattle.datalog.specs.Printable.{ArePrintable};
 ghost use Rattle.drill_texts.specs.Texts.{stil_text, net_text, plan_text};
 ghost use Rattle.stil_program.specs.Program.{IsProgramOf};
-ghost use Rattle.stil_tool.specs.Offline.{Answers};
+ghost use Rattle.tool_inputs.specs.Endings.{Answers};
 ghost use Rattle.stil_tool.specs.Lot.{usable};
 ghost use Rattle.stil_tool.specs.Drill.{IsTextRefused, IsDrillReady, DrillRunWants, DrillWants, drill_line, drill_text};
 
-use crate::ending::no_memory;
-use crate::floor::{ReadyLot, test, usable};
-use crate::refusal::{Refusal, put_refusal};
-use crate::status::Status;
+use crate::floor::{test, usable};
 use bench_net::Netlist;
 use datalog::{fail_count, print_totals};
 use die_sim::{Socket, SocketBox};
@@ -32,6 +29,7 @@ use std::thread::Threads;
 use stil_ast::StilRefusal;
 use stil_program::program;
 use tester_types::{Desk, Gate, Piece, RecordList, Sink, SinkFault, Text, put_each};
+use tool_inputs::{ReadyLot, Refusal, Status, no_memory, put_refusal};
 
 /// The name of the netlist in the plan.
 const FILE: &[u8] = b"drill.bench";

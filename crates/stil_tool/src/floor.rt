@@ -1,4 +1,4 @@
-//! A lot that is ready to be run, and its run at the sockets.
+//! The run of a lot at its sockets.
 
 ghost use Rattle.std.specs.Prelude.{◌≡◌, ◌≤◌, IfOk, length};
 ghost use Rattle.plan_rows.specs.Rows.{sites_of};
@@ -7,26 +7,19 @@ ghost use Rattle.stil_tool.specs.Lot.{usable, IsBook};
 use die_sim::{Socket, SocketBox};
 use floor_core::BookState;
 use lot_plan::BoundPlan;
-use page_code::Code;
 use pattern_mem::PatternMem;
 use std::alloc::Global;
 use std::sync::Wait;
 use std::thread::Threads;
 use tester_run::run_lot;
 use tester_types::{Desk, Gate, NoMemory};
+use tool_inputs::ReadyLot;
 
 /// How many sockets a lot has at most.
 const SITES: usize = 16;
 
 /// How many pages of the program are kept decoded.
 const FRAMES: u16 = 64;
-
-/// What a lot is run by: the code of its program, and its plan, bound.
-#[derive(Drop)]
-pub(crate) struct ReadyLot {
-    pub(crate) code: Code,
-    pub(crate) plan: BoundPlan,
-}
 
 /// A lot that was run: its program in memory, its plan, and the book of its records.
 #[derive(Drop)]

@@ -2,51 +2,18 @@
 
 ghost use Rattle.std.specs.Prelude.{◌≡◌, ◌≤◌, ℕ, IfOk, IfErr, length};
 ghost use Rattle.plan_rows.specs.Rows.{sites_of};
-ghost use Rattle.stil_tool.specs.Offline.{Answers};
-ghost use Rattle.stil_tool.specs.Lot.{IsReady, IsRefused, RunWants, LotWants, usable};
+ghost use Rattle.tool_inputs.specs.Endings.{Answers};
+ghost use Rattle.tool_inputs.specs.Inputs.{IsReady};
+ghost use Rattle.stil_tool.specs.Lot.{IsRefused, RunWants, LotWants, usable};
 
-use crate::ending::no_memory;
-use crate::floor::{ReadyLot, test, usable};
-use crate::inputs::{read_nets, read_plan, read_program};
-use crate::refusal::{Refusal, put_refusal};
-use crate::status::Status;
+use crate::floor::{test, usable};
 use datalog::print_lot;
 use die_sim::{Socket, SocketBox};
 use std::alloc::Global;
 use std::sync::Wait;
 use std::thread::Threads;
 use tester_types::{Desk, Gate, Shelf, Sink};
-
-/// Reads what a lot needs, and binds its plan.
-fn prepare<F: Shelf>(
-    alloc: Global,
-    program: &str,
-    plan: &str,
-    shelf: &mut F,
-) -> Result<ReadyLot, Refusal>
-    ensures ready { IfOk result (λ lot. IsReady (F.told shelf.old) program.now plan.now lot.code lot.plan) }
-    ensures refused { IfErr result (λ r. (sockets : ℕ) →
-        IsRefused (F.told shelf.old) (F.faults shelf.old) (F.faults shelf.new) sockets program.now plan.now r) }
-    ensures kept { F.told shelf.new ≡ F.told shelf.old }
-    ensures counts { F.faults shelf.old ≤ F.faults shelf.new }
-{
-    let code = match read_program(alloc, program, shelf) {
-        Ok(code) => code,
-        Err(refusal) => return Err(refusal),
-    };
-    let plan = match read_plan(alloc, plan, shelf) {
-        Ok(plan) => plan,
-        Err(refusal) => return Err(refusal),
-    };
-    let nets = match read_nets(alloc, &plan, shelf) {
-        Ok(nets) => nets,
-        Err(refusal) => return Err(refusal),
-    };
-    match plan.bind(alloc, &code, nets) {
-        Ok(plan) => Ok(ReadyLot { code, plan }),
-        Err(fault) => Err(Refusal::Plan(fault)),
-    }
-}
+use tool_inputs::{ReadyLot, Refusal, Status, no_memory, prepare, put_refusal};
 
 /// Runs a lot, and prints what was recorded.
 fn run<R: Threads + Wait + Sync, D: Desk, G: Gate, K: Sink>(

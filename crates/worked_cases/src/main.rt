@@ -3,6 +3,7 @@
 //! how these are written.
 #![tactic(auto)]
 
+mod bytes;
 mod case;
 mod fill;
 mod reader;

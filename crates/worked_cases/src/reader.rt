@@ -1,5 +1,6 @@
 //! The reading of files of cases, line by line.
 
+use crate::bytes::put_bytes;
 use crate::case::{Case, LineFault, status};
 use crate::fill::put_filled;
 use std::alloc::Global;
@@ -67,6 +68,11 @@ fn text_named<'a>(texts: &'a [(String, Vec<u8>)], name: &str) -> Option<&'a [u8]
     None
 }
 
+/// Whether the line is one of content.
+fn is_content(line: &str) -> bool {
+    line.starts_with(['|', '~', '=', '<'])
+}
+
 impl<'a> CaseReader<'a> {
     fn new(alloc: Global) -> CaseReader<'a> {
         CaseReader {
@@ -121,6 +127,9 @@ impl<'a> CaseReader<'a> {
         if let Some(rest) = line.strip_prefix('~') {
             put_filled(self.alloc, &mut self.content, rest, pass)?;
             return Ok(());
+        }
+        if let Some(rest) = line.strip_prefix('=') {
+            return put_bytes(&mut self.content, rest);
         }
         let Some(rest) = line.strip_prefix('|') else {
             return Err(LineFault::NoForm);
@@ -203,9 +212,7 @@ impl<'a> CaseReader<'a> {
                 Ok(())
             }
             None if line.is_empty() || line.starts_with('#') => Ok(()),
-            None if line.starts_with('|') || line.starts_with('~') || line.starts_with('<') => {
-                self.content_line(line, 0)
-            }
+            None if is_content(line) => self.content_line(line, 0),
             None => self.worded_line(line),
         }
     }

@@ -127,15 +127,15 @@ pub fn run<R: AllocGlobal + Threads + Wait + Sync>(
     }
 }
 
-/// Whether the words are those of a lot or a drill, which only the tester runs.
+/// Whether the words are those of a lot, a drill or a grade, which only the tester runs.
 fn needs_tester(case: &Case) -> bool {
     match case.words.first() {
-        Some(word) => word.as_str() == "lot" || word.as_str() == "drill",
+        Some(word) => matches!(word.as_str(), "lot" | "drill" | "grade"),
         None => false,
     }
 }
 
-/// The calls of a case: both, but the tester alone for a lot or a drill, and `offline` alone where the case says so.
+/// The calls of a case: both, but the tester alone for a lot, a drill or a grade, and `offline` alone where the case says so.
 pub fn calls(case: &Case) -> &'static [Call] {
     if case.is_offline {
         &[Call::Offline]

@@ -1,6 +1,6 @@
 use Rattle.std.proofs.Common.{length, arith}
-use Rattle.stil_tool.specs.declared.refusal.Refusal.TheVariants.{TooFewSockets}
-use Rattle.stil_tool.specs.LotText.{status_of, line_of}
+use Rattle.tool_inputs.specs.declared.refusal.Refusal.TheVariants.{TooFewSockets}
+use Rattle.tool_inputs.specs.Refusals.{status_of, line_of}
 use Rattle.stil_tool.specs.Drill.IsDrillRefused.{of_text}
 use Rattle.stil_tool.proofs.DrillLemmas.{refused_wants, few_refused, run_wants}
 use Rattle.stil_tool.proofs.drill.drill.Goals as goal

@@ -2,7 +2,7 @@ use Rattle.std.proofs.Common.{◌≡◌, ℕ, List, length, map, refl, sym, ap, 
 use Rattle.std.specs.Arc.{arc_value}
 use Rattle.std.proofs.lemmas.List.{length-map}
 use Rattle.bench_net.specs.Circuit.{Circuit}
-use Rattle.stil_tool.specs.Lot.{Inputs}
+use Rattle.tool_inputs.specs.Inputs.{Inputs}
 use Rattle.stil_tool.proofs.DrillLemmas.{unbound_refused}
 use Rattle.stil_tool.proofs.drill.prepare.Goals as goal
 

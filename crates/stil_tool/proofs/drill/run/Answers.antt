@@ -1,7 +1,7 @@
 use Rattle.std.proofs.Common.{◌∙◌, List, refl, ap, inl, inr}
 use Rattle.tester_types.specs.Records.{SiteRecords, records_of}
 use Rattle.lot_plan.specs.Bound.{Bound}
-use Rattle.stil_tool.specs.declared.status.Status.TheVariants.{Done}
+use Rattle.tool_inputs.specs.declared.status.Status.TheVariants.{Done}
 use Rattle.stil_tool.specs.Drill.{drill_text}
 use Rattle.stil_tool.proofs.RunLemmas.{printable_so}
 use Rattle.stil_tool.proofs.drill.run.Goals as goal

@@ -1,6 +1,7 @@
 use Rattle.std.proofs.Common.{length, arith}
-use Rattle.stil_tool.specs.declared.refusal.Refusal.TheVariants.{TooFewSockets}
-use Rattle.stil_tool.specs.LotText.{status_of, line_of}
+use Rattle.tool_inputs.specs.declared.refusal.Refusal.TheVariants.{TooFewSockets}
+use Rattle.tool_inputs.specs.Refusals.{status_of, line_of}
+use Rattle.stil_tool.specs.Lot.IsRefused.{of_inputs}
 use Rattle.stil_tool.proofs.LotLemmas.{refused_wants, few_sockets_refused, run_wants}
 use Rattle.stil_tool.proofs.lot.lot.Goals as goal
 
@@ -8,7 +9,7 @@ pub returns-in-Err-clause-answers : goal.returns-in-Err-clause-answers
 returns-in-Err-clause-answers g c = record {
   status = status_of c.in-Err.refusal;
   text = line_of c.in-Err.refusal;
-  wanted = refused_wants _ _ _ _ _ _ _ c.in-Err.refusal (c.in-Err.ensures.refused (length c.args.sockets.now.items));
+  wanted = refused_wants _ _ _ _ _ _ _ c.in-Err.refusal (of_inputs c.in-Err.ensures.refused);
   ends = c.put_refusal.ensures.ends;
 }
 

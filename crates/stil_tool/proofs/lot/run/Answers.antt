@@ -1,7 +1,7 @@
 use Rattle.std.proofs.Common.{◌∙◌, refl, inl, inr}
 use Rattle.tester_types.specs.Records.{records_of}
 use Rattle.datalog.specs.DatalogText.{lot_text}
-use Rattle.stil_tool.specs.declared.status.Status.TheVariants.{Done}
+use Rattle.tool_inputs.specs.declared.status.Status.TheVariants.{Done}
 use Rattle.stil_tool.proofs.RunLemmas.{printable_so, written_so}
 use Rattle.stil_tool.proofs.lot.run.Goals as goal
 

@@ -1,5 +1,7 @@
-use Rattle.stil_tool.specs.Tester.TesterWants.{of_lot, of_drill, of_other}
+use Rattle.std.proofs.Common.{refl, inr}
+use Rattle.stil_tool.specs.Tester.TesterWants.{of_lot, of_drill, of_grade, of_other}
 use Rattle.stil_tool.proofs.FineLotLemmas.{lot_completes}
+use Rattle.stil_tool.proofs.GradeLemmas.{grade_completes}
 use Rattle.stil_tool.proofs.top_call.tester.Goals as goal
 
 pub returns-in-Lot-clause-answers : goal.returns-in-Lot-clause-answers
@@ -34,3 +36,21 @@ returns-in-Offline-clause-answers g c =
       wanted = of_other c.in-Offline.ensures a.wanted;
       ends = a.ends;
     }
+
+pub returns-in-Grade-clause-answers : goal.returns-in-Grade-clause-answers
+returns-in-Grade-clause-answers g c =
+    let a = c.grade.ensures.answers in
+    record {
+      status = a.status;
+      text = a.text;
+      wanted = of_grade c.in-Grade.program.now c.in-Grade.plan.now c.in-Grade.ensures a.wanted refl;
+      ends = a.ends;
+    }
+
+pub returns-in-Grade-clause-complete_grade : goal.returns-in-Grade-clause-complete_grade
+returns-in-Grade-clause-complete_grade g c =
+    λ fine. grade_completes _ _ _ _ _ _ _ _ _ _ _ _ (returns-in-Grade-clause-answers g c) fine
+
+pub returns-in-Offline-clause-complete_grade : goal.returns-in-Offline-clause-complete_grade
+returns-in-Offline-clause-complete_grade g c =
+    λ fine. absurd (c.in-Offline.ensures (inr (inr (fine.program, fine.plan, fine.are))))

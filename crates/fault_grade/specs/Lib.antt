@@ -1,0 +1,3 @@
+pub mod Grade
+pub mod Run
+pub mod Search

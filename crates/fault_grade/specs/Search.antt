@@ -1,0 +1,99 @@
+-- What the code goes through to find a first fail. No public clause cites it.
+use Rattle.std.specs.Prelude.{◌≡◌, ℕ, ◌+◌, ◌-◌, ◌*◌, ◌<◌, ◌≤◌, ℤ, Bool, true, false, Option, None, List, [], ◌∷◌, length, map}
+use Rattle.std.specs.Option.{option_or}
+use Rattle.std.specs.List.{AllByRecursion, range_with_len}
+use Rattle.tester_types.specs.declared.cycle.Cycle.{Cycle}
+use Rattle.tester_types.specs.declared.cycle.Moment.{Moment}
+use Rattle.tester_types.specs.declared.record.Fail.{Fail}
+use Rattle.page_code.specs.Program.{Program}
+use Rattle.bench_net.specs.Circuit.{IsWhole}
+use Rattle.die_sim.specs.Die.{Device, Image, device_of}
+use Rattle.die_sim.specs.declared.image.StuckAt.{StuckAt}
+use Rattle.strobe_check.specs.History.{HasSeen}
+use Rattle.site_meaning.specs.Playing.{Stand, Going, starting}
+use Rattle.site_meaning.specs.Trials.{played, after_cycles, fails_in, execs_of}
+use Rattle.cycle_run.specs.Cycle.{stand_of, closed_with, going_at, Point, IsBetween}
+use Rattle.cycle_run.specs.Batch.{Between, going_in}
+use Rattle.cycle_run.specs.Step.{FitCode, schedule_of}
+use Rattle.fault_grade.specs.Grade.{first_fail}
+use Rattle.fault_grade.specs.Run.{fault_at}
+use Rattle.fault_grade.specs.declared.graded.Graded.{Graded}
+
+-- ---- what a try comes to
+
+-- the cycle of the first fail of executives one after another, the first of which has this number
+unfoldable pub first_from : Stand → ℕ → Going → List (List Cycle) → Option ℕ
+first_from stand exec going [] = None
+first_from stand exec going (cycles ∷ later) =
+    option_or (first_fail (fails_in (played stand exec going cycles)))
+    (first_from stand (exec + 1) (after_cycles stand going cycles) later)
+
+-- the cycle of the first fail of a program, with these skews, on a die that is loaded from an image
+unfoldable pub first_on : Program → List ℤ → Image → Option ℕ
+first_on code skews image =
+    first_from (stand_of code skews (device_of image)) 0 (starting (device_of image)) (execs_of code)
+
+-- the same of an image with this fault in place of its own
+abbrev pub graded_on : Program → List ℤ → Image → StuckAt → Graded
+graded_on code skews image fault = record {
+  net = fault.net;
+  value = fault.value;
+  first = first_on code skews (record image { faults = fault ∷ [] });
+}
+
+-- the same of the faults of these numbers, the last left out
+unfoldable pub run_on : Program → List ℤ → Image → ℕ → ℕ → List Graded
+run_on code skews image from to = map (λ k. graded_on code skews image (fault_at k)) (range_with_len from (to - from))
+
+-- ---- what is handed in
+
+-- a program can run on an image: its circuit is whole, it binds each signal, and the skews keep events inside cycles
+pub record CanRun (code : Program) (skews : List ℤ) (image : Image) : Type 0 where
+  pub whole : IsWhole image.circuit
+  pub signals : length image.binds ≡ length code.signals
+  pub skews_fit : FitCode code skews
+
+-- moments that are held are those of their numbers
+abbrev pub HoldsMoments : Program → List ℤ → List ((ℕ × ℕ) × List Moment) → Type 0
+HoldsMoments code skews held = AllByRecursion (λ entry. entry.1 ≡ schedule_of code skews entry.0) held
+
+-- ---- what the code keeps on its way
+
+-- a try has no fail so far, and stands between two cycles
+pub record IsClear (device : Device) (point : Point) : Type 0 where
+  pub between : IsBetween device point
+  pub seen : HasSeen (closed_with device 1 []) point.held
+
+-- numbers are small enough to go on with this executive, so many of whose cycles have run
+pub record IsEarly (exec done : ℕ) (number time : ℕ) : Type 0 where
+  pub number_is : number ≤ 281474976710656 * exec + done
+  pub time_is : time ≤ 1000000000000 * number
+
+-- one of the cycles of an executive has a fail: those fails that are found begin with the first of all
+pub record Finds (stand : Stand) (exec : ℕ) (cycles : List Cycle) (old new : Between) : Type 0 where
+  pub fails : List Fail
+  pub seen : HasSeen (closed_with stand.device 1 fails) new.point.held
+  pub first : first_fail fails ≡ first_fail (fails_in (played stand exec (going_in old) cycles))
+  pub some : 0 < length fails
+
+-- all cycles of an executive are played, and none has a fail
+pub record Passes (stand : Stand) (exec : ℕ) (cycles : List Cycle) (old new : Between) : Type 0 where
+  pub going : going_in new ≡ after_cycles stand (going_in old) cycles
+  pub none : fails_in (played stand exec (going_in old) cycles) ≡ []
+  pub clear : IsClear stand.device new.point
+
+-- an executive is run up to its first fail
+abbrev pub RunsUpTo : Stand → ℕ → List Cycle → Between → Between → Bool → Type 0
+RunsUpTo stand exec cycles old new true = Finds stand exec cycles old new
+RunsUpTo stand exec cycles old new false = Passes stand exec cycles old new
+
+-- the fails that are found begin with this one, if there is any
+pub record HasFirst (device : Device) (first : Option ℕ) (point : Point) : Type 0 where
+  pub fails : List Fail
+  pub seen : HasSeen (closed_with device 1 fails) point.held
+  pub is : first_fail fails ≡ first
+
+-- a try stands before its first cycle
+pub record StartsSo (device : Device) (number time : ℕ) (point : Point) : Type 0 where
+  pub clear : IsClear device point
+  pub going : going_at point time number ≡ starting device

@@ -1,0 +1,116 @@
+//! Faults of the first die on one thread.
+
+ghost use Rattle.std.specs.Prelude.{◌≡◌, ◌*◌, ◌≤◌, ◌<◌, IfOk, IfSome, option_to_list};
+ghost use Rattle.plan_rows.specs.Rows.{sites_of};
+ghost use Rattle.fault_grade.specs.Grade.{first, first_part, nets_in};
+ghost use Rattle.fault_grade.specs.Run.{run_of};
+ghost use Rattle.fault_grade.specs.Search.{HoldsMoments};
+ghost use Rattle.lot_plan.specs.Skews.{site_skews};
+ghost use Rattle.fault_grade.specs.Grade.{first_site};
+
+use crate::die::{first_image, first_skews};
+use crate::faults::image_with;
+use crate::graded::GradeList;
+use crate::lent::Lent;
+use crate::run::{try_image, try_run};
+use die_sim::StuckAt;
+use lot_plan::BoundPlan;
+use page_code::Code;
+use std::alloc::Global;
+use tester_types::NoMemory;
+
+/// The moments that the cycles have at the first die's site.
+pub(crate) fn first_lent(alloc: Global, code: &Code, plan: &BoundPlan) -> Result<Lent, NoMemory>
+    requires die { 0 < sites_of plan.now.rows }
+    requires one_program { plan.now.program ≡ code.now }
+    ensures { IfOk result (λ lent. HoldsMoments code.now (site_skews plan.now (first_site plan.now)) lent) }
+{
+    let _sites = plan.sites();
+    let _signals = code.signals();
+    Lent::make(alloc, code, first_skews(plan))
+}
+
+/// The cycle of the first fail of the first die with this fault, if there is one, where moments are lent.
+pub(crate) fn first_with(
+    alloc: Global,
+    code: &Code,
+    plan: &BoundPlan,
+    lent: &Lent,
+    fault: Option<StuckAt>,
+) -> Result<Option<u64>, NoMemory>
+    requires die { 0 < sites_of plan.now.rows }
+    requires one_program { plan.now.program ≡ code.now }
+    requires net { IfSome fault (λ f. f.net < nets_in (first_part plan.now)) }
+    requires lent { HoldsMoments code.now (site_skews plan.now (first_site plan.now)) lent.now }
+    ensures { IfOk result (λ cycle. cycle ≡ first (first_part plan.now) 0 (option_to_list fault)) }
+{
+    let _sites = plan.sites();
+    let _signals = code.signals();
+    let image = image_with(alloc, first_image(plan), fault)?;
+    try_image(alloc, lent, code, first_skews(plan), &image)
+}
+
+/// The grades of the first die's faults with these numbers, the last left out, where moments are lent.
+pub(crate) fn run_with(
+    alloc: Global,
+    code: &Code,
+    plan: &BoundPlan,
+    lent: &Lent,
+    from: u32,
+    to: u32,
+) -> Result<GradeList, NoMemory>
+    requires die { 0 < sites_of plan.now.rows }
+    requires one_program { plan.now.program ≡ code.now }
+    requires order { from ≤ to }
+    requires within { to ≤ 2 * nets_in (first_part plan.now) }
+    requires lent { HoldsMoments code.now (site_skews plan.now (first_site plan.now)) lent.now }
+    ensures { IfOk result (λ list. list ≡ run_of (first_part plan.now) from to) }
+{
+    let _sites = plan.sites();
+    let _signals = code.signals();
+    try_run(
+        alloc,
+        lent,
+        code,
+        first_skews(plan),
+        first_image(plan),
+        from,
+        to,
+    )
+}
+
+/// The cycle of the first fail of a try of the plan's first die in which this fault alone is active, or no fault; none
+/// where no fail comes. The code is the one that the plan was bound to.
+pub fn first_of(
+    alloc: Global,
+    code: &Code,
+    plan: &BoundPlan,
+    fault: Option<StuckAt>,
+) -> Result<Option<u64>, NoMemory>
+    requires die { 0 < sites_of plan.now.rows }
+    requires one_program { plan.now.program ≡ code.now }
+    requires net { IfSome fault (λ f. f.net < nets_in (first_part plan.now)) }
+    ensures { IfOk result (λ cycle. cycle ≡ first (first_part plan.now) 0 (option_to_list fault)) }
+{
+    let lent = first_lent(alloc, code, plan)?;
+    first_with(alloc, code, plan, &lent, fault)
+}
+
+/// The grades of the faults of the plan's first die from one number up to another, the last left out: fault k is net
+/// k / 2 stuck at k % 2. The code is the one that the plan was bound to.
+pub fn grade_run(
+    alloc: Global,
+    code: &Code,
+    plan: &BoundPlan,
+    from: u32,
+    to: u32,
+) -> Result<GradeList, NoMemory>
+    requires die { 0 < sites_of plan.now.rows }
+    requires one_program { plan.now.program ≡ code.now }
+    requires order { from ≤ to }
+    requires within { to ≤ 2 * nets_in (first_part plan.now) }
+    ensures { IfOk result (λ list. list ≡ run_of (first_part plan.now) from to) }
+{
+    let lent = first_lent(alloc, code, plan)?;
+    run_with(alloc, code, plan, &lent, from, to)
+}

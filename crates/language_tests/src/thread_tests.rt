@@ -1,0 +1,17 @@
+//! What is built of a text may be moved to and shared between threads.
+
+use pattern_order::PlayOrder;
+use scan_chain::Chains;
+use signal_groups::SignalTable;
+use wave_tables::WaveSet;
+
+/// Takes only types that may be moved to and shared between threads.
+fn crosses_threads<T: Send + Sync>() {}
+
+#[test]
+fn what_is_built_of_a_text_may_cross_threads() {
+    crosses_threads::<SignalTable>();
+    crosses_threads::<WaveSet>();
+    crosses_threads::<Chains>();
+    crosses_threads::<PlayOrder>();
+}

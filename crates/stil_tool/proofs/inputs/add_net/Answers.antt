@@ -1,8 +1,0 @@
-use Rattle.std.proofs.Common.{ℕ, List, subst}
-use Rattle.stil_tool.specs.Lot.{IsNetRefused}
-use Rattle.stil_tool.proofs.inputs.add_net.Goals as goal
-
-pub returns-in-Err-clause-refused : goal.returns-in-Err-clause-refused
-returns-in-Err-clause-refused g c =
-    subst (λ (name : List ℕ). IsNetRefused (g.F.Shelf.told c.args.shelf.now) (g.F.Shelf.faults c.args.shelf.now)
-    (g.F.Shelf.faults c.read_net.new.shelf) name c.in-Err.refusal) c.name_of.ensures c.in-Err.ensures.refused

@@ -1,8 +1,0 @@
-use Rattle.std.proofs.Common.{◌∙◌}
-use Rattle.stil_tool.proofs.LotLemmas.{net_refused}
-use Rattle.stil_tool.proofs.inputs.read_net.Goals as goal
-
-pub returns-in-Err-read-clause-refused : goal.returns-in-Err-read-clause-refused
-returns-in-Err-read-clause-refused g c =
-    net_refused _ _ _ c.args.file.now _ c.as_slice.result.now c.from_vec.result c.in-Err-read.fault c.in-Ok-load.ensures.found
-    c.as_slice.ensures.value (c.from_vec.ensures ∙ c.in-Ok.ensures.items ∙ c.as_bytes.ensures.value) c.in-Err-read.ensures.fault

@@ -1,7 +1,0 @@
-use Rattle.stil_tool.proofs.LotLemmas.{plan_refused}
-use Rattle.stil_tool.proofs.inputs.read_plan.Goals as goal
-
-pub returns-clause-refused : goal.returns-clause-refused
-returns-clause-refused g c =
-    plan_refused _ _ _ c.args.file.now _ c.as_slice.result.now c.in-Err-read.fault c.in-Ok.ensures.found c.as_slice.ensures.value
-    c.in-Err-read.ensures.fault

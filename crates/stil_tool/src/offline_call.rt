@@ -1,0 +1,55 @@
+//! The commands that need no tester, by the words of the command line.
+
+ghost use Rattle.std.specs.Prelude.{◌≡◌, ◌≤◌, ℕ, List, IfSome, IfNone};
+ghost use Rattle.text_commands.specs.declared.command.Command.{Command};
+ghost use Rattle.tool_inputs.specs.Endings.{Answers, IsDone};
+ghost use Rattle.stil_tool.specs.Offline.{words_seen, AreOf, Wants, IsFine};
+
+use std::alloc::Global;
+use tester_types::{Piece, Shelf, Sink};
+use text_commands::{Command, command_of, run_file};
+use tool_inputs::{Status, ended};
+
+/// Runs a command that needs no tester. On a STIL text `check FILE` prints the numbers of its code, `cycles FILE` its dated
+/// cycles, `events FILE` the moments of its cycles, and `save FILE` writes its code as a saved program. The words, the file
+/// and its content decide the answer, and with each answer comes its line or its text; a put that fails or takes nothing is
+/// answered as a write fault. A text is refused by its first fault; `cycles` and `events` refuse one of more than 65,536
+/// cycles too. Want of memory may come at any time; of `events` whole lines may stand before its line.
+pub fn offline<F: Shelf, K: Sink>(
+    alloc: Global,
+    words: &[String],
+    shelf: &mut F,
+    out: &mut K,
+) -> Status
+    ensures answers { Answers (Wants (words_seen words.now)
+        (F.told shelf.old) (F.faults shelf.old) (F.faults shelf.new))
+        (K.told out.old) (K.faults out.old) result (K.told out.new) (K.faults out.new) }
+    ensures complete { IsFine (words_seen words.now) (F.told shelf.old) (F.faults shelf.old) (F.faults shelf.new)
+        (K.faults out.old) (K.faults out.new) → IsDone result }
+    ensures kept { F.told shelf.new ≡ F.told shelf.old }
+    ensures counts { F.faults shelf.old ≤ F.faults shelf.new }
+    ensures puts { K.faults out.old ≤ K.faults out.new }
+{
+    match file_command(words) {
+        Some((command, file)) => run_file(alloc, command, file, shelf, out),
+        None => ended(out, &[Piece::Text(USAGE)], Status::Usage),
+    }
+}
+
+const USAGE: &[u8] =
+    b"usage: check FILE | cycles FILE | events FILE | save FILE | lot PROGRAM PLAN | drill N | \
+grade PROGRAM PLAN\n";
+
+/// The command of these words, and the file that it names.
+fn file_command(words: &[String]) -> Option<(Command, &str)>
+    ensures found { IfSome result (λ called. AreOf (words_seen words.now) called.0 called.1.now) }
+    ensures none { IfNone result ((command : Command) (file : List ℕ) → AreOf (words_seen words.now) command file → ⊥) }
+{
+    match words {
+        [word, file] => match command_of(word.as_str()) {
+            Some(command) => Some((command, file.as_str())),
+            None => None,
+        },
+        _ => None,
+    }
+}

@@ -1,0 +1,4 @@
+pub mod ListedLemmas
+pub mod FewLemmas
+pub mod CommandLemmas
+pub mod DoneLemmas

@@ -1,0 +1,15 @@
+use Rattle.text_commands.proofs.CommandLemmas.{few_listed, told_many, line_there}
+use Rattle.text_commands.proofs.few_cycles.listed_code.Goals as goal
+
+pub refusal_at-requires-clause-lines : goal.refusal_at-requires-clause-lines
+refusal_at-requires-clause-lines c =
+    line_there c.args.bytes.now c.in-Ok.text.code c.in-Ok.text.lines.items c.in-Some.exec c.in-Ok.ensures.found c.in-Some.ensures.found.within
+
+pub returns-in-Some-clause-refused : goal.returns-in-Some-clause-refused
+returns-in-Some-clause-refused c =
+    told_many c.args.bytes.now c.in-Ok.text.code c.in-Ok.text.lines.items c.in-Some.exec c.refusal_at.result c.in-Ok.ensures.found
+    c.in-Some.ensures.found c.refusal_at.ensures
+
+pub returns-in-None-clause-found : goal.returns-in-None-clause-found
+returns-in-None-clause-found c =
+    few_listed c.args.bytes.now c.in-Ok.text.code c.in-Ok.text.lines.items c.in-Ok.ensures.found c.in-None.ensures.none

@@ -1,0 +1,9 @@
+//! The commands on a STIL text: the numbers of its code, its dated cycles, their moments, and its code as a saved program.
+#![tactic(auto)]
+
+mod command;
+mod commands;
+mod few_cycles;
+
+pub use command::{Command, command_of};
+pub use commands::run_file;

@@ -1,0 +1,4 @@
+pub mod FileLemmas
+pub mod InputLemmas
+pub mod NetLemmas
+pub mod FineLemmas

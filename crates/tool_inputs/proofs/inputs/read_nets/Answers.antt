@@ -1,0 +1,35 @@
+use Rattle.std.proofs.Common.{◌≡◌, ℕ, ◌<◌, List, length, map, get_or, ap, ◌∙◌, subst, arith}
+use Rattle.std.specs.Arc.{arc_value}
+use Rattle.plan_rows.specs.Rows.{files_of}
+use Rattle.tool_inputs.proofs.NetLemmas.{next_read, next_refused}
+use Rattle.tool_inputs.proofs.inputs.read_nets.Goals as goal
+
+pub returns-in-Err-clause-refused : goal.returns-in-Err-clause-refused
+returns-in-Err-clause-refused g c =
+    let told = g.F.Shelf.told in
+    let faults = g.F.Shelf.faults in
+    let files = files_of c.args.plan.now in
+    let same = c.as_slice-files.ensures ∙ c.files.ensures.files in
+    let within : c.loop-file.file-index < length files =
+    omega (arith, c.loop-file-test.true, ap (λ (l : List (List ℕ)). length l) same) in
+    next_refused (told c.args.shelf.now) (told c.loop-file.shelf) (faults c.args.shelf.now) (faults c.loop-file.shelf)
+    (faults c.add_net.new.shelf) files c.loop-file.file-index (map arc_value c.loop-file.nets.items) c.file-item.result
+    c.in-Err.refusal within
+    (subst (λ (l : List (List ℕ)). c.file-item.result ≡ get_or l c.loop-file.file-index c.file-item.result) same c.file-item.is)
+    c.loop-file.invariant.kept c.loop-file.invariant.counts c.in-Err.ensures.counts c.loop-file.invariant.read c.in-Err.ensures.refused
+
+pub loop-file-preserved : goal.loop-file-preserved
+loop-file-preserved g c =
+    let told = g.F.Shelf.told in
+    let files = files_of c.args.plan.now in
+    let same = c.as_slice-files.ensures ∙ c.files.ensures.files in
+    let within : c.loop-file.file-index < length files =
+    omega (arith, c.loop-file-test.true, ap (λ (l : List (List ℕ)). length l) same) in
+    record {
+      read = next_read (told c.args.shelf.now) (told c.loop-file.shelf) files c.loop-file.file-index
+          (map arc_value c.loop-file.nets.items) (map arc_value c.add_net.new.nets.items) c.file-item.result within
+          (subst (λ (l : List (List ℕ)). c.file-item.result ≡ get_or l c.loop-file.file-index c.file-item.result) same c.file-item.is)
+          c.loop-file.invariant.kept c.loop-file.invariant.read c.in-Ok.ensures.found;
+      kept = c.in-Ok.ensures.kept ∙ c.loop-file.invariant.kept;
+      counts = omega (arith, c.loop-file.invariant.counts, c.in-Ok.ensures.counts);
+    }

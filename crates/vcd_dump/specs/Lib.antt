@@ -1,0 +1,4 @@
+pub mod Taken
+pub mod Recording
+pub mod Play
+pub mod Written
