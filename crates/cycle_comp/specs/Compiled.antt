@@ -6,7 +6,7 @@ use Rattle.stil_ast.specs.Meaning.Signals.{Signal, Names}
 use Rattle.stil_ast.specs.Meaning.Chains.{Chain}
 use Rattle.stil_ast.specs.Meaning.State.{start_of}
 use Rattle.stil_ast.specs.Meaning.Cycles.{Dated}
-use Rattle.stil_ast.specs.Meaning.ExecutiveData.{Executive, cycles_of as text_cycles, measure_of, rows_of, tables_of}
+use Rattle.stil_ast.specs.Meaning.ExecutiveData.{Executive, cycles_of as text_cycles, measure_of, least_in, rows_of, tables_of}
 use Rattle.stil_ast.specs.Faults.CodeFaults.{compile_faults}
 use Rattle.stil_ast.specs.declared.fault.StilFault.{StilFault}
 use Rattle.page_code.specs.declared.parts.CodeSignal.{CodeSignal}
@@ -15,7 +15,6 @@ use Rattle.tester_types.specs.declared.cycle.Cycle.{Cycle}
 use Rattle.page_code.specs.Program.{Program}
 use Rattle.page_code.specs.Conditions.{letters_of}
 use Rattle.page_code.specs.Cycles.{cycles_of, exec_of}
-use Rattle.instr_writer.specs.Least.{least_in}
 
 -- a signal of a code
 abbrev pub signal_of : Signal → CodeSignal

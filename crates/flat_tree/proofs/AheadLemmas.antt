@@ -1,10 +1,16 @@
--- What is assigned again before it is used makes no difference.
+-- What is assigned again before it is used makes no difference, to the run and to how few instructions take it.
 use Rattle.std.proofs.Common.{◌≡◌, ◌≢◌, ℕ, ◌==◌, ◌||◌, Bool, true, false, List, Option, Some, None, refl, ap, sym, ◌∙◌, subst, eq-eqb, eqb-true, slice_index_or}
 use Rattle.std.proofs.lemmas.List.{set-set, set_comm}
 use Rattle.stil_ast.specs.Meaning.State.{State}
 use Rattle.stil_ast.specs.Meaning.Dealing.{with_letter}
 use Rattle.stil_ast.specs.Meaning.Flat.{Flat, done, table, character, back, cycle, repeat, save, flat_run}
+use Rattle.stil_ast.specs.Meaning.Least.{least_written}
+use Rattle.stil_ast.specs.Meaning.Running.{Ran}
 use Rattle.flat_tree.specs.Lean.{sets_table, sets_signal}
+
+-- what a tree does, and how few instructions take it
+abbrev pub run_and_least : Flat → State → State → Ran State × ℕ
+run_and_least f base s = (flat_run f base s, least_written f base s)
 
 -- a state with other characters
 abbrev with_letters : State → List (Option ℕ) → State
@@ -26,16 +32,16 @@ set_apart signal other x y s ne = ap (with_letters s) (set_comm s.letters signal
 set_ahead : (b : Bool) (signal other : ℕ) (x y : Option ℕ) (rest : Flat) (base s : State) → (other == signal) ≡ b
     → (b || sets_signal signal rest) ≡ true
     → (sets_signal signal rest ≡ true →
-    flat_run rest base (with_letter signal x (with_letter other y s)) ≡ flat_run rest base (with_letter other y s))
-    → flat_run rest base (with_letter other y (with_letter signal x s)) ≡ flat_run rest base (with_letter other y s)
+    run_and_least rest base (with_letter signal x (with_letter other y s)) ≡ run_and_least rest base (with_letter other y s))
+    → run_and_least rest base (with_letter other y (with_letter signal x s)) ≡ run_and_least rest base (with_letter other y s)
 set_ahead true signal other x y rest base s e h later =
-    ap (flat_run rest base) (set_again signal other x y s (eqb-true other signal e))
+    ap (run_and_least rest base) (set_again signal other x y s (eqb-true other signal e))
 set_ahead false signal other x y rest base s e h later =
     let ne : signal ≢ other = λ same. let h : (other == signal) ≡ true = eq-eqb other signal (sym same) in cc in
-    ap (flat_run rest base) (set_apart signal other x y s ne) ∙ later h
+    ap (run_and_least rest base) (set_apart signal other x y s ne) ∙ later h
 
 pub overwritten : (signal : ℕ) (x : Option ℕ) (f : Flat) (base s : State) → sets_signal signal f ≡ true
-    → flat_run f base (with_letter signal x s) ≡ flat_run f base s
+    → run_and_least f base (with_letter signal x s) ≡ run_and_least f base s
 overwritten signal x done base s e = cc
 overwritten signal x (table t rest) base s e =
     overwritten signal x rest base (record { table = Some t; letters = s.letters }) e
@@ -51,7 +57,7 @@ overwritten signal x (repeat count body rest) base s e = cc
 overwritten signal x (save putting body rest) base s e = cc
 
 pub overwritten_table : (t : Option ℕ) (f : Flat) (base s : State) → sets_table f ≡ true
-    → flat_run f base (record { table = t; letters = s.letters }) ≡ flat_run f base s
+    → run_and_least f base (record { table = t; letters = s.letters }) ≡ run_and_least f base s
 overwritten_table t done base s e = cc
 overwritten_table t (table u rest) base s e = refl
 overwritten_table t (character signal c rest) base s e = overwritten_table t rest base (with_letter signal (Some c) s) e

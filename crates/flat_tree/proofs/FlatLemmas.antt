@@ -1,7 +1,10 @@
 -- How lists and their flat trees are joined.
 use Rattle.std.proofs.Common.{◌≡◌, ℕ, ◌+◌, ◌≤◌, zero, suc, ◌<◌, List, [], ◌∷◌, ◌++◌, refl, ap, sym, subst, ◌∙◌, length, take, get_or, arith}
 use Rattle.std.proofs.lemmas.List.{reverse-append, take_more}
-use Rattle.stil_ast.specs.Meaning.Flat.{Flat, done, table, character, back, cycle, repeat, save, measure}
+use Rattle.stil_ast.specs.Meaning.State.{State}
+use Rattle.stil_ast.specs.Meaning.Running.{times}
+use Rattle.stil_ast.specs.Meaning.Flat.{Flat, done, table, character, back, cycle, repeat, save, saved, flat_run, measure}
+use Rattle.stil_ast.specs.Meaning.Least.{least_written}
 use Rattle.stil_ast.specs.Meaning.Flattening.{joined}
 use Rattle.flat_tree.specs.Items.{item_front, items_flat, item_count, body_count}
 use Rattle.flat_tree.specs.Leaning.{reversed_flat}
@@ -34,6 +37,18 @@ measure-joined (back signal rest) b = measure-joined rest b
 measure-joined (cycle mark spot rest) b = omega (arith, measure-joined rest b)
 measure-joined (repeat count body rest) b = omega (arith, measure-joined rest b)
 measure-joined (save putting body rest) b = omega (arith, measure-joined rest b)
+
+pub least_written-joined : (a b : Flat) (base s : State)
+    → least_written (joined a b) base s ≡ least_written a base s + least_written b base (flat_run a base s).here
+least_written-joined done b base s = omega arith
+least_written-joined (table t rest) b base s = least_written-joined rest b base _
+least_written-joined (character signal x rest) b base s = least_written-joined rest b base _
+least_written-joined (back signal rest) b base s = least_written-joined rest b base _
+least_written-joined (cycle mark spot rest) b base s = omega (arith, least_written-joined rest b base s)
+least_written-joined (repeat count body rest) b base s =
+    omega (arith, least_written-joined rest b base (times count (flat_run body base) s).here)
+least_written-joined (save putting body rest) b base s =
+    omega (arith, least_written-joined rest b base (saved putting s (flat_run body s s)).here)
 
 -- an item stands in front of what is joined to it
 item_front-joined : (item : FlatItem) (a b : Flat) → joined (item_front item a) b ≡ item_front item (joined a b)

@@ -1,14 +1,17 @@
 -- Each step from a list's end keeps a lean tree that does the same.
 use Rattle.std.proofs.Common.{◌≡◌, ◌≢◌, ℕ, zero, suc, ◌<◌, ◌==◌, ◌||◌, Bool, true, false, List, [], ◌∷◌, ◌++◌, Some, None, refl, ap, sym, ◌∙◌, subst, length, slice_index_or, slice_set, get_or-set_other, get_or-set_same, eq-eqb, eqb-true, append_assoc, arith}
+use Rattle.std.specs.Prelude.{Result, Ok, Err, OnOk}
 use Rattle.std.proofs.lemmas.List.{length-set, length-replicate, get_or-replicate}
 use Rattle.stil_ast.specs.Meaning.Dealing.{with_letter}
-use Rattle.stil_ast.specs.Meaning.Flat.{Flat, table, character, back}
+use Rattle.stil_ast.specs.Meaning.State.{State}
+use Rattle.stil_ast.specs.Meaning.Running.{Ran}
+use Rattle.stil_ast.specs.Meaning.Flat.{Flat, table, character, back, repeat, measure}
 use Rattle.stil_ast.specs.Meaning.ExecutiveData.{IsSameFlat}
 use Rattle.flat_tree.specs.Lean.{sets_table, sets_signal, IsLean, Ahead}
 use Rattle.flat_tree.specs.Leaning.{IsMade, none_ahead}
 use Rattle.flat_tree.specs.declared.flat.FlatItem.{FlatItem}
-use Rattle.flat_tree.proofs.SameLemmas.{same-table, same-character, same-back}
-use Rattle.flat_tree.proofs.AheadLemmas.{overwritten, overwritten_table}
+use Rattle.flat_tree.proofs.SameLemmas.{same-table, same-character, same-back, same-repeat}
+use Rattle.flat_tree.proofs.AheadLemmas.{run_and_least, overwritten, overwritten_table}
 
 -- the table is set ahead
 abbrev pub table_ahead : Ahead → Ahead
@@ -24,17 +27,30 @@ found_within [] i e = cc
 found_within (b ∷ bs) zero e = omega arith
 found_within (b ∷ bs) (suc i) e = omega (arith, found_within bs i e)
 
+-- where what an assignment changes makes no difference to a tree, the tree does for another one with it in front
+dropped : (made wanted more : Flat) (begin : State → State → State) → IsSameFlat made wanted
+    → measure wanted ≡ measure more
+    → ((base s : State) → run_and_least wanted base (begin base s) ≡ run_and_least more base s)
+    → ((base s : State) → run_and_least made base (begin base s) ≡ run_and_least made base s)
+    → IsSameFlat made more
+dropped made wanted more begin same size front ahead =
+    record {
+      runs =
+          λ base s. ap (λ (x : Ran State × ℕ). x.0) (sym (ahead base s))
+          ∙ (same.runs base (begin base s) ∙ ap (λ (x : Ran State × ℕ). x.0) (front base s));
+      measure = same.measure ∙ size;
+      least =
+          λ base s. ap (λ (x : Ran State × ℕ). x.1) (sym (ahead base s))
+          ∙ (same.least base (begin base s) ∙ ap (λ (x : Ran State × ℕ). x.1) (front base s));
+    }
+
 pub table_dropped : (signals : ℕ) (a : Ahead) (t : ℕ) (made wanted : Flat) → IsMade signals a made wanted
     → a.table ≡ true → IsMade signals a made (table t wanted)
 table_dropped signals a t made wanted m e =
     record {
       same =
-          record {
-            runs =
-                λ base s. sym (overwritten_table (Some t) made base s (sym m.at_table ∙ e))
-                ∙ m.same.runs base (record { table = Some t; letters = s.letters });
-            measure = m.same.measure;
-          };
+          dropped made wanted (table t wanted) (λ base s. record { table = Some t; letters = s.letters }) m.same refl
+          (λ base s. refl) (λ base s. overwritten_table (Some t) made base s (sym m.at_table ∙ e));
       lean = m.lean;
       size = m.size;
       at_table = m.at_table;
@@ -68,24 +84,17 @@ pub character_dropped : (signals : ℕ) (a : Ahead) (signal c : ℕ) (made wante
     → slice_index_or a.signals signal false ≡ true → IsMade signals a made (character signal c wanted)
 character_dropped signals a signal c made wanted m e =
     left_away signals a signal made wanted (character signal c wanted) m
-    (record {
-      runs =
-          λ base s. sym (overwritten signal (Some c) made base s (found_set signals a signal made wanted m e))
-          ∙ m.same.runs base (with_letter signal (Some c) s);
-      measure = m.same.measure;
-    })
+    (dropped made wanted (character signal c wanted) (λ base s. with_letter signal (Some c) s) m.same refl (λ base s. refl)
+    (λ base s. overwritten signal (Some c) made base s (found_set signals a signal made wanted m e)))
 
 pub back_dropped : (signals : ℕ) (a : Ahead) (signal : ℕ) (made wanted : Flat) → IsMade signals a made wanted
     → slice_index_or a.signals signal false ≡ true → IsMade signals a made (back signal wanted)
 back_dropped signals a signal made wanted m e =
     left_away signals a signal made wanted (back signal wanted) m
-    (record {
-      runs =
-          λ base s. let c = slice_index_or base.letters signal None in
-          sym (overwritten signal c made base s (found_set signals a signal made wanted m e))
-          ∙ m.same.runs base (with_letter signal c s);
-      measure = m.same.measure;
-    })
+    (dropped made wanted (back signal wanted) (λ base s. with_letter signal (slice_index_or base.letters signal None) s)
+    m.same refl (λ base s. refl)
+    (λ base s. overwritten signal (slice_index_or base.letters signal None) made base s
+    (found_set signals a signal made wanted m e)))
 
 -- what is set ahead once a signal is
 set_now : (b : Bool) (bs : List Bool) (signal other : ℕ) (sets : Bool) → (signal == other) ≡ b
@@ -147,6 +156,23 @@ whole_made signals a made wanted size same lean no_table no_signal =
           (subst (λ (n : ℕ). signal < n) (sym size) within)
           ∙ sym (no_signal signal);
     }
+
+-- a loop of a lean body in front, where some were ahead in its body
+pub repeat_made : (signals count : ℕ) (a in_body b : Ahead) (body other begun made wanted whole : Flat)
+    → IsMade signals a made wanted → begun ≡ other → IsSameFlat body begun → IsLean (length a.signals) body
+    → length in_body.signals ≡ length a.signals → whole ≡ repeat count body made → b ≡ none_ahead in_body
+    → IsMade signals b whole (repeat count other wanted)
+repeat_made signals count a in_body b body other begun made wanted whole m same_body same lean size is none =
+    subst (λ (f : Flat). IsMade signals b f (repeat count other wanted)) (sym is)
+    (subst (λ (x : Ahead). IsMade signals x (repeat count body made) (repeat count other wanted)) (sym none)
+    (whole_made signals in_body (repeat count body made) (repeat count other wanted) (size ∙ m.size)
+    (same-repeat count body other made wanted (subst (λ (f : Flat). IsSameFlat body f) same_body same) m.same)
+    (subst (λ (n : ℕ). IsLean n body) m.size lean, m.lean) refl (λ signal. refl)))
+
+-- what two facts of an Ok give
+pub on_both : {T E P Q R : Type 0} (r : Result T E) → (P → Q → R) → OnOk r P → OnOk r Q → OnOk r R
+on_both (Ok x) f p q = f p q
+on_both (Err e) f p q = tt
 
 -- where an item that is taken off a list stood in it
 pub item_place : (left before rest original : List FlatItem) (item : FlatItem) → left ≡ before ++ item ∷ []

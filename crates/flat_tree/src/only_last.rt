@@ -14,7 +14,8 @@ use std::alloc::{AllocError, Global};
 
 impl FlatList {
     /// Keeps only the last assignment of the table, and of each of so many signals, between two vectors, loops or
-    /// saves, at every depth. The tree that is left does the same. It takes time in proportion to the items.
+    /// saves, at every depth. The tree that is left does the same and takes as few instructions. The call takes time in
+    /// proportion to the items.
     pub fn only_last(self, alloc: Global, signals: usize) -> Result<FlatList, AllocError>
         ensures same { IfOk result (λ f. IsSameFlat f self) }
         ensures lean { IfOk result (λ f. IsLean signals f) }

@@ -6,12 +6,12 @@ use Rattle.std.proofs.lemmas.List.{append-nil}
 use Rattle.stil_ast.specs.Meaning.State.{State, Vector}
 use Rattle.stil_ast.specs.Meaning.Running.{Made, Ran, times, outside}
 use Rattle.stil_ast.specs.Meaning.Flat.{Flat, done, table, character, back, cycle, repeat, save, saved, flat_run}
-use Rattle.stil_ast.specs.Meaning.ExecutiveData.{Tree}
+use Rattle.stil_ast.specs.Meaning.Least.{vectors_in, same_option, same_vector, least_passes, least_loop, least_written}
+use Rattle.stil_ast.specs.Meaning.ExecutiveData.{Tree, least_in}
 use Rattle.page_meaning.specs.declared.instr.Entry.{Entry}
 use Rattle.page_meaning.specs.declared.instr.Instr.{Instr}
 use Rattle.page_meaning.specs.declared.instr.Instr.TheVariants.{End}
 use Rattle.instr_writer.specs.Counting.{vector_count}
-use Rattle.instr_writer.specs.Least.{vectors_in, same_option, same_vector, least_passes, least_loop, least_written, least_in}
 use Rattle.instr_writer.specs.Written.{flats_of}
 use Rattle.instr_writer.specs.Working.{looped}
 use Rattle.instr_writer.specs.Passes.{with_entry, same_code, later_passes, passes, with_passes, vector_at, written, flats_written}

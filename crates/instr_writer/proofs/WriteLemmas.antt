@@ -7,7 +7,7 @@ use Rattle.stil_ast.specs.Meaning.State.{Vector, start_of}
 use Rattle.stil_ast.specs.Meaning.Running.{Made, Ran}
 use Rattle.stil_ast.specs.Meaning.State as state
 use Rattle.stil_ast.specs.Meaning.Flat.{Flat}
-use Rattle.stil_ast.specs.Meaning.ExecutiveData.{Tree, measure_in, distinct_rows}
+use Rattle.stil_ast.specs.Meaning.ExecutiveData.{Tree, measure_in, least_in, distinct_rows}
 use Rattle.stil_ast.specs.Faults.CodeFaults.{trees_fault}
 use Rattle.stil_ast.specs.declared.fault.StilFault.{StilFault}
 use Rattle.page_meaning.specs.declared.instr.Entry.{Entry}
@@ -15,7 +15,6 @@ use Rattle.page_meaning.specs.declared.instr.Instr.{Instr}
 use Rattle.page_meaning.specs.declared.instr.Instr.TheVariants.{Done}
 use Rattle.page_meaning.proofs.CountLemmas.{cycle_count-length}
 use Rattle.instr_writer.specs.Entries.{AreEntries}
-use Rattle.instr_writer.specs.Least.{least_in}
 use Rattle.instr_writer.specs.Written.{flats_of, made_in, HasEachOnce, IsWritten, IsTold, IsFaulty, IsRefusal}
 use Rattle.instr_writer.specs.Working.{row_in, flats_run, flats_measure, Wrote, AreStopped}
 use Rattle.instr_writer.specs.Passes.{entry_in, flats_written, IsExact}

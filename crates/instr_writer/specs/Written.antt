@@ -4,7 +4,7 @@ use Rattle.text_bytes.specs.Limits.{most_measure, most_cycles}
 use Rattle.stil_ast.specs.Meaning.State.{start_of}
 use Rattle.stil_ast.specs.Meaning.Running.{Made}
 use Rattle.stil_ast.specs.Meaning.Flat.{Flat}
-use Rattle.stil_ast.specs.Meaning.ExecutiveData.{Tree, trees_run, measure_in, row_of, distinct_rows}
+use Rattle.stil_ast.specs.Meaning.ExecutiveData.{Tree, trees_run, measure_in, least_in, row_of, distinct_rows}
 use Rattle.stil_ast.specs.Faults.Found.{fault_in}
 use Rattle.stil_ast.specs.Faults.CodeFaults.{trees_fault}
 use Rattle.tester_types.specs.declared.wave.Table.{Table}
@@ -13,7 +13,6 @@ use Rattle.page_meaning.specs.declared.instr.Instr.{Instr}
 use Rattle.page_meaning.specs.Meaning.{Means}
 use Rattle.page_meaning.specs.Whole.{IsWhole}
 use Rattle.instr_writer.specs.Entries.{AreEntries}
-use Rattle.instr_writer.specs.Least.{least_in}
 use Rattle.instr_writer.specs.declared.fault.VectorFault.{VectorFault}
 use Rattle.instr_writer.specs.declared.fault.WriteError.{WriteError}
 use Rattle.instr_writer.specs.declared.fault.WriteError.TheVariants as errors

@@ -15,3 +15,4 @@ pub mod Places
 pub mod Groups
 pub mod Inherited
 pub mod Executives
+pub mod Least

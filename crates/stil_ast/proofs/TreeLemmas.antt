@@ -7,6 +7,7 @@ use Rattle.std.proofs.lemmas.Grind.{flat_map-append}
 use Rattle.stil_ast.specs.Meaning.State.{State, start_of}
 use Rattle.stil_ast.specs.Data.Places.{of_pattern, Titles}
 use Rattle.stil_ast.specs.Meaning.Flat.{measure}
+use Rattle.stil_ast.specs.Meaning.Least.{least_written}
 use Rattle.stil_ast.specs.Meaning.Running.{Ran, Made, Here, behind, then_run, run, outside, stops}
 use Rattle.stil_ast.specs.Meaning.Bursts.{Played, played, exec_scans}
 use Rattle.stil_ast.specs.Meaning.Chains.{scan_outs, chains_named, chains_fault}
@@ -17,7 +18,7 @@ use Rattle.stil_ast.specs.Faults.BurstFaults.{exec_names_fault}
 use Rattle.stil_ast.specs.Faults.TableFaults.{tables_fault}
 use Rattle.stil_ast.specs.Meaning.Signals.{names_of}
 use Rattle.stil_ast.specs.Meaning.Resolved.{resolved}
-use Rattle.stil_ast.specs.Meaning.ExecutiveData.{Tree, Executive, tree_run, trees_run, vectors_of, cycles_of, vector_period, measure_in, tables_of, code_table, AreSameTrees}
+use Rattle.stil_ast.specs.Meaning.ExecutiveData.{Tree, Executive, tree_run, trees_run, vectors_of, cycles_of, vector_period, measure_in, least_in, tables_of, code_table, AreSameTrees}
 use Rattle.stil_ast.specs.Meaning.Executive.{Part, scope_of, part_of, cut_behind, parts, tree_of, run_parts, exec_vectors, chain_list, table_list, cycles, executive_of}
 use Rattle.stil_ast.specs.Meaning.Laws.{with_state}
 use Rattle.stil_ast.specs.Faults.AssignmentFaults.{Walked, Checked, fine, refused}
@@ -104,8 +105,8 @@ cycles_agree times blocks before e none =
 
 pub same_trees_serve : (tables : List Table) (trees more : List Tree) (s : State) → AreSameTrees trees more
     → (trees_run trees s ≡ trees_run more s) × (trees_fault tables trees s ≡ trees_fault tables more s)
-    × (measure_in trees ≡ measure_in more)
-same_trees_serve tables [] [] s are = (refl, refl, refl)
+    × (measure_in trees ≡ measure_in more) × (least_in trees s ≡ least_in more s)
+same_trees_serve tables [] [] s are = (refl, refl, refl, refl)
 same_trees_serve tables [] (b ∷ more) s are = absurd are
 same_trees_serve tables (a ∷ trees) [] s are = absurd are
 same_trees_serve tables (a ∷ trees) (b ∷ more) s are =
@@ -120,6 +121,9 @@ same_trees_serve tables (a ∷ trees) (b ∷ more) s are =
       sum_by-cons (λ (t : Tree). measure t.flat) a trees
           ∙ (ap (λ (n : ℕ). n + measure_in trees) are.1.measure
           ∙ (ap (λ (n : ℕ). measure b.flat + n) later.2 ∙ sym (sum_by-cons (λ (t : Tree). measure t.flat) b more))),
+      ap (λ (n : ℕ). n + least_in trees (tree_run a s).here) (are.1.least (outside s).held s)
+          ∙ (ap (λ (r : Ran State). least_written b.flat (outside s).held s + least_in trees r.here) first
+          ∙ ap (λ (n : ℕ). least_written b.flat (outside s).held s + n) later.3),
     )
 
 pub tables_are_numbered : (before after : List Executive) (e : Executive) (table : ℕ) (d : Table)

@@ -86,7 +86,8 @@ pub fn consumed_is_walked()
     ensures { ConsumedIsWalked }
 {}
 
-/// Flat trees that are as good, as where overwritten assignments are dropped, give the same vectors, fault and measure.
+/// Flat trees that are as good, as where overwritten assignments are dropped, give the same vectors, fault and measure,
+/// and take as few instructions.
 pub fn same_trees_serve()
     ensures { SameTreesServe }
 {}

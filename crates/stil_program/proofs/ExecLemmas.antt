@@ -22,7 +22,7 @@ use Rattle.stil_ast.specs.declared.fault.StilKind.TheVariants.{TooLarge, TooMany
 use Rattle.stil_ast.proofs.TreeLemmas.{same_trees_serve}
 use Rattle.time_expr.specs.TimesOf.{times_of}
 use Rattle.burst_exec.specs.Executives.{IsExecutive, AreExecutives, AreAllOf}
-use Rattle.cycle_comp.specs.Compiled.{code_fault}
+use Rattle.cycle_comp.specs.Compiled.{least_of, code_fault}
 
 -- the fault of an executive by what its compiling looks at
 abbrev judged : ℕ → Place → ℕ → Option StilFault → ℕ → Option StilFault
@@ -102,6 +102,9 @@ module _ (blocks : Blocks) where
 
     measure_same : measure_of x ≡ measure_of (own blocks d)
     measure_same = (same_trees_serve x.tables x.trees (map tree_of (parts blocks d)) (start_of 0) is.trees_are).2
+
+    pub least_same : (n : ℕ) → least_of n x ≡ least_of n (own blocks d)
+    least_same n = (same_trees_serve x.tables x.trees (map tree_of (parts blocks d)) (start_of n) is.trees_are).3
 
     fault_same : (n : ℕ) → trees_fault x.tables x.trees (start_of n) ≡ trees_fault (own blocks d).tables (own blocks d).trees (start_of n)
     fault_same n =

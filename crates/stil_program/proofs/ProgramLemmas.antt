@@ -1,4 +1,4 @@
--- The code of blocks has their executives, each with its name, chains, tables and cycles.
+-- The code of blocks has their executives, each with its name, chains, tables and cycles, and with few instructions.
 use Rattle.std.proofs.Common.{◌≡◌, ℕ, ◌+◌, ◌<◌, ◌≤◌, List, ◌∷◌, ◌++◌, Some, length, map, take, drop, sym, ap, subst, ◌∙◌, arith}
 use Rattle.std.specs.Prelude.{slice_get}
 use Rattle.std.specs.List.{AllByRecursion, flat_map, enumerate_from}
@@ -10,7 +10,7 @@ use Rattle.tester_types.specs.declared.wave.Table.{Table}
 use Rattle.tester_types.specs.declared.cycle.Cycle.{Cycle}
 use Rattle.stil_ast.specs.Faults.FrontFaults.{cycle_count}
 use Rattle.stil_ast.specs.Meaning.Cycles.{Dated, dated, starts_at}
-use Rattle.stil_ast.specs.Meaning.Executive.{table_list, chain_list, cycles, exec_vectors}
+use Rattle.stil_ast.specs.Meaning.Executive.{table_list, chain_list, cycles, exec_vectors, executive_of}
 use Rattle.stil_ast.specs.Meaning.ExecutiveData.{tables_of, vector_period}
 use Rattle.stil_ast.specs.Meaning.Signals.{names_of}
 use Rattle.stil_ast.specs.Meaning.State.{Vector}
@@ -22,9 +22,9 @@ use Rattle.page_code.specs.Cycles.{exec_of, cycles_of}
 use Rattle.time_expr.specs.TimesOf.{times_of}
 use Rattle.burst_exec.specs.Executives.{AreExecutives}
 use Rattle.burst_exec.proofs.ListLemmas.{drop_next}
-use Rattle.cycle_comp.specs.Compiled.{chain_of, read_cycle, read_cycles, IsExecOf}
+use Rattle.cycle_comp.specs.Compiled.{chain_of, least_of, read_cycle, read_cycles, IsExecOf}
 use Rattle.stil_program.specs.Program.{IsBlocksCode}
-use Rattle.stil_program.proofs.ExecLemmas.{as_many, tables_are as tables_of_all, cut_of}
+use Rattle.stil_program.proofs.ExecLemmas.{as_many, tables_are as tables_of_all, cut_of, least_same}
 use Rattle.page_code.proofs.WalkLemmas.{length-timed}
 
 -- what an executive of the code has, where the tables of the code from number `first` on are its own
@@ -35,6 +35,8 @@ pub record HasExec (blocks : Blocks) (code : Program) (first number : ℕ) (d : 
   pub count_is : length (Means (exec_of code number).instrs) ≡ cycle_count blocks d
   pub inside : AllByRecursion (λ (c : Cycle). (first ≤ c.table) × (c.table < first + length (table_list times_of blocks d)))
       (cycles_of code number)
+  pub least : length (exec_of code number).instrs
+      ≤ least_of (length (names_of blocks).signals) (executive_of times_of blocks d) + 1
 
 -- as many cycles as vectors
 dated_length : (period : Vector → ℕ) (vectors : List Vector) → length (dated period vectors) ≡ length vectors
@@ -87,6 +89,9 @@ module _ (blocks : Blocks) (code : Program) (is : IsBlocksCode blocks code) wher
         count_is =
             sym long ∙ (ap length read
             ∙ dated_length (vector_period (table_list times_of blocks d)) (exec_vectors blocks d));
+        least =
+            subst (λ (n : ℕ). length (exec_of code number).instrs ≤ n + 1)
+            (least_same blocks d h.here h.is (length (names_of blocks).signals)) moved.least;
       }
 
   -- the executive of a number
@@ -97,3 +102,9 @@ module _ (blocks : Blocks) (code : Program) (is : IsBlocksCode blocks code) wher
       subst (λ (k : ℕ). HasExec blocks code (length (flat_map (table_list times_of blocks) (take n blocks.executives))) k d)
       (length-take-le n blocks.executives (omega (arith, within)))
       (exec_behind (take n blocks.executives) (drop (n + 1) blocks.executives) d (at_place blocks.executives n d at))
+
+-- its instructions are few for the trees of the text
+pub code_keeps_loops : (blocks : Blocks) (code : Program) (number : ℕ) (e : ExecDecl) → IsBlocksCode blocks code
+    → slice_get blocks.executives number ≡ Some e
+    → length (exec_of code number).instrs ≤ least_of (length (names_of blocks).signals) (executive_of times_of blocks e) + 1
+code_keeps_loops blocks code number e is at = (exec_at blocks code is number e at).least

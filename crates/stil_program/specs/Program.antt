@@ -1,7 +1,8 @@
 -- The first fault of a text over all passes, or the code of a text without a fault (IEEE 1450-1999, clauses 6 to 24).
-use Rattle.std.specs.Prelude.{◌≡◌, ℕ, List, map, Option, Some, None}
+use Rattle.std.specs.Prelude.{◌≡◌, ℕ, ◌+◌, ◌≤◌, List, map, length, Option, Some, None, slice_get}
 use Rattle.stil_ast.specs.Faults.FrontFaults.{IsFaultOf}
 use Rattle.stil_ast.specs.Faults.TextFaults.{blocks_fault}
+use Rattle.stil_ast.specs.Meaning.Executive.{executive_of}
 use Rattle.stil_ast.specs.Meaning.Signals.{names_of}
 use Rattle.stil_ast.specs.Meaning.ExecutiveData.{Executive}
 use Rattle.stil_ast.specs.declared.blocks.Blocks.{Blocks}
@@ -10,10 +11,11 @@ use Rattle.stil_ast.specs.declared.fault.StilFault.{StilFault}
 use Rattle.stil_ast.specs.declared.fault.StilRefusal.{StilRefusal}
 use Rattle.stil_ast.specs.declared.fault.StilRefusal.TheVariants as refusal
 use Rattle.page_code.specs.Program.{Program}
+use Rattle.page_code.specs.Cycles.{exec_of}
 use Rattle.text_front.specs.Front.{IsReadAs, IsFront}
 use Rattle.time_expr.specs.TimesOf.{times_of}
 use Rattle.burst_exec.specs.Executives.{AreAllOf}
-use Rattle.cycle_comp.specs.Compiled.{IsCodeOf}
+use Rattle.cycle_comp.specs.Compiled.{least_of, IsCodeOf}
 
 -- The first fault of a text, or none: that of its tokens, statements and blocks, which reading finds; else that of its
 -- signals and groups, of its executives, or of what they are compiled to.
@@ -30,6 +32,15 @@ pub record IsBlocksCode (blocks : Blocks) (code : Program) : Type 0 where
   pub executives : List Executive
   pub are : AreAllOf blocks executives
   pub code_is : IsCodeOf (names_of blocks) executives code
+
+-- The code of blocks keeps their loops: each executive has one instruction more at most than the least that take the
+-- flat trees which the language defines for it, where a Loop whose passes make equal vectors stands once.
+abbrev pub CodeKeepsLoops : Type 0
+CodeKeepsLoops =
+    (blocks : Blocks) (code : Program) (number : ℕ) (e : ExecDecl) → IsBlocksCode blocks code →
+    slice_get blocks.executives number ≡ Some e →
+    length (exec_of code number).instrs
+    ≤ least_of (length (names_of blocks).signals) (executive_of times_of blocks e) + 1
 
 -- the code is that of a text without a fault
 pub record IsProgramOf (bytes : List ℕ) (code : Program) : Type 0 where

@@ -6,6 +6,7 @@ use Rattle.stil_ast.specs.Data.Places.{of_pattern, of_macro, Origin}
 use Rattle.stil_ast.specs.Meaning.Statements.{hash}
 use Rattle.stil_ast.specs.Meaning.Flat.{Flat, done, table, character, cycle, repeat, flat_run}
 use Rattle.stil_ast.specs.Meaning.Flattening.{flat_calls}
+use Rattle.stil_ast.specs.Meaning.Least.{least_written}
 use Rattle.stil_ast.specs.Meaning.ExecutiveData.{Executive, cycles_of, measure_of, rows_of, code_table, IsSameFlat}
 use Rattle.stil_ast.specs.Data.Written.{Written, no_more, single, looped}
 use Rattle.stil_ast.specs.Faults.CodeFaults.{compile_faults}
@@ -87,6 +88,7 @@ pub overwritten : (s a b : ℕ) (rest : Flat) → IsSameFlat (character s a (cha
 overwritten s a b rest = record {
   runs = λ base st. ap (λ (letters : List (Option ℕ)). flat_run rest base (record { table = st.table; letters = letters })) (set-set st.letters s (Some a) (Some b));
   measure = refl;
+  least = λ base st. ap (λ (letters : List (Option ℕ)). least_written rest base (record { table = st.table; letters = letters })) (set-set st.letters s (Some a) (Some b));
 }
 
 -- `macro m { V { a=#; } V { a=#; } }`, in which a Loop stands round the second V or not

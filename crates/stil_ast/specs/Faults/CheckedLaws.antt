@@ -12,7 +12,7 @@ use Rattle.stil_ast.specs.Meaning.Flattening.{flat_of}
 use Rattle.stil_ast.specs.Meaning.Resolved.{Scope, resolved, setting_of}
 use Rattle.stil_ast.specs.Meaning.Signals.{names_of}
 use Rattle.stil_ast.specs.Meaning.Bursts.{Played, played}
-use Rattle.stil_ast.specs.Meaning.ExecutiveData.{Tree, Executive, trees_run, vectors_of, measure_in, tables_of, code_table, AreSameTrees}
+use Rattle.stil_ast.specs.Meaning.ExecutiveData.{Tree, Executive, trees_run, vectors_of, measure_in, least_in, tables_of, code_table, AreSameTrees}
 use Rattle.stil_ast.specs.Meaning.Executive.{Part, part_of, up_to_stop, parts, tree_of, run_parts, exec_vectors}
 use Rattle.stil_ast.specs.Meaning.Laws.{is_steady_pattern, with_state}
 use Rattle.stil_ast.specs.Faults.AssignmentFaults.{Walked, fine, Standing, check_assigns}
@@ -80,11 +80,12 @@ ConsumedIsWalked =
     (scope : Scope) (depth : ℕ) (s : Standing) (body : Written) (w v : Walked) →
     check_calls scope depth s body w ≡ fine v → Walks w v
 
--- flat trees that are as good do the same one after another: vectors, states, the first fault, and the measure
+-- flat trees that are as good do the same one after another: vectors, states, the first fault, the measure, and how few
+-- instructions take them
 abbrev pub SameTreesServe : Type 0
 SameTreesServe = (tables : List Table) (trees more : List Tree) (s : State) → AreSameTrees trees more →
     (trees_run trees s ≡ trees_run more s) × (trees_fault tables trees s ≡ trees_fault tables more s)
-    × (measure_in trees ≡ measure_in more)
+    × (measure_in trees ≡ measure_in more) × (least_in trees s ≡ least_in more s)
 
 -- the table of an executive's vector is found in the code under its number there
 abbrev pub TablesAreNumbered : Type 0

@@ -5,6 +5,7 @@ use Rattle.stil_ast.specs.Data.Places.{Titles}
 use Rattle.stil_ast.specs.Meaning.Cycles.{Dated, dated}
 use Rattle.stil_ast.specs.Meaning.Running.{Ran, Made, still, then_run, outside}
 use Rattle.stil_ast.specs.Meaning.Flat.{Flat, flat_run, measure}
+use Rattle.stil_ast.specs.Meaning.Least.{least_written}
 use Rattle.stil_ast.specs.Meaning.Chains.{Chain}
 use Rattle.stil_ast.specs.Data.Texts.{has_name}
 use Rattle.tester_types.specs.declared.wave.Table.{Table}
@@ -61,6 +62,11 @@ measure_in trees = sum_by (λ (t : Tree). measure t.flat) trees
 abbrev pub measure_of : Executive → ℕ
 measure_of e = measure_in e.trees
 
+-- how few instructions keep the loops of flat trees one after another, from a state
+abbrev pub least_in : List Tree → State → ℕ
+least_in [] s = 0
+least_in (t ∷ trees) s = least_written t.flat (outside s).held s + least_in trees (tree_run t s).here
+
 -- a row of bytes: the character of each signal, 0 for none
 abbrev pub row_of : Vector → List ℕ
 row_of v = map (λ (c : Option ℕ). unwrap_or c 0) v.letters
@@ -84,10 +90,12 @@ tables_of executives = flat_map (λ (e : Executive). e.tables) executives
 abbrev pub code_table : List Executive → ℕ → ℕ
 code_table before table = length (tables_of before) + table
 
--- two flat trees that are as good as each other: they do the same whatever is held, and have one measure
+-- two flat trees that are as good as each other: whatever is held, they do the same and take as few instructions; and
+-- they have one measure
 pub record IsSameFlat (a b : Flat) : Type 0 where
   pub runs : (base s : State) → flat_run a base s ≡ flat_run b base s
   pub measure : measure a ≡ measure b
+  pub least : (base s : State) → least_written a base s ≡ least_written b base s
 
 -- the same of trees one by one, in blocks of the same names
 abbrev pub AreSameTrees : List Tree → List Tree → Type 0

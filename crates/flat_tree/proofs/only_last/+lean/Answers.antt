@@ -1,8 +1,9 @@
 use Rattle.std.proofs.Common.{List, ◌∷◌, ap, ◌∙◌, length, arith}
 use Rattle.flat_tree.specs.Items.{items_flat, body_count}
+use Rattle.flat_tree.specs.Leaning.{reversed_flat}
 use Rattle.flat_tree.specs.declared.flat.FlatItem.{FlatItem}
 use Rattle.flat_tree.proofs.FlatLemmas.{item_bodies-le}
-use Rattle.flat_tree.proofs.LeanLemmas.{item_place}
+use Rattle.flat_tree.proofs.LeanLemmas.{item_place, repeat_made, on_both}
 use Rattle.flat_tree.proofs.only_last.+lean.Goals as goal
 
 pub lean_list-keep_item-requires : goal.lean_list-keep_item-requires
@@ -28,3 +29,13 @@ lean_list-loop-item-preserved t c =
       },
       c.loop-item.invariant.1,
     )
+
+pub keep_item-returns-in_ok-body-in-Repeat : goal.keep_item-returns-in_ok-body-in-Repeat
+keep_item-returns-in_ok-body-in-Repeat t c =
+    on_both c.keep_repeat.result
+    (λ made none. rw c.in-Repeat.is (λ signals wanted m.
+    repeat_made signals c.in-Repeat.count c.args.ahead.now c.lean_list.new.ahead c.keep_repeat.new.ahead
+    c.in_ok-body-in-Repeat.body c.in-Repeat.body.value c.into_inner.result
+    (reversed_flat c.args.kept.now.items) wanted (reversed_flat c.keep_repeat.new.kept.items) m c.into_inner.ensures
+    c.in_ok-body-in-Repeat.ensures.same c.in_ok-body-in-Repeat.ensures.lean c.in_ok-body-in-Repeat.ensures.count made none))
+    c.keep_repeat.ensures.made c.keep_repeat.ensures.none

@@ -3,9 +3,8 @@ use Rattle.std.specs.Prelude.{ℕ, zero, suc, ◌+◌, ◌==◌, ◌&&◌, Bool,
 use Rattle.std.specs.Cmp.Lexicographic.{pointwise}
 use Rattle.stil_ast.specs.Meaning.State.{State, Vector}
 use Rattle.stil_ast.specs.Meaning.Dealing.{with_letter}
-use Rattle.stil_ast.specs.Meaning.Running.{Made, Ran, times, outside}
+use Rattle.stil_ast.specs.Meaning.Running.{Made, Ran, times}
 use Rattle.stil_ast.specs.Meaning.Flat.{Flat, done, table, character, back, cycle, repeat, save, saved, flat_run}
-use Rattle.stil_ast.specs.Meaning.ExecutiveData.{Tree, tree_run}
 
 -- the vectors of a run, without their places
 abbrev pub vectors_in : Ran State → List Vector
@@ -51,8 +50,3 @@ least_written (repeat count body rest) base s =
     + least_written rest base (times count (flat_run body base) s).here
 least_written (save putting body rest) base s =
     least_written body s s + least_written rest base (saved putting s (flat_run body s s)).here
-
--- the same of flat trees one after another
-abbrev pub least_in : List Tree → State → ℕ
-least_in [] s = 0
-least_in (t ∷ trees) s = least_written t.flat (outside s).held s + least_in trees (tree_run t s).here
