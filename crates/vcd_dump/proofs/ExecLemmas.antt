@@ -1,5 +1,5 @@
 -- What comes behind an executive of a try whose drives are recorded.
-use Rattle.std.proofs.Common.{◌≡◌, ℕ, ◌+◌, ◌-◌, ◌*◌, ◌^◌, ◌<◌, ◌≤◌, ◌&&◌, ℤ, Bool, true, false, not, List, [], ◌∷◌, ◌++◌, length, take, drop, min, Option, refl, sym, ap, ◌∙◌, subst, arith, rules, append_assoc}
+use Rattle.std.proofs.Common.{◌≡◌, ℕ, ◌+◌, ◌-◌, ◌*◌, ◌^◌, ◌<◌, ◌≤◌, ◌&&◌, ℤ, Bool, true, false, not, List, [], ◌∷◌, ◌++◌, length, take, drop, min, eqb, Option, refl, sym, ap, ◌∙◌, subst, arith, rules, append_assoc}
 use Rattle.std.specs.Prelude.{nat_le}
 use Rattle.std.proofs.Math.Seq.{take-add}
 use Rattle.std.proofs.lemmas.Bool.{lt-ltb}
@@ -16,6 +16,7 @@ use Rattle.cycle_run.specs.Batch.{Between, PlaysCycles, calls_of_cycles, between
 use Rattle.cycle_run.specs.Cycle.{point_at, closed_with, IsBetween}
 use Rattle.cycle_run.specs.Step.{FitsBench, HoldsSchedules}
 use Rattle.cycle_run.proofs.BatchLemmas.{calls-append}
+use Rattle.cycle_run.proofs.SocketLemmas.{is_empty}
 use Rattle.site_run.proofs.RunLemmas.{counted}
 use Rattle.vcd_dump.specs.declared.play.Way.{Way}
 use Rattle.vcd_dump.specs.declared.execs.After.TheVariants as after
@@ -32,10 +33,6 @@ more_calls stand going xs some many less =
       sym (calls-append stand going (take some xs) later)
           ∙ ap (calls_of_cycles stand going) (sym (take-add some (many - some) xs) ∙ ap (λ n. take n xs) all),
     )
-
-no_items : {X : Type 0} (xs : List X) → length xs ≡ 0 → xs ≡ []
-no_items [] e = refl
-no_items (x ∷ xs) e = absurd (omega (arith, e))
 
 -- a way as a place between two cycles
 abbrev pub between_of : Way → Between
@@ -130,7 +127,7 @@ module _ (code : Program) (skews : List ℤ) (image : Image) (stand : Stand) (mo
           loaded = between.loaded;
           state = between.state;
           keep = keep;
-          seen = subst (λ (l : List Fail). HasSeen (closed_with (device_of image) keep l) new.bench.checker) (no_items fails nothing)
+          seen = subst (λ (l : List Fail). HasSeen (closed_with (device_of image) keep l) new.bench.checker) (is_empty fails (eqb (length fails) 0) refl (ap (λ n. eqb n 0) nothing))
               (found_fails many keep all plays seen);
           number = number;
           time = time;

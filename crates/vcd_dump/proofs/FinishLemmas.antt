@@ -1,6 +1,7 @@
 -- What comes of a tape whose calls were recorded.
 use Rattle.std.proofs.Common.{◌≡◌, ℕ, ℤ, ◌<◌, ◌≤◌, Bool, true, false, List, [], ◌++◌, length, Option, Result, Ok, Err, sym, ap, ◌∙◌, subst, arith}
 use Rattle.std.specs.Prelude.{IfOk, IfErr, OnOk}
+use Rattle.std.proofs.lemmas.Bool.{false≢true}
 use Rattle.page_code.specs.Program.{Program}
 use Rattle.die_sim.specs.Die.{Image, device_of}
 use Rattle.die_sim.specs.Socket.{Calls}
@@ -28,29 +29,25 @@ Hands r tape = (tape.calls ≡ r.calls) × (r.over ≡ false) × (drives_in r.ca
 abbrev pub Refuses : Recording → TapeFault → Type 0
 Refuses r e = (e ≡ fault.TapeTooLong) × (most_drives < drives_in r.calls)
 
-not_both : (b : Bool) → b ≡ true → b ≡ false → ⊥
-not_both true t f = cc
-not_both false t f = cc
-
 module _ (all : Calls) (old new : Way) (none : old.recorder.calls ≡ []) where
   pub finish_calls : (whole : Bool) → RecordsSo whole all old new → (r : Result TapeState TapeFault) → IfOk r (Hands new.recorder)
       → IfOk r (λ tape. tape.calls ≡ all)
   finish_calls true records (Ok tape) hands = hands.0 ∙ records ∙ ap (λ c. c ++ all) none
-  finish_calls false records (Ok tape) hands = absurd (not_both new.recorder.over records.2 hands.1)
+  finish_calls false records (Ok tape) hands = absurd (false≢true (sym hands.1 ∙ records.2))
   finish_calls whole records (Err e) hands = tt
 
   pub finish_sound : (vars : List Var) (whole : Bool) → RecordsSo whole all old new → (r : Result TapeState TapeFault) → IfOk r (Hands new.recorder)
       → IsSound vars all → IfOk r (λ tape. IsSound vars tape.calls)
   finish_sound vars true records (Ok tape) hands sound =
       subst (IsSound vars) (sym (hands.0 ∙ records ∙ ap (λ c. c ++ all) none)) sound
-  finish_sound vars false records (Ok tape) hands sound = absurd (not_both new.recorder.over records.2 hands.1)
+  finish_sound vars false records (Ok tape) hands sound = absurd (false≢true (sym hands.1 ∙ records.2))
   finish_sound vars whole records (Err e) hands sound = tt
 
   pub finish_few : (whole : Bool) → RecordsSo whole all old new → (r : Result TapeState TapeFault) → IfOk r (Hands new.recorder)
       → OnOk r (drives_in all ≤ most_drives)
   finish_few true records (Ok tape) hands =
       omega (arith, hands.2, ap drives_in (records ∙ ap (λ c. c ++ all) none))
-  finish_few false records (Ok tape) hands = absurd (not_both new.recorder.over records.2 hands.1)
+  finish_few false records (Ok tape) hands = absurd (false≢true (sym hands.1 ∙ records.2))
   finish_few whole records (Err e) hands = tt
 
   pub finish_long : (whole : Bool) → RecordsSo whole all old new → (r : Result TapeState TapeFault) → IfErr r (Refuses new.recorder)

@@ -14,7 +14,7 @@ use Rattle.vcd_text.specs.Dump.{Var, Line, upscope, definitions, at, line_of_var
 use Rattle.vcd_text.specs.Sound.{Rises, IsVar, is_var, IsCall, IsSound}
 use Rattle.vcd_text.specs.Standing.{Standing, begun, timed, naming, known, playing, calling, next_of, behind, behind_all, lines_at, pair_at, FitsLine}
 use Rattle.vcd_text.proofs.RiseLemmas.{next_from, next_from-fold, next_from-push}
-use Rattle.vcd_text.proofs.StandingLemmas.{FitsSoFar, goes_on}
+use Rattle.vcd_text.proofs.StandingLemmas.{FitsSoFar, goes_on, some_is}
 
 -- ---- lines one after another
 
@@ -57,9 +57,6 @@ behind_one old mid new some later line a all stop =
 pub record IsRead (old : Standing) (lines : List Line) (new : Standing) : Type 0 where
   pub fits : FitsSoFar new
   pub whole : lines_at new ≡ lines_at old ++ lines
-
-some_is : {s new : Standing} → Some s ≡ Some new → s ≡ new
-some_is e = cc
 
 read_some : (old : Standing) (line : Line) (lines : List Line) (o : Option Standing) (new : Standing) → FitsSoFar old → FitsLine line
     → behind old line ≡ o → option_and_then (λ next. behind_all next lines) o ≡ Some new

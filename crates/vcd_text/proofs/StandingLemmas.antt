@@ -121,7 +121,7 @@ goes_on_change vars calls last signal drive drives new are later is =
 no_way : {P : Type 0} (new : Standing) → None ≡ Some new → P
 no_way new e = absurd cc
 
-some_is : {s new : Standing} → Some s ≡ Some new → s ≡ new
+pub some_is : {s new : Standing} → Some s ≡ Some new → s ≡ new
 some_is e = cc
 
 -- what is read behind one more line
