@@ -1,6 +1,6 @@
-//! Files whose names say that a site is to stop, as a desk.
+//! Names of files that say that a site is to stop, as a desk.
 
-ghost use Rattle.std.specs.Prelude.{◌<◌, false, slice_index_or, if◌then◌else◌};
+ghost use Rattle.std.specs.Prelude.{◌≡◌, ℕ, ◌<◌, false, slice_index_or, if◌then◌else◌};
 
 use std::fs;
 use std::rt::Files;
@@ -37,8 +37,9 @@ impl Round {
 /// How many milliseconds the desk waits before it looks, so that it takes next to none of the processors' time.
 const PAUSE: u64 = 1;
 
-/// A desk that says `Stop(N)` the first time it finds a file `stop.N` in the folder that the program runs in, and once for
-/// each N from 0 to 15. It looks for one file each time it is asked, in turn, a millisecond later.
+/// A desk that says `Stop(N)` the first time it finds `stop.N` in the folder that the program runs in, and once for each N
+/// from 0 to 15. Whatever has that name counts, a file, a folder, a pipe or a link that leads somewhere, and it isn't opened.
+/// The desk looks for one name each time it is asked, in turn, a millisecond later.
 #[derive(Drop)]
 pub struct FileDesk<'a, R: Files> {
     rt: &'a R,
@@ -50,7 +51,10 @@ pub struct FileDesk<'a, R: Files> {
 
 impl<'a, R: Files> FileDesk<'a, R> {
     /// A desk that was not asked yet.
-    pub fn new(rt: &'a R) -> Self {
+    pub fn new(rt: &'a R) -> Self
+        ensures not_asked { result.asked ≡ false }
+        ensures none { (site : ℕ) → slice_index_or result.found site false ≡ false }
+    {
         FileDesk {
             rt,
             found: [false; SITES],
@@ -69,7 +73,7 @@ impl<R: Files + Clock + Sync> Desk for FileDesk<'_, R> {
         self.asked = true;
         sleep(self.rt, Duration::from_millis(PAUSE));
         let site = self.round.turn();
-        if self.found[site] || fs::open(self.rt, NAMES[site]).is_err() {
+        if self.found[site] || !matches!(fs::exists(self.rt, NAMES[site]), Ok(true)) {
             return Ask::Nothing;
         }
         self.found[site] = true;

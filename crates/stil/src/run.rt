@@ -47,14 +47,19 @@ fn run_words<R: Threads + Wait + Sync, F: Shelf, D: Desk, K: Sink>(
     tester(rt, alloc, words, shelf, &mut sockets, desk, &OpenGate, sink)
 }
 
-/// Runs the command that the command line names, over a sink. There are no words where one of them is no text.
+/// Runs the command that the command line names, over a sink. There are no words where one of them is no text; want of memory
+/// while they are read is answered as such.
 fn run_over<R: Files + Env + AllocGlobal + Threads + Wait + Sync, D: Desk, K: Sink>(
     rt: &R,
     desk: &mut D,
     sink: &mut K,
 ) -> Status {
     let alloc = rt.alloc();
-    let words = words(rt).unwrap_or_else(|_| Vec::new(alloc));
+    let words = match words(rt) {
+        Ok(words) => words,
+        Err(fault) if fault.kind() == io::ErrorKind::OutOfMemory => return no_memory(sink),
+        Err(_) => Vec::new(alloc),
+    };
     let mut shelf = FileShelf::new(rt);
     run_words(rt, alloc, words.as_slice(), &mut shelf, desk, sink)
 }
