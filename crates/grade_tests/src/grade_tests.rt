@@ -53,6 +53,44 @@ const CLOCKED: &[u8] =
 
 const CLOCKED_PLAN: &[u8] = b"lot,256,1,8,,\nclock,C,,,,\ndie,0,d0,dff.bench,,\n";
 
+/// s27, its clock and its first inputs in two vectors, of which the first wants a level that the unknown flip-flops don't
+/// give: the saved program.
+const S27: &[u8] = &[
+    0xD7, b'S', b'T', b'P', 2, 0, 0, 0, 6, 0, 0, 2, 0, b'c', b'k', 0, 2, 0, b'G', b'0', 0, 2, 0,
+    b'G', b'1', 0, 2, 0, b'G', b'2', 0, 2, 0, b'G', b'3', 1, 3, 0, b'G', b'1', b'7', 1, 0, 1, 0,
+    b'w', 0, 0xE1, 0xF5, 5, 0, 0, 0, 0, 0x0C, 0, 0, 0, 0, 0, b'P', 2, 0, 0, 0, 0, 0, 0, 0, 0, 1,
+    0x80, 0xF0, 0xFA, 2, 0, 0, 0, 0, 2, 1, 0, b'0', 1, 0, 0, 0, 0, 0, 0, 0, 0, 1, 1, 0, b'1', 1, 0,
+    0, 0, 0, 0, 0, 0, 0, 2, 2, 0, b'0', 1, 0, 0, 0, 0, 0, 0, 0, 0, 1, 2, 0, b'1', 1, 0, 0, 0, 0, 0,
+    0, 0, 0, 2, 3, 0, b'0', 1, 0, 0, 0, 0, 0, 0, 0, 0, 1, 3, 0, b'1', 1, 0, 0, 0, 0, 0, 0, 0, 0, 2,
+    4, 0, b'0', 1, 0, 0, 0, 0, 0, 0, 0, 0, 1, 4, 0, b'1', 1, 0, 0, 0, 0, 0, 0, 0, 0, 2, 5, 0, b'H',
+    1, 0, b'Z', b'b', 2, 0, 0, 0, 0, 7, 5, 0, b'L', 1, 0, b'Z', b'b', 2, 0, 0, 0, 0, 6, 5, 0, b'X',
+    1, 0, b'Z', b'b', 2, 0, 0, 0, 0, 8, 2, 0, 0, 0, 0, b'P', b'0', b'0', b'0', b'0', b'H', 0, b'P',
+    b'1', b'1', b'0', b'0', b'H', 1, 0, 0, 0, 0, 0, 3, 0, 0, 0, 1, 0, 0, 0, 0, 0, 0, 0, 0, 0, 0, 0,
+    1, 0, 0, 0, 1, 0, 0, 0, 1, 0, 0, 0, 0, 0, 0, 0, 1, 0, 0, 0, 4, 0, 0, 0, 0, 0, 0, 0, 0, 0, 0, 0,
+    0, 0, 0, 0,
+];
+
+const S27_NET: &[u8] = b"INPUT(G0)\n\
+INPUT(G1)\n\
+INPUT(G2)\n\
+INPUT(G3)\n\
+OUTPUT(G17)\n\
+G5 = DFF(G10)\n\
+G6 = DFF(G11)\n\
+G7 = DFF(G13)\n\
+G14 = NOT(G0)\n\
+G17 = NOT(G11)\n\
+G8 = AND(G14, G6)\n\
+G15 = OR(G12, G8)\n\
+G16 = OR(G3, G8)\n\
+G9 = NAND(G16, G15)\n\
+G10 = NOR(G14, G11)\n\
+G11 = NOR(G5, G9)\n\
+G12 = NOR(G1, G7)\n\
+G13 = NOR(G2, G12)\n";
+
+const S27_PLAN: &[u8] = b"lot,256,1,8,,\nclock,ck,,,,\ndie,0,d0,s27.bench,,\n";
+
 /// The bytes of the program with these instructions.
 fn program(alloc: Global, instrs: &[u8]) -> Result<Vec<u8>, AllocError> {
     let mut bytes = Vec::from_slice(alloc, FRONT)?;
@@ -96,6 +134,25 @@ fn bound(alloc: Global, code: &Code, text: &[u8], net: &[u8]) -> Result<BoundPla
     Ok(plan)
 }
 
+/// The grade of a netlist under a plan by this program, with so many workers.
+fn graded_by<R: Threads + Wait + Sync, G: Gate>(
+    rt: &R,
+    alloc: Global,
+    code: &Code,
+    text: &[u8],
+    net: &[u8],
+    workers: u8,
+    gate: &G,
+) -> Result<Grade, Fail>
+    requires text { length text.now ≤ most_bytes }
+    requires net { length net.now ≤ most_bytes }
+    requires some { 1 ≤ workers }
+    requires few { workers ≤ 16 }
+{
+    let plan = bound(alloc, code, text, net)?;
+    Ok(grade(rt, alloc, code, &plan, workers, gate)?)
+}
+
 /// The grade of a netlist under a plan by these instructions, with so many workers.
 fn graded<R: Threads + Wait + Sync, G: Gate>(
     rt: &R,
@@ -112,8 +169,7 @@ fn graded<R: Threads + Wait + Sync, G: Gate>(
     requires few { workers ≤ 16 }
 {
     let code = code_of(alloc, instrs)?;
-    let plan = bound(alloc, &code, text, net)?;
-    Ok(grade(rt, alloc, &code, &plan, workers, gate)?)
+    graded_by(rt, alloc, &code, text, net, workers, gate)
 }
 
 /// Whether faults have these first failing cycles, one by one.
@@ -164,6 +220,66 @@ fn a_clock_and_an_output_that_is_not_read_are_not_found(rt: HostRuntime) -> Resu
     ];
     let all = graded(&rt, rt.alloc(), BOTH, CLOCKED_PLAN, CLOCKED, 2, &OpenGate)?;
     assert!(rt; has_firsts(&all, &found));
+    Ok(())
+}
+
+/// The first failing cycles of the faults of s27: its nets in the order in which the text names them, each stuck at 0 and at 1.
+const S27_FIRSTS: &[Option<u64>] = &[
+    Some(0),
+    None,
+    Some(0),
+    Some(0),
+    Some(0),
+    Some(0),
+    Some(0),
+    Some(0),
+    Some(0),
+    None,
+    Some(0),
+    None,
+    Some(0),
+    Some(0),
+    None,
+    Some(0),
+    None,
+    Some(0),
+    Some(0),
+    Some(0),
+    Some(0),
+    Some(0),
+    None,
+    Some(0),
+    None,
+    Some(0),
+    None,
+    Some(0),
+    Some(0),
+    Some(0),
+    None,
+    Some(0),
+    Some(0),
+    None,
+];
+
+/// s27 is graded, and 24 of its 34 faults are found, by one worker, by three and by sixteen.
+#[test]
+fn the_grade_of_s27_is_one_for_all_numbers_of_workers(rt: HostRuntime) -> Result<(), Fail> {
+    let Ok(code) = load(rt.alloc(), S27) else {
+        return Err("the bytes are a program".into());
+    };
+    for workers in [1u8, 3, 16] {
+        let all = graded_by(
+            &rt,
+            rt.alloc(),
+            &code,
+            S27_PLAN,
+            S27_NET,
+            workers,
+            &OpenGate,
+        )?;
+        assert_eq!(rt; all.good, Some(0));
+        assert!(rt; have_firsts(all.faults.as_slice(), S27_FIRSTS));
+    }
     Ok(())
 }
 

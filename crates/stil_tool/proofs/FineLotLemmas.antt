@@ -1,9 +1,8 @@
 -- A lot whose files are there and accepted is done, where no count rises: `lot_completes`.
-use Rattle.std.proofs.Common.{◌≡◌, codes, ◌⊎◌, ℕ, List, [], ◌∷◌, ◌++◌, length, Option, sym, ap, ◌∙◌, subst, arith, inl, inr}
+use Rattle.std.proofs.Common.{◌≡◌, codes, ◌⊎◌, ℕ, List, [], ◌∷◌, length, Option, sym, ap, ◌∙◌, subst, arith, inl, inr}
 use Rattle.tester_types.specs.Outside.{HasRisen, Files, gained, GainsFront}
 use Rattle.die_sim.specs.Socket.{Told}
-use Rattle.plan_rows.specs.declared.row.Row.{Row}
-use Rattle.plan_rows.specs.Rows.{sites_of, files_of}
+use Rattle.plan_rows.specs.Rows.{sites_of}
 use Rattle.lot_plan.specs.Refusal.{refusal}
 use Rattle.tool_inputs.specs.declared.status.Status.{Status}
 use Rattle.tool_inputs.specs.declared.status.Status.TheVariants.{WriteFault, OutOfMemory}
@@ -14,7 +13,6 @@ use Rattle.text_commands.specs.Commands.{command_word}
 use Rattle.tool_inputs.specs.Endings.{Answers, IsDone}
 use Rattle.stil_tool.specs.Offline.{IsFine}
 use Rattle.tool_inputs.specs.Refusals.{status_of}
-use Rattle.tool_inputs.specs.Inputs.{AreNetsRefused}
 use Rattle.stil_tool.specs.Lot.{Floor, IsRefused, LotWants}
 use Rattle.stil_tool.specs.Lot.IsRefused.{of_inputs, few_sockets}
 use Rattle.stil_tool.specs.Lot.LotWants.{is_run, is_refused}

@@ -1,5 +1,5 @@
 -- Why there is no grade, what a run of it is, and that one of fine files is done: `grade_completes`.
-use Rattle.std.proofs.Common.{◌≡◌, ◌⊎◌, ℕ, ◌<◌, List, [], ◌∷◌, length, Option, Some, None, refl, sym, ap, ◌∙◌, subst, arith, inl, inr}
+use Rattle.std.proofs.Common.{◌≡◌, ◌⊎◌, ℕ, ◌<◌, List, length, Option, None, refl, sym, ap, ◌∙◌, subst, arith, inl, inr}
 use Rattle.tester_types.specs.Outside.{HasRisen, Files, gained, GainsFront}
 use Rattle.die_sim.specs.Socket.{Told}
 use Rattle.page_code.specs.Program.{Program}
@@ -16,10 +16,10 @@ use Rattle.tool_inputs.specs.declared.refusal.Refusal.{Refusal}
 use Rattle.tool_inputs.specs.declared.refusal.Refusal.TheVariants as refused
 use Rattle.tool_inputs.specs.Endings.{Answers, IsDone}
 use Rattle.tool_inputs.specs.Refusals.{status_of, line_of}
-use Rattle.tool_inputs.specs.Inputs.{IsReady, AreRefused}
+use Rattle.tool_inputs.specs.Inputs.{IsReady}
 use Rattle.tool_inputs.specs.Inputs.AreRefused.{no_memory}
 use Rattle.tool_inputs.proofs.FineLemmas.{inputs_fine, rows_same}
-use Rattle.stil_tool.specs.Grade.{AreGrade, IsGradeRefused, graded_text, GradeRunWants, GradeWants, IsFineGrade}
+use Rattle.stil_tool.specs.Grade.{IsGradeRefused, graded_text, GradeRunWants, GradeWants, IsFineGrade}
 use Rattle.stil_tool.specs.Grade.IsGradeRefused.{of_inputs, no_die}
 use Rattle.stil_tool.specs.Grade.GradeWants.{is_graded, is_refused}
 use Rattle.stil_tool.specs.Lot.{Floor}

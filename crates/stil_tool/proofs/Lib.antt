@@ -7,3 +7,4 @@ pub mod KnownLemmas
 pub mod PrintableLemmas
 pub mod RunLemmas
 pub mod GradeLemmas
+pub mod DumpLemmas

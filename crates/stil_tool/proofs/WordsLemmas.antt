@@ -42,12 +42,31 @@ three_words words a b c command seen first_file second_file least below first se
     ∙ ap (λ w. w ∷ string_bytes b ∷ string_bytes c ∷ []) (sym seen_is ∙ (bytes_decides seen command).0 (sym same))
     ∙ ap (λ w. command ∷ w ∷ string_bytes c ∷ []) (sym first_is) ∙ ap (λ w. command ∷ first_file ∷ w ∷ []) (sym second_is)
 
+-- a list of four items
+pub four_items : {X : Type 0} (xs : List X) (a b c d : X) → 4 ≤ length xs → length xs < 5 → a ≡ get_or xs 0 a → b ≡ get_or xs 1 b →
+    c ≡ get_or xs 2 c → d ≡ get_or xs 3 d → xs ≡ a ∷ b ∷ c ∷ d ∷ []
+four_items [] a b c d least below first second third fourth = absurd (omega arith)
+four_items (x ∷ xs) a b c d least below first second third fourth =
+    ap (λ h. h ∷ xs) (sym first) ∙ ap (λ l. a ∷ l) (three_items xs b c d (omega (arith, least)) (omega (arith, below)) second third fourth)
+
+-- four words, of which the first is this one
+pub four_words : (words : List (String Global)) (a b c d : String Global) (command seen program plan last : List ℕ) →
+    4 ≤ length words → length words < 5 → a ≡ get_or words 0 a → b ≡ get_or words 1 b → c ≡ get_or words 2 c →
+    d ≡ get_or words 3 d → seen ≡ string_bytes a → true ≡ pointwise nat_eq seen command → program ≡ string_bytes b →
+    plan ≡ string_bytes c → last ≡ string_bytes d → words_seen words ≡ command ∷ program ∷ plan ∷ last ∷ []
+four_words words a b c d command seen program plan last least below first second third fourth seen_is same first_is second_is last_is =
+    ap words_seen (four_items words a b c d least below first second third fourth)
+    ∙ ap (λ w. w ∷ string_bytes b ∷ string_bytes c ∷ string_bytes d ∷ []) (sym seen_is ∙ (bytes_decides seen command).0 (sym same))
+    ∙ ap (λ w. command ∷ w ∷ string_bytes c ∷ string_bytes d ∷ []) (sym first_is)
+    ∙ ap (λ w. command ∷ program ∷ w ∷ string_bytes d ∷ []) (sym second_is)
+    ∙ ap (λ w. command ∷ program ∷ plan ∷ w ∷ []) (sym last_is)
+
 -- ---- words whose first is another
 
-pub not_other : (words : List (String Global)) (a : String Global) (command seen first second : List ℕ) → 3 ≤ length words
-    → a ≡ get_or words 0 a → seen ≡ string_bytes a → false ≡ pointwise nat_eq seen command
-    → words_seen words ≡ command ∷ first ∷ second ∷ [] → ⊥
-not_other [] a command seen first second least item seen_is differs are = omega (arith, least)
-not_other (x ∷ words) a command seen first second least item seen_is differs are =
+pub not_other : (words : List (String Global)) (a : String Global) (command seen : List ℕ) (more : List (List ℕ))
+    → 0 < length words → a ≡ get_or words 0 a → seen ≡ string_bytes a → false ≡ pointwise nat_eq seen command
+    → words_seen words ≡ command ∷ more → ⊥
+not_other [] a command seen more least item seen_is differs are = omega (arith, least)
+not_other (x ∷ words) a command seen more least item seen_is differs are =
     let same : seen ≡ command = seen_is ∙ ap string_bytes item ∙ ap (λ (l : List (List ℕ)). get_or l 0 []) are in
     let never : false ≡ true = differs ∙ (bytes_decides seen command).1 same in cc

@@ -1,23 +1,20 @@
 -- What `lot` answers, and why.
-use Rattle.std.specs.Prelude.{◌≡◌, ℕ, ◌<◌, ◌≤◌, ◌++◌, Bool, true, List, [], ◌∷◌, length, min, codes, Option, Some, None}
+use Rattle.std.specs.Prelude.{◌≡◌, ℕ, ◌<◌, ◌≤◌, Bool, true, List, [], ◌∷◌, length, min, codes, Option, None}
 use Rattle.tester_types.specs.Outside.{Files}
 use Rattle.tester_types.specs.Records.{SiteRecords, records_of}
-use Rattle.plan_rows.specs.declared.row.Row.{Row}
-use Rattle.plan_rows.specs.Rows.{sites_of, files_of}
-use Rattle.plan_rows.specs.declared.fault.PlanFault.{PlanFault}
+use Rattle.plan_rows.specs.Rows.{sites_of}
 use Rattle.lot_plan.specs.Bound.{Bound}
 use Rattle.lot_plan.specs.Refusal.{refusal}
 use Rattle.die_sim.specs.Socket.{Told}
-use Rattle.page_code.specs.Program.{Program}
 use Rattle.tester_run.specs.Lot.{AreOfLot, AreLeft, said_since}
 use Rattle.datalog.specs.DatalogText.{lot_text}
 use Rattle.tool_inputs.specs.declared.status.Status.{Status}
 use Rattle.tool_inputs.specs.declared.status.Status.TheVariants.{Done, OutOfMemory}
 use Rattle.tool_inputs.specs.declared.refusal.Refusal.{Refusal}
-use Rattle.tool_inputs.specs.declared.refusal.Refusal.TheVariants.{Net, Plan, TooFewSockets}
+use Rattle.tool_inputs.specs.declared.refusal.Refusal.TheVariants.{TooFewSockets}
 use Rattle.tool_inputs.specs.Endings.{memory_line}
 use Rattle.tool_inputs.specs.Refusals.{status_of, line_of}
-use Rattle.tool_inputs.specs.Inputs.{AreRefused, IsProgramFile, IsPlanFile, Inputs, AreInputs, bound_of, IsProgramRefused, IsPlanRefused, AreNetsRefused}
+use Rattle.tool_inputs.specs.Inputs.{AreRefused, Inputs, AreInputs, bound_of}
 
 -- the words `lot PROGRAM PLAN`
 abbrev pub AreLot : List (List ℕ) → List ℕ → List ℕ → Type 0

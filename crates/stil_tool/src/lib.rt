@@ -2,6 +2,7 @@
 #![tactic(auto)]
 
 mod drill;
+mod dump;
 mod floor;
 mod grade;
 mod lot;

@@ -4,15 +4,18 @@ ghost use Rattle.std.specs.Prelude.{◌≡◌, ◌≤◌, ℕ, List, IfSome, IfN
 ghost use Rattle.text_commands.specs.declared.command.Command.{Command};
 ghost use Rattle.tool_inputs.specs.Endings.{Answers, IsDone};
 ghost use Rattle.stil_tool.specs.Offline.{words_seen, AreOf, Wants, IsFine};
+ghost use Rattle.stil_tool.specs.Dump.{AreDump, IsFineDump};
 
+use crate::dump::dump;
 use std::alloc::Global;
 use tester_types::{Piece, Shelf, Sink};
 use text_commands::{Command, command_of, run_file};
-use tool_inputs::{Status, ended};
+use tool_inputs::{Status, ended, read_number};
 
 /// Runs a command that needs no tester. On a STIL text `check FILE` prints the numbers of its code, `cycles FILE` its dated
-/// cycles, `events FILE` the moments of its cycles, and `save FILE` writes its code as a saved program. The words, the file
-/// and its content decide the answer, and with each answer comes its line or its text; a put that fails or takes nothing is
+/// cycles, `events FILE` the moments of its cycles, and `save FILE` writes its code as a saved program. `dump PROGRAM PLAN
+/// SITE` prints what is driven in the first try of the site's first die, as a value change dump. The words, the files and
+/// their contents decide the answer, and with each answer comes its line or its text; a put that fails or takes nothing is
 /// answered as a write fault. A text is refused by its first fault; `cycles` and `events` refuse one of more than 65,536
 /// cycles too. Want of memory may come at any time; of `events` whole lines may stand before its line.
 pub fn offline<F: Shelf, K: Sink>(
@@ -26,19 +29,24 @@ pub fn offline<F: Shelf, K: Sink>(
         (K.told out.old) (K.faults out.old) result (K.told out.new) (K.faults out.new) }
     ensures complete { IsFine (words_seen words.now) (F.told shelf.old) (F.faults shelf.old) (F.faults shelf.new)
         (K.faults out.old) (K.faults out.new) → IsDone result }
+    ensures complete_dump { IsFineDump (words_seen words.now) (F.told shelf.old) (F.faults shelf.old)
+        (F.faults shelf.new) (K.faults out.old) (K.faults out.new) → IsDone result }
     ensures kept { F.told shelf.new ≡ F.told shelf.old }
     ensures counts { F.faults shelf.old ≤ F.faults shelf.new }
     ensures puts { K.faults out.old ≤ K.faults out.new }
 {
     match file_command(words) {
         Some((command, file)) => run_file(alloc, command, file, shelf, out),
-        None => ended(out, &[Piece::Text(USAGE)], Status::Usage),
+        None => match dump_command(words) {
+            Some((program, plan, site)) => dump(alloc, program, plan, site, shelf, out),
+            None => ended(out, &[Piece::Text(USAGE)], Status::Usage),
+        },
     }
 }
 
 const USAGE: &[u8] =
     b"usage: check FILE | cycles FILE | events FILE | save FILE | lot PROGRAM PLAN | drill N | \
-grade PROGRAM PLAN\n";
+grade PROGRAM PLAN | dump PROGRAM PLAN SITE\n";
 
 /// The command of these words, and the file that it names.
 fn file_command(words: &[String]) -> Option<(Command, &str)>
@@ -50,6 +58,27 @@ fn file_command(words: &[String]) -> Option<(Command, &str)>
             Some(command) => Some((command, file.as_str())),
             None => None,
         },
+        _ => None,
+    }
+}
+
+/// The program, the plan and the site of the words `dump PROGRAM PLAN SITE`.
+fn dump_command(words: &[String]) -> Option<(&str, &str, u8)>
+    ensures found { IfSome result (λ named. AreDump (words_seen words.now) named.0.now named.1.now named.2) }
+    ensures none { IfNone result ((program plan : List ℕ) (site : ℕ)
+        → AreDump (words_seen words.now) program plan site → ⊥) }
+{
+    match words {
+        [command, program, plan, site] => {
+            if command.as_str() == "dump" {
+                match read_number(site.as_str(), 0, 63) {
+                    Some(site) => Some((program.as_str(), plan.as_str(), site)),
+                    None => None,
+                }
+            } else {
+                None
+            }
+        }
         _ => None,
     }
 }

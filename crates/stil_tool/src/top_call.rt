@@ -8,6 +8,7 @@ ghost use Rattle.stil_tool.specs.Tester.{NeedTester, TesterWants};
 ghost use Rattle.stil_tool.specs.Jobs.{IsJob};
 ghost use Rattle.stil_tool.specs.FineLot.{IsFineLot};
 ghost use Rattle.stil_tool.specs.Grade.{IsFineGrade};
+ghost use Rattle.stil_tool.specs.Dump.{IsFineDump};
 
 use crate::drill::drill;
 use crate::grade::grade;
@@ -51,6 +52,8 @@ pub fn tester<F: Shelf, K: Sink, D: Desk, G: Gate, R: Threads + Wait + Sync>(
     ensures complete_lot { IsFineLot (words_seen words.now) (F.told shelf.old) (F.faults shelf.old) (F.faults shelf.new)
         (K.faults out.old) (K.faults out.new) (length sockets.old.items) → IsDone result }
     ensures complete_grade { IsFineGrade (words_seen words.now) (F.told shelf.old) (F.faults shelf.old)
+        (F.faults shelf.new) (K.faults out.old) (K.faults out.new) → IsDone result }
+    ensures complete_dump { IsFineDump (words_seen words.now) (F.told shelf.old) (F.faults shelf.old)
         (F.faults shelf.new) (K.faults out.old) (K.faults out.new) → IsDone result }
     ensures kept { F.told shelf.new ≡ F.told shelf.old }
     ensures counts { F.faults shelf.old ≤ F.faults shelf.new }

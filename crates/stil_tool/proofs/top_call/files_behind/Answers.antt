@@ -1,3 +1,4 @@
+use Rattle.std.proofs.Common.{[], ◌∷◌, arith}
 use Rattle.stil_tool.proofs.WordsLemmas.{three_words, not_other}
 use Rattle.stil_tool.proofs.top_call.files_behind.Goals as goal
 
@@ -10,5 +11,6 @@ returns-then-eq-clause-found c =
 
 pub returns-else-eq-clause-none : goal.returns-else-eq-clause-none
 returns-else-eq-clause-none c = λ program plan are.
-    not_other c.args.words.now c.command-item.result c.args.word.now c.as_str.result.now program plan c.in-len3.len_at_least
+    not_other c.args.words.now c.command-item.result c.args.word.now c.as_str.result.now (program ∷ plan ∷ [])
+    (omega (arith, c.in-len3.len_at_least))
     c.command-item.is c.as_str.ensures.value c.if-eq.ensures are
