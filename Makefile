@@ -1,0 +1,48 @@
+# Installs the program, its page of the manual, completions, editors' files, examples and docs.
+#
+#     make install PREFIX=$HOME/.local      into bin, lib/stil and share of a folder; DESTDIR goes before it
+#     make uninstall PREFIX=$HOME/.local    takes them away again
+#     make dist                             makes an archive of them in dist/, which runs where there is a C library
+#
+# The program is the one in release/ where it is of these sources, else the one that was built and proved here.
+
+PREFIX ?= /usr/local
+place = $(DESTDIR)$(PREFIX)
+program = $(shell tools/program)
+archive = stil-x86_64-linux-gnu
+# the folders of examples and docs, with what a user reads of them
+pages = README.md $(shell find docs -name '*.md' -o -name '*.png')
+samples = $(shell find examples -type f)
+
+all:
+	@echo "nothing is to be made: ./stil runs at once. make install PREFIX=.. installs it; ./stil --prove proves and builds it"
+
+install:
+	@test -n "$(program)" || { echo "no program of these sources is here: run ./stil --prove first" >&2; exit 1; }
+	install -d "$(place)/bin" "$(place)/lib/stil" "$(place)/share/man/man1"
+	install -m 755 "$(program)" "$(place)/lib/stil/stil"
+	install -m 644 tools/help "$(place)/lib/stil/help"
+	./stil --version > "$(place)/lib/stil/version"
+	{ cat tools/installed; sed -n '/^# A limit on the size of files/,$$p' stil; } > "$(place)/bin/stil"
+	chmod 755 "$(place)/bin/stil"
+	tools/man > "$(place)/share/man/man1/stil.1"
+	install -D -m 644 completions/stil.bash "$(place)/share/bash-completion/completions/stil"
+	install -D -m 644 completions/stil.zsh "$(place)/share/zsh/site-functions/_stil"
+	install -D -m 644 completions/stil.fish "$(place)/share/fish/vendor_completions.d/stil.fish"
+	for file in $$(cd editors/vim && find . -name '*.vim'); do install -D -m 644 "editors/vim/$$file" "$(place)/share/vim/vimfiles/$$file"; done
+	for file in $(samples) $(pages); do install -D -m 644 "$$file" "$(place)/share/stil/$$file"; done
+
+uninstall:
+	rm -f "$(place)/bin/stil" "$(place)/share/man/man1/stil.1" "$(place)/share/bash-completion/completions/stil"
+	rm -f "$(place)/share/zsh/site-functions/_stil" "$(place)/share/fish/vendor_completions.d/stil.fish"
+	for file in $$(cd editors/vim && find . -name '*.vim'); do rm -f "$(place)/share/vim/vimfiles/$$file"; done
+	rm -rf "$(place)/lib/stil" "$(place)/share/stil"
+
+dist:
+	rm -rf dist/$(archive)
+	$(MAKE) --no-print-directory install DESTDIR= PREFIX="$(CURDIR)/dist/$(archive)"
+	tar -C dist --sort=name --owner=0 --group=0 --numeric-owner --mtime="@$$(git log -1 --format=%ct 2> /dev/null || echo 0)" \
+	    -cf - $(archive) | gzip -n > dist/$(archive).tar.gz
+	cd dist && sha256sum $(archive).tar.gz > $(archive).tar.gz.sha256
+
+.PHONY: all install uninstall dist

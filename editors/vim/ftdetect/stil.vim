@@ -1,0 +1,1 @@
+autocmd BufRead,BufNewFile *.stil,*.stil.gz setfiletype stil
