@@ -1,0 +1,295 @@
+"""The command `stilfloor`: its words, their help, and its exit statuses."""
+
+import argparse
+import os
+import sys
+from collections.abc import Callable, Iterator
+
+from stilfloor import __version__
+from stilfloor.faults import REFUSED, STATUSES, UNREADABLE, Fault
+
+Word = Callable[[argparse.Namespace], int]
+
+
+def _add(words: "argparse._SubParsersAction[argparse.ArgumentParser]", name: str, what: str, example: str,
+         does: Word | None = None) -> argparse.ArgumentParser:
+    """A word with its help, an example and the exit statuses."""
+    parser = words.add_parser(name, help=what, description=what[0].upper() + what[1:] + ".", epilog=f"example:\n  {example}\n\n{STATUSES}",
+                              formatter_class=argparse.RawDescriptionHelpFormatter)
+    if does:
+        parser.set_defaults(does=does)
+    return parser
+
+
+def _number(text: str) -> int:
+    """A number that isn't below 0."""
+    if not text.isdigit():
+        raise argparse.ArgumentTypeError(f"`{text}` is no number from 0 on")
+    return int(text)
+
+
+def parser_of() -> argparse.ArgumentParser:
+    """The parser of all words."""
+    parser = argparse.ArgumentParser(
+        prog="stilfloor", description="Netlists in, pictures and suspects out, beside the program stil.",
+        epilog="`stilfloor WORD --help` says more of a word, with an example. The program is found by the variable STIL, in the\n"
+               f"checkout of this package, or on the path.\n\n{STATUSES}",
+        formatter_class=argparse.RawDescriptionHelpFormatter)
+    parser.add_argument("--version", action="version", version=f"stilfloor {__version__}")
+    words = parser.add_subparsers(metavar="WORD", required=True)
+    _add_making(words)
+    _add_finding(words)
+    _add_showing(words)
+    return parser
+
+
+def _add_making(words: "argparse._SubParsersAction[argparse.ArgumentParser]") -> None:
+    word = _add(words, "netlist", "make a netlist of Verilog, with a STIL text and a plan to begin with",
+                "stilfloor netlist alu.v --scan 2 -o alu\n  writes alu/alu.bench, alu/alu.stil and alu/alu.csv", netlist)
+    word.add_argument("files", nargs="+", metavar="FILE.v", help="Verilog, and SystemVerilog where its name ends with .sv")
+    word.add_argument("--top", metavar="T", help="the top module, where several could be it")
+    word.add_argument("--scan", type=_number, default=0, metavar="N", help="put the flip-flops into N scan chains")
+    word.add_argument("--vectors", type=_number, default=16, metavar="N", help="random vectors, or loads, to begin with (16)")
+    word.add_argument("--seed", type=int, default=1, metavar="S", help="the seed of the random vectors (1)")
+    word.add_argument("-o", dest="folder", default=".", metavar="DIR", help="the folder to write into (where you stand)")
+    word.add_argument("--force", action="store_true", help="write over files that are there")
+    word = _add(words, "learn", "take expected values from the plan's first die: looks written L become what it shows",
+                "stilfloor learn alu/alu.stil alu/alu.csv -o alu/learnt.stil", learn)
+    word.add_argument("program", metavar="PROGRAM", help="a STIL text with L where a value is wanted")
+    word.add_argument("plan", metavar="PLAN", help="a plan whose first die is good; its faults and stops don't count")
+    word.add_argument("-o", dest="out", metavar="FILE", help="where the text goes (standard output)")
+
+
+def _add_finding(words: "argparse._SubParsersAction[argparse.ArgumentParser]") -> None:
+    word = _add(words, "diagnose", "name the stuck nets that explain the fails of each failing die best",
+                "stilfloor diagnose examples/s27scan/s27scan.stil examples/s27scan/lot.csv examples/s27scan/lot.datalog --die c", diagnose)
+    _add_lot(word)
+    word.add_argument("--site", type=_number, metavar="S", help="only dies at this site")
+    word.add_argument("--die", metavar="D", help="only dies of this name")
+    word.add_argument("--most", type=_number, default=3, metavar="N", help="how many classes are told where none explains a die (3)")
+    word.add_argument("--json", action="store_true", help="the same as JSON")
+    word = _add(words, "lint", "say what is refused of a STIL text or a plan, and what is likely not meant",
+                "stilfloor lint examples/s27scan/s27scan.stil\n  stilfloor lint --plan examples/s27scan/lot.csv", lint)
+    word.add_argument("files", nargs="*", metavar="FILE.stil", help="STIL texts")
+    word.add_argument("--plan", metavar="PLAN", help="a plan; with one FILE.stil it is bound to that program")
+
+
+def _add_lot(word: argparse.ArgumentParser) -> None:
+    word.add_argument("program", metavar="PROGRAM", help="the STIL text or saved program")
+    word.add_argument("plan", metavar="PLAN", help="the plan of the lot")
+    word.add_argument("datalog", metavar="DATALOG", help="what `stil lot PROGRAM PLAN` printed, - for standard input")
+    word.add_argument("--jobs", type=_number, default=os.cpu_count() or 1, metavar="N", help="processes that make a dictionary (all processors)")
+
+
+def _add_showing(words: "argparse._SubParsersAction[argparse.ArgumentParser]") -> None:
+    word = _add(words, "plot", "draw what the program printed, as PNG, SVG or PDF", "stilfloor plot lot examples/s27scan/lot.datalog -o lot.png")
+    kinds = word.add_subparsers(metavar="KIND", required=True)
+    kind = _add(kinds, "lot", "bins over sites, with dies that were tried again marked", "stilfloor plot lot lot.datalog -o lot.png", plot_lot)
+    kind.add_argument("datalog", metavar="DATALOG")
+    kind = _add(kinds, "fails", "the fail map of a lot, of a site or of a die, and the Pareto of failing cells",
+                "stilfloor plot fails lot.datalog --program scan.stil --die c -o fails.svg", plot_fails)
+    kind.add_argument("datalog", metavar="DATALOG")
+    kind.add_argument("--program", metavar="PROGRAM", help="gives all cells and the loads; without it rows are cycles")
+    kind.add_argument("--site", type=_number, metavar="S", help="only dies at this site")
+    kind.add_argument("--die", metavar="D", help="only dies of this name")
+    kind = _add(kinds, "grade", "coverage over cycles", "stil grade scan.stil lot.csv | stilfloor plot grade - -o grade.pdf", plot_grade)
+    kind.add_argument("grade", metavar="GRADE", help="what `stil grade` printed, - for standard input")
+    kind = _add(kinds, "events", "waves with looks as marks", "stilfloor plot events scan.stil --from 3 --to 6 -o waves.svg", plot_events)
+    kind.add_argument("program", metavar="PROGRAM", help="a STIL text")
+    kind.add_argument("--from", dest="first", type=_number, default=0, metavar="K", help="the first cycle (0)")
+    kind.add_argument("--to", dest="last", type=_number, metavar="K", help="the last cycle (31 behind the first)")
+    for name in ("lot", "fails", "grade", "events"):
+        kinds.choices[name].add_argument("-o", dest="out", default=f"{name}.png", metavar="FILE", help=f"the picture ({name}.png)")
+    word = _add(words, "report", "write one HTML page about a lot", "stilfloor report scan.stil lot.csv lot.datalog -o report", report)
+    _add_lot(word)
+    word.add_argument("-o", dest="folder", required=True, metavar="DIR", help="the folder for index.html")
+    word.add_argument("--title", metavar="TEXT", help="the page's heading (the datalog's name)")
+    word = _add(words, "export", "turn a datalog into a table for other tools", "stilfloor export lot.datalog --csv --table dies -o dies.csv", export)
+    word.add_argument("datalog", metavar="DATALOG")
+    form = word.add_mutually_exclusive_group(required=True)
+    form.add_argument("--csv", action="store_true", help="one table with a heading")
+    form.add_argument("--json", action="store_true", help="a list of dies, one a line")
+    word.add_argument("--table", choices=("fails", "tries", "dies"), default="fails", help="which table --csv writes (fails)")
+    word.add_argument("-o", dest="out", metavar="FILE", help="where it goes (standard output)")
+
+
+def say(text: str) -> None:
+    """Tells something beside the output."""
+    print(text, file=sys.stderr)
+
+
+def netlist(words: argparse.Namespace) -> int:
+    """The word `netlist`."""
+    from stilfloor.netlist import Start, make
+
+    bench, paths = make(Start(words.files, words.top, words.scan, words.vectors, words.seed), words.folder, words.force)
+    registers = sum(gate.kind == "DFF" for gate in bench.gates)
+    say(f"{bench.name}: {len(bench.gates)} gates, of which {registers} flip-flops"
+        + (f", in chains of {', '.join(str(len(chain.cells)) for chain in bench.chains)}" if bench.chains else "")
+        + (f"; constants are driven at {', '.join(bench.ties)}" if bench.ties else ""))
+    for path in paths:
+        print(path)
+    return 0
+
+
+def learn(words: argparse.Namespace) -> int:
+    """The word `learn`."""
+    from stilfloor.learn import learn as learnt_from
+
+    learnt = learnt_from(words.program, words.plan)
+    _put(words.out, iter([learnt.text]), "latin-1")
+    for note in learnt.notes:
+        say(note)
+    counts = learnt.counts
+    total = sum(counts.values())
+    say(f"{total} looks learnt: {counts['L']} low, {counts['H']} high, {counts['T']} off, {counts['X']} unknown; {learnt.runs} runs")
+    return 0
+
+
+def _put(path: str | None, pieces: Iterator[str], encoding: str = "utf-8") -> None:
+    """Writes pieces into a file, or to standard output."""
+    try:
+        if path is None:
+            for piece in pieces:
+                sys.stdout.buffer.write(piece.encode(encoding))
+            sys.stdout.flush()
+            return
+        with open(path, "w", encoding=encoding, newline="") as out:
+            out.writelines(pieces)
+    except OSError as error:
+        raise Fault(UNREADABLE, f"{error.strerror}", path or "standard output") from error
+
+
+def diagnose(words: argparse.Namespace) -> int:
+    """The word `diagnose`."""
+    from stilfloor import records
+    from stilfloor.diagnose import Doctor, as_json
+    from stilfloor.diagnose import diagnose as diagnosed
+
+    doctor = Doctor(words.program, words.plan, words.jobs, words.most)
+    with records.datalog(words.datalog) as dies:
+        found = diagnosed(doctor, iter(dies), words.site, words.die)
+        _put(None, as_json(found) if words.json else (diagnosis.text() + "\n" for diagnosis in found))
+    for line in doctor.site_lines():
+        (say if words.json else print)(line)
+    return 0
+
+
+def lint(words: argparse.Namespace) -> int:
+    """The word `lint`."""
+    from stilfloor.lint import lint_plan, lint_text
+
+    if not words.files and not words.plan:
+        raise Fault(2, "lint needs a FILE.stil, or --plan PLAN")
+    lines: list[str] = []
+    for file in words.files:
+        lines += lint_text(file)
+    if words.plan:
+        lines += lint_plan(words.plan, words.files[0] if len(words.files) == 1 and not lines_refuse(lines) else None)
+    for line in lines:
+        print(line)
+    return REFUSED if lines_refuse(lines) else 0
+
+
+def lines_refuse(lines: list[str]) -> bool:
+    """Whether a line tells of an error."""
+    return any(": error: " in line for line in lines)
+
+
+def plot_lot(words: argparse.Namespace) -> int:
+    """The word `plot lot`."""
+    from stilfloor import drawing, records
+
+    lot = drawing.LotCounts()
+    with records.datalog(words.datalog) as dies:
+        for die in dies:
+            lot.add(die)
+    drawing.store(drawing.lot_figure(lot), words.out)
+    return 0
+
+
+def plot_fails(words: argparse.Namespace) -> int:
+    """The word `plot fails`."""
+    from stilfloor import drawing, records, saved
+    from stilfloor.failmaps import Gathered, axes_of
+
+    gathered = Gathered(axes_of(saved.code_of(words.program) if words.program else None))
+    count = 0
+    with records.datalog(words.datalog) as dies:
+        for die in dies:
+            if (words.site is None or die.site == words.site) and (words.die is None or die.name == words.die):
+                gathered.add(die)
+                count += die.verdict.kind == "fail"
+    drawing.store(drawing.fails_figure(gathered, f"{count} failing dies"), words.out)
+    return 0
+
+
+def plot_grade(words: argparse.Namespace) -> int:
+    """The word `plot grade`."""
+    from stilfloor import drawing, records
+
+    with records.grade(words.grade) as faults:
+        figure = drawing.grade_figure(faults, words.grade)
+    drawing.store(figure, words.out)
+    return 0
+
+
+def plot_events(words: argparse.Namespace) -> int:
+    """The word `plot events`."""
+    from stilfloor import drawing, waves
+
+    last = words.first + 31 if words.last is None else words.last
+    gathered = waves.gather(waves.cycles_between(words.program, words.first, last))
+    if not gathered.starts:
+        raise Fault(REFUSED, f"the program has no cycle from {words.first} to {last}", words.program)
+    title = f"{words.program}, cycles {words.first} to {words.first + len(gathered.starts) - 1}"
+    drawing.store(waves.wave_figure(gathered, title), words.out)
+    return 0
+
+
+def report(words: argparse.Namespace) -> int:
+    """The word `report`."""
+    from stilfloor import records
+    from stilfloor.diagnose import Doctor
+    from stilfloor.report import make_report
+
+    doctor = Doctor(words.program, words.plan, words.jobs)
+    with records.datalog(words.datalog) as dies:
+        path, page = make_report(words.program, doctor, dies, words.folder, words.title or os.path.basename(words.datalog))
+    say(f"{page.lot.count} dies, {page.failing} fail, {page.explained} explained")
+    print(path)
+    return 0
+
+
+def export(words: argparse.Namespace) -> int:
+    """The word `export`."""
+    from stilfloor import records
+    from stilfloor.export import write_csv, write_json
+
+    with records.datalog(words.datalog) as dies:
+        try:
+            out = open(words.out, "w", encoding="utf-8", newline="") if words.out else sys.stdout
+        except OSError as error:
+            raise Fault(UNREADABLE, f"{error.strerror}", words.out) from error
+        with out:
+            if words.csv:
+                write_csv(dies, out, words.table)
+            else:
+                write_json(dies, out)
+    return 0
+
+
+def main(words: list[str] | None = None) -> int:
+    """Runs the command with its words; the exit status."""
+    told = parser_of().parse_args(words)
+    try:
+        return int(told.does(told))
+    except Fault as fault:
+        sys.stdout.flush()
+        say(fault.told())
+        return fault.status
+    except BrokenPipeError:
+        sys.stderr.close()
+        return UNREADABLE
+    except KeyboardInterrupt:
+        return 130

@@ -1,0 +1,145 @@
+"""Pictures of what the program prints, as figures of matplotlib."""
+
+import io
+from collections import Counter
+from collections.abc import Iterable
+from dataclasses import dataclass, field
+from typing import Any
+
+from matplotlib.figure import Figure
+from matplotlib.patches import Patch
+
+from stilfloor import records
+from stilfloor.failmaps import Gathered, name_of
+from stilfloor.faults import UNREADABLE, Fault
+
+COLOURS = ("#4c9f70", "#d1495b", "#edae49", "#30638e", "#7768ae", "#8d6a4f", "#5bc0be", "#9a9a9a")
+FORMATS = ("png", "svg", "pdf")
+
+
+def store(figure: Figure, path: str) -> None:
+    """Writes a figure; the file's ending says whether as PNG, SVG or PDF."""
+    kind = path.rsplit(".", 1)[-1].lower()
+    if kind not in FORMATS:
+        raise Fault(UNREADABLE, "a picture's file ends with .png, .svg or .pdf", path)
+    try:
+        figure.savefig(path, format=kind, dpi=120)
+    except OSError as error:
+        raise Fault(UNREADABLE, f"{error.strerror}", path) from error
+
+
+def svg_of(figure: Figure) -> str:
+    """A figure as an SVG element that can stand in a page."""
+    out = io.StringIO()
+    figure.savefig(out, format="svg")
+    text = out.getvalue()
+    return text[text.index("<svg"):]
+
+
+@dataclass(slots=True)
+class LotCounts:
+    """The dies of a lot by site, bin, and whether they were tried again."""
+
+    dies: "Counter[tuple[int, int, bool]]" = field(default_factory=Counter)
+    passing: int = 0
+
+    def add(self, die: records.Die) -> None:
+        """Counts a die."""
+        self.dies[die.site, die.bin, len(die.tries) > 1] += 1
+        self.passing += die.verdict.kind == "pass"
+
+    @property
+    def count(self) -> int:
+        """How many dies there are."""
+        return sum(self.dies.values())
+
+    @property
+    def sites(self) -> list[int]:
+        """The sites, rising."""
+        return sorted({site for site, _, _ in self.dies})
+
+    @property
+    def bins(self) -> list[int]:
+        """The bins, rising."""
+        return sorted({number for _, number, _ in self.dies})
+
+
+def colour(number: int) -> str:
+    """The colour of a bin."""
+    return COLOURS[(number - 1) % len(COLOURS)]
+
+
+def lot_figure(lot: LotCounts) -> Figure:
+    """Bins over sites; dies that were tried again are hatched."""
+    figure = Figure(figsize=(max(5.0, 1.5 + 0.55 * len(lot.sites)), 3.6), layout="constrained")
+    axes = figure.subplots()
+    bottoms = dict.fromkeys(lot.sites, 0)
+    for number in lot.bins:
+        for again in (False, True):
+            heights = [lot.dies[site, number, again] for site in lot.sites]
+            if any(heights):
+                axes.bar(lot.sites, heights, bottom=list(bottoms.values()), color=colour(number), hatch="///" if again else None,
+                         edgecolor="white", width=0.8)
+                bottoms = {site: below + height for (site, below), height in zip(bottoms.items(), heights)}
+    handles = [Patch(facecolor=colour(number), label=f"bin {number}") for number in lot.bins]
+    if any(again for _, _, again in lot.dies):
+        handles.append(Patch(facecolor="#cccccc", hatch="///", edgecolor="white", label="tried again"))
+    axes.set(xlabel="site", ylabel="dies", xticks=lot.sites, title=f"{lot.passing} of {lot.count} dies pass")
+    if handles:
+        axes.legend(handles=handles, loc="upper left", bbox_to_anchor=(1, 1), frameon=False)
+    return figure
+
+
+def pareto_on(axes: Any, bars: list[tuple[str, int]]) -> None:
+    """Draws the columns at which most dies fail."""
+    names, counts = [name for name, _ in bars][::-1], [count for _, count in bars][::-1]
+    axes.barh(names, counts, color=COLOURS[1])
+    axes.set(xlabel="dies that fail there", title="failing cells and outputs")
+    axes.tick_params(axis="y", labelsize=8)
+
+
+def pareto_figure(gathered: Gathered, most: int = 20) -> Figure:
+    """The Pareto of failing cells and outputs."""
+    bars = gathered.pareto(most)
+    figure = Figure(figsize=(6, max(2.0, 0.7 + 0.22 * len(bars))), layout="constrained")
+    pareto_on(figure.subplots(), bars)
+    return figure
+
+
+def fails_figure(gathered: Gathered, title: str) -> Figure:
+    """A fail map beside the Pareto of its columns."""
+    figure = Figure(figsize=(12, 5), layout="constrained")
+    left, right = figure.subplots(1, 2, width_ratios=(3, 2))
+    cells = gathered.matrix()
+    names = [name_of(key) for key in gathered.axes.columns]
+    shown = left.imshow(cells, aspect="auto", interpolation="nearest", cmap="magma_r", vmin=0, vmax=max(cells.max(), 1),
+                        extent=(-0.5, max(len(names), 1) - 0.5, gathered.rows() - 0.5, -0.5))
+    figure.colorbar(shown, ax=left, label="dies")
+    left.set(xlabel="scan cell or output", ylabel="load" if gathered.axes.by_load else "cycle", title=title)
+    if 0 < len(names) <= 48:
+        left.set_xticks(range(len(names)), names, rotation=90, fontsize=7)
+    pareto_on(right, gathered.pareto(20))
+    return figure
+
+
+def grade_figure(faults: Iterable[records.StuckNet], name: str) -> Figure:
+    """Coverage over cycles: how many of the stuck-at faults are found up to each cycle, in percent."""
+    count = 0
+    firsts: Counter[int] = Counter()
+    for fault in faults:
+        count += 1
+        if fault.cycle is not None:
+            firsts[fault.cycle] += 1
+    cycles, found, total = [0], [0.0], 0
+    for cycle in sorted(firsts):
+        total += firsts[cycle]
+        cycles.append(cycle + 1)
+        found.append(100.0 * total / count)
+    figure = Figure(figsize=(7, 4), layout="constrained")
+    axes = figure.subplots()
+    axes.step(cycles, found, where="post", color=COLOURS[3])
+    axes.fill_between(cycles, found, step="post", color=COLOURS[3], alpha=0.2)
+    axes.set(xlabel="cycles run", ylabel="stuck-at faults found, percent", ylim=(0, 100), xlim=(0, max(cycles) or 1),
+             title=f"{name}: {total} of {count} faults found")
+    axes.grid(alpha=0.3)
+    return figure

@@ -1,0 +1,126 @@
+"""Where fails lie: by load or cycle, and by scan cell or output."""
+
+import io
+from collections import Counter
+from dataclasses import dataclass
+
+import numpy
+
+from stilfloor import records
+from stilfloor.faults import Fault
+from stilfloor.saved import Code, Loads
+
+MOST_ROWS = 256
+MOST_COLUMNS = 512
+
+
+@dataclass(slots=True)
+class Axes:
+    """The columns of fail maps (the cells of each chain from scan-in to scan-out, then outputs) and their rows.
+
+    Rows are loads where the program has scan chains, else cycles; `rows` is their number.
+    """
+
+    columns: dict[tuple[str, str], int]
+    loads: Loads | None
+    rows: int
+
+    @property
+    def by_load(self) -> bool:
+        """Whether rows are loads."""
+        return self.loads is not None
+
+    def row(self, cycle: int) -> int:
+        """The row of a cycle."""
+        return self.loads.of(cycle) if self.loads else cycle
+
+    def column(self, fail: records.Fail) -> int:
+        """The column of a fail; one that isn't known yet becomes the next one."""
+        key = key_of(fail)
+        place = self.columns.get(key)
+        if place is None:
+            place = self.columns[key] = len(self.columns)
+        return place
+
+
+def key_of(fail: records.Fail) -> tuple[str, str]:
+    """What a fail is told by: its chain and cell where it has them, else nothing and its signal."""
+    return (fail.chain, fail.cell) if fail.chain and fail.cell else ("", fail.signal)
+
+
+def name_of(key: tuple[str, str]) -> str:
+    """A column's name."""
+    return f"{key[0]} {key[1]}" if key[0] else key[1]
+
+
+def axes_of(code: Code | None) -> Axes:
+    """The axes of a program's fail maps; without a program columns come as fails show them, and rows are cycles."""
+    if code is None:
+        return Axes({}, None, 0)
+    keys: list[tuple[str, str]] = []
+    ends = set()
+    for executive in code.executives:
+        for chain in executive.chains:
+            keys += [(chain.name, cell) for cell in chain.cells]
+            ends.add(code.signals[chain.out][1])
+    keys += [("", name) for direction, name in code.signals if direction in ("Out", "InOut") and name not in ends]
+    columns = {key: place for place, key in enumerate(dict.fromkeys(keys))}
+    try:
+        loads = Loads(code)
+    except Fault:
+        return Axes(columns, None, 0)
+    return Axes(columns, loads if loads.starts else None, len(loads.starts) + 1 if loads.starts else loads.cycles)
+
+
+class Gathered:
+    """Fails of many dies: how many dies fail at each place, and at each column."""
+
+    def __init__(self, axes: Axes) -> None:
+        self.axes = axes
+        self.places: Counter[tuple[int, int]] = Counter()
+        self.columns: Counter[int] = Counter()
+
+    def add(self, die: records.Die) -> set[tuple[int, int]]:
+        """Counts a die by the kept fails of its last try; its places."""
+        axes = self.axes
+        rows = {cycle: axes.row(cycle) for cycle in {fail.cycle for fail in die.tries[-1].kept}}
+        places = {(rows[fail.cycle], axes.column(fail)) for fail in die.tries[-1].kept}
+        self.places.update(places)
+        self.columns.update({column for _, column in places})
+        return places
+
+    def rows(self) -> int:
+        """How many rows the map has."""
+        return max(self.axes.rows, 1 + max((row for row, _ in self.places), default=0))
+
+    def matrix(self) -> numpy.ndarray:
+        """How many dies fail at each place, with rows and columns gathered where there are very many."""
+        return spread(self.places, self.rows(), len(self.axes.columns), 2048)
+
+    def pareto(self, most: int) -> list[tuple[str, int]]:
+        """The columns at which most dies fail, with their numbers."""
+        names = [name_of(key) for key in self.axes.columns]
+        return [(names[column], count) for column, count in sorted(self.columns.items(), key=lambda entry: (-entry[1], entry[0]))[:most]]
+
+
+def spread(places: "Counter[tuple[int, int]]", rows: int, columns: int, most: int) -> numpy.ndarray:
+    """A matrix of counts, in which neighbours are gathered so that no side is longer than `most`."""
+    down, right = -(-rows // most) or 1, -(-columns // most) or 1
+    cells = numpy.zeros((-(-rows // down) or 1, -(-columns // right) or 1))
+    for (row, column), count in places.items():
+        cells[row // down, column // right] += count
+    return cells
+
+
+def picture(places: set[tuple[int, int]], rows: int, columns: int) -> bytes:
+    """A fail map as a small PNG, a black pixel for a place or for gathered neighbours."""
+    from PIL import Image
+
+    down, right = -(-rows // MOST_ROWS) or 1, -(-columns // MOST_COLUMNS) or 1
+    cells = numpy.full((-(-rows // down) or 1, -(-columns // right) or 1), 255, dtype=numpy.uint8)
+    if places:
+        found = numpy.array(list(places))
+        cells[found[:, 0] // down, found[:, 1] // right] = 0
+    out = io.BytesIO()
+    Image.fromarray(cells).convert("1").save(out, "PNG")
+    return out.getvalue()
