@@ -220,7 +220,7 @@ def plot_fails(words: argparse.Namespace) -> int:
             if (words.site is None or die.site == words.site) and (words.die is None or die.name == words.die):
                 gathered.add(die)
                 count += die.verdict.kind == "fail"
-    drawing.store(drawing.fails_figure(gathered, f"{count} failing dies"), words.out)
+    drawing.store(drawing.fails_figure(gathered, f"{count} failing {'die' if count == 1 else 'dies'}"), words.out)
     return 0
 
 

@@ -6,8 +6,10 @@ from collections.abc import Iterable
 from dataclasses import dataclass, field
 from typing import Any
 
+import numpy
 from matplotlib.figure import Figure
 from matplotlib.patches import Patch
+from matplotlib.ticker import MaxNLocator
 
 from stilfloor import records
 from stilfloor.failmaps import Gathered, name_of
@@ -85,6 +87,7 @@ def lot_figure(lot: LotCounts) -> Figure:
     if any(again for _, _, again in lot.dies):
         handles.append(Patch(facecolor="#cccccc", hatch="///", edgecolor="white", label="tried again"))
     axes.set(xlabel="site", ylabel="dies", xticks=lot.sites, title=f"{lot.passing} of {lot.count} dies pass")
+    axes.yaxis.set_major_locator(MaxNLocator(integer=True))
     if handles:
         axes.legend(handles=handles, loc="upper left", bbox_to_anchor=(1, 1), frameon=False)
     return figure
@@ -95,6 +98,7 @@ def pareto_on(axes: Any, bars: list[tuple[str, int]]) -> None:
     names, counts = [name for name, _ in bars][::-1], [count for _, count in bars][::-1]
     axes.barh(names, counts, color=COLOURS[1])
     axes.set(xlabel="dies that fail there", title="failing cells and outputs")
+    axes.xaxis.set_major_locator(MaxNLocator(integer=True))
     axes.tick_params(axis="y", labelsize=8)
 
 
@@ -106,18 +110,31 @@ def pareto_figure(gathered: Gathered, most: int = 20) -> Figure:
     return figure
 
 
+def map_on(figure: Figure, axes: Any, gathered: Gathered, title: str) -> None:
+    """Draws a fail map: white where no die fails."""
+    cells = gathered.matrix()
+    names = [name_of(key) for key in gathered.axes.columns]
+    shown = axes.imshow(numpy.ma.masked_equal(cells, 0), aspect="auto", interpolation="nearest", cmap="magma_r", vmin=0,
+                        vmax=max(cells.max(), 1), extent=(-0.5, max(len(names), 1) - 0.5, gathered.rows() - 0.5, -0.5))
+    figure.colorbar(shown, ax=axes, label="dies", ticks=MaxNLocator(integer=True))
+    axes.set(xlabel="scan cell or output", ylabel="load" if gathered.axes.by_load else "cycle", title=title)
+    axes.yaxis.set_major_locator(MaxNLocator(integer=True))
+    if 0 < len(names) <= 64:
+        axes.set_xticks(range(len(names)), names, rotation=90, fontsize=7)
+
+
+def map_figure(gathered: Gathered, title: str) -> Figure:
+    """A fail map alone."""
+    figure = Figure(figsize=(10, 4.5), layout="constrained")
+    map_on(figure, figure.subplots(), gathered, title)
+    return figure
+
+
 def fails_figure(gathered: Gathered, title: str) -> Figure:
     """A fail map beside the Pareto of its columns."""
     figure = Figure(figsize=(12, 5), layout="constrained")
     left, right = figure.subplots(1, 2, width_ratios=(3, 2))
-    cells = gathered.matrix()
-    names = [name_of(key) for key in gathered.axes.columns]
-    shown = left.imshow(cells, aspect="auto", interpolation="nearest", cmap="magma_r", vmin=0, vmax=max(cells.max(), 1),
-                        extent=(-0.5, max(len(names), 1) - 0.5, gathered.rows() - 0.5, -0.5))
-    figure.colorbar(shown, ax=left, label="dies")
-    left.set(xlabel="scan cell or output", ylabel="load" if gathered.axes.by_load else "cycle", title=title)
-    if 0 < len(names) <= 48:
-        left.set_xticks(range(len(names)), names, rotation=90, fontsize=7)
+    map_on(figure, left, gathered, title)
     pareto_on(right, gathered.pareto(20))
     return figure
 

@@ -17,9 +17,10 @@ from stilfloor.faults import UNREADABLE, Fault
 STYLE = """
 body { font: 15px/1.45 system-ui, sans-serif; margin: 2rem auto; max-width: 70rem; padding: 0 1rem; color: #222; }
 h1, h2 { font-weight: 600; } h2 { margin-top: 2.2rem; border-bottom: 1px solid #ddd; padding-bottom: .2rem; }
-table { border-collapse: collapse; } th, td { padding: .2rem .8rem; text-align: right; border-bottom: 1px solid #eee; }
+table { border-collapse: collapse; margin-bottom: 1rem; } th, td { padding: .2rem .8rem; text-align: right; border-bottom: 1px solid #eee; }
 th:first-child, td:first-child { text-align: left; }
 .figures { display: flex; flex-wrap: wrap; gap: 1rem; } .figures svg { max-width: 34rem; height: auto; }
+.all svg { width: 100%; height: auto; }
 .die { display: grid; grid-template-columns: 14rem 1fr; gap: 1rem; padding: .8rem 0; border-bottom: 1px solid #eee;
        content-visibility: auto; contain-intrinsic-size: auto 9rem; }
 .die h3 { margin: 0; font-size: 1rem; } .die p { margin: .2rem 0; } .die ul { margin: .2rem 0; padding-left: 1.2rem; }
@@ -83,8 +84,8 @@ class Page:
             lines.append(drawing.svg_of(drawing.pareto_figure(self.gathered)))
         lines.append("</div>")
         if self.gathered.columns:
-            lines.append("<h2>All fails</h2><div class=\"figures\">"
-                         + drawing.svg_of(drawing.fails_figure(self.gathered, "dies that fail at each place")) + "</div>")
+            lines.append("<h2>All fails</h2><div class=\"all\">"
+                         + drawing.svg_of(drawing.map_figure(self.gathered, "dies that fail at each place")) + "</div>")
         lines.append("<h2>Failing dies</h2>" + self._legend())
         return "\n".join(lines) + "\n"
 

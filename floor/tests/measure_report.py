@@ -1,0 +1,54 @@
+"""Measures a report: 4,096 dies with 1,024 kept fails each, of the ALU with two scan chains.
+
+Usage: measure_report.py FOLDER. Each die has a break of a chain and up to two stuck nets more, so that few fail alike and most are
+explained by no single net. A plan keeps 1,024 fails of at most 1,024 dies, so four lots at sites of their own stand behind one
+another in the datalog. Prints seconds and the largest memory.
+"""
+
+import pathlib
+import random
+import resource
+import subprocess
+import sys
+import time
+
+from stilfloor import learn, netlist, plans, tester
+from stilfloor.dictionary import nets_of
+
+DATA = pathlib.Path(__file__).parent / "data"
+
+
+def prepare(folder: pathlib.Path) -> list[str]:
+    """The program, the plan and the datalog."""
+    _, (bench, stil, plan_file) = netlist.make(netlist.Start([str(DATA / "alu.v")], None, 2, 600), str(folder), True)
+    learnt = folder / "learnt.stil"
+    learnt.write_text(learn.learn(stil, plan_file).text, encoding="latin-1")
+    nets, bits = nets_of(bench), random.Random(7)
+    binding = plans.read_plan(plan_file).binding()
+    with open(folder / "lot.datalog", "wb") as out:
+        for quarter in range(4):
+            rows = [["lot", "4096", "1", "1024"], *binding]
+            for number in range(1024):
+                site, name = str(4 * quarter + number % 4), f"d{number}"
+                rows.append(["die", site, name, bench])
+                stuck = {bits.choice(["SE", "SI1", "SI2"]): "0"} | {net: bits.choice("01") for net in bits.sample(nets, 2)}
+                rows += [["fault", site, name, net, value] for net, value in stuck.items()]
+            plan = folder / f"lot{quarter}.csv"
+            plan.write_text(plans.write_rows(rows))
+            out.write(tester.run(["lot", str(learnt), str(plan)])[1])
+    return [str(learnt), str(folder / "lot0.csv"), str(folder / "lot.datalog")]
+
+
+def main() -> None:
+    """Prepares, and runs the report in a process of its own."""
+    folder = pathlib.Path(sys.argv[1])
+    words = prepare(folder)
+    lines = sum(1 for line in open(words[2], encoding="latin-1") if line.startswith("fail "))
+    begin = time.monotonic()
+    subprocess.run([sys.executable, "-m", "stilfloor", "report", *words, "-o", str(folder / "report")], check=True)
+    used = resource.getrusage(resource.RUSAGE_CHILDREN).ru_maxrss / 1024
+    print(f"{lines} fails, {time.monotonic() - begin:.1f} seconds, at most {used:.0f} MiB")
+
+
+if __name__ == "__main__":
+    main()
