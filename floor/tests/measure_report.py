@@ -44,10 +44,12 @@ def main() -> None:
     folder = pathlib.Path(sys.argv[1])
     words = prepare(folder)
     lines = sum(1 for line in open(words[2], encoding="latin-1") if line.startswith("fail "))
+    before = resource.getrusage(resource.RUSAGE_CHILDREN)
     begin = time.monotonic()
     subprocess.run([sys.executable, "-m", "stilfloor", "report", *words, "-o", str(folder / "report")], check=True)
-    used = resource.getrusage(resource.RUSAGE_CHILDREN).ru_maxrss / 1024
-    print(f"{lines} fails, {time.monotonic() - begin:.1f} seconds, at most {used:.0f} MiB")
+    after = resource.getrusage(resource.RUSAGE_CHILDREN)
+    busy = after.ru_utime + after.ru_stime - before.ru_utime - before.ru_stime
+    print(f"{lines} fails, {time.monotonic() - begin:.1f} seconds, {busy:.1f} of them of a processor, at most {after.ru_maxrss / 1024:.0f} MiB")
 
 
 if __name__ == "__main__":

@@ -155,7 +155,8 @@ def test_a_die_without_a_fault_that_fails_is_said_to_be_so(tmp_path: pathlib.Pat
 def test_the_word_takes_one_die_and_gives_json(s27: Lot, capsys: pytest.CaptureFixture[str]) -> None:
     datalog = str(EXAMPLES / "s27scan" / "lot.datalog")
     assert main(["diagnose", s27.stil, s27.plan, datalog, "--site", "2", "--die", "c"]) == 0
-    assert capsys.readouterr().out.startswith("site 2 die c try 1 fails 2: a class of 13 stuck nets explains it\n  1.000 SI stuck at 0, ")
+    assert capsys.readouterr().out.startswith(
+        "site 2 die c try 1 fails 2: a stuck net explains it, and so does a signal moved at its site\n  1.000 SI stuck at 0, ")
     assert main(["diagnose", s27.stil, s27.plan, datalog, "--json"]) == 0
     told, = json.loads(capsys.readouterr().out)
     assert told["explained"] and {"kind": "stuck", "net": "G9", "value": 1} in told["classes"][0]["members"]

@@ -56,9 +56,9 @@ def test_more_fails_than_a_try_keeps_are_learnt_in_several_runs(tmp_path: pathli
 
 ELSEWHERE = {
     "a Loop": ('"pattern 1"', 'Loop 2 { V { "_po"=L; } } "pattern 1"', 48),
-    "the procedure `capture`": ('"_po"=#;', '"_po"=L;', 36),
-    "the procedure `load_unload`": ('"SO"=#;', '"SO"=L;', 32),
-    "a C": ('"_po"=X; "SO"=X; }\n  Ann', '"_po"=L; "SO"=X; }\n  Ann', 45),
+    "the procedure `capture`": ('"_po"=#;', '"_po"=L;', 37),
+    "the procedure `load_unload`": ('"SO"=#;', '"SO"=L;', 33),
+    "a C": ('"_po"=X; "SO"=X; }\n  Ann', '"_po"=L; "SO"=X; }\n  Ann', 44),
 }
 
 
@@ -73,7 +73,7 @@ def test_a_look_elsewhere_is_refused_by_its_line(s27: Lot, where: str) -> None:
 
 
 def test_a_look_that_is_kept_and_shows_both_values_is_refused(s27: Lot) -> None:
-    text = S27.replace('Call "capture" { "_pi"=0101; "_po"=L; }', 'V { "CK"=P; "_pi"=0101; "_po"=L; } V { "_pi"=1010; } V { "_pi"=0000; } V { "_po"=X; }')
+    text = S27.replace('Call "capture" { "_pi"=0101; "_po"=L; }', 'V { "CK"=0; "SE"=0; "_pi"=0101; "_po"=L; } V { "_pi"=1000; } V { "_po"=X; }')
     with pytest.raises(Fault) as refused:
         learnt(s27, text)
     assert "different values" in refused.value.text and refused.value.line == 47
@@ -106,7 +106,7 @@ def test_a_text_without_a_look_and_a_saved_program_are_refused(s27: Lot) -> None
 def test_a_refused_text_is_told_by_its_line(s27: Lot) -> None:
     with pytest.raises(Fault) as refused:
         learnt(s27, S27.replace('W "_default_WFT_";\n  "pre', 'W nowhere;\n  "pre'))
-    assert refused.value.line == 44 and "(UnknownName" in refused.value.text
+    assert refused.value.line == 43 and "(UnknownName" in refused.value.text
 
 
 def test_skews_of_the_site_count(s27: Lot) -> None:

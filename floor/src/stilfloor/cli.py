@@ -171,7 +171,7 @@ def diagnose(words: argparse.Namespace) -> int:
         found = diagnosed(doctor, iter(dies), words.site, words.die)
         _put(None, as_json(found) if words.json else (diagnosis.text() + "\n" for diagnosis in found))
     for line in doctor.site_lines():
-        (say if words.json else print)(line)
+        print(line, file=sys.stderr if words.json else sys.stdout)
     return 0
 
 

@@ -12,6 +12,7 @@ import sys
 import tempfile
 from collections.abc import Iterator
 from dataclasses import dataclass, field
+from zipfile import BadZipFile
 
 import numpy
 
@@ -85,9 +86,12 @@ class Dictionary:
 
     def same(self, attempt: records.Try) -> int | None:
         """The class that fails exactly as this try does."""
-        numbers = [self.fails.get((fail.cycle, fail.signal, fail.seen)) for fail in attempt.kept]
-        if None in numbers:
-            return None
+        numbers = []
+        for fail in attempt.kept:
+            number = self.fails.get((fail.cycle, fail.signal, fail.seen))
+            if number is None:
+                return None
+            numbers.append(number)
         return self.found.get((attempt.fails, numpy.array(numbers, dtype=numpy.uint32).tobytes()))
 
     def scores(self, attempt: records.Try) -> numpy.ndarray:
@@ -134,7 +138,7 @@ def dictionary_of(die: Die, jobs: int) -> Dictionary:
     if os.path.exists(path):
         try:
             return _load(path)
-        except (OSError, ValueError, KeyError):
+        except (OSError, ValueError, KeyError, EOFError, BadZipFile):
             print(f"stilfloor: the dictionary {path} can't be read, so it is made again", file=sys.stderr)
     made = _make(die, jobs)
     _save(made, path)
@@ -216,7 +220,7 @@ def _rows_of(die: Die) -> list[list[str]]:
 def _stuck_parts(die: Die, suspects: list[Suspect], room: str, jobs: int) -> list[tuple[str, list[Suspect]]]:
     """Plans of one die a suspect at one site, in parts for the processes; each part's name and its suspects."""
     most = min(plans.MOST_DIES, plans.MOST_FAILS // max(die.kept, 1), -(-len(suspects) // max(jobs, 1)))
-    parts = []
+    parts: list[tuple[str, list[Suspect]]] = []
     for front in range(0, len(suspects), most):
         some = suspects[front : front + most]
         rows = _rows_of(die)
@@ -231,7 +235,7 @@ def _stuck_parts(die: Die, suspects: list[Suspect], room: str, jobs: int) -> lis
 
 def _moved_parts(die: Die, moved: list[Moved], room: str) -> list[tuple[str, list[Suspect]]]:
     """Plans of a good die at each site, with one signal more that is moved there."""
-    parts = []
+    parts: list[tuple[str, list[Suspect]]] = []
     for front in range(0, len(moved), 16):
         some = moved[front : front + 16]
         rows = _rows_of(die) + [["die", str(site), "good", "die.bench"] for site in range(len(some))]

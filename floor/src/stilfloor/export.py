@@ -3,15 +3,18 @@
 import csv
 import json
 from collections.abc import Iterable, Iterator
+from dataclasses import fields
 from typing import IO, Any
 
-from stilfloor.records import Die
+from stilfloor.records import Die, Fail
 
 COLUMNS = {
     "fails": ("site", "die", "try", "cycle", "at", "signal", "want", "seen", "chain", "cell"),
     "tries": ("site", "die", "try", "cycles", "fails", "kept", "verdict", "executive", "batch", "by", "word", "at"),
     "dies": ("site", "die", "bin", "tries", "verdict", "fails"),
 }
+
+FAIL = [part.name for part in fields(Fail)]
 
 
 def rows_of(die: Die, table: str) -> Iterator[tuple[Any, ...]]:
@@ -43,7 +46,7 @@ def plain(die: Die) -> dict[str, Any]:
     for attempt in die.tries:
         end = attempt.verdict
         verdict = {"kind": end.kind, "executive": end.executive, "batch": end.batch, "by": end.by, "word": end.word, "at": end.at}
-        fails = [{name: value for name in fail.__slots__ if (value := getattr(fail, name)) is not None} for fail in attempt.kept]
+        fails = [{name: value for name in FAIL if (value := getattr(fail, name)) is not None} for fail in attempt.kept]
         tries.append({"try": attempt.number, "cycles": attempt.cycles, "fails": attempt.fails,
                       "verdict": {name: value for name, value in verdict.items() if value is not None}, "kept": fails})
     return {"site": die.site, "die": die.name, "bin": die.bin, "tries": tries}

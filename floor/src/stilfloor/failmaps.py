@@ -12,6 +12,8 @@ from stilfloor.saved import Code, Loads
 
 MOST_ROWS = 256
 MOST_COLUMNS = 512
+MOST_PLACES = 1 << 19
+MOST_SIDE = 2048
 
 
 @dataclass(slots=True)
@@ -73,29 +75,49 @@ def axes_of(code: Code | None) -> Axes:
 
 
 class Gathered:
-    """Fails of many dies: how many dies fail at each place, and at each column."""
+    """Fails of many dies: how many dies fail at each place, and at each column.
+
+    Where there are more than half a million places, neighbours are gathered: `down` rows and `right` columns are one place then.
+    """
 
     def __init__(self, axes: Axes) -> None:
         self.axes = axes
         self.places: Counter[tuple[int, int]] = Counter()
         self.columns: Counter[int] = Counter()
+        self.down = self.right = 1
+        self.last_row = 0
 
     def add(self, die: records.Die) -> set[tuple[int, int]]:
-        """Counts a die by the kept fails of its last try; its places."""
+        """Counts a die by the kept fails of its last try; its places, as they are before any are gathered."""
         axes = self.axes
-        rows = {cycle: axes.row(cycle) for cycle in {fail.cycle for fail in die.tries[-1].kept}}
-        places = {(rows[fail.cycle], axes.column(fail)) for fail in die.tries[-1].kept}
-        self.places.update(places)
+        kept = die.tries[-1].kept
+        rows = {cycle: axes.row(cycle) for cycle in {fail.cycle for fail in kept}}
+        places = {(rows[fail.cycle], axes.column(fail)) for fail in kept}
+        self.last_row = max(self.last_row, max(rows.values(), default=0))
+        whole = self.down == self.right == 1
+        self.places.update(places if whole else {(row // self.down, column // self.right) for row, column in places})
         self.columns.update({column for _, column in places})
+        while len(self.places) > MOST_PLACES:
+            self._gather()
         return places
+
+    def _gather(self) -> None:
+        """Makes two neighbours one place, in the longer direction."""
+        tall = self.rows() // self.down >= len(self.axes.columns) // self.right
+        down, right = (2, 1) if tall else (1, 2)
+        self.down, self.right = self.down * down, self.right * right
+        fewer: Counter[tuple[int, int]] = Counter()
+        for (row, column), count in self.places.items():
+            fewer[row // down, column // right] += count
+        self.places = fewer
 
     def rows(self) -> int:
         """How many rows the map has."""
-        return max(self.axes.rows, 1 + max((row for row, _ in self.places), default=0))
+        return max(self.axes.rows, 1 + self.last_row)
 
     def matrix(self) -> numpy.ndarray:
         """How many dies fail at each place, with rows and columns gathered where there are very many."""
-        return spread(self.places, self.rows(), len(self.axes.columns), 2048)
+        return spread(self.places, -(-self.rows() // self.down), -(-len(self.axes.columns) // self.right), MOST_SIDE)
 
     def pareto(self, most: int) -> list[tuple[str, int]]:
         """The columns at which most dies fail, with their numbers."""

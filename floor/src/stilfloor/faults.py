@@ -23,6 +23,9 @@ class Fault(Exception):
         self.file = file
         self.line = line
 
+    def __str__(self) -> str:
+        return self.text
+
     def told(self) -> str:
         """The line that is printed, in the form that editors read."""
         if not self.file:

@@ -130,7 +130,8 @@ class Listing:
 
 
 def _listed(code: saved.Code) -> Listing:
-    steps, offset = [], 0
+    steps: list[tuple[int, int, int, int]] = []
+    offset = 0
     for executive in code.executives:
         steps.extend((offset + step.start, step.times, step.table, step.row) for step in saved.steps(executive))
         offset += executive.cycles

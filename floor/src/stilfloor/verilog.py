@@ -15,7 +15,7 @@ from stilfloor.faults import REFUSED, TOOL, UNREADABLE, Fault, Faults
 Bit = int | str
 Module = dict[str, Any]
 
-READ = "hierarchy -check {top}; proc; flatten; tribuf; memory -nomap; memory_map; write_json {early}"
+READ = "hierarchy -check {top}; proc -noopt; flatten; tribuf; memory -nomap; memory_map; write_json {early}"
 MAP = "synth -flatten -nofsm -run begin:; dfflegalize -cell $_DFF_P_ x; abc -g AND,NAND,OR,NOR,XOR,XNOR; opt_clean; write_json {late}"
 
 LATCHES = {"$dlatch", "$adlatch", "$dlatchsr", "$sr"}
@@ -122,10 +122,33 @@ def judge(module: Module, file: str) -> str | None:
         why = _judge_cell(cell, names)
         if why:
             refuse(why, cell["attributes"])
+    for name in undriven(module, names):
+        refuse(f"nothing drives `{name}`: a bench die's nets are driven to 0 or 1", _attributes(module, name))
     clock = _judge_clocks(module, names, refuse)
     if faults:
         raise Faults(faults)
     return clock
+
+
+def undriven(module: Module, names: dict[Bit, str]) -> list[str]:
+    """The nets that something reads and nothing drives, where no initial value is told of them."""
+    driven = {bit for port in module["ports"].values() if port["direction"] != "output" for bit in port["bits"]}
+    read = {bit: None for port in module["ports"].values() if port["direction"] == "output" for bit in port["bits"]}
+    for cell in module["cells"].values():
+        for end, bits in cell["connections"].items():
+            if cell["port_directions"].get(end) == "output":
+                driven.update(bits)
+            else:
+                read.update(dict.fromkeys(bits))
+    started = {bit for net in module["netnames"].values() if "init" in net["attributes"] for bit in net["bits"]}
+    return list(dict.fromkeys(names.get(bit, str(bit)) for bit in read if isinstance(bit, int) and bit not in driven | started))
+
+
+def _attributes(module: Module, bit_name: str) -> dict[str, str]:
+    """What yosys says of the net of a bit."""
+    net = module["netnames"].get(bit_name) or module["netnames"].get(re.sub(r"\[\d+\]$", "", bit_name)) or {}
+    attributes: dict[str, str] = net.get("attributes", {})
+    return attributes
 
 
 def _register(cell: Module, names: dict[Bit, str]) -> str:
