@@ -102,7 +102,7 @@ def test_a_report_has_each_failing_die_and_needs_no_net(page: pathlib.Path, made
     for die in failing:
         assert f"site {die.site}, die {die.name}</h3>" in text
     assert len(re.findall(r'<img class="map"', text)) == len(failing) > 8
-    assert "d26" in text and "stopped 0 plan" in text and "d25" not in text
+    assert "die d26<" in text and "stopped 0 plan" in text and "die d25<" not in text
     assert not re.search(r"""(src|href)=["']?https?:|url\(["']?https?:|<script|<link""", text)
     maps = [base64.b64decode(code) for code in re.findall(r"data:image/png;base64,([^\"]+)", text) if len(code) > 40]
     assert all(data.startswith(b"\x89PNG") for data in maps[:len(failing)])

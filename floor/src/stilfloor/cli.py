@@ -1,6 +1,7 @@
 """The command `stilfloor`: its words, their help, and its exit statuses."""
 
 import argparse
+import contextlib
 import os
 import sys
 from collections.abc import Callable, Iterator
@@ -156,6 +157,8 @@ def _put(path: str | None, pieces: Iterator[str], encoding: str = "utf-8") -> No
             return
         with open(path, "w", encoding=encoding, newline="") as out:
             out.writelines(pieces)
+    except BrokenPipeError:
+        raise
     except OSError as error:
         raise Fault(UNREADABLE, f"{error.strerror}", path or "standard output") from error
 
@@ -268,14 +271,15 @@ def export(words: argparse.Namespace) -> int:
 
     with records.datalog(words.datalog) as dies:
         try:
-            out = open(words.out, "w", encoding="utf-8", newline="") if words.out else sys.stdout
+            target = open(words.out, "w", encoding="utf-8", newline="") if words.out else contextlib.nullcontext(sys.stdout)
         except OSError as error:
             raise Fault(UNREADABLE, f"{error.strerror}", words.out) from error
-        with out:
+        with target as out:
             if words.csv:
                 write_csv(dies, out, words.table)
             else:
                 write_json(dies, out)
+    sys.stdout.flush()
     return 0
 
 
@@ -289,7 +293,8 @@ def main(words: list[str] | None = None) -> int:
         say(fault.told())
         return fault.status
     except BrokenPipeError:
-        sys.stderr.close()
+        # (whoever read the output is gone; nothing more can be told there)
+        os.dup2(os.open(os.devnull, os.O_WRONLY), sys.stdout.fileno())
         return UNREADABLE
     except KeyboardInterrupt:
         return 130
