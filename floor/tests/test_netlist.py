@@ -91,7 +91,6 @@ REFUSED = {
                         "always @(negedge c) r <= q; endmodule",
     "is made inside": "module t(input c, input e, input d, output reg q);\nalways @(posedge (c & e)) q <= d; endmodule",
     "the initial value": "module t(input c, input d,\noutput reg q = 1); always @(posedge c) q <= d; endmodule",
-    "initial value 0101": "module t(input c, input [1:0] a, output [3:0] q);\nreg [3:0] m = 4'b0101; assign q = m; endmodule",
     "a tristate": "module t(input e, input d, output q);\nassign q = e ? d : 1'bz; endmodule",
     "an inout": "module t(input e,\ninout d, output q); bufif1(d, q, e); assign q = d; endmodule",
     "a loop of gates": "module t(input s, input r, output q, output p);\nassign q = ~(r | p); assign p = ~(s | q); endmodule",
@@ -128,6 +127,8 @@ def test_constants_become_ties_that_the_text_drives(tmp_path: pathlib.Path) -> N
     text = pathlib.Path(bench).read_text()
     assert "INPUT(tie0)" in text and "INPUT(tie1)" in text and text.count("BUFF(tie1)") == 2 and "q[3] = BUFF(a)" in text
     assert '"tie1"=1;' in pathlib.Path(stil).read_text()
+    kept = pathlib.Path(make(tmp_path, "module k(output [1:0] q); reg [1:0] m = 2'b01; assign q = m; endmodule", 0, "k")[0]).read_text()
+    assert "q[0] = BUFF(tie1)" in kept and "q[1] = BUFF(tie0)" in kept
     assert tester.run(["lot", stil, plan])[0] == 0
 
 
