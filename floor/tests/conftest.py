@@ -49,7 +49,7 @@ def dies_of(path: str) -> list[records.Die]:
         return list(dies)
 
 
-@pytest.fixture(scope="session", autouse=True)
+@pytest.fixture(scope="package", autouse=True)
 def _program() -> None:
     """Says early where there is no program."""
     tester.find_program()
@@ -66,7 +66,7 @@ def s27(tmp_path: pathlib.Path) -> Lot:
     return Lot(tmp_path, bench, str(tmp_path / "s27scan.stil"), str(plan))
 
 
-@pytest.fixture(scope="session")
+@pytest.fixture(scope="package")
 def made_alu(tmp_path_factory: pytest.TempPathFactory) -> Lot:
     """The ALU with two scan chains of unequal length, and values learnt from its good die."""
     if not shutil.which("yosys"):

@@ -151,7 +151,7 @@ def test_the_lines_are_read_by_vim(tmp_path: pathlib.Path) -> None:
     script = (f"source {EDITORS}/stilfloor.vim | cgetfile errors | call writefile(map(getqflist(), "
               "'bufname(v:val.bufnr) . v:val.lnum . v:val.type . v:val.text'), 'out') | qa!")
     subprocess.run(["vim", "-u", "NONE", "-N", "-es", "-c", "command -nargs=* CompilerSet setlocal <args>", "-c", script.replace("|", "|")],
-                   cwd=tmp_path, check=False, timeout=20)
+                   cwd=tmp_path, check=False, timeout=300)
     assert (tmp_path / "out").read_text() == "a.stil12esome words\nb.stil3wothers\n"
 
 

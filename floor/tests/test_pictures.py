@@ -112,10 +112,10 @@ def test_a_report_has_each_failing_die_and_needs_no_net(page: pathlib.Path, made
 def test_a_report_is_shown_by_a_browser(page: pathlib.Path, tmp_path: pathlib.Path) -> None:
     shot = tmp_path / "shot.png"
     words = [str(CHROMIUM), "--headless", "--no-sandbox", "--disable-gpu", f"--user-data-dir={tmp_path / 'profile'}", "--host-resolver-rules=MAP * ~NOTFOUND"]
-    subprocess.run([*words, f"--screenshot={shot}", "--window-size=1200,1600", page.as_uri()], check=True, capture_output=True, timeout=120)
+    subprocess.run([*words, f"--screenshot={shot}", "--window-size=1200,1600", page.as_uri()], check=True, capture_output=True, timeout=600)
     pixels = imread(str(shot))
     assert pixels.shape[:2] == (1600, 1200) and (pixels[:, :, :3].min(axis=2) < 0.9).mean() > 0.01
-    shown = subprocess.run([*words, "--dump-dom", page.as_uri()], check=True, capture_output=True, text=True, timeout=120).stdout
+    shown = subprocess.run([*words, "--dump-dom", page.as_uri()], check=True, capture_output=True, text=True, timeout=600).stdout
     assert "<h1>ALU lot</h1>" in shown and shown.count('class="die"') == page.read_text().count('class="die"')
 
 
