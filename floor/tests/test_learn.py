@@ -117,8 +117,8 @@ def test_skews_of_the_site_count(s27: Lot) -> None:
 
 
 def test_executives_are_learnt_one_after_another(s27: Lot) -> None:
-    text = S27.replace("PatternExec {", "PatternExec first {").replace("Pattern \"_pattern_\"", 'PatternBurst two { PatList { more; } }\n'
-                                                                     'PatternExec second { PatternBurst two; }\nPattern "_pattern_"')
+    second = 'PatternBurst two { PatList { more; } }\nPatternExec second { PatternBurst two; }\nPattern "_pattern_"'
+    text = S27.replace("PatternExec {", "PatternExec first {").replace('Pattern "_pattern_"', second)
     text += 'Pattern more { W "_default_WFT_"; V { "CK"=P; "SE"=0; "SI"=0; "_pi"=0101; "SO"=L; "_po"=L; } }\n'
     found = learnt(s27, text.replace("HHL", "LLL"))
     assert found.counts["H"] >= 3 and found.runs >= 3

@@ -5,6 +5,7 @@ import contextlib
 import os
 import sys
 from collections.abc import Callable, Iterator
+from typing import IO
 
 from stilfloor import __version__
 from stilfloor.faults import REFUSED, STATUSES, UNREADABLE, Fault
@@ -270,6 +271,7 @@ def export(words: argparse.Namespace) -> int:
     from stilfloor.export import write_csv, write_json
 
     with records.datalog(words.datalog) as dies:
+        target: contextlib.AbstractContextManager[IO[str]]
         try:
             target = open(words.out, "w", encoding="utf-8", newline="") if words.out else contextlib.nullcontext(sys.stdout)
         except OSError as error:
