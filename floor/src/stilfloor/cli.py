@@ -270,19 +270,27 @@ def export(words: argparse.Namespace) -> int:
     from stilfloor import records
     from stilfloor.export import write_csv, write_json
 
-    with records.datalog(words.datalog) as dies:
-        target: contextlib.AbstractContextManager[IO[str]]
-        try:
-            target = open(words.out, "w", encoding="utf-8", newline="") if words.out else contextlib.nullcontext(sys.stdout)
-        except OSError as error:
-            raise Fault(UNREADABLE, f"{error.strerror}", words.out) from error
-        with target as out:
-            if words.csv:
-                write_csv(dies, out, words.table)
-            else:
-                write_json(dies, out)
-    sys.stdout.flush()
+    with records.datalog(words.datalog) as dies, _target(words.out) as out:
+        if words.csv:
+            write_csv(dies, out, words.table)
+        else:
+            write_json(dies, out)
     return 0
+
+
+@contextlib.contextmanager
+def _target(path: str | None) -> Iterator[IO[str]]:
+    """A file to be written, or standard output, which stays open."""
+    if path is None:
+        yield sys.stdout
+        sys.stdout.flush()
+        return
+    try:
+        out = open(path, "w", encoding="utf-8", newline="")
+    except OSError as error:
+        raise Fault(UNREADABLE, f"{error.strerror}", path) from error
+    with out:
+        yield out
 
 
 def main(words: list[str] | None = None) -> int:
