@@ -12,7 +12,7 @@ program = $(shell tools/program)
 archive = stil-x86_64-linux-gnu
 # the folders of examples and docs, with what a user reads of them
 pages = README.md $(shell find docs -name '*.md' -o -name '*.png')
-samples = $(shell find examples -type f)
+samples = $(shell find examples editors/textmate editors/vscode -type f)
 
 all:
 	@echo "nothing is to be made: ./stil runs at once. make install PREFIX=.. installs it; ./stil --prove proves and builds it"
