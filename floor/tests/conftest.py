@@ -12,6 +12,8 @@ from stilfloor import learn, netlist, plans, records, tester
 TOP = pathlib.Path(__file__).resolve().parents[2]
 DATA = pathlib.Path(__file__).resolve().parent / "data"
 EXAMPLES = TOP / "examples"
+# the texts that the program reads: those of other dialects stand beside them as they were
+TEXTS = sorted(path for path in EXAMPLES.glob("**/*.stil") if not path.name.endswith(".before.stil"))
 
 needs_yosys = pytest.mark.skipif(not shutil.which("yosys"), reason="yosys isn't there: netlists of Verilog are left out")
 needs_iverilog = pytest.mark.skipif(not shutil.which("iverilog"), reason="iverilog isn't there: netlists beside simulation are left out")

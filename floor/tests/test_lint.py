@@ -8,7 +8,7 @@ import subprocess
 
 import pytest
 
-from conftest import EXAMPLES, TOP, Lot
+from conftest import EXAMPLES, TEXTS, TOP, Lot
 from stilfloor import sentences
 from stilfloor.cli import main
 from stilfloor.lint import lint_plan, lint_text
@@ -65,7 +65,7 @@ def test_refusals_of_tokens_and_sizes_have_their_sentences(tmp_path: pathlib.Pat
 
 
 def test_the_examples_are_accepted_without_a_warning() -> None:
-    for file in sorted(EXAMPLES.glob("**/*.stil")):
+    for file in TEXTS:
         assert list(lint_text(str(file))) == []
 
 

@@ -7,13 +7,12 @@ from collections.abc import Iterator
 
 import pytest
 
-from conftest import EXAMPLES, TOP
+from conftest import EXAMPLES, TEXTS, TOP
 from stilfloor import records, saved, tester
 from stilfloor.faults import Fault
 
 DATALOGS = sorted(EXAMPLES.glob("*/*.datalog"))
 GRADES = sorted(EXAMPLES.glob("*/*.grade"))
-TEXTS = sorted(EXAMPLES.glob("**/*.stil"))
 
 
 def printed(name: str) -> str:
