@@ -1,6 +1,7 @@
 //! The tape of the first try of the scan lot's site 2, and what a socket there was told.
 
-ghost use Rattle.std.specs.Prelude.{◌≡◌, ◌<◌, false, length, IfOk};
+ghost use Rattle.std.specs.Prelude.{◌≡◌, ◌≤◌, ◌<◌, false, length, IfOk};
+ghost use Rattle.text_bytes.specs.Limits.{most_bytes};
 ghost use Rattle.die_sim.specs.Socket.{Told, taping_told};
 ghost use Rattle.plan_rows.specs.Rows.{sites_of, dies_at};
 ghost use Rattle.site_run.specs.Site.{IsSiteOf};
@@ -90,29 +91,31 @@ fault,2,c,G9,1,\n";
 const SITE: u8 = 2;
 
 /// How many drive calls the try has.
-const CALLS: usize = 0;
+const CALLS: usize = 21;
 
-/// The program.
-fn program(alloc: Global) -> Result<Code, Fail> {
-    let Ok(code) = load(alloc, S27_SCAN) else {
-        return Err("the bytes are a program".into());
-    };
-    Ok(code)
+/// The program that these bytes save.
+fn code_of(alloc: Global, bytes: &[u8]) -> Result<Code, Fail> {
+    match load(alloc, bytes) {
+        Ok(code) => Ok(code),
+        Err(_) => Err("the bytes are a program".into()),
+    }
 }
 
-/// The plan, bound to a program and the netlist.
-fn bound(alloc: Global, code: &Code) -> Result<BoundPlan, Fail>
+/// The plan of a text with one file, bound to a program and a netlist.
+fn bound(alloc: Global, code: &Code, text: &[u8], net: &[u8]) -> Result<BoundPlan, Fail>
+    requires text { length text.now ≤ most_bytes }
+    requires net { length net.now ≤ most_bytes }
     ensures program { IfOk result (λ plan. plan.program ≡ code.now) }
     ensures site { IfOk result (λ plan. 2 < sites_of plan.rows) }
     ensures die { IfOk result (λ plan. 0 < length (dies_at 2 plan.rows)) }
 {
-    let Ok(plan) = Plan::read(alloc, PLAN) else {
+    let Ok(plan) = Plan::read(alloc, text) else {
         return Err("the text is a plan".into());
     };
     if plan.files().len() != 1 {
         return Err("there is one file".into());
     }
-    let Ok(net) = read(alloc, NET) else {
+    let Ok(net) = read(alloc, net) else {
         return Err("there is a netlist".into());
     };
     let mut nets = Vec::with_capacity(alloc, 1)?;
@@ -198,19 +201,44 @@ fn same_tape(one: &Tape, other: &Tape) -> bool {
     true
 }
 
+/// The program, and the plan of its lot.
+fn planned(alloc: Global) -> Result<(Code, BoundPlan), Fail>
+    ensures program { IfOk result (λ made. made.1.program ≡ made.0) }
+    ensures site { IfOk result (λ made. 2 < sites_of made.1.rows) }
+    ensures die { IfOk result (λ made. 0 < length (dies_at 2 made.1.rows)) }
+{
+    let code = code_of(alloc, S27_SCAN)?;
+    let plan = bound(alloc, &code, PLAN, NET)?;
+    Ok((code, plan))
+}
+
+/// The tape of the first try at the site.
+fn taped(alloc: Global, code: &Code, plan: &BoundPlan) -> Result<Tape, Fail>
+    requires program { plan.now.program ≡ code.now }
+    requires site { 2 < sites_of plan.now.rows }
+    requires die { 0 < length (dies_at 2 plan.now.rows) }
+{
+    match tape_of(alloc, code, plan, SITE) {
+        Ok(tape) => Ok(tape),
+        Err(_) => Err("the tape isn't too long".into()),
+    }
+}
+
+/// Whether a socket's tape is this one.
+fn is_told(socket: &TapeSocket, tape: &Tape) -> bool {
+    match socket.tape() {
+        Some(told) => same_tape(told, tape),
+        None => false,
+    }
+}
+
 #[test]
 fn a_socket_is_told_the_tape_of_the_first_try(rt: HostRuntime) -> Result<(), Fail> {
-    let code = program(rt.alloc())?;
-    let plan = bound(rt.alloc(), &code)?;
-    let Ok(tape) = tape_of(rt.alloc(), &code, &plan, SITE) else {
-        return Err("the tape isn't too long".into());
-    };
+    let (code, plan) = planned(rt.alloc())?;
+    let tape = taped(rt.alloc(), &code, &plan)?;
     let mut socket = TapeSocket::new(rt.alloc(), 1000)?;
     run(&rt, rt.alloc(), code, &plan, &mut socket)?;
-    let Some(told) = socket.tape() else {
-        return Err("the socket has a tape".into());
-    };
     assert_eq!(rt; tape.len(), CALLS);
-    assert!(rt; same_tape(&tape, told));
+    assert!(rt; is_told(&socket, &tape));
     Ok(())
 }
