@@ -1,12 +1,14 @@
 #!/usr/bin/env python3
 """Measures dumps: how much longer the dump of a try takes than a lot of that try, and how much memory, at the most drives that a dump
-may have and at a quarter of them; and how long a try with one drive more takes until it is refused.
+may have and at a quarter of them; how long a try with more drives takes until it is refused; and how long a dump takes to be read back by
+the word dumps of the crate measure, where that is built.
 
 Usage: bench/dump.py [PROGRAM]; without a program it is ./stil."""
 import os, subprocess, sys, tempfile
 
 program = sys.argv[1] if len(sys.argv) > 1 else os.path.join(os.path.dirname(__file__), "../stil")
 program = os.path.abspath(program)
+reader = os.path.abspath(os.path.join(os.path.dirname(__file__), "../crates/measure/out/measure"))
 signals = 64
 
 
@@ -27,12 +29,12 @@ def write(folder, cycles):
             file.write(content)
 
 
-def once(folder, *words):
-    """The seconds of processor time that a command takes, its memory in MiB, and how many bytes it prints."""
-    with open(os.path.join(folder, "printed"), "wb") as printed:
-        child = subprocess.Popen([program, *words], cwd=folder, stdout=printed)
+def once(folder, *words, tool=program, into="printed"):
+    """The seconds of processor time that a command takes, its memory in MiB, how many bytes it prints, and its status."""
+    with open(os.path.join(folder, into), "wb") as printed:
+        child = subprocess.Popen([tool, *words], cwd=folder, stdout=printed)
         _, status, usage = os.wait4(child.pid, 0)
-    size = os.path.getsize(os.path.join(folder, "printed"))
+    size = os.path.getsize(os.path.join(folder, into))
     return usage.ru_utime + usage.ru_stime, usage.ru_maxrss / 1024, size, os.waitstatus_to_exitcode(status)
 
 
@@ -45,3 +47,6 @@ with tempfile.TemporaryDirectory() as folder:
         over = f", {dump[0] - lot[0]:.2f} s over the lot" if lot else ""
         print(f"{cycles + 1} cycles, {(cycles + 1) * signals} drives: status {dump[3]}, {dump[0]:.2f} s{over}, {dump[1]:.0f} MiB, "
               f"{dump[2] / 1e6:.1f} MB")
+        if dump[3] == 0 and os.path.exists(reader):
+            back = once(folder, "dumps", "printed", tool=reader, into="told")
+            print(f"read back in {back[0]:.2f} s, {dump[2] / back[0] / 1e6:.0f} MB/s, {back[1]:.0f} MiB")

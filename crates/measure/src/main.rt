@@ -5,6 +5,8 @@
 mod board;
 mod bodies;
 mod dies;
+mod dumps;
+mod files;
 mod groups;
 mod moments;
 mod nets;
@@ -37,6 +39,7 @@ fn measure<R: Files + Print + Clock + AllocGlobal + Threads + Wait + Sync>(
         "board" => board::run(rt, words),
         "bodies" => bodies::run(rt, words),
         "dies" => dies::run(rt, words),
+        "dumps" => dumps::run(rt, words),
         "groups" => groups::run(rt, words),
         "moments" => moments::run(rt, words),
         "nets" => nets::run(rt, words),
@@ -51,7 +54,7 @@ fn main(rt: HostRuntime) -> io::Result<()> {
         [part, others @ ..] => measure(&rt, part.as_str(), others),
         [] => {
             for part in [
-                "board", "bodies", "dies", "groups", "moments", "nets", "pages",
+                "board", "bodies", "dies", "dumps", "groups", "moments", "nets", "pages",
             ] {
                 measure(&rt, part, &[])?;
             }
