@@ -10,16 +10,33 @@ ghost use Rattle.datalog.specs.Printable.{IsPrintable, IsPrintableAt, ArePrintab
 use crate::records::print_record;
 use crate::summary::print_totals;
 use crate::trials::put_numbered;
+use floor_core::BookState;
 use lot_plan::BoundPlan;
 use page_code::Code;
 use tester_types::{Record, RecordList, Sink, SinkFault};
 
-/// Puts the text of a lot: the records of each site, by the sites' numbers, and how many dies each bin has.
+/// Puts the text of a lot: the records of each site, by the sites' numbers, and how many dies each bin has. It takes no memory.
 pub fn print_lot<K: Sink>(
     code: &Code,
     plan: &BoundPlan,
-    sites: &[RecordList],
+    book: &BookState,
     sink: &mut K,
+) -> Result<(), SinkFault>
+    requires { ArePrintable code.now plan.now (records_of book.now) }
+    ensures puts { Puts (K.told sink.old) (lot_text code.now plan.now (records_of book.now)) result
+        (K.told sink.new) }
+    ensures count { K.faults sink.old ≤ K.faults sink.new }
+    ensures cause { OnErr result (HasRisen (K.faults sink.old) (K.faults sink.new)) }
+{
+    put_lot(sink, code, plan, book.sites())
+}
+
+/// Puts the sites of a book, and the totals of their bins.
+fn put_lot<K: Sink>(
+    sink: &mut K,
+    code: &Code,
+    plan: &BoundPlan,
+    sites: &[RecordList],
 ) -> Result<(), SinkFault>
     requires { ArePrintable code.now plan.now (records_of sites.now) }
     ensures puts { Puts (K.told sink.old) (lot_text code.now plan.now (records_of sites.now)) result

@@ -37,7 +37,7 @@ fn run<R: Threads + Wait + Sync, D: Desk, G: Gate, K: Sink>(
         return no_memory(out);
     };
     let _bound = tested.plan.sites();
-    match print_lot(tested.mem.code(), &tested.plan, tested.book.sites(), out) {
+    match print_lot(tested.mem.code(), &tested.plan, &tested.book, out) {
         Ok(()) => Status::Done,
         Err(_) => Status::WriteFault,
     }

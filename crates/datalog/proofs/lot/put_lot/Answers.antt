@@ -3,7 +3,7 @@ use Rattle.tester_types.proofs.OutsideLemmas.{front_more, puts_last}
 use Rattle.tester_types.specs.Records.{records_of}
 use Rattle.datalog.specs.DatalogText.{site_text, numbered, bins_of, totals_text}
 use Rattle.datalog.proofs.LotLemmas.{numbered-filed}
-use Rattle.datalog.proofs.lot.print_lot.Goals as goal
+use Rattle.datalog.proofs.lot.put_lot.Goals as goal
 
 pub returns-in_err-put_sites-clause-puts : goal.returns-in_err-put_sites-clause-puts
 returns-in_err-put_sites-clause-puts g c =
