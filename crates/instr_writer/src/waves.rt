@@ -10,7 +10,7 @@ pub(crate) fn has_wave(tables: &WaveSet, table: u16, signal: u16, letter: Option
     ensures { result ≡ has_wave (slice_get tables.now table) signal letter }
 {
     match letter {
-        Some(letter) => tables.wave(usize::from(table), signal, letter).is_some(),
+        Some(letter) => tables.wave(table, signal, letter).is_some(),
         None => true,
     }
 }

@@ -1,5 +1,5 @@
 -- What is told of files and of written bytes, and how counts of faults rise.
-use Rattle.std.specs.Prelude.{◌≡◌, ℕ, ◌+◌, ◌-◌, ◌^◌, ◌<◌, ◌≤◌, List, [], ◌∷◌, ◌++◌, length, take, Option, Some, None, Result, Ok, Err, nat_eq, if◌then◌else◌, ◌⊎◌, Vec}
+use Rattle.std.specs.Prelude.{◌≡◌, ℕ, ◌-◌, ◌^◌, ◌<◌, List, [], ◌∷◌, ◌++◌, length, take, Option, Some, None, Result, Ok, Err, nat_eq, if◌then◌else◌, ◌⊎◌, Vec}
 use Rattle.std.specs.Cmp.Lexicographic.{pointwise}
 use Rattle.std.specs.declared.alloc.Global.{Global}
 use Rattle.tester_types.specs.declared.outside.ShelfFault.{ShelfFault}
@@ -23,11 +23,6 @@ GainsFront held text now = (n : ℕ) × (now ≡ gained held (take n text))
 abbrev pub Puts : Option (List ℕ) → List ℕ → Result (Unit {0}) SinkFault → Option (List ℕ) → Type 0
 Puts held text (Ok done) now = now ≡ gained held text
 Puts held text (Err fault) now = GainsFront held text now
-
--- Puts end at the first one with a fault: a text that was put whole met no fault, and one that wasn't met one alone.
-abbrev pub EndsAtFault : ℕ → Result (Unit {0}) SinkFault → ℕ → Type 0
-EndsAtFault before (Ok done) now = now ≡ before
-EndsAtFault before (Err fault) now = now ≤ before + 1
 
 -- named texts: the name, and the bytes
 abbrev pub Files : Type 0

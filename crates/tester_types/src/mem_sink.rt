@@ -117,8 +117,6 @@ impl Sink for MemSink {
         ensures count { self.old.faults ≤ self.new.faults }
         ensures cause { OnErr result (HasRisen self.old.faults self.new.faults) }
         ensures nothing { IfOk result (λ n. n ≡ 0 → 0 < length piece.now → HasRisen self.old.faults self.new.faults) }
-        ensures once { self.new.faults ≤ self.old.faults + 1 }
-        ensures steady { IfOk result (λ n. 0 < n → self.new.faults ≡ self.old.faults) }
     {
         let much = self.how_much(piece.len());
         self.calls = self.calls.saturating_add(1);

@@ -1,6 +1,6 @@
 //! The outside as traits: shelves that hold files, and sinks that take bytes.
 
-ghost use Rattle.std.specs.Prelude.{◌≡◌, ℕ, ◌+◌, ◌<◌, ◌≤◌, List, Option, length, take, IfOk, OnErr};
+ghost use Rattle.std.specs.Prelude.{◌≡◌, ℕ, ◌<◌, ◌≤◌, List, Option, length, take, IfOk, OnErr};
 ghost use Rattle.tester_types.specs.Outside.{HasRisen, gained, Files, Loads, FailsBy};
 ghost use Rattle.tester_types.specs.declared.outside.ShelfFault.TheVariants as ShelfFault;
 
@@ -96,8 +96,5 @@ pub trait Sink {
         ensures cause { OnErr result (HasRisen (faults self.old) (faults self.new)) }
         // A put that takes nothing of a piece that isn't empty is a fault too.
         ensures nothing { IfOk result (λ n. n ≡ 0 → 0 < length piece.now
-            → HasRisen (faults self.old) (faults self.new)) }
-        // A put has one fault at most, and none where it takes something.
-        ensures once { faults self.new ≤ faults self.old + 1 }
-        ensures steady { IfOk result (λ n. 0 < n → faults self.new ≡ faults self.old) };
+            → HasRisen (faults self.old) (faults self.new)) };
 }

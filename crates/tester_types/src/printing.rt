@@ -2,7 +2,7 @@
 
 ghost use Rattle.std.specs.Prelude.{◌≡◌, ℕ, ◌≤◌, List, OnErr};
 ghost use Rattle.std.specs.List.{flat_map, list_all};
-ghost use Rattle.tester_types.specs.Outside.{HasRisen, Puts, EndsAtFault};
+ghost use Rattle.tester_types.specs.Outside.{HasRisen, Puts};
 ghost use Rattle.tester_types.specs.Printing.{piece_text, is_bare, quoted, printed_name, printed_title};
 
 use crate::outside::{Sink, SinkFault};
@@ -13,7 +13,6 @@ pub fn put_all<K: Sink>(sink: &mut K, piece: &[u8]) -> Result<(), SinkFault>
     ensures puts { Puts (K.told sink.old) piece.now result (K.told sink.new) }
     ensures count { K.faults sink.old ≤ K.faults sink.new }
     ensures cause { OnErr result (HasRisen (K.faults sink.old) (K.faults sink.new)) }
-    ensures ends { EndsAtFault (K.faults sink.old) result (K.faults sink.new) }
 {
     let mut at = 0;
     while at < piece.len() {
@@ -34,8 +33,7 @@ pub trait Printed {
     fn put_to<K: Sink>(&self, sink: &mut K) -> Result<(), SinkFault>
         ensures puts { Puts (K.told sink.old) (text self.now) result (K.told sink.new) }
         ensures count { K.faults sink.old ≤ K.faults sink.new }
-        ensures cause { OnErr result (HasRisen (K.faults sink.old) (K.faults sink.new)) }
-        ensures ends { EndsAtFault (K.faults sink.old) result (K.faults sink.new) };
+        ensures cause { OnErr result (HasRisen (K.faults sink.old) (K.faults sink.new)) };
 }
 
 /// Puts the texts of the items, one after another.
@@ -43,7 +41,6 @@ pub fn put_each<K: Sink, P: Printed>(sink: &mut K, items: &[P]) -> Result<(), Si
     ensures puts { Puts (K.told sink.old) (flat_map P.text items.now) result (K.told sink.new) }
     ensures count { K.faults sink.old ≤ K.faults sink.new }
     ensures cause { OnErr result (HasRisen (K.faults sink.old) (K.faults sink.new)) }
-    ensures ends { EndsAtFault (K.faults sink.old) result (K.faults sink.new) }
 {
     for item in items {
         item.put_to(sink)?;
@@ -97,7 +94,6 @@ fn put_name<K: Sink>(sink: &mut K, name: &[u8]) -> Result<(), SinkFault>
     ensures puts { Puts (K.told sink.old) (printed_name name.now) result (K.told sink.new) }
     ensures count { K.faults sink.old ≤ K.faults sink.new }
     ensures cause { OnErr result (HasRisen (K.faults sink.old) (K.faults sink.new)) }
-    ensures ends { EndsAtFault (K.faults sink.old) result (K.faults sink.new) }
 {
     if !name.is_empty() && is_bare_name(name) {
         put_all(sink, name)
@@ -110,7 +106,6 @@ fn put_quoted<K: Sink>(sink: &mut K, name: &[u8]) -> Result<(), SinkFault>
     ensures puts { Puts (K.told sink.old) (quoted name.now) result (K.told sink.new) }
     ensures count { K.faults sink.old ≤ K.faults sink.new }
     ensures cause { OnErr result (HasRisen (K.faults sink.old) (K.faults sink.new)) }
-    ensures ends { EndsAtFault (K.faults sink.old) result (K.faults sink.new) }
 {
     let quote: &[u8] = b"\"";
     put_each(sink, &[quote, name, quote])

@@ -69,10 +69,10 @@ impl WaveSet {
 
     /// What a signal does in a cycle of a table in which it has this character, where the table says so. It takes in step
     /// with the logarithm of the number of waves.
-    pub fn wave(&self, table: usize, signal: u16, letter: u8) -> Option<&Wave>
+    pub fn wave(&self, table: u16, signal: u16, letter: u8) -> Option<&Wave>
         ensures { option_map (λ w. w.now) result ≡ wave_in self.now table signal letter }
     {
-        match self.tables.get(table) {
+        match self.tables.get(usize::from(table)) {
             Some(found) => wave_of(found.waves.as_slice(), signal, letter),
             None => None,
         }

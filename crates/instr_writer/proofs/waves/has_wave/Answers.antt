@@ -1,7 +1,7 @@
 use Rattle.std.proofs.Common.{ℕ, Option, Bor, sym, ap, ◌∙◌}
 use Rattle.std.specs.Prelude.{slice_get}
 use Rattle.tester_types.specs.declared.wave.Wave.{Wave}
-use Rattle.stil_ast.specs.Faults.CodeFaults.{is_defined, has_wave}
+use Rattle.stil_ast.specs.Faults.CodeFaults.{has_wave}
 use Rattle.instr_writer.proofs.WaveLemmas.{wave-defined}
 use Rattle.instr_writer.proofs.waves.has_wave.Goals as goal
 
@@ -9,6 +9,5 @@ pub returns-in-Some : goal.returns-in-Some
 returns-in-Some c =
     let tables = c.args.tables.now in
     c.is_some.ensures
-    ∙ (wave-defined (λ (w : Bor Wave). w.now) tables c.from.result c.args.signal c.in-Some.letter c.wave.result c.wave.ensures
-    ∙ (ap (λ (table : ℕ). is_defined (slice_get tables table) c.args.signal c.in-Some.letter) c.from.ensures
-    ∙ ap (λ (letter : Option ℕ). has_wave (slice_get tables c.args.table) c.args.signal letter) (sym c.in-Some.is)))
+    ∙ (wave-defined (λ (w : Bor Wave). w.now) tables c.args.table c.args.signal c.in-Some.letter c.wave.result c.wave.ensures
+    ∙ ap (λ (letter : Option ℕ). has_wave (slice_get tables c.args.table) c.args.signal letter) (sym c.in-Some.is))

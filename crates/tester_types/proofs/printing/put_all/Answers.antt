@@ -7,5 +7,5 @@ pub loop-at-preserved : goal.loop-at-preserved
 loop-at-preserved g c = record {
   within = omega (arith, simp (take_rest, length-drop) at c.in-Ok.ensures.within);
   held = gained-more _ _ _ c.args.piece.now c.loop-at.at c.in-Ok.taken c.loop-at.invariant.held c.in-Ok.ensures.taken;
-  count = grind (arith, c.in-Ok.ensures.steady);
+  count = omega arith;
 }
