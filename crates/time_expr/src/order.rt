@@ -5,6 +5,7 @@ ghost use Rattle.std.specs.Prelude.{IfOk, IfSome, OnOk};
 ghost use Rattle.time_expr.specs.Picked.{variable_of};
 ghost use Rattle.time_expr.specs.Choosing.{AreKnown, HasOwnValue, IsNext};
 
+use crate::expr::Expr;
 use crate::fraction::Fraction;
 use crate::names::names_of;
 use crate::picked::Picked;
@@ -21,26 +22,40 @@ struct Waiting {
     readers: Vec<Vec<usize>>,
 }
 
+/// The places of the variables of these names.
+fn places_of(
+    alloc: Global,
+    variables: &Variables,
+    names: &[&[u8]],
+) -> Result<Vec<usize>, AllocError> {
+    let mut places = Vec::new(alloc);
+    for name in names {
+        if let Some(place) = variables.place(name) {
+            places.push(place)?;
+        }
+    }
+    Ok(places)
+}
+
+/// The places of the variables that an expression names, as often as it names them.
+fn places_in(alloc: Global, variables: &Variables, expr: &Expr) -> Result<Vec<usize>, AllocError> {
+    let names = names_of(alloc, expr)?;
+    places_of(alloc, variables, &names)
+}
+
 /// The places of the variables that a variable's text names, as often as it names them.
 fn named_places(
     alloc: Global,
     variables: &Variables,
     variable: &Picked,
 ) -> Result<Vec<usize>, AllocError> {
-    let mut places = Vec::new(alloc);
     let Some(text) = variable.text else {
-        return Ok(places);
+        return Ok(Vec::new(alloc));
     };
-    let Ok(expr) = read_expr(alloc, text.text.as_slice()) else {
-        return Ok(places);
-    };
-    let names = names_of(alloc, &expr)?;
-    for name in &names {
-        if let Some(place) = variables.place(name) {
-            places.push(place)?;
-        }
+    match read_expr(alloc, text.text.as_slice()) {
+        Ok(expr) => places_in(alloc, variables, &expr),
+        Err(_) => Ok(Vec::new(alloc)),
     }
-    Ok(places)
 }
 
 /// Lets a variable wait for those at these places.
@@ -57,20 +72,49 @@ fn add_readers(
     Ok(())
 }
 
-/// What each variable waits for.
-fn waiting_of(alloc: Global, variables: &Variables) -> Result<Waiting, AllocError> {
-    let picked = variables.picked();
+/// As many lists of readers as there are variables, with none in them so far.
+fn no_readers(alloc: Global, count: usize) -> Result<Vec<Vec<usize>>, AllocError> {
     let mut readers = Vec::new(alloc);
-    for _ in picked {
+    for _ in 0..count {
         readers.push(Vec::new(alloc))?;
     }
-    let mut left = Vec::new(alloc);
-    for (reader, variable) in picked.iter().enumerate() {
-        let places = named_places(alloc, variables, variable)?;
-        left.push(places.len())?;
-        add_readers(&mut readers, &places, reader)?;
+    Ok(readers)
+}
+
+/// Lets the variable at a place wait for those that it names.
+fn wait_for(
+    alloc: Global,
+    variables: &Variables,
+    waiting: &mut Waiting,
+    reader: usize,
+    variable: &Picked,
+) -> Result<(), AllocError> {
+    let places = named_places(alloc, variables, variable)?;
+    waiting.left.push(places.len())?;
+    add_readers(&mut waiting.readers, &places, reader)
+}
+
+/// Lets each variable wait for those that it names.
+fn wait_for_all(
+    alloc: Global,
+    variables: &Variables,
+    waiting: &mut Waiting,
+) -> Result<(), AllocError> {
+    for (reader, variable) in variables.picked().iter().enumerate() {
+        wait_for(alloc, variables, waiting, reader, variable)?;
     }
-    Ok(Waiting { left, readers })
+    Ok(())
+}
+
+/// What each variable waits for.
+fn waiting_of(alloc: Global, variables: &Variables) -> Result<Waiting, AllocError> {
+    let readers = no_readers(alloc, variables.picked().len())?;
+    let mut waiting = Waiting {
+        left: Vec::new(alloc),
+        readers,
+    };
+    wait_for_all(alloc, variables, &mut waiting)?;
+    Ok(waiting)
 }
 
 /// The variables that wait for nothing.
@@ -158,27 +202,50 @@ fn add_ready(
     Ok(true)
 }
 
+/// Adds the values of the variables in the order in which they come to wait for nothing.
+fn add_in_turn(
+    alloc: Global,
+    variables: &Variables,
+    waiting: &mut Waiting,
+    ready: &mut Vec<usize>,
+    vars: &mut Vars,
+) -> Result<(), AllocError>
+    requires { AreKnown variables.now vars.old }
+    ensures { OnOk result (AreKnown variables.now vars.new) }
+{
+    let picked = variables.picked();
+    for turn in 0..picked.len() {
+        let Some(place) = ready.get(turn).copied() else {
+            return Ok(());
+        };
+        let Some(variable) = picked.get(place) else {
+            return Ok(());
+        };
+        if !add_ready(alloc, variables, vars, variable.name)? {
+            continue;
+        }
+        if let Some(readers) = waiting.readers.get(place) {
+            release(&mut waiting.left, readers, ready)?;
+        }
+    }
+    Ok(())
+}
+
+/// Adds the values of the variables that need no variable without a value.
+fn add_ordered(alloc: Global, variables: &Variables, vars: &mut Vars) -> Result<(), AllocError>
+    requires { AreKnown variables.now vars.old }
+    ensures { OnOk result (AreKnown variables.now vars.new) }
+{
+    let mut waiting = waiting_of(alloc, variables)?;
+    let mut ready = ready_of(alloc, &waiting.left)?;
+    add_in_turn(alloc, variables, &mut waiting, &mut ready, vars)
+}
+
 /// The values of the variables that need no variable without a value.
 pub(crate) fn ordered_values(alloc: Global, variables: &Variables) -> Result<Vars, AllocError>
     ensures { IfOk result (λ vars. AreKnown variables.now vars) }
 {
-    let picked = variables.picked();
-    let mut waiting = waiting_of(alloc, variables)?;
-    let mut ready = ready_of(alloc, &waiting.left)?;
     let mut vars = Vars::new(alloc);
-    for turn in 0..picked.len() {
-        let Some(place) = ready.get(turn).copied() else {
-            return Ok(vars);
-        };
-        let Some(variable) = picked.get(place) else {
-            return Ok(vars);
-        };
-        if !add_ready(alloc, variables, &mut vars, variable.name)? {
-            continue;
-        }
-        if let Some(readers) = waiting.readers.get(place) {
-            release(&mut waiting.left, readers, &mut ready)?;
-        }
-    }
+    add_ordered(alloc, variables, &mut vars)?;
     Ok(vars)
 }

@@ -1,11 +1,11 @@
 //! Expressions from their texts.
 
-ghost use Rattle.std.specs.Prelude.{◌≡◌, ◌⊎◌, ◌<◌, length, true, IfOk, IfErr, MatchResult};
+ghost use Rattle.std.specs.Prelude.{◌≡◌, ◌⊎◌, ◌<◌, length, true, Some, IfOk, IfErr, MatchResult};
 ghost use Rattle.time_expr.specs.Tree.{Tree, tree_of};
 ghost use Rattle.time_expr.specs.Spelling.{Spells, IsFault};
 ghost use Rattle.time_expr.specs.Machine.{read_of};
 ghost use Rattle.time_expr.specs.Front.{front_of};
-ghost use Rattle.time_expr.specs.Memory.{state_of, Answers, ReadsFront, ReadsOn};
+ghost use Rattle.time_expr.specs.Memory.{lexeme_of, state_of, Answers, ReadsFront, ReadsOn};
 ghost use Rattle.time_expr.specs.declared.fault.ExprFault.{ExprFault};
 ghost use Rattle.time_expr.specs.declared.fault.ExprFault.TheVariants.{NoMemory};
 
@@ -13,7 +13,7 @@ use crate::expr::Expr;
 use crate::fault::ExprFault;
 use crate::front::front_of;
 use crate::reader::Reader;
-use crate::token::is_in_range;
+use crate::token::{Token, is_in_range};
 use std::alloc::Global;
 use text_bytes::is_blank;
 
@@ -25,20 +25,30 @@ pub(crate) struct Progress {
     len: usize,
 }
 
+/// Reads a token of so many bytes.
+fn past_token(
+    alloc: Global,
+    reader: Reader,
+    token: &Token,
+    len: usize,
+) -> Result<Progress, ExprFault>
+    ensures { ReadsFront result (state_of reader) (Some (lexeme_of token.now, len)) }
+{
+    let in_range = is_in_range(token);
+    let reader = reader.token(alloc, token)?;
+    Ok(Progress {
+        reader,
+        in_range,
+        len,
+    })
+}
+
 /// Reads the token at the front of a text that begins with no blank.
 fn over_token(alloc: Global, reader: Reader, text: &[u8]) -> Result<Progress, ExprFault>
     ensures { ReadsFront result (state_of reader) (front_of text.now) }
 {
     match front_of(text) {
-        Some((token, len)) => {
-            let in_range = is_in_range(&token);
-            let reader = reader.token(alloc, &token)?;
-            Ok(Progress {
-                reader,
-                in_range,
-                len,
-            })
-        }
+        Some((token, len)) => past_token(alloc, reader, &token, len),
         None => Err(ExprFault::BadExpr),
     }
 }

@@ -1,9 +1,10 @@
 //! The part of an expression that is read so far.
 
-ghost use Rattle.std.specs.Prelude.{◌≡◌, []};
+ghost use Rattle.std.specs.Prelude.{◌≡◌, [], ◌∷◌};
 ghost use Rattle.time_expr.specs.Tree.{tree_of};
-ghost use Rattle.time_expr.specs.Machine.{nothing, before, behind, opened, separated, closed, first_step, next_step, step, outcome};
-ghost use Rattle.time_expr.specs.Memory.{lexeme_of, sum_of, purpose_in, frames_of, state_of, Steps, Answers, IsSeparated, IsClosed};
+ghost use Rattle.time_expr.specs.Machine.{nothing, before, behind, opened, separated_in, separated, closed_in, closed, first_step, next_step, step, outcome};
+ghost use Rattle.time_expr.specs.Memory.{lexeme_of, sum_of, purpose_in, frame_of, frames_of, state_of, Steps, Answers, IsSeparated, IsClosed};
+ghost use Rattle.time_expr.specs.declared.reader.Group.TheVariants.{Operands};
 
 use crate::expr::{Bound, Expr};
 use crate::fault::ExprFault;
@@ -38,6 +39,15 @@ pub(crate) enum Reader {
     Behind(Vec<Paren>, OpenSum, Expr),
 }
 
+/// Before the first factor in a parenthesis.
+fn with_paren(parens: Vec<Paren>, paren: Paren) -> Result<Reader, ExprFault>
+    ensures { Steps result (before (frame_of paren ∷ frames_of parens.items) nothing) }
+{
+    let mut parens = parens;
+    parens.push(paren)?;
+    Ok(Reader::Before(parens, OpenSum::new()))
+}
+
 /// A parenthesis opens.
 fn opened(parens: Vec<Paren>, around: OpenSum, bound: Option<Bound>) -> Result<Reader, ExprFault>
     ensures { Steps result (opened (frames_of parens.items) (sum_of around) bound) }
@@ -49,9 +59,7 @@ fn opened(parens: Vec<Paren>, around: OpenSum, bound: Option<Bound>) -> Result<R
         None => Group::Sum,
         Some(bound) => Group::NoOperand(bound),
     };
-    let mut parens = parens;
-    parens.push(Paren { around, group })?;
-    Ok(Reader::Before(parens, OpenSum::new()))
+    with_paren(parens, Paren { around, group })
 }
 
 /// The operands with one more, at a comma.
@@ -69,18 +77,45 @@ fn separated_group(alloc: Global, group: Group, operand: Expr) -> Result<Group, 
     }
 }
 
+/// A comma stands behind an operand in this parenthesis.
+fn separated_paren(
+    alloc: Global,
+    parens: Vec<Paren>,
+    paren: Paren,
+    operand: Expr,
+) -> Result<Reader, ExprFault>
+    ensures { Steps result
+        (separated_in (purpose_in paren.group) (sum_of paren.around) (frames_of parens.items) (tree_of operand)) }
+{
+    let Paren { around, group } = paren;
+    let group = separated_group(alloc, group, operand)?;
+    with_paren(parens, Paren { around, group })
+}
+
 /// A sum ends at a comma.
 fn separated(alloc: Global, parens: Vec<Paren>, operand: Expr) -> Result<Reader, ExprFault>
     ensures { Steps result (separated (frames_of parens.items) (tree_of operand)) }
 {
     let mut parens = parens;
-    let Some(paren) = parens.pop() else {
-        return Err(ExprFault::BadExpr);
-    };
-    let Paren { around, group } = paren;
-    let group = separated_group(alloc, group, operand)?;
-    parens.push(Paren { around, group })?;
-    Ok(Reader::Before(parens, OpenSum::new()))
+    match parens.pop() {
+        Some(paren) => separated_paren(alloc, parens, paren, operand),
+        None => Err(ExprFault::BadExpr),
+    }
+}
+
+/// `min` or `max` with its last operand.
+fn closed_operands(
+    alloc: Global,
+    bound: Bound,
+    first: Expr,
+    others: Vec<Expr>,
+    operand: Expr,
+) -> Result<Expr, ExprFault>
+    ensures { IsClosed result (purpose_in (Operands bound first others)) (tree_of operand) }
+{
+    let mut others = others;
+    others.push(operand)?;
+    Ok(extreme_expr(alloc, bound, first, others)?)
 }
 
 /// The factor that a closing parenthesis ends.
@@ -91,11 +126,24 @@ fn closed_group(alloc: Global, group: Group, operand: Expr) -> Result<Expr, Expr
         Group::Sum => Ok(operand),
         Group::NoOperand(_) => Err(ExprFault::BadExpr),
         Group::Operands(bound, first, others) => {
-            let mut others = others;
-            others.push(operand)?;
-            Ok(extreme_expr(alloc, bound, first, others)?)
+            closed_operands(alloc, bound, first, others, operand)
         }
     }
+}
+
+/// This parenthesis closes behind an operand.
+fn closed_paren(
+    alloc: Global,
+    parens: Vec<Paren>,
+    paren: Paren,
+    operand: Expr,
+) -> Result<Reader, ExprFault>
+    ensures { Steps result
+        (closed_in (purpose_in paren.group) (sum_of paren.around) (frames_of parens.items) (tree_of operand)) }
+{
+    let Paren { around, group } = paren;
+    let factor = closed_group(alloc, group, operand)?;
+    Ok(Reader::Behind(parens, around, factor))
 }
 
 /// A sum ends at a closing parenthesis.
@@ -103,12 +151,10 @@ fn closed(alloc: Global, parens: Vec<Paren>, operand: Expr) -> Result<Reader, Ex
     ensures { Steps result (closed (frames_of parens.items) (tree_of operand)) }
 {
     let mut parens = parens;
-    let Some(paren) = parens.pop() else {
-        return Err(ExprFault::BadExpr);
-    };
-    let Paren { around, group } = paren;
-    let factor = closed_group(alloc, group, operand)?;
-    Ok(Reader::Behind(parens, around, factor))
+    match parens.pop() {
+        Some(paren) => closed_paren(alloc, parens, paren, operand),
+        None => Err(ExprFault::BadExpr),
+    }
 }
 
 /// A token before a factor.
