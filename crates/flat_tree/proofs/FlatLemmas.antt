@@ -1,13 +1,12 @@
 -- How lists and their flat trees are joined.
 use Rattle.std.proofs.Common.{◌≡◌, ℕ, ◌+◌, ◌≤◌, zero, suc, ◌<◌, List, [], ◌∷◌, ◌++◌, refl, ap, sym, subst, ◌∙◌, length, take, get_or, arith}
-use Rattle.std.proofs.lemmas.List.{reverse-append, take_more}
+use Rattle.std.proofs.lemmas.List.{take_more}
 use Rattle.stil_ast.specs.Meaning.State.{State}
 use Rattle.stil_ast.specs.Meaning.Running.{times}
 use Rattle.stil_ast.specs.Meaning.Flat.{Flat, done, table, character, back, cycle, repeat, save, saved, flat_run, measure}
 use Rattle.stil_ast.specs.Meaning.Least.{least_written}
 use Rattle.stil_ast.specs.Meaning.Flattening.{joined}
 use Rattle.flat_tree.specs.Items.{item_front, items_flat, item_count, body_count}
-use Rattle.flat_tree.specs.Leaning.{reversed_flat}
 use Rattle.flat_tree.specs.declared.flat.FlatItem.{FlatItem}
 use Rattle.flat_tree.specs.declared.flat.FlatItem.TheVariants.{Table, Character, Back, Cycle, Repeat, Save}
 
@@ -65,10 +64,6 @@ items_flat-append [] more = refl
 items_flat-append (item ∷ items) more =
     ap (item_front item) (items_flat-append items more)
     ∙ sym (item_front-joined item (items_flat items) (items_flat more))
-
-pub reversed_flat-push : (kept : List FlatItem) (item : FlatItem)
-    → reversed_flat (kept ++ item ∷ []) ≡ item_front item (reversed_flat kept)
-reversed_flat-push kept item = ap items_flat (reverse-append kept (item ∷ []))
 
 -- an item counts once
 item_front-count : (item : FlatItem) (rest : Flat) → item_count (item_front item rest) ≡ 1 + item_count rest

@@ -1,6 +1,5 @@
 -- Each step from a list's end keeps a lean tree that does the same.
-use Rattle.std.proofs.Common.{◌≡◌, ◌≢◌, ℕ, zero, suc, ◌<◌, ◌==◌, ◌||◌, Bool, true, false, List, [], ◌∷◌, ◌++◌, Some, None, refl, ap, sym, ◌∙◌, subst, length, slice_index_or, slice_set, get_or-set_other, get_or-set_same, eq-eqb, eqb-true, append_assoc, arith}
-use Rattle.std.specs.Prelude.{Result, Ok, Err, OnOk}
+use Rattle.std.proofs.Common.{◌≡◌, ◌≢◌, ℕ, zero, suc, ◌<◌, ◌==◌, ◌||◌, Bool, true, false, List, [], ◌∷◌, Some, None, refl, ap, sym, ◌∙◌, subst, length, slice_index_or, slice_set, get_or-set_other, get_or-set_same, eq-eqb, eqb-true, arith}
 use Rattle.std.proofs.lemmas.List.{length-set, length-replicate, get_or-replicate}
 use Rattle.stil_ast.specs.Meaning.Dealing.{with_letter}
 use Rattle.stil_ast.specs.Meaning.State.{State}
@@ -9,7 +8,6 @@ use Rattle.stil_ast.specs.Meaning.Flat.{Flat, table, character, back, repeat, me
 use Rattle.stil_ast.specs.Meaning.ExecutiveData.{IsSameFlat}
 use Rattle.flat_tree.specs.Lean.{sets_table, sets_signal, IsLean, Ahead}
 use Rattle.flat_tree.specs.Leaning.{IsMade, none_ahead}
-use Rattle.flat_tree.specs.declared.flat.FlatItem.{FlatItem}
 use Rattle.flat_tree.proofs.SameLemmas.{same-table, same-character, same-back, same-repeat}
 use Rattle.flat_tree.proofs.AheadLemmas.{run_and_least, overwritten, overwritten_table}
 
@@ -168,14 +166,3 @@ repeat_made signals count a in_body b body other begun made wanted whole m same_
     (whole_made signals in_body (repeat count body made) (repeat count other wanted) (size ∙ m.size)
     (same-repeat count body other made wanted (subst (λ (f : Flat). IsSameFlat body f) same_body same) m.same)
     (subst (λ (n : ℕ). IsLean n body) m.size lean, m.lean) refl (λ signal. refl)))
-
--- what two facts of an Ok give
-pub on_both : {T E P Q R : Type 0} (r : Result T E) → (P → Q → R) → OnOk r P → OnOk r Q → OnOk r R
-on_both (Ok x) f p q = f p q
-on_both (Err e) f p q = tt
-
--- where an item that is taken off a list stood in it
-pub item_place : (left before rest original : List FlatItem) (item : FlatItem) → left ≡ before ++ item ∷ []
-    → left ++ rest ≡ original → before ++ (item ∷ rest) ≡ original
-item_place left before rest original item e whole =
-    sym (append_assoc before (item ∷ []) rest) ∙ (ap (λ (items : List FlatItem). items ++ rest) (sym e) ∙ whole)

@@ -4,3 +4,4 @@ pub mod SameLemmas
 pub mod AheadLemmas
 pub mod MarkLemmas
 pub mod LeanLemmas
+pub mod LeaningLemmas

@@ -33,7 +33,7 @@ const _: () = prove!(size_of::<FlatItem>() == 24);
 #[cycle(flat)]
 #[derive(Drop)]
 pub struct FlatList {
-    items: Vec<FlatItem>,
+    pub(crate) items: Vec<FlatItem>,
 }
 
 impl Model for FlatList {
@@ -85,20 +85,6 @@ impl FlatList {
         ensures { items_flat result.now ≡ self.now }
     {
         self.items.as_slice()
-    }
-
-    /// The tree of these items.
-    pub(crate) fn from_vec(items: Vec<FlatItem>) -> FlatList
-        ensures { result ≡ items_flat items.items }
-    {
-        FlatList { items }
-    }
-
-    /// Gives its items back.
-    pub(crate) fn into_vec(self) -> Vec<FlatItem>
-        ensures { items_flat result.items ≡ self }
-    {
-        self.items
     }
 
     /// At its end stands an item. An error leaves it as it was.

@@ -1,12 +1,12 @@
 //! The last of the assignments between which nothing uses them.
 
-ghost use Rattle.std.specs.Prelude.{◌≡◌, IfOk, OnOk, length};
-ghost use Rattle.stil_ast.specs.Meaning.Flat.{repeat, save};
+ghost use Rattle.std.specs.Prelude.{◌≡◌, ◌<◌, ◌≤◌, ℕ, true, IfOk, length, take, drop, slice_index_or, vec_len};
 ghost use Rattle.stil_ast.specs.Meaning.ExecutiveData.{IsSameFlat};
-ghost use Rattle.flat_tree.specs.Items.{item_front};
+ghost use Rattle.flat_tree.specs.Items.{items_flat};
 ghost use Rattle.flat_tree.specs.Lean.{IsLean};
+ghost use Rattle.flat_tree.specs.declared.flat.FlatItem.{FlatItem};
 ghost use Rattle.flat_tree.specs.declared.flat.FlatItem.TheVariants.{Table, Character, Back};
-ghost use Rattle.flat_tree.specs.Leaning.{Takes, none_ahead, reversed_flat};
+ghost use Rattle.flat_tree.specs.Leaning.{IsMade, Leans, front_if, none_ahead};
 
 use crate::ahead::Ahead;
 use crate::flat::{FlatItem, FlatList};
@@ -15,136 +15,116 @@ use std::alloc::{AllocError, Global};
 impl FlatList {
     /// Keeps only the last assignment of the table, and of each of so many signals, between two vectors, loops or
     /// saves, at every depth. The tree that is left does the same and takes as few instructions. The call takes time in
-    /// proportion to the items.
+    /// proportion to the items, and beside them no memory but a mark for each signal.
     pub fn only_last(self, alloc: Global, signals: usize) -> Result<FlatList, AllocError>
         ensures same { IfOk result (λ f. IsSameFlat f self) }
         ensures lean { IfOk result (λ f. IsLean signals f) }
     {
         let mut ahead = Ahead::new(alloc, signals)?;
-        lean_list(alloc, self, &mut ahead)
+        let mut list = self;
+        lean_list(&mut list, &mut ahead);
+        Ok(list)
     }
 }
 
-/// The same of a list, whatever was set ahead of it.
+/// The same of a list in its place, whatever was set ahead of it.
 #[cycle(lean)]
-fn lean_list(alloc: Global, list: FlatList, ahead: &mut Ahead) -> Result<FlatList, AllocError>
-    ensures same { IfOk result (λ f. IsSameFlat f list) }
-    ensures lean { IfOk result (λ f. IsLean (length ahead.old.signals) f) }
-    ensures count { OnOk result (length ahead.new.signals ≡ length ahead.old.signals) }
+fn lean_list(list: &mut FlatList, ahead: &mut Ahead)
+    ensures same { IsSameFlat list.new list.old }
+    ensures lean { IsLean (length ahead.old.signals) list.new }
+    ensures count { length ahead.new.signals ≡ length ahead.old.signals }
 {
-    let mut items = list.into_vec();
-    let mut kept = Vec::new(alloc);
-    ahead.forget();
-    while let Some(item) = items.pop() {
-        keep_item(alloc, item, &mut kept, ahead)?;
-    }
-    kept.reverse();
-    Ok(FlatList::from_vec(kept))
+    let kept = lean_items(&mut list.items, ahead);
+    list.items.rotate_left(kept);
+    let count = list.items.len() - kept;
+    list.items.truncate(count);
 }
 
-/// Puts an item in front of those that are kept, which lie last one first, unless it is set ahead.
+/// Goes through items from their end, and gathers at the end those that are kept. Gives where these begin.
 #[cycle(lean)]
-fn keep_item(
-    alloc: Global,
-    item: FlatItem,
-    kept: &mut Vec<FlatItem>,
-    ahead: &mut Ahead,
-) -> Result<(), AllocError>
-    ensures { OnOk result (Takes item ahead.old kept.old.items ahead.new kept.new.items) }
+fn lean_items(items: &mut Vec<FlatItem>, ahead: &mut Ahead) -> usize
+    ensures made { IsMade (length ahead.old.signals) ahead.new (items_flat (drop result items.new.items))
+        (items_flat items.old.items) }
+    ensures within { result ≤ vec_len items.new }
+{
+    ahead.forget();
+    let mut place = items.len();
+    let mut kept = place;
+    while 0 < place {
+        place -= 1;
+        let stays = lean_item(&mut items[place], ahead);
+        kept = kept_from(items, place, kept, stays);
+    }
+    kept
+}
+
+/// Makes an item lean in its place, and says whether it stays. It goes where what it sets is set ahead.
+#[cycle(lean)]
+fn lean_item(item: &mut FlatItem, ahead: &mut Ahead) -> bool
+    ensures { Leans item.old ahead.old item.new ahead.new result }
 {
     match item {
-        FlatItem::Table(table) => keep_table(table, kept, ahead),
-        FlatItem::Character(signal, character) => keep_character(signal, character, kept, ahead),
-        FlatItem::Back(signal) => keep_back(signal, kept, ahead),
-        FlatItem::Cycle(mark, place) => keep_whole(FlatItem::Cycle(mark, place), kept, ahead),
-        FlatItem::Repeat(count, body) => {
-            let body = lean_list(alloc, Box::into_inner(body), ahead)?;
-            keep_repeat(alloc, count, body, kept, ahead)
+        FlatItem::Table(_) => table_stays(ahead),
+        FlatItem::Character(signal, _) => signal_stays(*signal, ahead),
+        FlatItem::Back(signal) => signal_stays(*signal, ahead),
+        FlatItem::Cycle(_, _) => whole_stays(ahead),
+        FlatItem::Repeat(_, body) => {
+            lean_list(body, ahead);
+            whole_stays(ahead)
         }
-        FlatItem::Save(putting, body) => {
-            let body = lean_list(alloc, Box::into_inner(body), ahead)?;
-            keep_save(alloc, putting, body, kept, ahead)
+        FlatItem::Save(_, body) => {
+            lean_list(body, ahead);
+            whole_stays(ahead)
         }
     }
 }
 
-/// A table, unless one is set ahead.
-fn keep_table(table: u16, kept: &mut Vec<FlatItem>, ahead: &mut Ahead) -> Result<(), AllocError>
-    ensures { OnOk result (Takes (Table table) ahead.old kept.old.items ahead.new kept.new.items) }
+/// Whether a table stays.
+fn table_stays(ahead: &mut Ahead) -> bool
+    ensures { (t : ℕ) → Leans (Table t) ahead.old (Table t) ahead.new result }
 {
     if ahead.has_table() {
-        return Ok(());
+        return false;
     }
     ahead.set_table();
-    kept.push(FlatItem::Table(table))?;
-    Ok(())
+    true
 }
 
-/// A signal's character, unless one is set ahead.
-fn keep_character(
-    signal: u16,
-    character: u8,
-    kept: &mut Vec<FlatItem>,
-    ahead: &mut Ahead,
-) -> Result<(), AllocError>
-    ensures { OnOk result (Takes (Character signal character) ahead.old kept.old.items ahead.new kept.new.items) }
+/// Whether a signal's character stays, or that which it gets back.
+fn signal_stays(signal: u16, ahead: &mut Ahead) -> bool
+    ensures character { (c : ℕ) → Leans (Character signal c) ahead.old (Character signal c) ahead.new result }
+    ensures back { Leans (Back signal) ahead.old (Back signal) ahead.new result }
 {
     if ahead.has(signal) {
-        return Ok(());
+        return false;
     }
     ahead.set(signal);
-    kept.push(FlatItem::Character(signal, character))?;
-    Ok(())
+    true
 }
 
-/// The character that a signal had, unless one is set ahead.
-fn keep_back(signal: u16, kept: &mut Vec<FlatItem>, ahead: &mut Ahead) -> Result<(), AllocError>
-    ensures { OnOk result (Takes (Back signal) ahead.old kept.old.items ahead.new kept.new.items) }
-{
-    if ahead.has(signal) {
-        return Ok(());
-    }
-    ahead.set(signal);
-    kept.push(FlatItem::Back(signal))?;
-    Ok(())
-}
-
-/// An item ahead of which nothing is set.
-fn keep_whole(item: FlatItem, kept: &mut Vec<FlatItem>, ahead: &mut Ahead) -> Result<(), AllocError>
-    ensures made { OnOk result (reversed_flat kept.new.items ≡ item_front item (reversed_flat kept.old.items)) }
+/// A vector, a loop or a save stays, and nothing is set ahead of it.
+fn whole_stays(ahead: &mut Ahead) -> bool
+    ensures stays { result ≡ true }
     ensures none { ahead.new ≡ none_ahead ahead.old }
 {
     ahead.forget();
-    kept.push(item)?;
-    Ok(())
+    true
 }
 
-/// A loop with a body that is lean.
-fn keep_repeat(
-    alloc: Global,
-    count: u64,
-    body: FlatList,
-    kept: &mut Vec<FlatItem>,
-    ahead: &mut Ahead,
-) -> Result<(), AllocError>
-    ensures made { OnOk result (reversed_flat kept.new.items ≡ repeat count body (reversed_flat kept.old.items)) }
-    ensures none { OnOk result (ahead.new ≡ none_ahead ahead.old) }
+/// Puts the item at a place in front of those that are kept, if it stays. Gives where these begin now.
+fn kept_from(items: &mut Vec<FlatItem>, place: usize, kept: usize, stays: bool) -> usize
+    requires behind { place < kept }
+    requires within { kept ≤ vec_len items.old }
+    ensures before { take place items.new.items ≡ take place items.old.items }
+    ensures made { (d : FlatItem) → items_flat (drop result items.new.items)
+        ≡ front_if stays (slice_index_or items.old.items place d) (items_flat (drop kept items.old.items)) }
+    ensures size { length items.new.items ≡ length items.old.items }
+    ensures behind { place ≤ result }
+    ensures within { result ≤ vec_len items.new }
 {
-    let body = Box::new(alloc, body)?;
-    keep_whole(FlatItem::Repeat(count, body), kept, ahead)
-}
-
-/// A save with a body that is lean.
-fn keep_save(
-    alloc: Global,
-    putting: bool,
-    body: FlatList,
-    kept: &mut Vec<FlatItem>,
-    ahead: &mut Ahead,
-) -> Result<(), AllocError>
-    ensures made { OnOk result (reversed_flat kept.new.items ≡ save putting body (reversed_flat kept.old.items)) }
-    ensures none { OnOk result (ahead.new ≡ none_ahead ahead.old) }
-{
-    let body = Box::new(alloc, body)?;
-    keep_whole(FlatItem::Save(putting, body), kept, ahead)
+    if !stays {
+        return kept;
+    }
+    items.swap(place, kept - 1);
+    kept - 1
 }

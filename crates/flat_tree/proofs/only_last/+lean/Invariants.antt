@@ -1,19 +1,21 @@
-use Rattle.std.proofs.Common.{◌≡◌, ◌+◌, ◌*◌, length, vec_len}
+use Rattle.std.proofs.Common.{◌+◌, ◌*◌, length}
 use Rattle.stil_ast.specs.Meaning.Flat.{done}
 use Rattle.flat_tree.specs.Items.{item_front, items_flat, body_count}
 use Rattle.flat_tree.specs.Leaning.{IsLeaning}
 use Rattle.flat_tree.proofs.only_last.+lean.Given as goal
 
 abbrev pub decreases-lean_list : goal.decreases-lean_list
-decreases-lean_list l = 2 * body_count l.list + 1
+decreases-lean_list l = 3 * body_count l.list.now + 2
 
-abbrev pub decreases-keep_item : goal.decreases-keep_item
-decreases-keep_item l = 2 * body_count (item_front l.item done)
+abbrev pub decreases-lean_items : goal.decreases-lean_items
+decreases-lean_items l = 3 * body_count (items_flat l.items.now.items) + 1
 
-abbrev pub invariant-lean_list-loop-item : goal.invariant-lean_list-loop-item
-invariant-lean_list-loop-item l =
-    IsLeaning l.initial.items.items l.items.items l.kept.items (length l.fn.ahead.signals) l.ahead
-    × (items_flat l.initial.items.items ≡ l.fn.list)
+abbrev pub decreases-lean_item : goal.decreases-lean_item
+decreases-lean_item l = 3 * body_count (item_front l.item.now done)
 
-abbrev pub decreases-lean_list-loop-item : goal.decreases-lean_list-loop-item
-decreases-lean_list-loop-item l = vec_len l.items
+abbrev pub invariant-lean_items-loop-place : goal.invariant-lean_items-loop-place
+invariant-lean_items-loop-place l =
+    IsLeaning l.fn.items.items l.items.items l.place l.kept (length l.fn.ahead.signals) l.ahead
+
+abbrev pub decreases-lean_items-loop-place : goal.decreases-lean_items-loop-place
+decreases-lean_items-loop-place l = l.place
