@@ -6,6 +6,7 @@ use Rattle.lru.specs.LruCache.{LruCache}
 use Rattle.page_meaning.specs.declared.instr.Instr.{Instr}
 use Rattle.page_code.specs.Program.{Program}
 use Rattle.page_code.specs.Cycles.{pages_of}
+use Rattle.pattern_mem.specs.declared.view.Basis.{Basis}
 use Rattle.pattern_mem.specs.declared.pool.Fetched.{Fetched}
 use Rattle.pattern_mem.specs.declared.pool.Fetched.TheVariants.{Hit, Miss}
 
@@ -15,6 +16,10 @@ pub record Pool : Type 0 where
   pub code : Program
   pub entries : List (ℕ × List Instr)
   pub frames : ℕ
+
+-- what it is made of
+abbrev pub basis_of : Pool → Basis
+basis_of pool = record { code = pool.code; frames = pool.frames }
 
 -- a pool of these parts
 abbrev pub pool_of : Program → LruCache ℕ (List Instr) → Pool

@@ -5,11 +5,11 @@ ghost use Rattle.std.specs.Arc.{arc_value};
 ghost use Rattle.page_code.specs.Cycles.{pages_of};
 ghost use Rattle.pattern_mem.specs.Pool.{page_at};
 ghost use Rattle.pattern_mem.specs.Rule.{opener_view};
-ghost use Rattle.pattern_mem.specs.Memory.{memory_of};
+ghost use Rattle.pattern_mem.specs.Memory.{basis_in};
 ghost use Rattle.pattern_mem.specs.declared.view.View.TheVariants.{Opener};
 
 use crate::pool::{Fetched, PoolState};
-use crate::steps::{Law, Make};
+use crate::steps::{Law, Make, Opening};
 use crate::turn;
 use crate::view::View;
 use crate::window::Window;
@@ -23,12 +23,12 @@ use tester_types::{Items, NoMemory};
 /// A seat of the table in which a pool stands.
 pub(crate) type PoolSeat = Seat<PoolState, View>;
 
-/// A code, and the pool of its pages. Threads share it by reference. Contracts see it as its code and the identity of the
-/// pool.
+/// A code, and the pool of its pages. Threads share it by reference. Contracts see it as its code, how many decoded pages
+/// the pool has room for, and the identity of the pool.
 #[derive(Drop)]
 pub struct PatternMem {
-    code: Arc<Code>,
-    pub(crate) table: Table<PoolState, View, Code, Law, Global>,
+    opening: Opening,
+    pub(crate) table: Table<PoolState, View, Opening, Law, Global>,
 }
 
 impl Model for PatternMem {
@@ -38,7 +38,8 @@ impl Model for PatternMem {
 
     ghost Value = { Memory };
 
-    ghost view = { λ m. memory_of m.table.shared.table_id (arc_value m.code) };
+    ghost view = { λ m. memory_of m.table.shared.table_id
+        (record { code = arc_value m.opening.0; frames = m.opening.1 }) };
 
     ghost invariant = { λ m. (m.table.shared.table_id.words ≡ 1) × (m.table.shared.table_id.slots ≡ 1) };
 }
@@ -56,9 +57,9 @@ impl Model for PoolPass {
 
     ghost Value = { Memory };
 
-    ghost view = { λ p. memory_of p.seat.table_id (as_pass p.seat.me.0).code };
+    ghost view = { λ p. memory_of p.seat.table_id (as_pass p.seat.me.0).basis };
 
-    ghost invariant = { λ p. IsPass p.seat.me (as_pass p.seat.me.0).code };
+    ghost invariant = { λ p. IsPass p.seat.me (as_pass p.seat.me.0).basis };
 }
 
 /// Passes for one memory.
@@ -75,17 +76,19 @@ impl PatternMem {
     ) -> Result<(PatternMem, PassList), NoMemory>
         requires frames { (1 ≤ frames) × (frames ≤ 256) }
         ensures code { IfOk result (λ made. made.0.code ≡ code) }
+        ensures frames { IfOk result (λ made. made.0.frames ≡ frames) }
         ensures passes { IfOk result (λ made. made.1 ≡ replicate passes made.0) }
     {
         let code = Arc::new(alloc, code)?;
         let pool = PoolState::new(alloc, Arc::try_clone(&code)?, frames)?;
         let mut slots = Vec::with_capacity(alloc, 1)?;
         slots.push(pool)?;
-        let (table, mut opener) = match Table::new(alloc, &[0], slots, &*code) {
+        let opening = (code, frames);
+        let (table, mut opener) = match Table::new(alloc, &[0], slots, &opening) {
             Ok(made) => made,
             Err(Refused { slots: _ }) => return Err(NoMemory),
         };
-        let mem = PatternMem { code, table };
+        let mem = PatternMem { opening, table };
         let list = mem.passes(alloc, &mut opener, passes)?;
         Ok((mem, Items::from_vec(list)))
     }
@@ -98,7 +101,7 @@ impl PatternMem {
         count: u8,
     ) -> Result<Vec<PoolPass>, AllocError>
         requires memory { opener.old.table_id ≡ self.now.table }
-        requires opener { opener.old.me ≡ (Opener (opener_view 0 self.now.code), []) }
+        requires opener { opener.old.me ≡ (Opener (opener_view 0 (basis_in self.now)), []) }
         ensures { IfOk result (λ passes. passes.items ≡ replicate count self.now) }
     {
         let mut passes = Vec::with_capacity(alloc, usize::from(count))?;
@@ -113,7 +116,7 @@ impl PatternMem {
     pub fn code(&self) -> &Code
         ensures { result.now ≡ self.now.code }
     {
-        &self.code
+        &self.opening.0
     }
 }
 

@@ -4,7 +4,7 @@ ghost use Rattle.std.specs.Prelude.{◌≡◌, ◌<◌, ◌≤◌, Some, IfOk, O
 ghost use Rattle.std.specs.Map.{lookup};
 ghost use Rattle.std.specs.Arc.{arc_value};
 ghost use Rattle.page_code.specs.Cycles.{pages_of};
-ghost use Rattle.pattern_mem.specs.Pool.{new_pool, page_at, is_held, answered, asked, IsPool};
+ghost use Rattle.pattern_mem.specs.Pool.{new_pool, basis_of, page_at, is_held, answered, asked, IsPool};
 
 use crate::window::{PAGE, Window};
 use lru::LruCache;
@@ -68,7 +68,7 @@ impl PoolState {
         ensures answer { IfOk result (λ fetched. fetched ≡ answered (is_held page self.old)) }
         ensures window_as_it_was { OnErr result (window.new ≡ window.old) }
         ensures entries_as_they_were { OnErr result (self.new ≡ self.old) }
-        ensures code { self.new.code ≡ self.old.code }
+        ensures basis { basis_of self.new ≡ basis_of self.old }
         ensures pool { IsPool self.new }
     {
         match self.hold(page) {
@@ -86,7 +86,7 @@ impl PoolState {
         ensures entries { OnOk result (self.new ≡ asked self.old page) }
         ensures answer { IfOk result (λ fetched. fetched ≡ answered (is_held page self.old)) }
         ensures entries_as_they_were { OnErr result (self.new ≡ self.old) }
-        ensures code { self.new.code ≡ self.old.code }
+        ensures basis { basis_of self.new ≡ basis_of self.old }
         ensures pool { IsPool self.new }
     {
         if self.cache.promote(&page) {

@@ -1,5 +1,6 @@
 //! The rule of the table in which a pool stands, and what each kind of step tells the seat that makes it.
 
+ghost use Rattle.std.specs.Arc.{arc_value};
 ghost use Rattle.pattern_mem.specs.Rule.{IsKept, first_view};
 ghost use Rattle.pattern_mem.specs.Steps.{Takes, Gives, opener_after_making, pass_made};
 
@@ -7,14 +8,18 @@ use crate::pool::PoolState;
 use crate::view::View;
 use atomic_table::{Play, Split, TableRule};
 use page_code::Code;
+use std::sync::Arc;
+
+/// What the table of a pool is opened with: the code, and how many decoded pages there is room for.
+pub(crate) type Opening = (Arc<Code>, u16);
 
 /// The rule that holds between any two steps.
 pub struct Law;
 
-impl TableRule<PoolState, View, Code> for Law {
+impl TableRule<PoolState, View, Opening> for Law {
     ghost holds = { λ _ s. IsKept s };
 
-    ghost first = { λ code. first_view code };
+    ghost first = { λ opening. first_view (record { code = arc_value opening.0; frames = opening.1 }) };
 }
 
 /// A pass tries to take the turn: it takes the pool, or finds that another pass has it.

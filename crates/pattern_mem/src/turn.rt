@@ -2,6 +2,7 @@
 
 ghost use Rattle.std.specs.Prelude.{◌≡◌, ◌<◌, OnOk, OnErr, Some, length};
 ghost use Rattle.page_code.specs.Cycles.{pages_of};
+ghost use Rattle.pattern_mem.specs.Memory.{basis_in};
 ghost use Rattle.pattern_mem.specs.Pool.{page_at};
 ghost use Rattle.pattern_mem.specs.Steps.{IsPass, HoldsPool};
 
@@ -22,9 +23,9 @@ const POOL: usize = 0;
 /// Takes the turn, and with it the pool. It waits until it has it.
 pub(crate) fn take<R: Wait>(rt: &R, mem: &PatternMem, seat: &mut PoolSeat)
     requires memory { seat.old.table_id ≡ mem.now.table }
-    requires pass { IsPass seat.old.me mem.now.code }
+    requires pass { IsPass seat.old.me (basis_in mem.now) }
     ensures memory { seat.new.table_id ≡ seat.old.table_id }
-    ensures holds { HoldsPool seat.new.me mem.now.code }
+    ensures holds { HoldsPool seat.new.me (basis_in mem.now) }
 {
     for _ in rt.forever() {
         if mem.table.shared.compare_exchange::<Take>(seat, TURN, 0, 1) == 0 {
@@ -43,10 +44,10 @@ pub(crate) fn fetch(
     window: &mut Window,
 ) -> Result<Fetched, NoMemory>
     requires memory { seat.old.table_id ≡ mem.now.table }
-    requires holds { HoldsPool seat.old.me mem.now.code }
+    requires holds { HoldsPool seat.old.me (basis_in mem.now) }
     requires page { page < length (pages_of mem.now.code) }
     ensures memory { seat.new.table_id ≡ seat.old.table_id }
-    ensures holds { HoldsPool seat.new.me mem.now.code }
+    ensures holds { HoldsPool seat.new.me (basis_in mem.now) }
     ensures window { OnOk result (window.new ≡ Some (page, page_at mem.now.code page)) }
     ensures window_as_it_was { OnErr result (window.new ≡ window.old) }
 {
@@ -57,9 +58,9 @@ pub(crate) fn fetch(
 /// Gives the turn back, and with it the pool.
 pub(crate) fn give(mem: &PatternMem, seat: &mut PoolSeat)
     requires memory { seat.old.table_id ≡ mem.now.table }
-    requires holds { HoldsPool seat.old.me mem.now.code }
+    requires holds { HoldsPool seat.old.me (basis_in mem.now) }
     ensures memory { seat.new.table_id ≡ seat.old.table_id }
-    ensures pass { IsPass seat.new.me mem.now.code }
+    ensures pass { IsPass seat.new.me (basis_in mem.now) }
 {
     mem.table.shared.store::<Give>(seat, TURN, 0);
 }

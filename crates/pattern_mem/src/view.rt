@@ -2,15 +2,21 @@
 
 use page_code::Code;
 
-/// What the opener's seat knows: how many passes were made, and the code.
-pub struct OpenerView {
-    pub made: u64,
+/// What a pool is made of: the code, and how many decoded pages there is room for.
+pub struct Basis {
     pub code: Code,
+    pub frames: u16,
 }
 
-/// What a pass knows: the code, and whether it holds the pool.
+/// What the opener's seat knows: how many passes were made, and what the pool is made of.
+pub struct OpenerView {
+    pub made: u64,
+    pub basis: Basis,
+}
+
+/// What a pass knows: what the pool is made of, and whether it holds it.
 pub struct PassView {
-    pub code: Code,
+    pub basis: Basis,
     pub holds: bool,
 }
 

@@ -1,6 +1,6 @@
 use Rattle.std.proofs.Common.{◌≡◌, ◌∷◌, ◌∙◌, ℕ, List, get_or, ap, sym}
 use Rattle.atomic_table.specs.Table.{Me, rest}
-use Rattle.pattern_mem.specs.Pool.{Pool}
+use Rattle.pattern_mem.specs.Pool.{Pool, basis_of}
 use Rattle.pattern_mem.specs.declared.view.View.{View}
 use Rattle.pattern_mem.proofs.turn.fetch.Goals as goal
 
@@ -13,5 +13,5 @@ returns-clause-holds c =
     let same : lent ≡ holds.0 = ap (λ (l : List (ℕ × Pool)). (get_or l 0 (0, holds.0)).1) (sym c.slot_mut-pool.ensures.value ∙ slots) in (
       left,
       (λ i. (ap (λ (m : Me Pool View). m.0) holds.1 i, (0, left) ∷ ap (λ (m : Me Pool View). rest m.1) holds.1 i)),
-      c.fetch.ensures.code ∙ ap (λ (p : Pool). p.code) same ∙ holds.2,
+      c.fetch.ensures.basis ∙ ap basis_of same ∙ holds.2,
     )
