@@ -6,3 +6,4 @@ pub mod ScheduleLemmas
 pub mod CycleLemmas
 pub mod BenchLemmas
 pub mod BatchLemmas
+pub mod FitLemmas

@@ -27,7 +27,9 @@ use Rattle.lot_plan.proofs.ReadyLemmas.{circuit-whole, circuit-bound}
 use Rattle.site_meaning.specs.Part.{circuit_in, part_of}
 use Rattle.site_meaning.proofs.PartLemmas.{skews_in-part_of, image_in-part_of, circuit_in-part_of}
 use Rattle.site_meaning.proofs.SkewLemmas.{accepted_part}
+use Rattle.site_meaning.proofs.ImageLemmas.{image-long, image-whole}
 use Rattle.cycle_run.specs.Step.{FitCode}
+use Rattle.cycle_run.proofs.FitLemmas.{skews_fit}
 use Rattle.fault_grade.specs.Grade.{image_with, first, graded, nets_in, first_site}
 use Rattle.fault_grade.specs.Run.{fault_at, run_of}
 use Rattle.fault_grade.specs.Search.{first_on, graded_on, run_on, CanRun}
@@ -71,44 +73,18 @@ first-die plan some = site-planned (dies_of plan.rows) some
 
 -- ---- what a program can run on
 
--- signals that are all bound are as many as the signals that ask
-binds-long : (c : Circuit) (before : List Bind) (needs : List PinNeed) → unbound_in (binds_from c before needs) ≡ None
-    → length (list_of (binds_from c before needs)) ≡ length before + length needs
-binds-long c before [] is = omega arith
-binds-long c before (w ∷ needs) is =
-    by (bind_to c (is_driven before) w.role w.net) (λ b. binds-long c (before ++ b ∷ []) needs) is
-  where
-    by : (o : Option Bind)
-        → ((b : Bind) → unbound_in (binds_from c (before ++ b ∷ []) needs) ≡ None
-        → length (list_of (binds_from c (before ++ b ∷ []) needs)) ≡ length (before ++ b ∷ []) + length needs)
-        → unbound_in (bound_or w.name o (λ b. binds_from c (before ++ b ∷ []) needs)) ≡ None
-        → length (list_of (bound_or w.name o (λ b. binds_from c (before ++ b ∷ []) needs))) ≡ length before + length (w ∷ needs)
-    by None later is = cc
-    by (Some b) later is = omega (arith, later b is, length-append before (b ∷ []))
-
--- the skews of a site fit the program
-skews-fit : (plan : Bound) (site : ℕ) → IsProgram plan.program → IsBound plan → FitCode plan.program (site_skews plan site)
-skews-fit plan site program bound = record {
-  one_each = length-map (signals_of plan) (λ (signal : CodeSignal). skew_by (skews_at site plan.rows) signal.name);
-  inside = subst (λ (l : List ℤ). All (λ (t : Table). keeps_inside t l ≡ true) plan.program.tables)
-      (skews_in-part_of plan site) (accepted_part plan site program bound).inside;
-}
-
+-- the skews of a site fit a code that is the plan's
 pub code-fits : (plan : Bound) (site : ℕ) (code : Program) → IsProgram code → plan.program ≡ code → IsBound plan
     → FitCode code (site_skews plan site)
 code-fits plan site code program same bound =
     subst (λ (p : Program). FitCode p (site_skews plan site)) same
-    (skews-fit plan site (subst (λ (p : Program). IsProgram p) (sym same) program) bound)
+    (skews_fit plan site (subst (λ (p : Program). IsProgram p) (sym same) program) bound)
 
 pub can-run : (plan : Bound) (site : ℕ) (code : Program) → IsProgram code → plan.program ≡ code → IsBound plan
     → 0 < length (dies_at site plan.rows) → CanRun code (site_skews plan site) (image_of plan site 0 1)
 can-run plan site code program same bound planned = record {
-  whole = circuit-whole plan site 0 bound planned;
-  signals =
-      binds-long (circuit_of plan site 0) [] (needs_of plan.rows (signals_of plan)) (circuit-bound plan site 0 bound planned)
-      ∙ zero-add (length (needs_of plan.rows (signals_of plan)))
-      ∙ length-map (signals_of plan) (need_of plan.rows)
-      ∙ ap (λ (p : Program). length p.signals) same;
+  whole = image-whole plan site 0 1 bound planned;
+  signals = image-long plan site 0 1 bound planned ∙ ap (λ (p : Program). length p.signals) same;
   skews_fit = code-fits plan site code program same bound;
 }
 

@@ -100,13 +100,6 @@ passes_now stand exec cycles old new before plays clear = record {
 
 -- ---- how many cycles an executive has
 
-pub few_cycles : (code : Program) (exec : ℕ) → IsProgram code → exec < length code.execs
-    → length (cycles_of code exec) ≤ 281474976710656
-few_cycles code exec program within =
-    let few = (exec_is code exec program within).whole.cycles in
-    let count = cycle_count-length (exec_of code exec).instrs in
-    omega (arith, length-cycles code exec, few, count)
-
 -- a front of all items
 pub take-all : {X : Type 0} (n : ℕ) (xs : List X) → n ≡ length xs → take n xs ≡ xs
 take-all n xs is = ap (λ (k : ℕ). take k xs) is ∙ take-length xs

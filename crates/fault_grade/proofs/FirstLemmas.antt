@@ -14,6 +14,7 @@ use Rattle.site_meaning.specs.Playing.{Stand, Going, PlayedCycle, starting}
 use Rattle.site_meaning.specs.Part.{Part, lot_in, skews_in, circuit_in, as_plan, order_in, image_in}
 use Rattle.site_meaning.specs.Trials.{Batch, uncut, with_cut, played, after_cycles, fails_in, pieces, of_exec, tried, execs_of, more_in, batches_of, cycles_in, recorded, trial}
 use Rattle.site_meaning.proofs.PlayedLemmas.{fails_in-append, joined-pieces}
+use Rattle.site_meaning.proofs.UnderwayLemmas.{cycles_in-append}
 use Rattle.cycle_run.specs.Cycle.{stand_of}
 use Rattle.fault_grade.specs.Grade.{first_fail, image_with, stand_with, first, graded, faults_of_net, faults_in, first_part, grade_of}
 use Rattle.fault_grade.specs.Search.{first_from, first_on}
@@ -37,10 +38,6 @@ cycles_in-of_exec : (exec : ℕ) (parts : List (List PlayedCycle))
 unfolding cycles_in
 cycles_in-of_exec exec [] = refl
 cycles_in-of_exec exec (part ∷ parts) = ap (λ (l : List PlayedCycle). part ++ l) (cycles_in-of_exec exec parts)
-
-cycles_in-append : (xs ys : List Batch) → cycles_in (xs ++ ys) ≡ cycles_in xs ++ cycles_in ys
-unfolding cycles_in
-cycles_in-append xs ys = flat_map-append (λ (batch : Batch). batch.cycles) xs ys
 
 -- the fails of an executive's batches, and of those behind them
 fails-behind : (exec more : ℕ) (cycles : List PlayedCycle) (later : List Batch)

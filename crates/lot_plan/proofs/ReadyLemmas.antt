@@ -38,7 +38,7 @@ use Rattle.plan_rows.specs.declared.fault.PlanFault.TheVariants as refused
 use Rattle.lot_plan.proofs.WiredLemmas.{wired}
 
 -- a name that has a number is that of its net
-number-at : (names : List (List ℕ)) (x : List ℕ) → number names x < length names → get_or names (number names x) [] ≡ x
+pub number-at : (names : List (List ℕ)) (x : List ℕ) → number names x < length names → get_or names (number names x) [] ≡ x
 number-at [] x within = absurd (omega (arith, within))
 number-at (k ∷ ks) x within =
     elim (cases_Bool (bytes_eq x k)) [
@@ -132,7 +132,7 @@ all-files (x ∷ ds) files =
     ((bytes_decides x.file x.file).1 refl))))
     (all-files ds (added files x.file))
 
-file-below : (rows : List Row) (s d : ℕ) → d < length (dies_at s rows) → file_of rows s d < length (files_of rows)
+pub file-below : (rows : List Row) (s d : ℕ) → d < length (dies_at s rows) → file_of rows s d < length (files_of rows)
 file-below rows s d within =
     number-there (files_of rows) (die_at rows s d).file
     (All-filter (λ (d : DieRow). list_any (bytes_eq d.file) (files_of rows) ≡ true) (λ d. d.site == s) (dies_of rows)

@@ -20,3 +20,6 @@ pub mod PartLemmas
 pub mod SkewLemmas
 pub mod StepsLemmas
 pub mod CountLemmas
+pub mod ImageLemmas
+pub mod AlikeDies
+pub mod AlikeLemmas

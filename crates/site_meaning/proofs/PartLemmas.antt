@@ -57,7 +57,7 @@ circuit_in-part_of plan site die planned =
     get_or-map-range_with_len (circuit_of plan site) 0 (length (dies_at site plan.rows)) die die no_circuit planned (omega arith)
 
 -- what a signal needs, by the rows of the clock and the binds
-abbrev need_by : List (List ℕ) → List BindRow → CodeSignal → PinNeed
+abbrev pub need_by : List (List ℕ) → List BindRow → CodeSignal → PinNeed
 need_by clocks binds s = record {
   name = s.name;
   role = role_of (is_clock_name (slice_get clocks 0) s.name) s.direction;
@@ -65,7 +65,7 @@ need_by clocks binds s = record {
 }
 
 -- how signals are bound to a circuit by these rows
-abbrev bound_by : List CodeSignal → Circuit → List (List ℕ) → List BindRow → Binding
+abbrev pub bound_by : List CodeSignal → Circuit → List (List ℕ) → List BindRow → Binding
 bound_by signals c clocks binds = record {
   clock = option_and_then (λ (name : List ℕ). position (has_name name) signals) (slice_get clocks 0);
   nets = list_of (binds_of c (map (need_by clocks binds) signals));

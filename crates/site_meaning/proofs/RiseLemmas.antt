@@ -75,7 +75,7 @@ moments_rise stand time cycle = go (slice_get stand.code.tables cycle.table)
         subst Rises (sym (dates time signals times)) (rises-later time times (instants_are (times_of signals)).rising)
 
 -- moments keep their instants as they are played
-played-ats : (device : Device) (whose : Whose) (along : Along) (before : List Entry) (ms : List Moment)
+pub played-ats : (device : Device) (whose : Whose) (along : Along) (before : List Entry) (ms : List Moment)
     → map (λ (m : PlayedMoment). m.at) (moments_played device whose along before ms) ≡ map (λ (m : Moment). m.at) ms
 unfolding moments_played
 played-ats device whose along before [] = refl

@@ -9,7 +9,7 @@ use Rattle.plan_rows.specs.declared.row.DieRow.{DieRow}
 use Rattle.plan_rows.specs.declared.row.FaultRow.{FaultRow}
 use Rattle.plan_rows.specs.declared.row.StopRow.{StopRow}
 use Rattle.plan_rows.specs.declared.row.SkewRow.{SkewRow}
-use Rattle.plan_rows.specs.Rows.{one, each_of, as_lot, as_clock, as_bind, as_die, as_fault, as_stop, as_skew, dies_at, faults_at, stops_at, skews_at}
+use Rattle.plan_rows.specs.Rows.{one, each_of, as_lot, as_clock, as_bind, as_bin, as_die, as_fault, as_stop, as_skew, dies_at, faults_at, stops_at, skews_at}
 use Rattle.site_meaning.specs.Part.{concerns, rows_for}
 
 -- ---- rows of another site
@@ -78,6 +78,11 @@ pub binds-same : (site : ℕ) (rows : List Row) → each_of as_bind (rows_for si
 binds-same site rows =
     each-siteless site as_bind
     (λ r h. of_other_site site (λ r. as_bind r ≡ None) (λ d e. refl) (λ f e. refl) (λ s e. refl) (λ k e. refl) r h) rows
+
+pub bins-same : (site : ℕ) (rows : List Row) → each_of as_bin (rows_for site rows) ≡ each_of as_bin rows
+bins-same site rows =
+    each-siteless site as_bin
+    (λ r h. of_other_site site (λ r. as_bin r ≡ None) (λ d e. refl) (λ f e. refl) (λ s e. refl) (λ k e. refl) r h) rows
 
 -- ---- the rows of the site
 

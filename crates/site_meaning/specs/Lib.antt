@@ -6,3 +6,4 @@ pub mod Rising
 pub mod Records
 pub mod Polls
 pub mod Counting
+pub mod Alike

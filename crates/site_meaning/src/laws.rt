@@ -19,6 +19,7 @@ ghost use Rattle.site_meaning.specs.Steps.{GoesThrough, states_in, judged_of};
 ghost use Rattle.site_meaning.specs.Part.{rows_for, circuits_for, Part, IsPart, part_of, only, lot_in, dies_in, skews_in, order_in, image_in};
 ghost use Rattle.site_meaning.specs.Trials.{played, pieces, Cut, uncut, cut_of, trial};
 ghost use Rattle.site_meaning.specs.Rising.{instants_in};
+ghost use Rattle.site_meaning.specs.Alike.{ArePartsAlike};
 ghost use Rattle.site_meaning.specs.Records.{TryCut, IsTrue, Sound, AreInOrder, touchdown, records, cuts_of};
 ghost use Rattle.site_meaning.specs.Polls.{Seat, Arises, GoesOn, Ends, rests, poll};
 ghost use Rattle.site_meaning.specs.Counting.{Counts};
@@ -103,6 +104,15 @@ pub fn equal_parts_record_alike()
     ensures { (plan other : Bound) (site : ℕ) (cuts : List TryCut) → plan.program ≡ other.program
         → rows_for site plan.rows ≡ rows_for site other.rows → circuits_for plan site ≡ circuits_for other site
         → records (part_of plan site) cuts ≡ records (part_of other site) cuts }
+{}
+
+/// Parts that are alike, of one site and the same rows, with codes that say the same and dies of the same netlists, make
+/// equal records with equal cuts, whatever instructions the codes have and in whatever order the gates lie.
+pub fn alike_parts_record_alike()
+    ensures all { (part other : Part) → ArePartsAlike part other → (cuts : List TryCut)
+        → records part cuts ≡ records other cuts }
+    ensures one { (part other : Part) → ArePartsAlike part other → (cuts : List TryCut) (die : ℕ) → die < dies_in part
+        → touchdown part cuts die ≡ touchdown other cuts die }
 {}
 
 /// A plan that is bound to a whole program gives each site a part on which polls are true.

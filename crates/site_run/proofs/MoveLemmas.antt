@@ -19,7 +19,7 @@ use Rattle.site_run.specs.declared.run.Move.{Move}
 use Rattle.cycle_run.specs.Cycle.{closed_with}
 use Rattle.cycle_run.specs.Step.{FitsBench}
 use Rattle.site_run.specs.Seat.{running_of, IsRunOn, IsBefore, IsSeen, IsMove, GoesOnSo}
-use Rattle.site_run.proofs.RunLemmas.{few_cycles}
+use Rattle.cycle_run.proofs.FitLemmas.{few_cycles}
 
 -- the count of a checker, whatever it has seen
 pub total_is : (held : Held) (total : ℕ) → IsSeen held → Answers total_of held total → total ≡ held.count.total

@@ -6,11 +6,9 @@ use Rattle.std.proofs.lemmas.List.{append-nil}
 use Rattle.std.proofs.lemmas.Bool.{lt-ltb, le-ltb}
 use Rattle.tester_types.specs.declared.record.Fail.{Fail}
 use Rattle.page_meaning.specs.Meaning.{Means}
-use Rattle.page_meaning.proofs.CountLemmas.{cycle_count-length}
 use Rattle.page_code.specs.Program.{Program}
-use Rattle.page_code.specs.Conditions.{IsProgram}
 use Rattle.page_code.specs.Cycles.{exec_of, cycles_of}
-use Rattle.page_code.proofs.WalkLemmas.{exec_is, length-cycles}
+use Rattle.page_code.proofs.WalkLemmas.{length-cycles}
 use Rattle.strobe_check.specs.Count.{HasCounted}
 use Rattle.strobe_check.specs.History.{Held, HasSeen, all_fails}
 use Rattle.strobe_check.proofs.HistoryLemmas.{fails-none}
@@ -18,16 +16,6 @@ use Rattle.die_sim.specs.Die.{Device}
 use Rattle.site_meaning.specs.Playing.{bound_of}
 use Rattle.site_meaning.specs.Polls.{has_cycles, next_exec}
 use Rattle.cycle_run.specs.Cycle.{closed_with, HasFound}
-
--- ---- the cycles of an executive
-
--- and they are few enough
-pub few_cycles : (code : Program) (exec : ℕ) → IsProgram code → exec < length code.execs
-    → length (cycles_of code exec) ≤ 281474976710656
-few_cycles code exec program within =
-    let few = (exec_is code exec program within).whole.cycles in
-    let count = cycle_count-length (exec_of code exec).instrs in
-    omega (arith, length-cycles code exec, few, count)
 
 -- ---- fails that are counted
 

@@ -1,5 +1,5 @@
 -- A touchdown that is polled without a live stop goes on so, or has ended as it should: `goes_on`, `lands`.
-use Rattle.std.proofs.Common.{◌≡◌, ℕ, ◌+◌, ◌<◌, ◌≤◌, false, ltb, List, [], ◌∷◌, ◌++◌, length, Option, Some, None, refl, sym, ap, ◌∙◌, subst, arith}
+use Rattle.std.proofs.Common.{◌≡◌, ℕ, ◌+◌, ◌<◌, ◌≤◌, false, ltb, List, [], ◌∷◌, ◌++◌, length, Option, Some, None, refl, sym, ap, ◌∙◌, subst, arith, true≢false, cond}
 use Rattle.std.specs.Prelude.{◌&&◌, IfSome}
 use Rattle.std.specs.List.{AllByRecursion, cons_option, filter_map}
 use Rattle.std.specs.Option.{option_map}
@@ -29,11 +29,51 @@ use Rattle.cycle_run.specs.Tape.{with_calls}
 use Rattle.site_run.specs.Taped.{calls_of, calls_of_poll, calls_so_far, IsTaped}
 use Rattle.site_run.specs.Seat.{running_of}
 use Rattle.site_run.specs.Site.{seat_of, IsSiteOf, IsPolled, without_record}
-use Rattle.site_run.specs.Touchdown.{IsIdle, IsTouchdown}
+use Rattle.site_run.specs.Contact.{EndsAtContact, IsLostInPoll}
+use Rattle.site_run.specs.Touchdown.{IsIdle, IsTouchdown, ArePolls}
 use Rattle.cycle_run.proofs.SocketLemmas.{with-none}
 use Rattle.cycle_run.proofs.StepLemmas.{with-append}
 use Rattle.site_run.proofs.StepsLemmas.{risen_from, rests_not}
 use Rattle.site_run.proofs.SoFarLemmas.{Follows, poll_follows, poll_tapes}
+
+-- ---- polls, one after another
+
+-- whatever polls follow from here on make a touchdown
+abbrev pub LeadsOn : Bound → ℕ → Site → Site → Told → Told → Type 0
+LeadsOn plan stops old now told told_now =
+    (entry : Record) (new : Site) (told' : Told) → ArePolls plan stops entry now new told_now told'
+    → ArePolls plan stops entry old new told told'
+
+-- a poll with contact lost leaves a record
+lost_ends : (part : Part) (at : ℕ) (seat : Seat) → IsLostInPoll part seat at → (poll part (Some at) seat).waiting ≡ None → ⊥
+unfolding poll with_trial
+lost_ends part at seat lost =
+    cond_both (rests part seat) seat (polled_from part (Some at) seat arrival) Waits (λ h. absurd (true≢false (sym h ∙ lost.works)))
+    (λ _. behind (stepped_try part (Some at) seat arrival) (taken_at seat arrival) lost.ends_there)
+  where
+    arrival : Step
+    arrival = arrived part (Some at) seat
+
+    Waits : Seat → Type 0
+    Waits new = new.waiting ≡ None → ⊥
+
+    behind : (step : Step) (taken : ℕ) → EndsAtContact step at → Waits (with_taken (moved part seat step) taken)
+    behind (goes running) taken ends_there = absurd ends_there
+    behind (ends t) taken is =
+        subst (λ (v : Verdict). Waits (with_taken (cond (is_fail v && ltb (try_now seat) (lot_in part).tries)
+        (record seat { trials = seat.trials ++ t ∷ []; running = None }) (with_record part seat t)) taken)) (sym is)
+        (λ none. none_or_some (with_record part seat t).waiting _ none refl)
+
+-- a poll that leaves no record lost no contact
+pub poll_quiet : (plan : Bound) (stops : ℕ) (old new : Site) (told told' : Told) → (polled : IsPolled plan stops old new told told')
+    → new.waiting ≡ None → polled.contact ≡ None
+poll_quiet plan stops old new told told' polled none = by polled.contact polled.lost polled.polled
+  where
+    by : (contact : Option ℕ) → IfSome contact (IsLostInPoll (part_of plan old.site) (seat_of stops told old))
+        → seat_of stops told' new ≡ poll (part_of plan old.site) contact (seat_of stops told old) → contact ≡ None
+    by None lost is = refl
+    by (Some at) lost is =
+        absurd (lost_ends (part_of plan old.site) at (seat_of stops told old) lost (ap (λ (s : Seat). s.waiting) (sym is) ∙ none))
 
 -- ---- no live stop, and no contact
 
@@ -270,6 +310,10 @@ module _ (plan : Bound) (site stops : ℕ) (old new : Site) (first told told' : 
             die_is = h.die ∙ ap (λ (n : ℕ). n + 1) goes_so.die_is;
             taken_is = subst (λ (l : List ℕ). Climbs seat.taken l next.taken) (none_live h) h.lives;
           }
+
+-- nothing is taken of a site without a record
+pub without_none : (site : Site) → site.waiting ≡ None → without_record site ≡ site
+without_none site none = λ i. record site { waiting = sym none i }
 
 -- a site whose record was taken stands as before
 pub still_site : (mem : Memory) (plan : Bound) (told : Told) (site new : Site) → new ≡ without_record site → IsSiteOf mem plan told site

@@ -15,7 +15,7 @@ ghost use Rattle.site_run.specs.declared.site.BatchEnd.TheVariants as BatchEnd;
 ghost use Rattle.site_run.specs.Taped.{IsTaped, calls_of_next};
 ghost use Rattle.cycle_run.specs.Step.{HoldsSchedules};
 ghost use Rattle.site_run.specs.Seat.{running_of, IsRunOn, IsSeen, IsMove, contact_of, GoesOnSo, StandsLater};
-ghost use Rattle.site_run.specs.Touchdown.{IsIdle, IsTouchdown};
+ghost use Rattle.site_run.specs.Touchdown.{IsIdle, IsTouchdown, RunsPolls};
 ghost use Rattle.site_run.specs.Site.{seat_of, try_of, IsSiteOf, IsSeatOf, Advances, OutcomeFits, KeepsRest, Steps, IsPolled, without_record, end_of};
 
 use crate::arrival::{Arrival, arrive};
@@ -373,8 +373,8 @@ impl Site {
         }
     }
 
-    /// Runs the touchdown of the next die to its end, without a live stop, and gives its record. It may wait for the turns of
-    /// the memory.
+    /// Runs the touchdown of the next die to its end, poll after poll, without a live stop, and gives its record. It may wait
+    /// for the turns of the memory.
     pub fn touchdown<R: Wait, K: Socket>(
         &mut self,
         rt: &R,
@@ -386,6 +386,8 @@ impl Site {
         requires done { self.old.die < length (dies_at self.old.site plan.now.rows) }
         requires idle { IsIdle self.old }
         requires spent { self.old.spent ≡ false }
+        ensures polls { IfOk result (λ entry. RunsPolls plan.now self.old self.new
+            (K.told socket.old) (K.told socket.new) entry) }
         ensures given { IfOk result (λ entry. IsTouchdown (part_of plan.now self.old.site) self.old.die
             (K.told socket.old) (K.told socket.new) entry) }
         ensures is { OnOk result (IsSiteOf mem.now plan.now (K.told socket.new) self.new) }

@@ -23,7 +23,7 @@ use Rattle.site_meaning.specs.Trials.{played}
 use Rattle.site_meaning.specs.Rising.{instants_of}
 use Rattle.site_meaning.proofs.AllLemmas.{All-map, All-weaker}
 use Rattle.site_meaning.proofs.InstantLemmas.{cycle_from, cycle_before}
-use Rattle.site_meaning.proofs.RiseLemmas.{played_rises}
+use Rattle.site_meaning.proofs.RiseLemmas.{played-ats, played_rises}
 use Rattle.strobe_check.specs.Entry.{Entry}
 use Rattle.cycle_run.specs.Tape.{call_at, calls_in, calls_of_cycle}
 use Rattle.cycle_run.specs.Batch.{calls_of_cycles}
@@ -99,15 +99,6 @@ module _ (device : Device) (vars : List Var) (signals high : ℕ) (small : high 
       → AllByRecursion (IsMomentOf signals) moments → CallsIn vars least high (calls_in device along moments)
   unfolding ats
   all_moments = moments_calls
-
--- moments keep their instants as they are played
-played-ats : (device : Device) (whose : Whose) (along : Along) (before : List Entry) (ms : List Moment)
-    → map (λ (m : PlayedMoment). m.at) (moments_played device whose along before ms) ≡ map (λ (m : Moment). m.at) ms
-unfolding moments_played
-played-ats device whose along before [] = refl
-played-ats device whose along before (m ∷ ms) =
-    ap (λ (l : List ℕ). m.at ∷ l)
-    (played-ats device whose (after_moment device along m) (before ++ entry_of device whose m (after_moment device along m).die ∷ []) ms)
 
 -- one cycle's instants rise
 cycle_rises : (stand : Stand) (going : Going) (cycle : Cycle) → FitStand stand → edge.Rises (instants_of (played_cycle stand 0 going cycle))

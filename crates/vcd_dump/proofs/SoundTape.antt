@@ -22,12 +22,12 @@ use Rattle.site_meaning.specs.Trials.{trial, uncut}
 use Rattle.site_meaning.proofs.AllLemmas.{All-take, All-flat_map}
 use Rattle.cycle_run.specs.Batch.{calls_of_cycles}
 use Rattle.site_run.specs.Taped.{all_cycles, calls_of_try}
-use Rattle.site_run.proofs.PlanLemmas.{is_planned, skews_fit}
-use Rattle.site_run.proofs.RunLemmas.{few_cycles}
+use Rattle.site_run.proofs.PlanLemmas.{is_planned}
 use Rattle.vcd_text.specs.Sound.{IsSound}
 use Rattle.vcd_dump.specs.Taken.{tape_of, vars_of, var_of}
 use Rattle.vcd_dump.proofs.SoundLemmas.{vars_sound, driven_is_var}
 use Rattle.vcd_dump.proofs.SoundCalls.{cycles_calls}
+use Rattle.cycle_run.proofs.FitLemmas.{skews_fit, few_cycles}
 
 -- ---- the cycles of a program are of its tables and rows
 

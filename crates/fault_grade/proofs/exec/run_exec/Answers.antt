@@ -8,7 +8,8 @@ use Rattle.die_sim.specs.Die.{device_of}
 use Rattle.cycle_run.specs.Cycle.{point_at, stand_of}
 use Rattle.cycle_run.specs.Batch.{between_at, PlaysCycles}
 use Rattle.cycle_run.proofs.BatchLemmas.{plays_none, plays-more, drop-next}
-use Rattle.fault_grade.proofs.ExecLemmas.{few_cycles, finds_now, still_clear, passes_now, take-all}
+use Rattle.fault_grade.proofs.ExecLemmas.{finds_now, still_clear, passes_now, take-all}
+use Rattle.cycle_run.proofs.FitLemmas.{few_cycles}
 use Rattle.fault_grade.proofs.exec.run_exec.Goals as goal
 
 pub loop-init : goal.loop-init

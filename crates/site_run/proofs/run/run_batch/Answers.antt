@@ -11,9 +11,10 @@ use Rattle.cycle_run.specs.Cycle.{stand_of}
 use Rattle.site_run.specs.Taped.{IsTaped}
 use Rattle.site_run.specs.declared.run.Run.{Run}
 use Rattle.site_run.specs.Seat.{running_of, IsSeen}
-use Rattle.site_run.proofs.RunLemmas.{cycles_told, few_cycles, counted, counted_open}
+use Rattle.site_run.proofs.RunLemmas.{cycles_told, counted, counted_open}
 use Rattle.site_run.proofs.PolledLemmas.{between_of, cycles_are, behind_batch, lost_in_batch, polled_now, fits_now, runs_again, later_now, lost_late, if_ok}
 use Rattle.site_run.proofs.TapeLemmas.{lost_taped, batch_calls, taped_now}
+use Rattle.cycle_run.proofs.FitLemmas.{few_cycles}
 use Rattle.site_run.proofs.run.run_batch.Goals as goal
 
 pub overflow_sub-left : goal.overflow_sub-left

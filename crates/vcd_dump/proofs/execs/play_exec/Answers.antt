@@ -3,9 +3,10 @@ use Rattle.page_code.specs.Cycles.{cycles_of}
 use Rattle.page_code.specs.Walk.{cycles_left}
 use Rattle.die_sim.specs.Die.{device_of}
 use Rattle.cycle_run.specs.Cycle.{stand_of}
-use Rattle.site_run.proofs.RunLemmas.{few_cycles, cycles_told}
+use Rattle.site_run.proofs.RunLemmas.{cycles_told}
 use Rattle.vcd_dump.specs.Play.{allowed, order_behind}
 use Rattle.vcd_dump.proofs.ExecLemmas.{between_of, plays_so, comes_over, comes_ordered, comes_failed, comes_on}
+use Rattle.cycle_run.proofs.FitLemmas.{few_cycles}
 use Rattle.vcd_dump.proofs.execs.play_exec.Goals as goal
 
 pub play_cycles-requires-clause-some : goal.play_cycles-requires-clause-some

@@ -16,7 +16,8 @@ use Rattle.lot_plan.specs.Skews.{site_skews}
 use Rattle.page_code.specs.Program.{Program}
 use Rattle.page_code.specs.Conditions.{IsProgram}
 use Rattle.cycle_run.specs.Step.{FitCode}
-use Rattle.site_run.proofs.PlanLemmas.{image-whole, image-long, skews_fit}
+use Rattle.site_meaning.proofs.ImageLemmas.{image-whole, image-long}
+use Rattle.cycle_run.proofs.FitLemmas.{skews_fit}
 use Rattle.vcd_dump.proofs.tape.tape_of.Goals as goal
 
 pub started-requires-clause-whole : goal.started-requires-clause-whole

@@ -9,9 +9,10 @@ use Rattle.lot_plan.specs.Skews.{site_skews}
 use Rattle.cycle_run.specs.Tape.{with_calls}
 use Rattle.cycle_run.specs.Step.{FitCode}
 use Rattle.site_run.specs.Seat.{running_of}
-use Rattle.site_run.proofs.PlanLemmas.{image-long, image-whole, skews_fit}
 use Rattle.cycle_run.proofs.SocketLemmas.{with-none}
 use Rattle.site_run.proofs.BeforeLemmas.{not_live, no_calls_live, no_calls_ordered, ends_live, ends_ordered, runs_now, taped_so}
+use Rattle.site_meaning.proofs.ImageLemmas.{image-long, image-whole}
+use Rattle.cycle_run.proofs.FitLemmas.{skews_fit}
 use Rattle.site_run.proofs.site.Site.before_batch.Goals as goal
 
 pub returns-then-poll-clause-polled : goal.returns-then-poll-clause-polled

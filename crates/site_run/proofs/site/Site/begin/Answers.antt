@@ -9,8 +9,9 @@ use Rattle.site_meaning.specs.Part.{Part, part_of}
 use Rattle.site_run.specs.declared.trial.Outcome.TheVariants as outcome
 use Rattle.site_run.specs.Seat.{without_cycles}
 use Rattle.site_run.specs.Site.{try_of, Steps}
-use Rattle.site_run.proofs.PlanLemmas.{image-long, image-whole, is_planned}
+use Rattle.site_run.proofs.PlanLemmas.{is_planned}
 use Rattle.site_run.proofs.StepsLemmas.{steps_all, steps_goes, steps_ends}
+use Rattle.site_meaning.proofs.ImageLemmas.{image-long, image-whole}
 use Rattle.site_run.proofs.site.Site.begin.Goals as goal
 
 pub arrive-requires-clause-signals : goal.arrive-requires-clause-signals

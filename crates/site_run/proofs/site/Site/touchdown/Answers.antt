@@ -5,8 +5,8 @@ use Rattle.site_meaning.specs.Part.{part_of}
 use Rattle.site_meaning.proofs.SkewLemmas.{accepted_part}
 use Rattle.site_run.specs.declared.site.Site.{Site}
 use Rattle.site_run.specs.Site.{seat_of}
-use Rattle.site_run.specs.Touchdown.{IsIdle}
-use Rattle.site_run.proofs.TouchdownLemmas.{GoesSo, goes_first, goes_on, lands, still_site}
+use Rattle.site_run.specs.Touchdown.{IsIdle, ArePolls, last, more}
+use Rattle.site_run.proofs.TouchdownLemmas.{GoesSo, goes_first, goes_on, lands, still_site, poll_quiet, without_none}
 use Rattle.site_run.proofs.site.Site.touchdown.Goals as goal
 
 pub loop-init : goal.loop-init
@@ -21,6 +21,7 @@ loop-init g c =
       goes_so = goes_first (part_of plan old.site) told old
           (accepted_part plan old.site (subst IsProgram (c.code.ensures ∙ sym c.requires.site.one_program) c.signals-signals.ensures.conditions)
           c.sites-sites.ensures.bound) c.requires.idle;
+      leads_on = λ entry new told' polls. polls;
       count = omega arith;
     }
 
@@ -50,7 +51,25 @@ loop-preserved g c =
           old.die (accepted_part plan old.site (subst IsProgram (c.code.ensures ∙ sym c.requires.site.one_program)
           c.signals-signals.ensures.conditions) c.sites-sites.ensures.bound) kept.number c.requires.done kept.count c.batch.ensures.count kept.goes_so
           polled.polled (sym c.take.ensures.record ∙ c.in_default.is));
+      leads_on = λ entry new told' polls.
+          let none = sym c.take.ensures.record ∙ c.in_default.is in
+          kept.leads_on entry new told' (more c.loop.self c.batch.new.self new (told c.loop.socket) (told c.batch.new.socket) told'
+          polled.polled (poll_quiet plan old.state.taken c.loop.self c.batch.new.self (told c.loop.socket) (told c.batch.new.socket)
+          polled.polled none) none
+          (subst (λ (s : Site). ArePolls plan old.state.taken entry s new (told c.batch.new.socket) told')
+          (rest ∙ without_none c.batch.new.self none) polls));
       count = omega (arith, kept.count, c.batch.ensures.count);
+    }
+
+pub returns-in-Some-take-clause-polls : goal.returns-in-Some-take-clause-polls
+returns-in-Some-take-clause-polls g c =
+    let told = g.K.Socket.told in
+    record {
+      behind = c.batch.new.self;
+      polls = c.loop.invariant.leads_on c.in-Some-take.landed c.batch.new.self (told c.batch.new.socket)
+          (last c.loop.self c.batch.new.self (told c.loop.socket) (told c.batch.new.socket) c.in_ok-batch.ensures.polled
+          (sym c.take.ensures.record ∙ c.in-Some-take.is));
+      taken = c.take.ensures.rest;
     }
 
 pub returns-in-Some-take-clause-given : goal.returns-in-Some-take-clause-given
