@@ -2,3 +2,4 @@ pub mod ExecLemmas
 pub mod FaultLemmas
 pub mod AnswerLemmas
 pub mod ProgramLemmas
+pub mod RunLemmas

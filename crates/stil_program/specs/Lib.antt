@@ -2,3 +2,4 @@
 -- computes on its way.
 pub mod Program
 pub mod Working
+pub mod Runs

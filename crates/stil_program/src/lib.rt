@@ -7,7 +7,7 @@ mod laws;
 mod text;
 
 pub use coding::{compiled, program};
-pub use laws::{code_keeps_loops, one_text_fault};
+pub use laws::{code_keeps_loops, one_text_fault, sixth_pass_is_over_runs};
 pub use text::CompiledText;
 
 #[cfg(test)]
