@@ -21,6 +21,10 @@ pub struct Case {
     pub failing_puts: Vec<u64>,
     /// The numbers of the puts that take nothing.
     pub empty_puts: Vec<u64>,
+    /// The files that are loaded, in this order: in a further run each of these loads fails.
+    pub loaded: Vec<String>,
+    /// Whether there are further runs with a sink of one byte a put, of which one put fails or takes nothing.
+    pub is_bytewise: bool,
     /// For each socket the number of the call at which it loses contact, and 0 where it never does.
     pub sockets: Vec<u64>,
     /// What the desk answers, before it says nothing.
@@ -64,6 +68,8 @@ impl Case {
             most: usize::MAX,
             failing_puts: Vec::new(alloc),
             empty_puts: Vec::new(alloc),
+            loaded: Vec::new(alloc),
+            is_bytewise: false,
             sockets: vec![in alloc; 0]?,
             asks: Vec::new(alloc),
             status: 0,
@@ -78,6 +84,7 @@ impl Case {
             "word" => self.words.push(String::from_str(alloc, rest)?)?,
             "offline" => self.is_offline = true,
             "loads" => self.failing_loads = numbers(alloc, rest)?,
+            "loaded" => self.loaded = words(alloc, rest)?,
             "sockets" => self.sockets = numbers(alloc, rest)?,
             "desk" => self.asks = asks(alloc, rest)?,
             _ => return self.set_sink(alloc, keyword, rest),
@@ -92,6 +99,7 @@ impl Case {
             "takes" => self.most = size(rest)?,
             "fails" => self.failing_puts = numbers(alloc, rest)?,
             "empty" => self.empty_puts = numbers(alloc, rest)?,
+            "bytewise" => self.is_bytewise = true,
             _ => return Err(LineFault::NoForm),
         }
         Ok(())

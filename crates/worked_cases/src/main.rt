@@ -6,6 +6,7 @@
 mod bytes;
 mod case;
 mod fill;
+mod outside;
 mod reader;
 mod report;
 mod run;

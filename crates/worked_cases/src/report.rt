@@ -1,6 +1,7 @@
 //! What is printed of cases: those that answer otherwise, and how many there are.
 
 use crate::case::Case;
+use crate::outside::{Outside, Wanted, read_fault};
 use crate::reader::CasesFault;
 use crate::run::{Answer, Call, calls, run};
 use std::io;
@@ -38,12 +39,20 @@ fn print_difference<R: Print + AllocGlobal>(
     rt: &R,
     file: &str,
     case: &Case,
+    wanted: Wanted,
     call: Call,
     answer: &Answer,
 ) -> io::Result<()> {
-    let (title, found, wanted) = (&case.title, answer.status.number(), case.status);
-    println!(rt; "{file}: {title}: by {call} the status is {found}, and {wanted} is wanted")?;
-    let (found, wanted) = (answer.sink.bytes(), case.text.as_slice());
+    let (title, outside, found, status) = (
+        &case.title,
+        wanted.outside,
+        answer.status.number(),
+        wanted.status,
+    );
+    println!(rt;
+        "{file}: {title}: by {call}{outside} the status is {found}, and {status} is wanted"
+    )?;
+    let (found, wanted) = (answer.sink.bytes(), wanted.text);
     match first_difference(found, wanted) {
         Some((number, found, wanted)) => {
             let (found, wanted) = (printable(found), printable(wanted));
@@ -56,34 +65,92 @@ fn print_difference<R: Print + AllocGlobal>(
     }
 }
 
-/// Whether the answer is the one that the case wants.
-fn agrees(case: &Case, answer: &Answer) -> bool {
-    answer.status.number() == case.status && answer.sink.bytes() == case.text.as_slice()
+/// Whether the answer is the one that is wanted.
+fn agrees(wanted: Wanted, answer: &Answer) -> bool {
+    answer.status.number() == wanted.status && answer.sink.bytes() == wanted.text
 }
 
 impl CaseTally {
-    /// Runs a case through each of its calls, and counts it.
+    /// Makes a run of a case through each of its calls, and counts it as a case.
+    fn judge_run<R: Print + AllocGlobal + Threads + Wait + Sync>(
+        &mut self,
+        rt: &R,
+        file: &str,
+        case: &Case,
+        wanted: Wanted,
+    ) -> io::Result<()> {
+        self.cases = self.cases.saturating_add(1);
+        let mut agreed = true;
+        for call in calls(case) {
+            let call = *call;
+            let Ok(answer) = run(rt, case, wanted.outside, call) else {
+                agreed = false;
+                continue;
+            };
+            if !agrees(wanted, &answer) {
+                agreed = false;
+                print_difference(rt, file, case, wanted, call, &answer)?;
+            }
+        }
+        if !agreed {
+            self.differ = self.differ.saturating_add(1);
+        }
+        Ok(())
+    }
+
+    /// The runs of a case in which one of its loads fails.
+    fn judge_loads<R: Print + AllocGlobal + Threads + Wait + Sync>(
+        &mut self,
+        rt: &R,
+        file: &str,
+        case: &Case,
+    ) -> io::Result<()> {
+        let mut load = 0u64;
+        for name in case.loaded.as_slice() {
+            load = load.saturating_add(1);
+            let line = read_fault(rt.alloc(), name.as_str())?;
+            let wanted = Wanted {
+                outside: Outside::FailingLoad(load),
+                status: 2,
+                text: line.as_bytes(),
+            };
+            self.judge_run(rt, file, case, wanted)?;
+        }
+        Ok(())
+    }
+
+    /// The runs of a case whose sink takes one byte a put: in one of them none fails, and in two for each byte of the text its
+    /// put fails or takes nothing.
+    fn judge_puts<R: Print + AllocGlobal + Threads + Wait + Sync>(
+        &mut self,
+        rt: &R,
+        file: &str,
+        case: &Case,
+    ) -> io::Result<()> {
+        self.judge_run(rt, file, case, Wanted::whole(case, Outside::ByteSink))?;
+        let mut put = 0u64;
+        for place in 0..case.text.len() {
+            put = put.saturating_add(1);
+            let before = &case.text.as_slice()[..place];
+            let failing = Wanted::write_fault(Outside::FailingPut(put), before);
+            self.judge_run(rt, file, case, failing)?;
+            let empty = Wanted::write_fault(Outside::EmptyPut(put), before);
+            self.judge_run(rt, file, case, empty)?;
+        }
+        Ok(())
+    }
+
+    /// Makes all runs of a case.
     fn judge<R: Print + AllocGlobal + Threads + Wait + Sync>(
         &mut self,
         rt: &R,
         file: &str,
         case: &Case,
     ) -> io::Result<()> {
-        self.cases = self.cases.saturating_add(1);
-        let mut agreed = true;
-        for call in calls(case) {
-            let call = *call;
-            let Ok(answer) = run(rt, case, call) else {
-                agreed = false;
-                continue;
-            };
-            if !agrees(case, &answer) {
-                agreed = false;
-                print_difference(rt, file, case, call, &answer)?;
-            }
-        }
-        if !agreed {
-            self.differ = self.differ.saturating_add(1);
+        self.judge_run(rt, file, case, Wanted::whole(case, Outside::AsSaid))?;
+        self.judge_loads(rt, file, case)?;
+        if case.is_bytewise {
+            self.judge_puts(rt, file, case)?;
         }
         Ok(())
     }

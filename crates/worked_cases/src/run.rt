@@ -1,6 +1,7 @@
 //! A case, run through a public call over objects in memory.
 
 use crate::case::Case;
+use crate::outside::Outside;
 use die_sim::{FailingSocket, SimSocket, SocketBox};
 use std::alloc::Global;
 use std::fmt;
@@ -35,22 +36,34 @@ pub struct Answer {
 }
 
 /// The shelf of a case.
-fn shelf(alloc: Global, case: &Case) -> Result<MemShelf, NoMemory> {
+fn shelf(alloc: Global, case: &Case, outside: Outside) -> Result<MemShelf, NoMemory> {
     let mut files = Vec::new(alloc);
     for file in case.files.as_slice() {
         let name = String::from_str(alloc, file.0.as_str())?;
         files.push((name, Vec::from_slice(alloc, file.1.as_slice())?))?;
     }
-    let failing = Vec::from_slice(alloc, case.failing_loads.as_slice())?;
+    let mut failing = Vec::from_slice(alloc, case.failing_loads.as_slice())?;
+    if let Outside::FailingLoad(load) = outside {
+        failing.push(load)?;
+    }
     Ok(MemShelf::new(files, failing))
 }
 
 /// The sink of a case: it has room for what is wanted and some more, where the case doesn't say how much.
-fn sink(alloc: Global, case: &Case) -> Result<MemSink, NoMemory> {
+fn sink(alloc: Global, case: &Case, outside: Outside) -> Result<MemSink, NoMemory> {
     let room = case.room.unwrap_or(case.text.len().saturating_add(4096));
-    let failing = Vec::from_slice(alloc, case.failing_puts.as_slice())?;
-    let empty = Vec::from_slice(alloc, case.empty_puts.as_slice())?;
-    MemSink::new(alloc, room, case.most.max(1), failing, empty)
+    let mut failing = Vec::from_slice(alloc, case.failing_puts.as_slice())?;
+    let mut empty = Vec::from_slice(alloc, case.empty_puts.as_slice())?;
+    let most = match outside {
+        Outside::AsSaid | Outside::FailingLoad(_) => case.most.max(1),
+        Outside::ByteSink | Outside::FailingPut(_) | Outside::EmptyPut(_) => 1,
+    };
+    match outside {
+        Outside::FailingPut(put) => failing.push(put)?,
+        Outside::EmptyPut(put) => empty.push(put)?,
+        _ => {}
+    }
+    MemSink::new(alloc, room, most, failing, empty)
 }
 
 /// Runs the command of a case through `tester`. A socket loses contact at the call of its number; never where it is 0. The
@@ -88,10 +101,11 @@ fn run_words<R: Threads + Wait + Sync, F: Shelf, D: Desk, K: Sink>(
 fn run_with<R: AllocGlobal + Threads + Wait + Sync, D: Desk>(
     rt: &R,
     case: &Case,
+    outside: Outside,
     desk: &mut D,
 ) -> Result<Answer, NoMemory> {
     let alloc = rt.alloc();
-    let (mut shelf, mut sink) = (shelf(alloc, case)?, sink(alloc, case)?);
+    let (mut shelf, mut sink) = (shelf(alloc, case, outside)?, sink(alloc, case, outside)?);
     let status = run_words(rt, alloc, case, &mut shelf, desk, &mut sink)?;
     Ok(Answer { status, sink })
 }
@@ -100,30 +114,32 @@ fn run_with<R: AllocGlobal + Threads + Wait + Sync, D: Desk>(
 fn run_tester<R: AllocGlobal + Threads + Wait + Sync>(
     rt: &R,
     case: &Case,
+    outside: Outside,
 ) -> Result<Answer, NoMemory> {
     if case.asks.is_empty() {
-        return run_with(rt, case, &mut SilentDesk::new());
+        return run_with(rt, case, outside, &mut SilentDesk::new());
     }
     let asks = Vec::from_slice(rt.alloc(), case.asks.as_slice())?;
-    run_with(rt, case, &mut ListDesk::new(asks))
+    run_with(rt, case, outside, &mut ListDesk::new(asks))
 }
 
 /// Runs a case through `offline`.
-fn run_offline(alloc: Global, case: &Case) -> Result<Answer, NoMemory> {
-    let (mut shelf, mut sink) = (shelf(alloc, case)?, sink(alloc, case)?);
+fn run_offline(alloc: Global, case: &Case, outside: Outside) -> Result<Answer, NoMemory> {
+    let (mut shelf, mut sink) = (shelf(alloc, case, outside)?, sink(alloc, case, outside)?);
     let status = offline(alloc, case.words.as_slice(), &mut shelf, &mut sink);
     Ok(Answer { status, sink })
 }
 
-/// Runs a case through a call.
+/// Runs a case through a call, with an outside that fails in this way.
 pub fn run<R: AllocGlobal + Threads + Wait + Sync>(
     rt: &R,
     case: &Case,
+    outside: Outside,
     call: Call,
 ) -> Result<Answer, NoMemory> {
     match call {
-        Call::Tester => run_tester(rt, case),
-        Call::Offline => run_offline(rt.alloc(), case),
+        Call::Tester => run_tester(rt, case, outside),
+        Call::Offline => run_offline(rt.alloc(), case, outside),
     }
 }
 
