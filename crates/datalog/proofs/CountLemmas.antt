@@ -2,7 +2,7 @@
 use Rattle.std.proofs.Common.{◌≡◌, ◌==◌, ℕ, ◌+◌, ◌<◌, ◌≤◌, List, [], ◌∷◌, ◌++◌, length, take, get_or, set, map, sym, ap, ◌∙◌, suc, lit<, arith, cond, inl, inr, get_or-set_other, replicate}
 use Rattle.std.proofs.lemmas.Bool.Decides.{eqb_tells}
 use Rattle.std.proofs.lemmas.Grind.{flat_map-append, get_or-set_at}
-use Rattle.std.proofs.lemmas.List.{append-nil, length-map, map_more, take_more, length-replicate, get_or-replicate}
+use Rattle.std.proofs.lemmas.List.{append-nil, length-map, map_more, length-replicate, get_or-replicate}
 use Rattle.std.proofs.lemmas.List.Sums.{count_by-le-length, sum_by-append, sum_by_push}
 use Rattle.std.proofs.lemmas.List.FromFn.{fill_by_all}
 use Rattle.std.specs.List.{flat_map, range_with_len}
@@ -18,7 +18,7 @@ dies_in-more : (bin b : ℕ) (bins : List ℕ) → dies_in bin (bins ++ b ∷ []
 dies_in-more bin b bins = sum_by_push (λ x. cond {A = ℕ} (x == bin) 1 0) bins b
 
 -- dies of two lists
-dies_in-append : (bin : ℕ) (xs ys : List ℕ) → dies_in bin (xs ++ ys) ≡ dies_in bin xs + dies_in bin ys
+pub dies_in-append : (bin : ℕ) (xs ys : List ℕ) → dies_in bin (xs ++ ys) ≡ dies_in bin xs + dies_in bin ys
 dies_in-append bin xs ys = sum_by-append (λ x. cond {A = ℕ} (x == bin) 1 0) xs ys
 
 -- one more die is counted

@@ -1,11 +1,22 @@
--- What records must be, so that their text can be printed.
+-- What records must be, so that their text can be asked for, and what of it their text needs.
 use Rattle.std.specs.Prelude.{◌≡◌, ℕ, ◌<◌, ◌≤◌, List, length, slice_index_or, All}
+use Rattle.std.specs.List.{AllByRecursion}
+use Rattle.tester_types.specs.Records.{SiteRecords}
 use Rattle.tester_types.specs.declared.record.Fail.{Fail}
 use Rattle.tester_types.specs.declared.record.Record.{Record}
 use Rattle.tester_types.specs.declared.record.Trial.{Trial}
 use Rattle.page_code.specs.Program.{Program}
 use Rattle.plan_rows.specs.Rows.{sites_of, dies_at}
 use Rattle.lot_plan.specs.Bound.{Bound}
+use Rattle.site_meaning.specs.Part.{part_of}
+use Rattle.site_meaning.specs.Records.{Sound}
+use Rattle.floor_core.specs.Book.{at_site}
+
+-- the records of a book are sound, each at the site under whose number it stands, and the sites are those of the plan
+pub record AreSound (plan : Bound) (book : List SiteRecords) : Type 0 where
+  pub sites : length book ≡ sites_of plan.rows
+  pub each : (site : ℕ) → site < sites_of plan.rows
+      → AllByRecursion (Sound (part_of plan site)) (at_site book site).records
 
 -- a fail is of a signal of the code
 pub record IsKnown (code : Program) (fail : Fail) : Type 0 where

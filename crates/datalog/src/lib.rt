@@ -3,6 +3,7 @@
 
 mod cells;
 mod fails;
+mod laws;
 mod letters;
 mod lot;
 mod records;
@@ -10,6 +11,7 @@ mod summary;
 mod totals;
 mod trials;
 
+pub use laws::sound_is_printable;
 pub use lot::print_lot;
 pub use records::print_record;
 pub use summary::{fail_count, print_totals};

@@ -5,29 +5,32 @@ ghost use Rattle.std.specs.List.{flat_map};
 ghost use Rattle.tester_types.specs.Outside.{HasRisen, Puts};
 ghost use Rattle.tester_types.specs.Records.{records_of};
 ghost use Rattle.datalog.specs.DatalogText.{record_text, site_text, filed_text, numbered, lot_text};
-ghost use Rattle.datalog.specs.Printable.{IsPrintable, IsPrintableAt, ArePrintable};
+ghost use Rattle.datalog.specs.Printable.{AreSound, IsPrintable, IsPrintableAt, ArePrintable};
 
-use crate::records::print_record;
-use crate::summary::print_totals;
+use crate::records::put_record;
+use crate::summary::put_sums;
 use crate::trials::put_numbered;
 use floor_core::BookState;
 use lot_plan::BoundPlan;
 use page_code::Code;
 use tester_types::{Record, RecordList, Sink, SinkFault};
 
-/// Puts the text of a lot: the records of each site, by the sites' numbers, and how many dies each bin has. It takes no memory.
+/// Puts the text of a lot whose records are sound: the records of each site, by the sites' numbers, and how many dies each
+/// bin has. It takes no memory.
 pub fn print_lot<K: Sink>(
     code: &Code,
     plan: &BoundPlan,
     book: &BookState,
     sink: &mut K,
 ) -> Result<(), SinkFault>
-    requires { ArePrintable code.now plan.now (records_of book.now) }
+    requires program { plan.now.program ≡ code.now }
+    requires sound { AreSound plan.now book.now }
     ensures puts { Puts (K.told sink.old) (lot_text code.now plan.now (records_of book.now)) result
         (K.told sink.new) }
     ensures count { K.faults sink.old ≤ K.faults sink.new }
     ensures cause { OnErr result (HasRisen (K.faults sink.old) (K.faults sink.new)) }
 {
+    let _sites = plan.sites();
     put_lot(sink, code, plan, book.sites())
 }
 
@@ -45,7 +48,7 @@ fn put_lot<K: Sink>(
     ensures cause { OnErr result (HasRisen (K.faults sink.old) (K.faults sink.new)) }
 {
     put_sites(sink, code, plan, sites)?;
-    print_totals(plan, sites, sink)
+    put_sums(sink, plan, sites)
 }
 
 /// Puts the sites, by their numbers.
@@ -102,7 +105,7 @@ fn put_records<K: Sink>(
     ensures cause { OnErr result (HasRisen (K.faults sink.old) (K.faults sink.new)) }
 {
     for entry in entries {
-        print_record(code, plan, entry, sink)?;
+        put_record(sink, code, plan, entry)?;
     }
     Ok(())
 }

@@ -5,6 +5,8 @@ ghost use Rattle.std.specs.List.{flat_map};
 ghost use Rattle.tester_types.specs.Outside.{HasRisen, Puts};
 ghost use Rattle.plan_rows.specs.Rows.{sites_of, dies_at};
 ghost use Rattle.lot_plan.specs.Bound.{die_at};
+ghost use Rattle.site_meaning.specs.Part.{part_of};
+ghost use Rattle.site_meaning.specs.Records.{Sound};
 ghost use Rattle.datalog.specs.DatalogText.{die_line, bin_line, die_bin, record_text};
 ghost use Rattle.datalog.specs.Printable.{IsPrintable};
 
@@ -13,12 +15,29 @@ use lot_plan::BoundPlan;
 use page_code::Code;
 use tester_types::{Piece, Record, Sink, SinkFault, put_each};
 
-/// Puts the text of a record: its die's name, its tries, and its bin.
+/// Puts the text of a sound record: its die's name, its tries, and its bin. It takes no memory.
 pub fn print_record<K: Sink>(
     code: &Code,
     plan: &BoundPlan,
     entry: &Record,
     sink: &mut K,
+) -> Result<(), SinkFault>
+    requires program { plan.now.program ≡ code.now }
+    requires sound { Sound (part_of plan.now entry.now.site) entry.now }
+    ensures puts { Puts (K.told sink.old) (record_text code.now plan.now entry.now) result (K.told sink.new) }
+    ensures count { K.faults sink.old ≤ K.faults sink.new }
+    ensures cause { OnErr result (HasRisen (K.faults sink.old) (K.faults sink.new)) }
+{
+    let _sites = plan.sites();
+    put_record(sink, code, plan, entry)
+}
+
+/// Puts the text of a record that has all that the text needs.
+pub(crate) fn put_record<K: Sink>(
+    sink: &mut K,
+    code: &Code,
+    plan: &BoundPlan,
+    entry: &Record,
 ) -> Result<(), SinkFault>
     requires { IsPrintable code.now plan.now entry.now }
     ensures puts { Puts (K.told sink.old) (record_text code.now plan.now entry.now) result (K.told sink.new) }

@@ -4,17 +4,35 @@ ghost use Rattle.std.specs.Prelude.{◌≡◌, ◌+◌, ◌<◌, ◌≤◌, All,
 ghost use Rattle.tester_types.specs.Outside.{HasRisen, Puts};
 ghost use Rattle.tester_types.specs.Records.{records_of};
 ghost use Rattle.datalog.specs.DatalogText.{bins_of, totals_text};
+ghost use Rattle.datalog.specs.Printable.{AreSound};
 ghost use Rattle.datalog.specs.Summary.{most_fails, trial_fails, record_fails, fails_among};
 
 use crate::totals::{counts_of, put_totals};
+use floor_core::BookState;
 use lot_plan::BoundPlan;
 use tester_types::{Record, RecordList, Sink, SinkFault, Trial};
 
-/// Puts how many dies each bin has, for each bin that a die has.
+/// Puts how many dies each bin has, for each bin that a die of a book of sound records has. It takes no memory.
 pub fn print_totals<K: Sink>(
     plan: &BoundPlan,
-    sites: &[RecordList],
+    book: &BookState,
     sink: &mut K,
+) -> Result<(), SinkFault>
+    requires sound { AreSound plan.now book.now }
+    ensures puts { Puts (K.told sink.old) (totals_text (bins_of plan.now (records_of book.now))) result
+        (K.told sink.new) }
+    ensures count { K.faults sink.old ≤ K.faults sink.new }
+    ensures cause { OnErr result (HasRisen (K.faults sink.old) (K.faults sink.new)) }
+{
+    let _sites = plan.sites();
+    put_sums(sink, plan, book.sites())
+}
+
+/// Puts how many dies each bin has, for each bin that a die has.
+pub(crate) fn put_sums<K: Sink>(
+    sink: &mut K,
+    plan: &BoundPlan,
+    sites: &[RecordList],
 ) -> Result<(), SinkFault>
     requires few { length sites.now ≤ 64 }
     requires tried { All (All (λ entry. 0 < length entry.trials)) (records_of sites.now) }
@@ -27,7 +45,14 @@ pub fn print_totals<K: Sink>(
 }
 
 /// How many looks failed in all tries of a lot, up to the largest number of 128 bits.
-pub fn fail_count(sites: &[RecordList]) -> u128
+pub fn fail_count(book: &BookState) -> u128
+    ensures { result ≡ fails_among (records_of book.now) }
+{
+    fails_in(book.sites())
+}
+
+/// How many looks failed in all tries of sites.
+fn fails_in(sites: &[RecordList]) -> u128
     ensures { result ≡ fails_among (records_of sites.now) }
 {
     let mut fails = 0;

@@ -25,10 +25,10 @@ use Rattle.tool_inputs.specs.Refusals.{status_of, line_of}
 use Rattle.tool_inputs.specs.Refused.{IsTextRefusal}
 use Rattle.tool_inputs.specs.Inputs.{Inputs, bound_of}
 use Rattle.stil_tool.specs.Lot.{usable, Floor}
-use Rattle.stil_tool.specs.Drill.{AreDrill, AreTexts, drill_file, IsTextRefused, IsDrillRefused, IsDrillReady, IsDrilled, DrillRunWants, DrillWants}
+use Rattle.stil_tool.specs.Drill.{AreDrill, AreTexts, drill_file, IsTextRefused, IsDrillRefused, IsDrillReady, IsDrilled, DrillRunWants, DrillComes}
 use Rattle.stil_tool.specs.Drill.IsTextRefused.{no_memory, of_program, of_plan, of_net, unbound}
 use Rattle.stil_tool.specs.Drill.IsDrillRefused.{of_text, few_sockets}
-use Rattle.stil_tool.specs.Drill.DrillWants.{is_run, is_refused}
+use Rattle.stil_tool.specs.Drill.DrillComes.{is_run, is_refused}
 use Rattle.tool_inputs.proofs.InputLemmas.{text_refusal}
 
 -- ---- the words
@@ -85,7 +85,7 @@ unbound_refused number inputs e are (inr is) = unbound inputs are e is refl
 
 -- what is wanted at a refusal
 pub refused_wants : {S : Type 0} (tells : S → Told) (number : ℕ) (floor : Floor S) (r : Refusal)
-    → IsDrillRefused number (length floor.sockets) r → DrillWants tells number floor floor (status_of r) (line_of r)
+    → IsDrillRefused number (length floor.sockets) r → DrillComes tells number floor floor (status_of r) (line_of r)
 refused_wants tells number floor r cause =
     is_refused (record { refused = r; cause = cause; answer = refl; line = refl }) (λ other. refl)
 
@@ -101,7 +101,7 @@ few_refused number sockets code bound sites have ready all usable_are few =
 -- what a run wants is wanted of the drill
 pub run_wants : {S : Type 0} (tells : S → Told) (number : ℕ) (old new : Floor S) (code : Program) (bound : Bound) (status : Status)
     (text : List ℕ) → IsDrillReady number code bound → sites_of bound.rows ≤ usable (length old.sockets)
-    → DrillRunWants tells number bound old new status text → DrillWants tells number old new status text
+    → DrillRunWants tells number bound old new status text → DrillComes tells number old new status text
 run_wants tells number old new code bound Done text ready enough want =
     is_run refl ready.inputs ready.are ready.accepted
     (subst (λ (b : Bound). sites_of b.rows ≤ usable (length old.sockets)) ready.is enough)

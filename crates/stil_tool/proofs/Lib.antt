@@ -3,8 +3,8 @@ pub mod CompletenessLemmas
 pub mod LotLemmas
 pub mod DrillLemmas
 pub mod FineLotLemmas
-pub mod KnownLemmas
-pub mod PrintableLemmas
 pub mod RunLemmas
 pub mod GradeLemmas
 pub mod DumpLemmas
+pub mod AloneLemmas
+pub mod FineDrillLemmas

@@ -1,5 +1,7 @@
--- What `drill N` answers, and why. Its three texts are made of the number, and there are no files.
+-- What `drill N` answers, and why. Its three texts are made of the number, and there are no files. Read `DrillWants` at
+-- the end first.
 use Rattle.std.specs.Prelude.{◌≡◌, ℕ, ◌<◌, ◌≤◌, List, [], ◌∷◌, ◌++◌, length, Some, None, codes, decimal}
+use Rattle.tester_types.specs.Outside.{HasRisen}
 use Rattle.tester_types.specs.Records.{SiteRecords, records_of}
 use Rattle.tester_types.specs.declared.record.Record.{Record}
 use Rattle.bench_net.specs.Circuit.{Circuit, IsWhole}
@@ -19,7 +21,7 @@ use Rattle.page_code.specs.Program.{Program}
 use Rattle.stil_ast.specs.declared.fault.StilFault.{StilFault}
 use Rattle.stil_program.specs.Program.{IsTextFault, IsProgramOf}
 use Rattle.tool_inputs.specs.declared.status.Status.{Status}
-use Rattle.tool_inputs.specs.declared.status.Status.TheVariants.{Done, OutOfMemory}
+use Rattle.tool_inputs.specs.declared.status.Status.TheVariants.{Done, OutOfMemory, TooFewSockets as Few}
 use Rattle.tool_inputs.specs.declared.refusal.Refusal.{Refusal}
 use Rattle.tool_inputs.specs.declared.refusal.Refusal.TheVariants.{Stil, Net, Plan, TooFewSockets}
 use Rattle.tool_inputs.specs.Endings.{memory_line}
@@ -102,12 +104,37 @@ pub record IsDrillRefusal (number sockets : ℕ) (status : Status) (text : List 
   pub answer : status ≡ status_of refused
   pub line : text ≡ line_of refused
 
--- What must be so for a status of `drill`, with what is written then. One that is refused, but for want of memory,
--- leaves its floor as it was.
-pub data DrillWants {S : Type 0} (tells : S → Told) (number : ℕ) (old new : Floor S) (status : Status) (text : List ℕ) :
-    Type 0 where
+-- What comes of a drill, as its texts are read and bound one after another. One that is refused, but for want of
+-- memory, leaves its floor as it was.
+pub data DrillComes {S : Type 0} (tells : S → Told) (number : ℕ) (old new : Floor S) (status : Status) (text : List ℕ)
+    : Type 0 where
   is_run : status ≡ Done → (inputs : Inputs) → AreTexts number inputs → refusal (bound_of inputs) ≡ None
       → sites_of inputs.rows ≤ usable (length old.sockets) → IsDrilled tells number (bound_of inputs) old new text
-      → DrillWants tells number old new status text
+      → DrillComes tells number old new status text
   is_refused : IsDrillRefusal number (length old.sockets) status text → ((status ≡ OutOfMemory → ⊥) → new ≡ old)
+      → DrillComes tells number old new status text
+
+-- ---- what `drill` answers
+
+-- how many sites a drill has
+abbrev pub drill_sites : ℕ
+drill_sites = 4
+
+-- What must be so for a status of `drill`, with what is written then. Its texts are accepted and bound, so it is run
+-- where there are sockets enough, and memory alone may be wanting. One with too few sockets leaves its floor as it was.
+pub data DrillWants {S : Type 0} (tells : S → Told) (number : ℕ) (old new : Floor S) (status : Status) (text : List ℕ)
+    : Type 0 where
+  is_drilled : status ≡ Done → drill_sites ≤ usable (length old.sockets) → (inputs : Inputs) → AreTexts number inputs
+      → refusal (bound_of inputs) ≡ None → IsDrilled tells number (bound_of inputs) old new text
       → DrillWants tells number old new status text
+  too_few : status ≡ Few → usable (length old.sockets) < drill_sites
+      → text ≡ line_of (TooFewSockets drill_sites (usable (length old.sockets))) → new ≡ old
+      → DrillWants tells number old new status text
+  no_memory : status ≡ OutOfMemory → text ≡ memory_line → DrillWants tells number old new status text
+
+-- the words are those of a drill, there are sockets enough, and no count rose
+pub record IsFineDrill (words : List (List ℕ)) (faults faults' sockets : ℕ) : Type 0 where
+  pub number : ℕ
+  pub are : AreDrill words number
+  pub enough : drill_sites ≤ usable sockets
+  pub puts : HasRisen faults faults' → ⊥

@@ -7,3 +7,4 @@ pub mod Grade
 pub mod Tester
 pub mod Jobs
 pub mod FineLot
+pub mod Alone

@@ -9,18 +9,19 @@ ghost use Rattle.bench_net.specs.Circuit.{IsWhole};
 ghost use Rattle.bench_net.specs.Net.{IsNet};
 ghost use Rattle.plan_rows.specs.Plan.{IsPlan};
 ghost use Rattle.plan_rows.specs.Rows.{sites_of};
-ghost use Rattle.datalog.specs.Printable.{ArePrintable};
+ghost use Rattle.datalog.specs.Printable.{AreSound};
 ghost use Rattle.drill_texts.specs.Texts.{stil_text, net_text, plan_text};
 ghost use Rattle.stil_program.specs.Program.{IsProgramOf};
 ghost use Rattle.tool_inputs.specs.Endings.{Answers};
 ghost use Rattle.stil_tool.specs.Lot.{usable};
-ghost use Rattle.stil_tool.specs.Drill.{IsTextRefused, IsDrillReady, DrillRunWants, DrillWants, drill_line, drill_text};
+ghost use Rattle.stil_tool.specs.Drill.{IsTextRefused, IsDrillReady, DrillRunWants, DrillComes, drill_line, drill_text};
 
 use crate::floor::{test, usable};
 use bench_net::Netlist;
 use datalog::{fail_count, print_totals};
 use die_sim::{Socket, SocketBox};
 use drill_texts::{net_text, plan_text, stil_text};
+use floor_core::BookState;
 use lot_plan::{BoundPlan, Plan};
 use page_code::Code;
 use std::alloc::{AllocError, Global};
@@ -28,7 +29,7 @@ use std::sync::{Arc, Wait};
 use std::thread::Threads;
 use stil_ast::StilRefusal;
 use stil_program::program;
-use tester_types::{Desk, Gate, Piece, RecordList, Sink, SinkFault, Text, put_each};
+use tester_types::{Desk, Gate, Piece, Sink, SinkFault, Text, put_each};
 use tool_inputs::{ReadyLot, Refusal, Status, no_memory, put_refusal};
 
 /// The name of the netlist in the plan.
@@ -119,8 +120,8 @@ fn prepare(alloc: Global, number: u8) -> Result<ReadyLot, Refusal>
 }
 
 /// Puts how many vectors there are and how many looks failed.
-fn put_counts<K: Sink>(number: u8, sites: &[RecordList], out: &mut K) -> Result<(), SinkFault>
-    ensures puts { Puts (K.told out.old) (drill_line number (records_of sites.now)) result (K.told out.new) }
+fn put_counts<K: Sink>(number: u8, book: &BookState, out: &mut K) -> Result<(), SinkFault>
+    ensures puts { Puts (K.told out.old) (drill_line number (records_of book.now)) result (K.told out.new) }
     ensures count { K.faults out.old ≤ K.faults out.new }
     ensures cause { OnErr result (HasRisen (K.faults out.old) (K.faults out.new)) }
 {
@@ -130,7 +131,7 @@ fn put_counts<K: Sink>(number: u8, sites: &[RecordList], out: &mut K) -> Result<
         Piece::Text(b" vectors "),
         Piece::Number(500 * u128::from(number)),
         Piece::Text(b" fails "),
-        Piece::Number(fail_count(sites)),
+        Piece::Number(fail_count(book)),
         Piece::Text(b"\n"),
     ];
     put_each(out, &line)
@@ -140,16 +141,16 @@ fn put_counts<K: Sink>(number: u8, sites: &[RecordList], out: &mut K) -> Result<
 fn put_summary<K: Sink>(
     number: u8,
     plan: &BoundPlan,
-    sites: &[RecordList],
+    book: &BookState,
     out: &mut K,
 ) -> Result<(), SinkFault>
-    requires { ArePrintable plan.now.program plan.now (records_of sites.now) }
-    ensures puts { Puts (K.told out.old) (drill_text number plan.now (records_of sites.now)) result (K.told out.new) }
+    requires { AreSound plan.now book.now }
+    ensures puts { Puts (K.told out.old) (drill_text number plan.now (records_of book.now)) result (K.told out.new) }
     ensures count { K.faults out.old ≤ K.faults out.new }
     ensures cause { OnErr result (HasRisen (K.faults out.old) (K.faults out.new)) }
 {
-    put_counts(number, sites, out)?;
-    print_totals(plan, sites, out)
+    put_counts(number, book, out)?;
+    print_totals(plan, book, out)
 }
 
 /// Runs the lot, and prints what it comes to.
@@ -174,8 +175,7 @@ fn run<R: Threads + Wait + Sync, D: Desk, G: Gate, K: Sink>(
     let Ok(tested) = test(rt, alloc, lot, sockets, desk, gate) else {
         return no_memory(out);
     };
-    let _bound = tested.plan.sites();
-    match put_summary(number, &tested.plan, tested.book.sites(), out) {
+    match put_summary(number, &tested.plan, &tested.book, out) {
         Ok(()) => Status::Done,
         Err(_) => Status::WriteFault,
     }
@@ -191,7 +191,7 @@ pub(crate) fn drill<K: Sink, D: Desk, G: Gate, R: Threads + Wait + Sync>(
     gate: &G,
     out: &mut K,
 ) -> Status
-    ensures answers { Answers (DrillWants ⟦<SocketBox as Socket>⟧.told number
+    ensures answers { Answers (DrillComes ⟦<SocketBox as Socket>⟧.told number
         (record { sockets = sockets.old.items; stops = D.stops desk.old; asked = D.asked desk.old })
         (record { sockets = sockets.new.items; stops = D.stops desk.new; asked = D.asked desk.new }))
         (K.told out.old) (K.faults out.old) result (K.told out.new) (K.faults out.new) }

@@ -5,10 +5,12 @@ mod drill;
 mod dump;
 mod floor;
 mod grade;
+mod laws;
 mod lot;
 mod offline_call;
 mod top_call;
 
+pub use laws::{alone_lines, one_text, other_site, text_is_sites};
 pub use offline_call::offline;
 pub use stil_program::program;
 pub use text_commands::Command;

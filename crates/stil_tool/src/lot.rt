@@ -36,7 +36,6 @@ fn run<R: Threads + Wait + Sync, D: Desk, G: Gate, K: Sink>(
     let Ok(tested) = test(rt, alloc, lot, sockets, desk, gate) else {
         return no_memory(out);
     };
-    let _bound = tested.plan.sites();
     match print_lot(tested.mem.code(), &tested.plan, &tested.book, out) {
         Ok(()) => Status::Done,
         Err(_) => Status::WriteFault,

@@ -3,7 +3,7 @@
 ghost use Rattle.std.specs.Prelude.{◌≡◌, ◌≤◌, ℕ, List, [], ◌∷◌, IfSome, IfNone, length};
 ghost use Rattle.tool_inputs.specs.Endings.{Answers, IsDone};
 ghost use Rattle.stil_tool.specs.Offline.{IsFine, words_seen};
-ghost use Rattle.stil_tool.specs.Drill.{AreDrill};
+ghost use Rattle.stil_tool.specs.Drill.{AreDrill, IsFineDrill};
 ghost use Rattle.stil_tool.specs.Tester.{NeedTester, TesterWants};
 ghost use Rattle.stil_tool.specs.Jobs.{IsJob};
 ghost use Rattle.stil_tool.specs.FineLot.{IsFineLot};
@@ -51,6 +51,8 @@ pub fn tester<F: Shelf, K: Sink, D: Desk, G: Gate, R: Threads + Wait + Sync>(
         (K.faults out.old) (K.faults out.new) → IsDone result }
     ensures complete_lot { IsFineLot (words_seen words.now) (F.told shelf.old) (F.faults shelf.old) (F.faults shelf.new)
         (K.faults out.old) (K.faults out.new) (length sockets.old.items) → IsDone result }
+    ensures complete_drill { IsFineDrill (words_seen words.now) (K.faults out.old) (K.faults out.new)
+        (length sockets.old.items) → IsDone result }
     ensures complete_grade { IsFineGrade (words_seen words.now) (F.told shelf.old) (F.faults shelf.old)
         (F.faults shelf.new) (K.faults out.old) (K.faults out.new) → IsDone result }
     ensures complete_dump { IsFineDump (words_seen words.now) (F.told shelf.old) (F.faults shelf.old)

@@ -12,12 +12,12 @@ returns-in_err-put_sites-clause-puts g c =
     (front_more _ _ (numbered (site_text c.args.code.now c.args.plan.now) 0 (records_of c.args.sites.now))
     (totals_text (bins_of c.args.plan.now (records_of c.args.sites.now))) (rw (numbered-filed c.args.code.now c.args.plan.now 0 c.args.sites.now) at c.in_err-put_sites.ensures.puts))
 
-pub print_totals-requires-clause-tried : goal.print_totals-requires-clause-tried
-print_totals-requires-clause-tried g c = λ site none within k entry there. (c.requires.each site none within k entry there).printable.tried
+pub put_sums-requires-clause-tried : goal.put_sums-requires-clause-tried
+put_sums-requires-clause-tried g c = λ site none within k entry there. (c.requires.each site none within k entry there).printable.tried
 
 pub returns-clause-puts : goal.returns-clause-puts
 returns-clause-puts g c =
     puts_last (g.K.Sink.told c.args.sink.now) (g.K.Sink.told c.put_sites.new.sink) _
     (numbered (site_text c.args.code.now c.args.plan.now) 0 (records_of c.args.sites.now)) (totals_text (bins_of c.args.plan.now (records_of c.args.sites.now))) _
     (rw (numbered-filed c.args.code.now c.args.plan.now 0 c.args.sites.now) at c.in_ok-put_sites.ensures.puts)
-    c.print_totals.ensures.puts
+    c.put_sums.ensures.puts

@@ -9,14 +9,11 @@ pub returns-in_err-put_counts-clause-puts : goal.returns-in_err-put_counts-claus
 returns-in_err-put_counts-clause-puts g c =
     let p = err_from_is_err_and c.from_residual.result c.from_residual.ensures.1 in
     rw p.1
-    (front_more _ _ (drill_line c.args.number (records_of c.args.sites.now)) (totals_text (bins_of c.args.plan.now (records_of c.args.sites.now)))
+    (front_more _ _ (drill_line c.args.number (records_of c.args.book.now)) (totals_text (bins_of c.args.plan.now (records_of c.args.book.now)))
     c.in_err-put_counts.ensures.puts)
-
-pub print_totals-requires-clause-tried : goal.print_totals-requires-clause-tried
-print_totals-requires-clause-tried g c = λ site none within k entry there. (c.requires.each site none within k entry there).printable.tried
 
 pub returns-clause-puts : goal.returns-clause-puts
 returns-clause-puts g c =
     puts_last (g.K.Sink.told c.args.out.now) (g.K.Sink.told c.put_counts.new.out) _
-    (drill_line c.args.number (records_of c.args.sites.now)) (totals_text (bins_of c.args.plan.now (records_of c.args.sites.now))) _
+    (drill_line c.args.number (records_of c.args.book.now)) (totals_text (bins_of c.args.plan.now (records_of c.args.book.now))) _
     c.in_ok-put_counts.ensures.puts c.print_totals.ensures.puts

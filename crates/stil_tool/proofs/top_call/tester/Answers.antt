@@ -1,5 +1,6 @@
-use Rattle.std.proofs.Common.{refl, inr}
+use Rattle.std.proofs.Common.{refl, inl, inr}
 use Rattle.stil_tool.specs.Tester.TesterWants.{of_lot, of_drill, of_grade, of_other}
+use Rattle.stil_tool.proofs.FineDrillLemmas.{drill_wants, drill_completes}
 use Rattle.stil_tool.proofs.FineLotLemmas.{lot_completes}
 use Rattle.stil_tool.proofs.GradeLemmas.{grade_completes}
 use Rattle.stil_tool.proofs.top_call.tester.Goals as goal
@@ -23,7 +24,8 @@ returns-in-Drill-clause-answers g c =
     record {
       status = a.status;
       text = a.text;
-      wanted = of_drill c.in-Drill.number c.in-Drill.ensures a.wanted;
+      wanted = of_drill c.in-Drill.number c.in-Drill.ensures
+          (drill_wants _ c.in-Drill.number _ _ a.status a.text c.in-Drill.ensures.some c.in-Drill.ensures.few a.wanted);
       ends = a.ends;
     }
 
@@ -54,3 +56,16 @@ returns-in-Grade-clause-complete_grade g c =
 pub returns-in-Offline-clause-complete_grade : goal.returns-in-Offline-clause-complete_grade
 returns-in-Offline-clause-complete_grade g c =
     λ fine. absurd (c.in-Offline.ensures (inr (inr (fine.program, fine.plan, fine.are))))
+
+pub returns-in-Drill-clause-complete_drill : goal.returns-in-Drill-clause-complete_drill
+returns-in-Drill-clause-complete_drill g c = λ fine. drill_completes _ _ _ _ _ _ _ _ _ _ _ _ (returns-in-Drill-clause-answers g c) fine
+
+pub returns-in-Lot-clause-complete_drill : goal.returns-in-Lot-clause-complete_drill
+returns-in-Lot-clause-complete_drill g c = λ fine. drill_completes _ _ _ _ _ _ _ _ _ _ _ _ (returns-in-Lot-clause-answers g c) fine
+
+pub returns-in-Grade-clause-complete_drill : goal.returns-in-Grade-clause-complete_drill
+returns-in-Grade-clause-complete_drill g c =
+    λ fine. drill_completes _ _ _ _ _ _ _ _ _ _ _ _ (returns-in-Grade-clause-answers g c) fine
+
+pub returns-in-Offline-clause-complete_drill : goal.returns-in-Offline-clause-complete_drill
+returns-in-Offline-clause-complete_drill g c = λ fine. absurd (c.in-Offline.ensures (inr (inl (fine.number, fine.are))))

@@ -1,5 +1,5 @@
--- The records of a lot can be printed: each is of a planned die, has a try, and keeps fails of the code's signals.
-use Rattle.std.proofs.Common.{◌≡◌, ℕ, ◌<◌, ◌≤◌, List, [], ◌∷◌, length, All, sym, ap, ◌∙◌, subst, arith}
+-- Sound records can be printed: each is of a planned die, has a try, and keeps fails of the code's signals.
+use Rattle.std.proofs.Common.{◌≡◌, ℕ, ◌<◌, List, [], ◌∷◌, length, All, sym, ap, ◌∙◌, subst, arith}
 use Rattle.std.specs.List.{AllByRecursion}
 use Rattle.std.proofs.lemmas.List.{length-map, get_or-map}
 use Rattle.tester_types.specs.declared.record.Fail.{Fail}
@@ -8,20 +8,20 @@ use Rattle.tester_types.specs.declared.record.Trial.{Trial}
 use Rattle.tester_types.specs.Records.{SiteRecords, records_of}
 use Rattle.page_code.proofs.Lists.{all_at}
 use Rattle.die_sim.specs.Die.{Image}
-use Rattle.die_sim.specs.Socket.{Told}
 use Rattle.plan_rows.specs.Rows.{sites_of, dies_at}
 use Rattle.lot_plan.specs.Bound.{Bound}
 use Rattle.lot_plan.specs.Refusal.{IsBound}
+use Rattle.lot_plan.proofs.PlanLemmas.{sites_of-within}
+use Rattle.lot_plan.proofs.GroupLemmas.{site-below}
 use Rattle.site_meaning.specs.Part.{part_of, stand_for}
 use Rattle.site_meaning.specs.Trials.{cut_of, trial}
 use Rattle.site_meaning.specs.Records.{IsTrue, Sound, EndsSo}
 use Rattle.site_meaning.proofs.AllLemmas.{All-weaker}
 use Rattle.site_meaning.proofs.PartLemmas.{dies_in-part_of, image_in-part_of}
-use Rattle.site_run.proofs.PlanLemmas.{image-long}
 use Rattle.floor_core.specs.Book.{at_site, empty_site}
-use Rattle.datalog.specs.Printable.{IsKnownTrial, IsPrintableAt, ArePrintable}
-use Rattle.tester_run.specs.Lot.{AreOfLot}
-use Rattle.stil_tool.proofs.KnownLemmas.{known_trial}
+use Rattle.datalog.specs.Printable.{AreSound, IsKnownTrial, IsPrintable, IsPrintableAt, ArePrintable}
+use Rattle.datalog.proofs.KnownLemmas.{known_trial}
+use Rattle.site_meaning.proofs.ImageLemmas.{image-long}
 
 -- ---- a try
 
@@ -87,33 +87,24 @@ site_printable plan site entries bound there each k d within =
     (All-weaker (Sound (part_of plan site)) (IsPrintableAt plan.program plan site)
     (λ entry sound. printable plan site entry bound there sound) entries each) within
 
--- a book whose records are sound, site by site
-pub printable_book : (plan : Bound) (book : List SiteRecords) → IsBound plan → sites_of plan.rows ≤ 16
-    → length book ≡ sites_of plan.rows
-    → ((site : ℕ) → site < sites_of plan.rows → AllByRecursion (Sound (part_of plan site)) (at_site book site).records)
+-- alone, at the site that it names
+pub printable_alone : (plan : Bound) (entry : Record) → IsBound plan → Sound (part_of plan entry.site) entry
+    → IsPrintable plan.program plan entry
+printable_alone plan entry bound sound =
+    let planned = subst (λ (n : ℕ). entry.die < n) (dies_in-part_of plan entry.site) sound.die in
+    (printable plan entry.site entry bound (site-below plan.rows entry.site entry.die planned) sound).printable
+
+-- a book of the plan whose records are sound
+pub printable_book : (plan : Bound) (book : List SiteRecords) → IsBound plan → AreSound plan book
     → ArePrintable plan.program plan (records_of book)
-printable_book plan book bound few long sound = record {
-  few = omega (arith, few, long, size);
+printable_book plan book bound sound = record {
+  few = omega (arith, sites_of-within plan.rows bound.kept, sound.sites, size);
   each = λ site none within.
       subst (All (IsPrintableAt plan.program plan site))
       (sym (get_or-map (λ (s : SiteRecords). s.records) book site (empty_site 0) none (omega (arith, within, size))))
-      (site_printable plan site (at_site book site).records bound (omega (arith, within, size, long))
-      (sound site (omega (arith, within, size, long))));
+      (site_printable plan site (at_site book site).records bound (omega (arith, within, size, sound.sites))
+      (sound.each site (omega (arith, within, size, sound.sites))));
 }
   where
     size : length (records_of book) ≡ length book
     size = length-map book (λ (s : SiteRecords). s.records)
-
--- an item of a list that has some
-some_item : {S : Type 0} (xs : List S) → 0 < length xs → S
-some_item [] some = absurd (omega (arith, some))
-some_item (x ∷ xs) some = x
-
--- the book of a lot
-pub printable_lot : {S : Type 0} (told : S → Told) (plan : Bound) (said : ℕ → ℕ) (before now : List S)
-    (book : List SiteRecords) → IsBound plan → sites_of plan.rows ≤ 16 → sites_of plan.rows ≤ length before
-    → length book ≡ sites_of plan.rows → AreOfLot told plan said before now book
-    → ArePrintable plan.program plan (records_of book)
-printable_lot told plan said before now book bound few sockets long lot =
-    printable_book plan book bound few long
-    (λ site there. (lot site (some_item before (omega (arith, there, sockets))) there).records_are.each)

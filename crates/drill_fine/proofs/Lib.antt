@@ -1,0 +1,14 @@
+pub mod SaidLemmas
+pub mod ReadLemmas
+pub mod BlockLemmas
+pub mod FrontLemmas
+pub mod CheckLemmas
+pub mod PassLemmas
+pub mod TreeLemmas
+pub mod FineLemmas
+pub mod NameLemmas
+pub mod LineLemmas
+pub mod NetLemmas
+pub mod PlanLemmas
+pub mod BindLemmas
+pub mod LawLemmas

@@ -1,0 +1,169 @@
+-- Vectors are read, one after another.
+use Rattle.std.proofs.Common.{◌≡◌, ℕ, ◌+◌, Bool, true, false, List, [], ◌∷◌, ◌++◌, length, take, drop, map, Option, Some, None, Result, Ok, Err, refl, sym, ap, subst, ◌∙◌, append_assoc, append-nil, arith, cond, zero, suc}
+use Rattle.std.specs.Prelude.{◌-◌, nat_lt, codes}
+use Rattle.std.proofs.lemmas.List.{take-map, drop-map, drop-drop}
+use Rattle.text_bytes.specs.Bytes.{begins_name, is_printable}
+use Rattle.stil_lex.specs.declared.token.Token.{Token}
+use Rattle.stil_tree.specs.Trees.{Trees, Entry, end, plain, block}
+use Rattle.stil_form.specs.declared.fault.FormFault.{FormFault}
+use Rattle.stil_form.specs.declared.fault.FormKind.{FormKind}
+use Rattle.stil_form.specs.declared.part.SignKind.{SignKind}
+use Rattle.stil_form.specs.declared.part.SignKind.TheVariants.{Equals, Other}
+use Rattle.stil_form.specs.Lexeme.{Lexeme, word, sign, lexeme_at, lexemes_of}
+use Rattle.stil_form.specs.Words.{named_by}
+use Rattle.stil_form.specs.Fronts.{Ref, named, reference_front, behind_name}
+use Rattle.stil_form.specs.Setting.{Setting, setting, tokens_at, lexemes_at, line_at, at_statement, inner_of}
+use Rattle.std.specs.Option.{option_and_then}
+use Rattle.first_fault.specs.Reading.{and_then}
+use Rattle.stil_ast.specs.declared.body.Assignment.{Assignment}
+use Rattle.stil_ast.specs.declared.body.Step.TheVariants as step
+use Rattle.stil_ast.specs.declared.body.PatAction.TheVariants as action
+use Rattle.stil_ast.specs.declared.body.PatStmt.{PatStmt}
+use Rattle.stil_ast.specs.Meaning.Statements.{Item, letter}
+use Rattle.pat_read.specs.Data.{has_underscore, data_of}
+use Rattle.pat_read.specs.References.{last_of, named_ref, assigned, assignment_by, assignment_of}
+use Rattle.pat_read.specs.Body.{assignment_at, on_line, judge_statement, assignments_of, one_more, body_from}
+use Rattle.line_texts.specs.Said.{Said, no_more, pieces_of, trees_at, each_said}
+use Rattle.line_texts.specs.Lexemes.{lexemes_in}
+use Rattle.drill_fine.specs.Said.{bit_byte, look_byte, vector_of, vector_said}
+use Rattle.drill_texts.specs.Texts.{driven_bit}
+
+-- a head at a place behind one from which on the lexemes are known
+pub head_behind : {X : Type 0} (all rest : List X) (at k n f : ℕ) → drop at all ≡ rest → f ≡ at + k
+    → take n (drop f all) ≡ take n (drop k rest)
+head_behind all rest at k n f is place =
+    ap (λ i. take n (drop i all)) place ∙ ap (take n) (sym (drop-drop k at all) ∙ ap (drop k) is)
+
+-- the lexemes of a head are those of its tokens
+pub lexemes_of-tokens_at : (bytes : List ℕ) (tokens : List Token) (f n : ℕ)
+    → lexemes_of bytes (take n (drop f tokens)) ≡ take n (drop f (lexemes_of bytes tokens))
+lexemes_of-tokens_at bytes tokens f n =
+    sym (ap (take n) (drop-map (lexeme_at bytes) f tokens) ∙ take-map (lexeme_at bytes) n (drop f tokens))
+
+-- data that are one character, behind a name and a sign
+pub data_last : (bytes : List ℕ) (ts : List Token) (a b : Lexeme) (byte : ℕ)
+    → lexemes_of bytes ts ≡ a ∷ b ∷ word (byte ∷ []) ∷ [] → has_underscore (byte ∷ []) ≡ false
+    → data_of bytes (last_of 1 ts) ≡ Ok (letter byte ∷ [])
+data_last bytes [] a b byte are fits = absurd (omega (arith, ap length are))
+data_last bytes (t ∷ []) a b byte are fits = absurd (omega (arith, ap length are))
+data_last bytes (t ∷ u ∷ []) a b byte are fits = absurd (omega (arith, ap length are))
+data_last bytes (t ∷ u ∷ v ∷ []) a b byte are fits =
+    let same : lexeme_at bytes v ≡ word (byte ∷ []) = cc in
+    rw same (rw fits refl)
+data_last bytes (t ∷ u ∷ v ∷ x ∷ ts) a b byte are fits = absurd (omega (arith, ap length are))
+
+-- an assignment of one character to a name
+abbrev pub gives : List ℕ → ℕ → ℕ → Assignment
+gives called byte line = record { reference = named_ref called None; items = letter byte ∷ []; line = line }
+
+-- `name = character;` is read
+pub assignment_said : (bytes : List ℕ) (tokens : List Token) (words : List (List ℕ)) (f : ℕ) (called : List ℕ) (byte : ℕ)
+    → take 3 (drop f (lexemes_of bytes tokens)) ≡ word called ∷ sign Equals ∷ word (byte ∷ []) ∷ []
+    → named_by (word called) ≡ Some called → has_underscore (byte ∷ []) ≡ false
+    → assignment_at (setting bytes tokens words) (record { first = f; count = 3; body = None }) ≡ Ok (gives called byte (line_at tokens f))
+assignment_said bytes tokens words f called byte head is_named fits =
+    let ts = take 3 (drop f tokens) in
+    let line = line_at tokens f in
+    let found : data_of bytes (last_of 1 ts) ≡ Ok (letter byte ∷ []) =
+    data_last bytes ts (word called) (sign Equals) byte (lexemes_of-tokens_at bytes tokens f 3 ∙ head) fits in
+    ap (λ (ls : List Lexeme). assignment_of bytes ts line false ls) head
+    ∙ ap (λ (o : Option (List ℕ)). assignment_by bytes ts line false (option_and_then (behind_name (sign Equals ∷ word (byte ∷ []) ∷ [])) o)) is_named
+    ∙ ap (λ (d : Result (List Item) FormKind). and_then d (λ items. assigned line false (Rattle.stil_form.specs.Fronts.named called None) items)) found
+
+-- the statement of a vector
+abbrev pub vector_stmt : List Token → ℕ → ℕ → ℕ → ℕ → ℕ → ℕ → PatStmt
+vector_stmt tokens at f1 f2 f3 bit look =
+    on_line (line_at tokens at) (action.Step (step.Vector (
+    gives (codes "d") bit (line_at tokens f1) ∷ gives (codes "ck") 80 (line_at tokens f2) ∷ gives (codes "q") look (line_at tokens f3) ∷ [])))
+
+-- the entry of a vector
+abbrev pub vector_entry : ℕ → ℕ → ℕ → ℕ → Entry
+vector_entry at f1 f2 f3 = record { first = at; count = 1; body = Some (plain f1 3 (plain f2 3 (plain f3 3 end))) }
+
+-- a vector is read, whatever stands for its block's statements
+pub vector_read : (bytes : List ℕ) (tokens : List Token) (before : List PatStmt) (at f1 f2 f3 bit look : ℕ)
+    (inner : Result (List PatStmt) FormFault) (rest : List PatStmt → Result (List PatStmt) FormFault)
+    → take 1 (drop at (lexemes_of bytes tokens)) ≡ word (codes "V") ∷ []
+    → take 3 (drop f1 (lexemes_of bytes tokens)) ≡ word (codes "d") ∷ sign Equals ∷ word (bit ∷ []) ∷ []
+    → take 3 (drop f2 (lexemes_of bytes tokens)) ≡ word (codes "ck") ∷ sign Equals ∷ word (codes "P") ∷ []
+    → take 3 (drop f3 (lexemes_of bytes tokens)) ≡ word (codes "q") ∷ sign Equals ∷ word (look ∷ []) ∷ []
+    → has_underscore (bit ∷ []) ≡ false → has_underscore (look ∷ []) ≡ false
+    → one_more (setting bytes tokens []) true before (vector_entry at f1 f2 f3) inner rest
+    ≡ rest (before ++ vector_stmt tokens at f1 f2 f3 bit look ∷ [])
+unfolding begins_name is_printable
+vector_read bytes tokens before at f1 f2 f3 bit look inner rest h0 h1 h2 h3 fits1 fits3 =
+    let a1 = assignment_said bytes tokens [] f1 (codes "d") bit h1 refl fits1 in
+    let a2 = assignment_said bytes tokens [] f2 (codes "ck") 80 h2 refl refl in
+    let a3 = assignment_said bytes tokens [] f3 (codes "q") look h3 refl fits3 in
+    rw (h0, h1, h2, h3) (rw (a1, a2, a3) refl)
+
+-- the statements of vectors of which the first has the index `at`
+abbrev pub stmts_from : List Token → ℕ → ℕ → List ℕ → List PatStmt
+stmts_from tokens n at [] = []
+stmts_from tokens n at (i ∷ is) =
+    vector_stmt tokens at (at + 1 + 1) (at + 1 + 1 + 3 + 1) (at + 1 + 1 + 3 + 1 + 3 + 1) (bit_byte (driven_bit n i)) (look_byte (nat_lt i n) (driven_bit n (i - n)))
+    ∷ stmts_from tokens n (at + 1 + 1 + 12 + 1) is
+
+-- what the lexemes of vector i are, in front of others
+abbrev pub lexemes_with : ℕ → ℕ → List Lexeme → List Lexeme
+lexemes_with bit look more =
+    word (codes "V") ∷ sign (Other 123) ∷ word (codes "d") ∷ sign Equals ∷ word (bit ∷ []) ∷ sign (Other 59)
+    ∷ word (codes "ck") ∷ sign Equals ∷ word (codes "P") ∷ sign (Other 59)
+    ∷ word (codes "q") ∷ sign Equals ∷ word (look ∷ []) ∷ sign (Other 59) ∷ sign (Other 125) ∷ more
+
+-- the lexemes of a vector in front of statements, before others
+pub lexemes_vector : (n i : ℕ) (more : Said) (after : List Lexeme)
+    → lexemes_in (pieces_of (vector_said n i more)) ++ after
+    ≡ lexemes_with (bit_byte (driven_bit n i)) (look_byte (nat_lt i n) (driven_bit n (i - n))) (lexemes_in (pieces_of more) ++ after)
+lexemes_vector n i more after = refl
+
+-- no character of a vector is a low line
+bit_fits : (high : Bool) → has_underscore (bit_byte high ∷ []) ≡ false
+bit_fits true = refl
+bit_fits false = refl
+
+look_fits : (unknown seen : Bool) → has_underscore (look_byte unknown seen ∷ []) ≡ false
+look_fits true seen = refl
+look_fits false true = refl
+look_fits false false = refl
+
+-- one vector behind others
+pub one_read : (bytes : List ℕ) (tokens : List Token) (before : List PatStmt) (at bit look : ℕ) (more : List Lexeme)
+    (inner : Result (List PatStmt) FormFault) (rest : List PatStmt → Result (List PatStmt) FormFault)
+    → drop at (lexemes_of bytes tokens) ≡ lexemes_with bit look more
+    → has_underscore (bit ∷ []) ≡ false → has_underscore (look ∷ []) ≡ false
+    → one_more (setting bytes tokens []) true before
+    (vector_entry at (at + 1 + 1) (at + 1 + 1 + 3 + 1) (at + 1 + 1 + 3 + 1 + 3 + 1)) inner rest
+    ≡ rest (before ++ vector_stmt tokens at (at + 1 + 1) (at + 1 + 1 + 3 + 1) (at + 1 + 1 + 3 + 1 + 3 + 1) bit look ∷ [])
+one_read bytes tokens before at bit look more inner rest are fits1 fits3 =
+    let all = lexemes_of bytes tokens in
+    let here = lexemes_with bit look more in
+    vector_read bytes tokens before at (at + 1 + 1) (at + 1 + 1 + 3 + 1) (at + 1 + 1 + 3 + 1 + 3 + 1) bit look inner rest
+    (ap (take 1) are)
+    (head_behind all here at 2 3 (at + 1 + 1) are (omega arith))
+    (head_behind all here at 6 3 (at + 1 + 1 + 3 + 1) are (omega arith))
+    (head_behind all here at 10 3 (at + 1 + 1 + 3 + 1 + 3 + 1) are (omega arith))
+    fits1 fits3
+
+-- vectors are read behind other statements, up to what is behind them
+pub vectors_read : (bytes : List ℕ) (tokens : List Token) (n : ℕ) (is : List ℕ) (before : List PatStmt) (at : ℕ)
+    (after : List Lexeme)
+    → drop at (lexemes_of bytes tokens) ≡ lexemes_in (pieces_of (each_said (vector_said n) is no_more)) ++ after
+    → body_from (setting bytes tokens []) true before (trees_at at (each_said (vector_said n) is no_more))
+    ≡ Ok (before ++ stmts_from tokens n at is)
+vectors_read bytes tokens n [] before at after are = ap (λ (done : List PatStmt). Ok done) (sym (append-nil before))
+vectors_read bytes tokens n (i ∷ is) before at after are =
+    let all = lexemes_of bytes tokens in
+    let bit = bit_byte (driven_bit n i) in
+    let look = look_byte (nat_lt i n) (driven_bit n (i - n)) in
+    let rest = each_said (vector_said n) is no_more in
+    let more = lexemes_in (pieces_of rest) ++ after in
+    let here : drop at all ≡ lexemes_with bit look more = are in
+    let next = at + 1 + 1 + 12 + 1 in
+    let behind : drop next all ≡ more =
+    ap (λ k. drop k all) (omega arith) ∙ sym (drop-drop 15 at all) ∙ ap (drop 15) here in
+    let stmt = vector_stmt tokens at (at + 1 + 1) (at + 1 + 1 + 3 + 1) (at + 1 + 1 + 3 + 1 + 3 + 1) bit look in
+    one_read bytes tokens before at bit look more _ (λ read. body_from (setting bytes tokens []) true read (trees_at next rest)) here
+    (bit_fits (driven_bit n i)) (look_fits (nat_lt i n) (driven_bit n (i - n)))
+    ∙ vectors_read bytes tokens n is (before ++ stmt ∷ []) next after behind
+    ∙ ap (λ (done : List PatStmt). Ok done) (append_assoc before (stmt ∷ []) (stmts_from tokens n next is))

@@ -1,0 +1,8 @@
+-- Laws stands above the others. Said has the statements of a drill's pattern, Blocks the blocks that they are, Nets the
+-- lines of its netlist, Rows the records and rows of its plan, Bindings the signals of its code.
+pub mod Said
+pub mod Blocks
+pub mod Nets
+pub mod Rows
+pub mod Bindings
+pub mod Laws

@@ -1,0 +1,4 @@
+pub mod PieceLemmas
+pub mod TreeLemmas
+pub mod EachLemmas
+pub mod LexemeLemmas

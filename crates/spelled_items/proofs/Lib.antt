@@ -1,0 +1,4 @@
+pub mod ChoiceLemmas
+pub mod DataLemmas
+pub mod LimitLemmas
+pub mod CellLemmas

@@ -1,0 +1,5 @@
+use Rattle.spelled_items.proofs.DataLemmas.{data_are_spelled}
+use Rattle.spelled_items.proofs.laws.data_are_spelled.Goals as goal
+
+pub returns : goal.returns
+returns c = data_are_spelled
