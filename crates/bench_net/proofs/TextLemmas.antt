@@ -13,7 +13,8 @@ use Rattle.bench_net.specs.Net.{Reads}
 use Rattle.bench_net.specs.Fault.{IsFirstBadLine}
 use Rattle.bench_net.proofs.FormLemmas.{one_form}
 
-lines_first : (x : List ℕ) (parts : List (List ℕ)) → 0 < length parts → lines_of_parts (x ∷ parts)
+-- the first of several lines
+pub lines_first : (x : List ℕ) (parts : List (List ℕ)) → 0 < length parts → lines_of_parts (x ∷ parts)
     ≡ strip_carriage_return x ∷ lines_of_parts parts
 lines_first x [] h = absurd (omega arith)
 lines_first x (y ∷ ys) h = refl

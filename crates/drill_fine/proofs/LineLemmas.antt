@@ -3,7 +3,7 @@ use Rattle.std.proofs.Common.{◌≡◌, ℕ, zero, suc, ◌+◌, ◌-◌, ◌�
 use Rattle.std.specs.Prelude.{codes, decimal, slice_index, map, All, nat_le}
 use Rattle.std.specs.List.{AllPass, AllZip, flat_map, list_all, range_with_len, slice_split}
 use Rattle.std.specs.Str.Lines.{lines, lines_of_parts, strip_carriage_return}
-use Rattle.std.proofs.lemmas.Bool.{le-leb, and_parts, and_from, false≢true}
+use Rattle.std.proofs.lemmas.Bool.{le-leb, and_parts, and_from, not-true}
 use Rattle.std.proofs.lemmas.List.{get_or_at, append-nil}
 use Rattle.std.proofs.lemmas.List.Folds.{list_all-append}
 use Rattle.std.proofs.lemmas.Fmt.{decimal_digit}
@@ -15,14 +15,10 @@ use Rattle.text_bytes.specs.Limits.{longest_name}
 use Rattle.bench_net.specs.Step.{Step, ends, bad, begins, delimiter_step}
 use Rattle.bench_net.specs.Line.{is_gap, is_name_byte, Lexeme, word, Spells, Form, input, output, gate, is_net, is_keyword, Says}
 use Rattle.bench_net.specs.Net.{Reads}
+use Rattle.bench_net.proofs.TextLemmas.{lines_first}
 use Rattle.drill_texts.specs.Texts.{register_line, net_head, net_text}
 use Rattle.drill_fine.specs.Nets.{net_at, register_with, register_form, drill_forms}
 use Rattle.drill_fine.proofs.NameLemmas.{digit_cases, net_all, net_length}
-
--- what is not true is false
-not-true : (b : Bool) → not b ≡ true → b ≡ false
-not-true true h = absurd (false≢true h)
-not-true false h = refl
 
 -- the bytes of names are bytes of names
 name_bytes : (k : ℕ) → k ≤ 1000 → AllPass is_name_byte (net_at k)
@@ -127,12 +123,6 @@ output_says k few = record {
   spells = enclosed_spells (codes "OUTPUT") k few (omega arith) refl;
   writes = (codes "OUTPUT", refl, net_fits k few, refl);
 }
-
--- the first of several lines
-lines_first : (x : List ℕ) (parts : List (List ℕ)) → 0 < length parts
-    → lines_of_parts (x ∷ parts) ≡ strip_carriage_return x ∷ lines_of_parts parts
-lines_first x [] h = absurd (omega (arith, h))
-lines_first x (y ∷ ys) h = refl
 
 -- a line that ends in `)` keeps its end
 keeps_end : (front : List ℕ) → strip_carriage_return (front ++ codes ")") ≡ front ++ codes ")"

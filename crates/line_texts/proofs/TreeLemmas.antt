@@ -1,7 +1,7 @@
 -- The tokens of statements that fit are these statements.
 use Rattle.std.proofs.Common.{◌≡◌, ℕ, suc, ◌+◌, ◌<◌, Bool, true, false, not, ◌&&◌, ◌||◌, List, [], ◌∷◌, ◌++◌, length, refl, sym, ap, subst, ◌∙◌, arith, length-append, ltb}
 use Rattle.std.specs.Prelude.{nat_lt}
-use Rattle.std.proofs.lemmas.Bool.{and_parts, or_from, false≢true, ltb-true, cases_Bool}
+use Rattle.std.proofs.lemmas.Bool.{and_parts, or_from, not-true, ltb-true, cases_Bool}
 use Rattle.std.specs.List.{list_any}
 use Rattle.stil_lex.specs.Pieces.{Piece, gap, token, spelling}
 use Rattle.stil_lex.specs.Tokens.{spelled, token_at, tokens_of}
@@ -26,11 +26,6 @@ pub count_of-append : (ps qs : List Piece) → count_of (ps ++ qs) ≡ count_of 
 count_of-append [] qs = omega arith
 count_of-append (gap text ∷ ps) qs = count_of-append ps qs
 count_of-append (token kind text ∷ ps) qs = omega (arith, count_of-append ps qs)
-
--- what is not true is false
-pub not-true : (b : Bool) → not b ≡ true → b ≡ false
-not-true true h = absurd (false≢true h)
-not-true false h = refl
 
 -- the tokens of a head are a head
 pub head_is : (before : List ℕ) (ps : List Piece) → is_head ps ≡ true → AreHead (tokens_of before ps)

@@ -4,6 +4,7 @@ use Rattle.std.proofs.Common.{◌≡◌, ℕ, zero, suc, ◌+◌, ◌-◌, ◌<�
 use Rattle.std.specs.List.{AllByRecursion, enumerate_from, flat_map}
 use Rattle.std.proofs.lemmas.List.{get_or_past, append-nil}
 use Rattle.std.proofs.lemmas.Bool.{cases_lt, le-leb, ne_eqb}
+use Rattle.std.proofs.lemmas.Option.{same_Some}
 use Rattle.tester_types.specs.declared.cycle.Cycle.{Cycle}
 use Rattle.tester_types.specs.declared.wave.Table.{Table}
 use Rattle.page_code.specs.Program.{Exec, Program}
@@ -19,18 +20,13 @@ use Rattle.stil_ast.specs.Meaning.ExecutiveData.{Executive, vectors_of, cycles_o
 use Rattle.stil_ast.specs.Meaning.Signals.{Names, names_of}
 use Rattle.stil_ast.specs.declared.blocks.Blocks.{Blocks}
 use Rattle.stil_ast.specs.declared.executive.ExecDecl.{ExecDecl}
-use Rattle.stil_ast.specs.Faults.FrontFaults.{read_as}
-use Rattle.text_front.specs.Front.{IsReadAs}
-use Rattle.text_front.proofs.FrontLemmas.{one_front}
+use Rattle.text_front.proofs.FrontLemmas.{one_read}
 use Rattle.burst_exec.specs.Executives.{AreExecutives}
 use Rattle.cycle_comp.specs.Compiled.{chain_of, letter_of, table_in, read_cycle, IsExecOf, IsCodeOf}
 use Rattle.stil_program.specs.Program.{IsBlocksCode, IsProgramOf}
 use Rattle.site_meaning.specs.Alike.{SaidCycle, said_by, said_cycles, AreCodesAlike}
 
 -- ---- cycles that are read alike
-
-some_is : (a b : ℕ) → Some a ≡ Some b → a ≡ b
-some_is a b e = cc
 
 some_none : (a : ℕ) → Some a ≡ None → ⊥
 some_none a e = cc
@@ -44,7 +40,7 @@ one_letter : (a b : ℕ) → letter_of a ≡ letter_of b → a ≡ b
 one_letter zero zero same = refl
 one_letter zero (suc b) same = absurd (some_none (suc b) (sym (some_letter b) ∙ sym same))
 one_letter (suc a) zero same = absurd (some_none (suc a) (sym (some_letter a) ∙ same))
-one_letter (suc a) (suc b) same = some_is (suc a) (suc b) (sym (some_letter a) ∙ same ∙ some_letter b)
+one_letter (suc a) (suc b) same = same_Some (suc a) (suc b) (sym (some_letter a) ∙ same ∙ some_letter b)
 
 one_row : (xs ys : List ℕ) → map letter_of xs ≡ map letter_of ys → xs ≡ ys
 one_row [] [] same = refl
@@ -65,7 +61,7 @@ own_table first table low = ap (λ (b : Bool). cond b (Some (table - first)) Non
 
 one_table : (first a b : ℕ) → first ≤ a → first ≤ b → table_in first a ≡ table_in first b → a ≡ b
 one_table first a b low high same =
-    let apart = some_is (a - first) (b - first) (sym (own_table first a low) ∙ same ∙ own_table first b high) in
+    let apart = same_Some (a - first) (b - first) (sym (own_table first a low) ∙ same ∙ own_table first b high) in
     omega (arith, apart, low, high)
 
 -- a cycle's table is one of the executive's own
@@ -276,17 +272,10 @@ module _ (names : Names) (xs ys : List Executive) (code other : Program) (a : Is
     cycles = λ exec. (exec_is exec).cycles_are;
   }
 
--- of one text
-blocks_are : (bytes : List ℕ) (blocks other : Blocks) → IsReadAs bytes blocks → IsReadAs bytes other → blocks ≡ other
-blocks_are bytes blocks other a b = read_is (one_front bytes (read_as blocks) (read_as other) a b)
-  where
-    read_is : read_as blocks ≡ read_as other → blocks ≡ other
-    read_is e = cc
-
 pub codes_of_text : (bytes : List ℕ) (code other : Program) → IsProgramOf bytes code → IsProgramOf bytes other → AreCodesAlike code other
 codes_of_text bytes code other a b =
     let one : IsBlocksCode a.blocks other =
-    subst (λ (bs : Blocks). IsBlocksCode bs other) (blocks_are bytes b.blocks a.blocks b.text.read a.text.read) b.compiled in
+    subst (λ (bs : Blocks). IsBlocksCode bs other) (one_read bytes b.blocks a.blocks b.text.read a.text.read) b.compiled in
     codes_alike (names_of a.blocks) a.compiled.executives one.executives code other a.compiled.code_is one.code_is
     (are_alike a.blocks a.blocks.executives a.compiled.executives one.executives a.compiled.are one.are)
 

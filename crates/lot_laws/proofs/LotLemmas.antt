@@ -3,6 +3,7 @@
 use Rattle.std.proofs.Common.{◌≡◌, ℕ, suc, ◌+◌, ◌<◌, List, [], ◌∷◌, ◌++◌, length, map, get_or, Some, refl, sym, ap, ◌∙◌, subst, arith}
 use Rattle.std.specs.List.{AllByRecursion, flat_map, range_with_len}
 use Rattle.std.proofs.lemmas.List.{get_or-map, length-map}
+use Rattle.std.proofs.lemmas.Option.{same_Some}
 use Rattle.tester_types.specs.Outside.{Files, file_of}
 use Rattle.tester_types.specs.Records.{SiteRecords, records_of}
 use Rattle.tester_types.specs.declared.record.Record.{Record}
@@ -98,12 +99,9 @@ module _ (files others : Files) (program plan program' plan' : List ℕ) (inputs
     (each : (site : ℕ) → site < sites_of inputs.rows → AreRecords (part_of (bound_of inputs) site) (at_site book site).records)
     (each' : (site : ℕ) → site < sites_of inputs'.rows → AreRecords (part_of (bound_of inputs') site) (at_site book' site).records)
     (none : (site : ℕ) → AreUncut (at_site book site).records) (none' : (site : ℕ) → AreUncut (at_site book' site).records) where
-  some_is : (a b : List ℕ) → Some a ≡ Some b → a ≡ b
-  some_is a b e = cc
-
   rows_are : inputs.rows ≡ inputs'.rows
   rows_are =
-      let bytes : are'.rows.bytes ≡ are.rows.bytes = some_is are'.rows.bytes are.rows.bytes (sym are'.rows.file.are ∙ sym planned ∙ are.rows.file.are) in
+      let bytes : are'.rows.bytes ≡ are.rows.bytes = same_Some are'.rows.bytes are.rows.bytes (sym are'.rows.file.are ∙ sym planned ∙ are.rows.file.are) in
       one_plan are.rows.bytes inputs.rows inputs'.rows are.rows.plan (subst (λ (x : List ℕ). IsPlan x inputs'.rows) bytes are'.rows.plan)
 
   says : (site : ℕ) → SayTheSame files others program program' inputs inputs' site

@@ -4,21 +4,39 @@ use Rattle.std.specs.Prelude.{filter, ◌==◌}
 use Rattle.std.specs.List.{AllByRecursion}
 use Rattle.std.specs.Option.{option_map}
 use Rattle.std.proofs.lemmas.Bool.{eq-eqb}
+use Rattle.std.proofs.lemmas.Option.{none-some, same_Some}
 use Rattle.plan_rows.specs.declared.row.Row.{Row}
 use Rattle.plan_rows.specs.declared.row.Row.TheVariants as row
+use Rattle.plan_rows.specs.declared.row.BindRow.{BindRow}
+use Rattle.plan_rows.specs.declared.row.BinRow.{BinRow}
 use Rattle.plan_rows.specs.declared.row.DieRow.{DieRow}
 use Rattle.plan_rows.specs.declared.row.FaultRow.{FaultRow}
+use Rattle.plan_rows.specs.declared.row.LotRow.{LotRow}
 use Rattle.plan_rows.specs.declared.row.SkewRow.{SkewRow}
 use Rattle.plan_rows.specs.declared.row.StopRow.{StopRow}
 use Rattle.plan_rows.specs.Rows.{one, each_of, as_lot, as_clock, as_bind, as_bin, as_die, as_fault, as_stop, as_skew, dies_at, faults_at, stops_at, skews_at}
 use Rattle.site_meaning.specs.Part.{concerns, rows_for}
 use Rattle.lot_laws.specs.Moved.{moved}
 
-some_is : {A : Type 0} (a b : A) → Some a ≡ Some b → a ≡ b
-some_is a b e = cc
+-- ---- rows by their kinds
 
-none_is : {A : Type 0} (a : A) → None ≡ Some a → ⊥
-none_is a e = cc
+-- what is so of rows of each kind is so of each row
+by_kind : (P : Row → Type 0) → ((l : LotRow) → P (row.Lot l)) → ((signal : List ℕ) → P (row.Clock signal))
+    → ((b : BindRow) → P (row.Bind b)) → ((b : BinRow) → P (row.Bin b)) → ((d : DieRow) → P (row.Die d))
+    → ((f : FaultRow) → P (row.Fault f)) → ((s : StopRow) → P (row.Stop s)) → ((k : SkewRow) → P (row.Skew k))
+    → (r : Row) → P r
+by_kind P lot clock bind bin die fault stop skew (row.Lot l) = lot l
+by_kind P lot clock bind bin die fault stop skew (row.Clock signal) = clock signal
+by_kind P lot clock bind bin die fault stop skew (row.Bind b) = bind b
+by_kind P lot clock bind bin die fault stop skew (row.Bin b) = bin b
+by_kind P lot clock bind bin die fault stop skew (row.Die d) = die d
+by_kind P lot clock bind bin die fault stop skew (row.Fault f) = fault f
+by_kind P lot clock bind bin die fault stop skew (row.Stop s) = stop s
+by_kind P lot clock bind bin die fault stop skew (row.Skew k) = skew k
+
+-- what is said of a row that isn't there
+none : {A K : Type 0} (Stays : A → Type 0) (k : K) {b : Bool} → b ≡ true → (x : A) → ◌≡◌ {A = Option A} None (Some x) → Stays x
+none Stays k is x same = absurd (none-some x same)
 
 -- ---- rows that name no site
 
@@ -30,56 +48,24 @@ each_same {A} f site same (r ∷ rows) =
     ap (λ (o : Option A). one o ++ each_of f (map (moved site) rows)) (same r) ∙ ap (λ (l : List A). one (f r) ++ l) (each_same f site same rows)
 
 pub lots_moved : (site : ℕ) (rows : List Row) → each_of as_lot (map (moved site) rows) ≡ each_of as_lot rows
-lots_moved site rows = each_same as_lot site by rows
-  where
-    by : (r : Row) → as_lot (moved site r) ≡ as_lot r
-    by (row.Lot l) = refl
-    by (row.Clock s) = refl
-    by (row.Bind b) = refl
-    by (row.Die d) = refl
-    by (row.Fault f) = refl
-    by (row.Stop s) = refl
-    by (row.Bin b) = refl
-    by (row.Skew k) = refl
+lots_moved site rows =
+    each_same as_lot site
+    (by_kind (λ r. as_lot (moved site r) ≡ as_lot r) (λ l. refl) (λ s. refl) (λ b. refl) (λ b. refl) (λ d. refl) (λ f. refl) (λ s. refl) (λ k. refl)) rows
 
 pub clocks_moved : (site : ℕ) (rows : List Row) → each_of as_clock (map (moved site) rows) ≡ each_of as_clock rows
-clocks_moved site rows = each_same as_clock site by rows
-  where
-    by : (r : Row) → as_clock (moved site r) ≡ as_clock r
-    by (row.Lot l) = refl
-    by (row.Clock s) = refl
-    by (row.Bind b) = refl
-    by (row.Die d) = refl
-    by (row.Fault f) = refl
-    by (row.Stop s) = refl
-    by (row.Bin b) = refl
-    by (row.Skew k) = refl
+clocks_moved site rows =
+    each_same as_clock site
+    (by_kind (λ r. as_clock (moved site r) ≡ as_clock r) (λ l. refl) (λ s. refl) (λ b. refl) (λ b. refl) (λ d. refl) (λ f. refl) (λ s. refl) (λ k. refl)) rows
 
 pub binds_moved : (site : ℕ) (rows : List Row) → each_of as_bind (map (moved site) rows) ≡ each_of as_bind rows
-binds_moved site rows = each_same as_bind site by rows
-  where
-    by : (r : Row) → as_bind (moved site r) ≡ as_bind r
-    by (row.Lot l) = refl
-    by (row.Clock s) = refl
-    by (row.Bind b) = refl
-    by (row.Die d) = refl
-    by (row.Fault f) = refl
-    by (row.Stop s) = refl
-    by (row.Bin b) = refl
-    by (row.Skew k) = refl
+binds_moved site rows =
+    each_same as_bind site
+    (by_kind (λ r. as_bind (moved site r) ≡ as_bind r) (λ l. refl) (λ s. refl) (λ b. refl) (λ b. refl) (λ d. refl) (λ f. refl) (λ s. refl) (λ k. refl)) rows
 
 pub bins_moved : (site : ℕ) (rows : List Row) → each_of as_bin (map (moved site) rows) ≡ each_of as_bin rows
-bins_moved site rows = each_same as_bin site by rows
-  where
-    by : (r : Row) → as_bin (moved site r) ≡ as_bin r
-    by (row.Lot l) = refl
-    by (row.Clock s) = refl
-    by (row.Bind b) = refl
-    by (row.Die d) = refl
-    by (row.Fault f) = refl
-    by (row.Stop s) = refl
-    by (row.Bin b) = refl
-    by (row.Skew k) = refl
+bins_moved site rows =
+    each_same as_bin site
+    (by_kind (λ r. as_bin (moved site r) ≡ as_bin r) (λ l. refl) (λ s. refl) (λ b. refl) (λ b. refl) (λ d. refl) (λ f. refl) (λ s. refl) (λ k. refl)) rows
 
 -- ---- rows of the site
 
@@ -127,132 +113,56 @@ module _ {A : Type 0} (f : Row → Option A) (site place : ℕ) (change : A → 
 
 -- the dies of the site
 pub dies_moved : (site place : ℕ) (rows : List Row) → AreOf site rows
-    → dies_at place (map (moved place) rows) ≡ map (λ (d : DieRow). record d { site = place }) (dies_at site rows)
+    → dies_at place (map (moved place) rows) ≡ map (λ (x : DieRow). record x { site = place }) (dies_at site rows)
 dies_moved site place rows of_site =
-    moved_items as_die site place change (λ (d : DieRow). d.site == site) (λ (d : DieRow). d.site == place) gives passes rows of_site
+    moved_items as_die site place (λ (x : DieRow). record x { site = place })
+    (λ (x : DieRow). x.site == site) (λ (x : DieRow). x.site == place)
+    (by_kind (λ r. concerns site r ≡ true → as_die (moved place r) ≡ option_map (λ (x : DieRow). record x { site = place }) (as_die r))
+    (λ l is. refl) (λ s is. refl) (λ b is. refl) (λ b is. refl) (λ d is. refl) (λ f is. refl) (λ s is. refl) (λ k is. refl))
+    (by_kind (λ r. concerns site r ≡ true → (x : DieRow) → as_die r ≡ Some x → (place == place) ≡ (x.site == site)) (λ y. none _ y) (λ y. none _ y) (λ y. none _ y) (λ y. none _ y)
+    (λ x is y same. subst (λ (x : DieRow). (place == place) ≡ (x.site == site)) (same_Some x y same) (stays x is)) (λ y. none _ y) (λ y. none _ y) (λ y. none _ y)) rows of_site
   where
-    change : DieRow → DieRow
-    change d = record d { site = place }
-
-    gives : (r : Row) → concerns site r ≡ true → as_die (moved place r) ≡ option_map change (as_die r)
-    gives (row.Lot l) is = refl
-    gives (row.Clock s) is = refl
-    gives (row.Bind b) is = refl
-    gives (row.Die d) is = refl
-    gives (row.Fault f) is = refl
-    gives (row.Stop s) is = refl
-    gives (row.Bin b) is = refl
-    gives (row.Skew k) is = refl
-
-    same_place : (d : DieRow) → d.site == site ≡ true → (place == place) ≡ (d.site == site)
-    same_place d is = ap (λ (b : Bool). b) (eq-eqb place place refl ∙ sym is)
-
-    passes : (r : Row) → concerns site r ≡ true → (x : DieRow) → as_die r ≡ Some x
-        → (place == place) ≡ (x.site == site)
-    passes (row.Lot l) is x same = absurd (none_is x same)
-    passes (row.Clock s) is x same = absurd (none_is x same)
-    passes (row.Bind b) is x same = absurd (none_is x same)
-    passes (row.Die d) is x same = subst (λ (y : DieRow). (place == place) ≡ (y.site == site)) (some_is d x same) (same_place d is)
-    passes (row.Fault f) is x same = absurd (none_is x same)
-    passes (row.Stop s) is x same = absurd (none_is x same)
-    passes (row.Bin b) is x same = absurd (none_is x same)
-    passes (row.Skew k) is x same = absurd (none_is x same)
+    stays : (x : DieRow) → x.site == site ≡ true → (place == place) ≡ (x.site == site)
+    stays x is = eq-eqb place place refl ∙ sym is
 
 -- the faults of the site
 pub faults_moved : (site die place : ℕ) (rows : List Row) → AreOf site rows
-    → faults_at place die (map (moved place) rows) ≡ map (λ (f : FaultRow). record f { site = place }) (faults_at site die rows)
+    → faults_at place die (map (moved place) rows) ≡ map (λ (x : FaultRow). record x { site = place }) (faults_at site die rows)
 faults_moved site die place rows of_site =
-    moved_items as_fault site place change (λ (f : FaultRow). (f.site == site) && (f.die == die)) (λ (f : FaultRow). (f.site == place) && (f.die == die)) gives passes rows of_site
+    moved_items as_fault site place (λ (x : FaultRow). record x { site = place })
+    (λ (x : FaultRow). (x.site == site) && (x.die == die)) (λ (x : FaultRow). (x.site == place) && (x.die == die))
+    (by_kind (λ r. concerns site r ≡ true → as_fault (moved place r) ≡ option_map (λ (x : FaultRow). record x { site = place }) (as_fault r))
+    (λ l is. refl) (λ s is. refl) (λ b is. refl) (λ b is. refl) (λ d is. refl) (λ f is. refl) (λ s is. refl) (λ k is. refl))
+    (by_kind (λ r. concerns site r ≡ true → (x : FaultRow) → as_fault r ≡ Some x → ((place == place) && (x.die == die)) ≡ ((x.site == site) && (x.die == die))) (λ y. none _ y) (λ y. none _ y) (λ y. none _ y) (λ y. none _ y)
+    (λ y. none _ y) (λ x is y same. subst (λ (x : FaultRow). ((place == place) && (x.die == die)) ≡ ((x.site == site) && (x.die == die))) (same_Some x y same) (stays x is)) (λ y. none _ y) (λ y. none _ y)) rows of_site
   where
-    change : FaultRow → FaultRow
-    change f = record f { site = place }
-
-    gives : (r : Row) → concerns site r ≡ true → as_fault (moved place r) ≡ option_map change (as_fault r)
-    gives (row.Lot l) is = refl
-    gives (row.Clock s) is = refl
-    gives (row.Bind b) is = refl
-    gives (row.Die d) is = refl
-    gives (row.Fault f) is = refl
-    gives (row.Stop s) is = refl
-    gives (row.Bin b) is = refl
-    gives (row.Skew k) is = refl
-
-    same_place : (f : FaultRow) → f.site == site ≡ true → ((place == place) && (f.die == die)) ≡ ((f.site == site) && (f.die == die))
-    same_place f is = ap (λ (b : Bool). b && (f.die == die)) (eq-eqb place place refl ∙ sym is)
-
-    passes : (r : Row) → concerns site r ≡ true → (x : FaultRow) → as_fault r ≡ Some x
-        → ((place == place) && (x.die == die)) ≡ ((x.site == site) && (x.die == die))
-    passes (row.Lot l) is x same = absurd (none_is x same)
-    passes (row.Clock s) is x same = absurd (none_is x same)
-    passes (row.Bind b) is x same = absurd (none_is x same)
-    passes (row.Die d) is x same = absurd (none_is x same)
-    passes (row.Fault f) is x same = subst (λ (y : FaultRow). ((place == place) && (y.die == die)) ≡ ((y.site == site) && (y.die == die))) (some_is f x same) (same_place f is)
-    passes (row.Stop s) is x same = absurd (none_is x same)
-    passes (row.Bin b) is x same = absurd (none_is x same)
-    passes (row.Skew k) is x same = absurd (none_is x same)
+    stays : (x : FaultRow) → x.site == site ≡ true → ((place == place) && (x.die == die)) ≡ ((x.site == site) && (x.die == die))
+    stays x is = ap (λ (b : Bool). b && (x.die == die)) (eq-eqb place place refl ∙ sym is)
 
 -- the stops of the site
 pub stops_moved : (site die place : ℕ) (rows : List Row) → AreOf site rows
-    → stops_at place die (map (moved place) rows) ≡ map (λ (s : StopRow). record s { site = place }) (stops_at site die rows)
+    → stops_at place die (map (moved place) rows) ≡ map (λ (x : StopRow). record x { site = place }) (stops_at site die rows)
 stops_moved site die place rows of_site =
-    moved_items as_stop site place change (λ (s : StopRow). (s.site == site) && (s.die == die)) (λ (s : StopRow). (s.site == place) && (s.die == die)) gives passes rows of_site
+    moved_items as_stop site place (λ (x : StopRow). record x { site = place })
+    (λ (x : StopRow). (x.site == site) && (x.die == die)) (λ (x : StopRow). (x.site == place) && (x.die == die))
+    (by_kind (λ r. concerns site r ≡ true → as_stop (moved place r) ≡ option_map (λ (x : StopRow). record x { site = place }) (as_stop r))
+    (λ l is. refl) (λ s is. refl) (λ b is. refl) (λ b is. refl) (λ d is. refl) (λ f is. refl) (λ s is. refl) (λ k is. refl))
+    (by_kind (λ r. concerns site r ≡ true → (x : StopRow) → as_stop r ≡ Some x → ((place == place) && (x.die == die)) ≡ ((x.site == site) && (x.die == die))) (λ y. none _ y) (λ y. none _ y) (λ y. none _ y) (λ y. none _ y)
+    (λ y. none _ y) (λ y. none _ y) (λ x is y same. subst (λ (x : StopRow). ((place == place) && (x.die == die)) ≡ ((x.site == site) && (x.die == die))) (same_Some x y same) (stays x is)) (λ y. none _ y)) rows of_site
   where
-    change : StopRow → StopRow
-    change s = record s { site = place }
-
-    gives : (r : Row) → concerns site r ≡ true → as_stop (moved place r) ≡ option_map change (as_stop r)
-    gives (row.Lot l) is = refl
-    gives (row.Clock s) is = refl
-    gives (row.Bind b) is = refl
-    gives (row.Die d) is = refl
-    gives (row.Fault f) is = refl
-    gives (row.Stop s) is = refl
-    gives (row.Bin b) is = refl
-    gives (row.Skew k) is = refl
-
-    same_place : (s : StopRow) → s.site == site ≡ true → ((place == place) && (s.die == die)) ≡ ((s.site == site) && (s.die == die))
-    same_place s is = ap (λ (b : Bool). b && (s.die == die)) (eq-eqb place place refl ∙ sym is)
-
-    passes : (r : Row) → concerns site r ≡ true → (x : StopRow) → as_stop r ≡ Some x
-        → ((place == place) && (x.die == die)) ≡ ((x.site == site) && (x.die == die))
-    passes (row.Lot l) is x same = absurd (none_is x same)
-    passes (row.Clock s) is x same = absurd (none_is x same)
-    passes (row.Bind b) is x same = absurd (none_is x same)
-    passes (row.Die d) is x same = absurd (none_is x same)
-    passes (row.Fault f) is x same = absurd (none_is x same)
-    passes (row.Stop s) is x same = subst (λ (y : StopRow). ((place == place) && (y.die == die)) ≡ ((y.site == site) && (y.die == die))) (some_is s x same) (same_place s is)
-    passes (row.Bin b) is x same = absurd (none_is x same)
-    passes (row.Skew k) is x same = absurd (none_is x same)
+    stays : (x : StopRow) → x.site == site ≡ true → ((place == place) && (x.die == die)) ≡ ((x.site == site) && (x.die == die))
+    stays x is = ap (λ (b : Bool). b && (x.die == die)) (eq-eqb place place refl ∙ sym is)
 
 -- the skews of the site
 pub skews_moved : (site place : ℕ) (rows : List Row) → AreOf site rows
-    → skews_at place (map (moved place) rows) ≡ map (λ (k : SkewRow). record k { site = place }) (skews_at site rows)
+    → skews_at place (map (moved place) rows) ≡ map (λ (x : SkewRow). record x { site = place }) (skews_at site rows)
 skews_moved site place rows of_site =
-    moved_items as_skew site place change (λ (k : SkewRow). k.site == site) (λ (k : SkewRow). k.site == place) gives passes rows of_site
+    moved_items as_skew site place (λ (x : SkewRow). record x { site = place })
+    (λ (x : SkewRow). x.site == site) (λ (x : SkewRow). x.site == place)
+    (by_kind (λ r. concerns site r ≡ true → as_skew (moved place r) ≡ option_map (λ (x : SkewRow). record x { site = place }) (as_skew r))
+    (λ l is. refl) (λ s is. refl) (λ b is. refl) (λ b is. refl) (λ d is. refl) (λ f is. refl) (λ s is. refl) (λ k is. refl))
+    (by_kind (λ r. concerns site r ≡ true → (x : SkewRow) → as_skew r ≡ Some x → (place == place) ≡ (x.site == site)) (λ y. none _ y) (λ y. none _ y) (λ y. none _ y) (λ y. none _ y)
+    (λ y. none _ y) (λ y. none _ y) (λ y. none _ y) (λ x is y same. subst (λ (x : SkewRow). (place == place) ≡ (x.site == site)) (same_Some x y same) (stays x is))) rows of_site
   where
-    change : SkewRow → SkewRow
-    change k = record k { site = place }
-
-    gives : (r : Row) → concerns site r ≡ true → as_skew (moved place r) ≡ option_map change (as_skew r)
-    gives (row.Lot l) is = refl
-    gives (row.Clock s) is = refl
-    gives (row.Bind b) is = refl
-    gives (row.Die d) is = refl
-    gives (row.Fault f) is = refl
-    gives (row.Stop s) is = refl
-    gives (row.Bin b) is = refl
-    gives (row.Skew k) is = refl
-
-    same_place : (k : SkewRow) → k.site == site ≡ true → (place == place) ≡ (k.site == site)
-    same_place k is = ap (λ (b : Bool). b) (eq-eqb place place refl ∙ sym is)
-
-    passes : (r : Row) → concerns site r ≡ true → (x : SkewRow) → as_skew r ≡ Some x
-        → (place == place) ≡ (x.site == site)
-    passes (row.Lot l) is x same = absurd (none_is x same)
-    passes (row.Clock s) is x same = absurd (none_is x same)
-    passes (row.Bind b) is x same = absurd (none_is x same)
-    passes (row.Die d) is x same = absurd (none_is x same)
-    passes (row.Fault f) is x same = absurd (none_is x same)
-    passes (row.Stop s) is x same = absurd (none_is x same)
-    passes (row.Bin b) is x same = absurd (none_is x same)
-    passes (row.Skew k) is x same = subst (λ (y : SkewRow). (place == place) ≡ (y.site == site)) (some_is k x same) (same_place k is)
+    stays : (x : SkewRow) → x.site == site ≡ true → (place == place) ≡ (x.site == site)
+    stays x is = eq-eqb place place refl ∙ sym is

@@ -3,6 +3,7 @@ use Rattle.std.proofs.Common.{◌≡◌, ℕ, zero, suc, ◌<◌, Bool, true, fa
 use Rattle.std.specs.Prelude.{◌==◌, map, codes, decimal, slice_get}
 use Rattle.std.specs.List.{AllByRecursion, find, flat_map}
 use Rattle.std.specs.Option.{option_map_or, option_and_then}
+use Rattle.std.proofs.lemmas.Option.{same_Some}
 use Rattle.tester_types.specs.Outside.{Files, file_of}
 use Rattle.tester_types.specs.Printing.{printed_name}
 use Rattle.tester_types.specs.declared.record.Fail.{Fail}
@@ -36,9 +37,6 @@ use Rattle.lot_laws.proofs.CodeLemmas.{codes_of_text, code_of_saved, code_alike}
 
 -- ---- one program
 
-some_is : (a b : List ℕ) → Some a ≡ Some b → a ≡ b
-some_is a b e = cc
-
 -- codes of the same bytes
 codes_of_bytes : (by : Bool) (bytes : List ℕ) (code other : Program) → IsCodeBy by bytes code → IsCodeBy by bytes other
     → AreCodesAlike code other
@@ -53,12 +51,12 @@ by_is by by' bytes code equal is = subst (λ (b : Bool). IsCodeBy b bytes code) 
 pub one_code : (files others : Files) (program other : List ℕ) (code code' : Program) → IsOneProgram files others program other
     → IsProgramFile (Some files) program code → IsProgramFile (Some others) other code' → AreCodesAlike code code'
 one_code files others program other code code' (same is) a b =
-    let bytes : b.bytes ≡ a.bytes = some_is b.bytes a.bytes (sym b.file.are ∙ sym is ∙ a.file.are) in
+    let bytes : b.bytes ≡ a.bytes = same_Some b.bytes a.bytes (sym b.file.are ∙ sym is ∙ a.file.are) in
     codes_of_bytes (is_saved a.bytes) a.bytes code code' a.reads
     (subst (λ (x : List ℕ). IsCodeBy (is_saved x) x code') bytes b.reads)
 one_code files others program other code code' (saved text bytes is plain is' mark compiled of_text to_bytes) a b =
-    let here : a.bytes ≡ text = some_is a.bytes text (sym a.file.are ∙ is) in
-    let there : b.bytes ≡ bytes = some_is b.bytes bytes (sym b.file.are ∙ is') in
+    let here : a.bytes ≡ text = same_Some a.bytes text (sym a.file.are ∙ is) in
+    let there : b.bytes ≡ bytes = same_Some b.bytes bytes (sym b.file.are ∙ is') in
     let reads = by_is (is_saved text) false text code plain (subst (λ (x : List ℕ). IsCodeBy (is_saved x) x code) here a.reads) in
     let loads = by_is (is_saved bytes) true bytes code' mark (subst (λ (x : List ℕ). IsCodeBy (is_saved x) x code') there b.reads) in
     subst (λ (c : Program). AreCodesAlike code c) (sym (code_of_saved bytes compiled code' to_bytes loads))
@@ -70,7 +68,7 @@ one_code files others program other code code' (saved text bytes is plain is' ma
 pub one_circuit : (files others : Files) (name other : List ℕ) (c d : Circuit) → file_of files name ≡ file_of others other
     → IsNetFile (Some files) name c → IsNetFile (Some others) other d → AreCircuitsAlike c d
 one_circuit files others name other c d is a b =
-    let bytes : b.bytes ≡ a.bytes = some_is b.bytes a.bytes (sym b.file.are ∙ sym is ∙ a.file.are) in
+    let bytes : b.bytes ≡ a.bytes = same_Some b.bytes a.bytes (sym b.file.are ∙ sym is ∙ a.file.are) in
     record {
       net = one_net a.bytes c.net d.net a.net (subst (λ (x : List ℕ). IsNet x d.net) bytes b.net);
       whole = a.whole;

@@ -13,7 +13,7 @@ use Rattle.pat_read.specs.Fault.{DataAnswers}
 use Rattle.pat_read.specs.Data.{said_by, behind, data_from, said_behind}
 
 -- items behind items that stand behind items
-behind-append : (before items : List Item) (more : Result (List Item) FormKind) →
+pub behind-append : (before items : List Item) (more : Result (List Item) FormKind) →
     behind before (behind items more) ≡ behind (before ++ items) more
 behind-append before items (Ok rest) = ap (λ xs. Ok xs) (sym (append_assoc before items rest))
 behind-append before items (Err kind) = refl

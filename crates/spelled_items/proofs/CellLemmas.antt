@@ -15,11 +15,12 @@ use Rattle.first_fault.specs.Reading.{and_then, stepping}
 use Rattle.text_bytes.specs.Limits.{most_cells}
 use Rattle.stil_ast.specs.Data.BlockForms.{cell_count}
 use Rattle.stil_ast.specs.declared.name.NameRef.{NameRef}
+use Rattle.stil_ast.proofs.GroupItems.{none_is_some}
 use Rattle.scan_blocks.specs.Cells as reading
 use Rattle.scan_blocks.specs.Cells.{with_cell, with_indices, named_cell, cell_begins, first_index, last_index, within_limits, ended, cells_step, cells_start, cells_said}
 use Rattle.spelled_items.specs.SpelledCells.{SpellsCells, no_cells, skipped, one_name, one_index, one_range, has_small, AreWithin, AreCells, IsCellFault, no_token, no_spelling, beyond_limits}
 use Rattle.spelled_items.specs.Laws.{CellsAreSpelled, CellsAreRefused}
-use Rattle.spelled_items.proofs.ChoiceLemmas.{chosen_first, chosen_second, none_is_some}
+use Rattle.spelled_items.proofs.ChoiceLemmas.{chosen_first, chosen_second}
 use Rattle.spelled_items.proofs.LimitLemmas.{type_of, Left, added, limits}
 
 -- what the tokens so far say

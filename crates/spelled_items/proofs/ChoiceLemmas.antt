@@ -1,5 +1,5 @@
--- Choices that are made, and nothing that is something.
-use Rattle.std.proofs.Common.{◌≡◌, Bool, true, false, Option, Some, None, cond, refl}
+-- Choices that are made.
+use Rattle.std.proofs.Common.{◌≡◌, Bool, true, false, cond, refl}
 
 -- a choice whose test is so, or not
 pub chosen_first : {A : Type 0} (b : Bool) (x y : A) → b ≡ true → cond b x y ≡ x
@@ -9,7 +9,3 @@ chosen_first false x y is = cc
 pub chosen_second : {A : Type 0} (b : Bool) (x y : A) → b ≡ false → cond b x y ≡ y
 chosen_second true x y is = cc
 chosen_second false x y is = refl
-
--- nothing is something
-pub none_is_some : {A B : Type 0} (x : A) → ◌≡◌ {A = Option A} None (Some x) → B
-none_is_some x is = cc

@@ -10,11 +10,13 @@ use Rattle.stil_form.specs.Lexeme.{Lexeme, word, name, text, sign, lexeme_at}
 use Rattle.text_bytes.specs.Numbers.{number_by}
 use Rattle.text_bytes.specs.Limits.{most_repeats}
 use Rattle.stil_ast.specs.Meaning.Statements.{Item, letter, hash, percent}
+use Rattle.stil_ast.proofs.GroupItems.{none_is_some}
 use Rattle.first_fault.specs.Reading.{and_then}
 use Rattle.pat_read.specs.Data as words
+use Rattle.pat_read.proofs.DataLemmas.{behind-append}
 use Rattle.pat_read.specs.Data.{has_underscore, times_by, unit_of, item_said, word_behind, repeat_said, unit_said, behind, data_from, data_of}
 use Rattle.spelled_items.specs.SpelledData.{IsUnit, hash_unit, percent_unit, letter_unit, Repeats, Spells, no_items, characters, one_hash, one_percent, repeated, may_begin, is_left_out, Fails, no_beginning, nothing_behind, left_out, no_form, no_more, no_unit, too_often, StopsAt}
-use Rattle.spelled_items.proofs.ChoiceLemmas.{chosen_first, chosen_second, none_is_some}
+use Rattle.spelled_items.proofs.ChoiceLemmas.{chosen_first, chosen_second}
 use Rattle.spelled_items.specs.Laws.{DataAreSpelled, DataAreRefused}
 
 -- what is read behind what a token says
@@ -124,12 +126,6 @@ many_units : (bytes : List ℕ) (slash next unit : Token) (times : ℕ) (item : 
 many_units bytes slash next unit times item tokens r one many =
     at_unit bytes slash next unit times tokens (Some item) r (unit_found (lexeme_at bytes unit) item one)
     ∙ ap (λ said. then_read (λ s. data_from bytes s tokens) said) (chosen_second (nat_le times most_repeats) _ _ many)
-
--- items behind items
-behind-append : (before items : List Item) (more : Result (List Item) FormKind)
-    → behind before (behind items more) ≡ behind (before ++ items) more
-behind-append before items (Ok rest) = ap (λ xs. Ok xs) (sym (append_assoc before items rest))
-behind-append before items (Err kind) = refl
 
 -- items in front of what is read
 read_behind : (bytes : List ℕ) (before items : List Item) (tokens rest : List Token)

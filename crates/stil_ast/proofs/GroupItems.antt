@@ -18,7 +18,7 @@ pub data ItemShape : List Lexeme → Type 0 where
       → ItemShape (name ∷ opens ∷ word first ∷ dot ∷ dot ∷ word last ∷ closes ∷ [])
 
 -- nothing is something
-none_is_some : {A B : Type 0} (x : A) → ◌≡◌ {A = Option A} None (Some x) → B
+pub none_is_some : {A B : Type 0} (x : A) → ◌≡◌ {A = Option A} None (Some x) → B
 none_is_some x e = cc
 
 name_shape : (l : Lexeme) (name : List ℕ) → item_name l ≡ Some name → NameShape l

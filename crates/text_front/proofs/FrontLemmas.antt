@@ -158,7 +158,7 @@ no_first_fault bytes blocks f r (of_blocks ts forest reads parses p) =
     (moved (λ xs trees. blocks_of bytes xs (entries trees) ≡ Ok blocks) bytes r.tokens ts r.forest forest r.reads reads r.parses parses r.are) p
 
 -- its blocks are one
-one_read : (bytes : List ℕ) (blocks other : Blocks) → IsReadAs bytes blocks → IsReadAs bytes other → blocks ≡ other
+pub one_read : (bytes : List ℕ) (blocks other : Blocks) → IsReadAs bytes blocks → IsReadAs bytes other → blocks ≡ other
 one_read bytes blocks other r s =
     let here : blocks_of bytes s.tokens (entries s.forest) ≡ Ok blocks =
     moved (λ xs trees. blocks_of bytes xs (entries trees) ≡ Ok blocks) bytes r.tokens s.tokens r.forest s.forest r.reads s.reads r.parses s.parses r.are in
