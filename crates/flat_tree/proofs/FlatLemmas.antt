@@ -79,7 +79,7 @@ items_flat-count [] = refl
 items_flat-count (item ∷ items) = omega (arith, item_front-count item (items_flat items), items_flat-count items)
 
 -- the bodies of an item are among those of what it begins
-front_bodies : (item : FlatItem) (rest : Flat)
+pub front_bodies : (item : FlatItem) (rest : Flat)
     → body_count (item_front item rest) ≡ body_count (item_front item done) + body_count rest
 front_bodies (Table t) rest = omega arith
 front_bodies (Character signal c) rest = omega arith

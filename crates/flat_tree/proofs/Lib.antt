@@ -5,3 +5,4 @@ pub mod AheadLemmas
 pub mod MarkLemmas
 pub mod LeanLemmas
 pub mod LeaningLemmas
+pub mod KeptLemmas

@@ -1,10 +1,11 @@
 -- Trees that are as good as each other stay so in whatever they stand.
-use Rattle.std.proofs.Common.{◌≡◌, ℕ, zero, suc, ◌+◌, Bool, refl, ap, sym, ◌∙◌, arith}
+use Rattle.std.proofs.Common.{◌≡◌, ℕ, zero, suc, ◌+◌, Bool, [], ◌∷◌, refl, ap, sym, ◌∙◌, arith}
+use Rattle.stil_ast.specs.Data.Places.{Origin}
 use Rattle.stil_ast.specs.Meaning.State.{State}
-use Rattle.stil_ast.specs.Meaning.Flat.{Flat, table, character, back, repeat, save, saved, flat_run}
+use Rattle.stil_ast.specs.Meaning.Flat.{Flat, table, character, back, cycle, repeat, save, saved, flat_run}
 use Rattle.stil_ast.specs.Meaning.Flattening.{joined}
 use Rattle.stil_ast.specs.Meaning.Least.{vectors_in, least_passes, least_loop, least_written}
-use Rattle.stil_ast.specs.Meaning.Running.{Ran, times}
+use Rattle.stil_ast.specs.Meaning.Running.{Ran, behind, times}
 use Rattle.stil_ast.specs.Meaning.ExecutiveData.{IsSameFlat}
 use Rattle.stil_ast.proofs.RunLemmas.{then_run-same, times-same}
 use Rattle.stil_ast.proofs.FlatSteps.{flat_run-joined}
@@ -101,3 +102,16 @@ same-character signal c a b p = record { runs = λ base s. p.runs base _; measur
 
 pub same-back : (signal : ℕ) (a b : Flat) → IsSameFlat a b → IsSameFlat (back signal a) (back signal b)
 same-back signal a b p = record { runs = λ base s. p.runs base _; measure = p.measure; least = λ base s. p.least base _ }
+
+pub same-cycle : (mark : ℕ) (spot : Origin) (a b : Flat) → IsSameFlat a b
+    → IsSameFlat (cycle mark spot a) (cycle mark spot b)
+same-cycle mark spot a b p =
+    record {
+      runs =
+          λ base s. ap (behind (record {
+            vector = record { table = s.table; letters = s.letters; mark = mark };
+            place = spot;
+          } ∷ [])) (p.runs base s);
+      measure = omega (arith, p.measure);
+      least = λ base s. omega (arith, p.least base s);
+    }

@@ -4,6 +4,7 @@ use Rattle.stil_ast.specs.Data.Places.{of_pattern, Origin}
 use Rattle.stil_ast.specs.Meaning.Flat.{Flat, done, table, character, back, cycle, repeat, save, measure}
 use Rattle.flat_tree.specs.Lean.{sets_table, sets_signal, IsLean}
 use Rattle.flat_tree.specs.Items.{items_flat, item_count}
+use Rattle.flat_tree.specs.Kept.{has_vector, kept}
 use Rattle.flat_tree.specs.FlatCode.{marks, open_trees, innermost}
 use Rattle.flat_tree.specs.declared.flat.FlatItem.TheVariants.{Table, Character, Back}
 
@@ -55,3 +56,25 @@ loop_measure = refl
 -- bodies count as one item
 two_items : item_count (save true (table 0 (table 1 done)) vector_last) ≡ 2
 two_items = refl
+
+-- a call without a vector leaves nothing, also where it is the last of calls in calls
+call_leaves_nothing : kept (save true (table 0 (save true (character 0 49 done) done)) vector_last) ≡ vector_last
+call_leaves_nothing = refl
+
+-- its loops stay, nested as they are, without other content and without the saves in them
+call_leaves_loops : kept (save true (table 0 (repeat 2 (back 0 (save false (repeat 3 done done) done)) done)) vector_last)
+    ≡ repeat 2 (repeat 3 done done) vector_last
+call_leaves_loops = refl
+
+-- a call with a vector stays as it is, but for the calls in it that have none
+call_with_vector : kept (save true (save true (table 0 done) (character 0 49 vector_last)) done)
+    ≡ save true (character 0 49 vector_last) done
+call_with_vector = refl
+
+-- the passes of a Shift stay
+shift_stays : kept (save false (table 0 done) vector_last) ≡ save false (table 0 done) vector_last
+shift_stays = refl
+
+-- a vector in a loop in a save is found
+vector_at_depth : has_vector (save false (repeat 2 vector_last done) done) ≡ true
+vector_at_depth = refl

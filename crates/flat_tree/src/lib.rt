@@ -2,6 +2,7 @@
 #![tactic(auto)]
 
 mod ahead;
+mod calling;
 mod flat;
 mod laws;
 mod measure;

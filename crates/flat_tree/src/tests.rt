@@ -59,3 +59,23 @@ fn only_the_last_assignments_stay(rt: HostRuntime) -> Result<(), Fail> {
     assert_eq!(rt; lean.measure(), 7);
     Ok(())
 }
+
+#[test]
+fn calls_leave_their_vectors_and_loops(rt: HostRuntime) -> Result<(), Fail> {
+    let mut looped = FlatList::new(rt.alloc());
+    looped.push_table(0)?;
+    let mut called = FlatList::new(rt.alloc());
+    called.push_repeat(1000, looped)?;
+    called.push_back(0)?;
+    let mut set = FlatList::new(rt.alloc());
+    set.push_table(0)?;
+    let mut tree = FlatList::new(rt.alloc());
+    tree.push_call(set)?;
+    assert!(rt; tree.is_empty());
+    tree.push_call(called)?;
+    tree.push_call(vector(rt.alloc())?)?;
+    let letters = letters(rt.alloc(), &tree)?;
+    assert_eq!(rt; letters.as_slice(), b"LS".as_slice());
+    assert_eq!(rt; tree.measure(), 3);
+    Ok(())
+}

@@ -15,6 +15,7 @@ use Rattle.stil_ast.specs.Faults.PatternFaults.{inside_loop, counted, check_list
 use Rattle.stil_ast.specs.declared.body.PatAction.{PatAction}
 use Rattle.stil_ast.specs.declared.body.PatAction.TheVariants.{Step as plain_step, Loop, Shift}
 use Rattle.stil_ast.specs.declared.body.Step.TheVariants.{Wave, Vector, Condition, Macro, Call, BreakPoint, IddqTestPoint, Stop}
+use Rattle.flat_tree.specs.Kept.{kept}
 use Rattle.flat_tree.specs.Origins.{body_of}
 use Rattle.flat_tree.specs.declared.place.BodyKind.{BodyKind}
 use Rattle.macro_expand.specs.Actions.{is_stop, loop_check, statement_check, loop_piece, action_piece}
@@ -24,7 +25,7 @@ use Rattle.macro_expand.specs.Scopes.{titles_in, scope_in}
 use Rattle.macro_expand.specs.Standings.{standing_in}
 use Rattle.macro_expand.specs.Stepping.{Steps, spot_on}
 use Rattle.macro_expand.specs.Walking.{flat_at, IsWalking}
-use Rattle.macro_expand.specs.Walks.{walked}
+use Rattle.macro_expand.specs.Walks.{walked, then_kept}
 use Rattle.macro_expand.specs.declared.scope.PatternScope.{PatternScope}
 use Rattle.macro_expand.specs.declared.standing.Standing.{Standing as HeldStanding}
 use Rattle.macro_expand.specs.declared.trouble.Trouble.{Trouble}
@@ -147,10 +148,10 @@ module _ (names : Names) (scope : PatternScope) (s : HeldStanding) where
       let here = spot_on s.body line before in
       let f : ℕ → Option Statements → Spot → Piece = λ n. flat_calls t (deepest_calls - n) in
       let there = origin of_pattern 0 in
-      let tree : after.out ≡ (flat_at t (flat_named names scope inside) (named_in names scope inside body) own.args).flat
+      let tree : after.out ≡ kept (flat_at t (flat_named names scope inside) (named_in names scope inside body) own.args).flat
       = sym (joined-done after.out) ∙ steps.out done
-      ∙ ap (λ (w : Walk). joined w.out (joined (flat_at t (flat_named names scope inside) (named_in names scope inside body) own.args).flat done)) begins
-      ∙ joined-done (flat_at t (flat_named names scope inside) (named_in names scope inside body) own.args).flat in
+      ∙ ap (λ (w : Walk). then_kept w.out (joined (flat_at t (flat_named names scope inside) (named_in names scope inside body) own.args).flat done)) begins
+      ∙ ap kept (joined-done (flat_at t (flat_named names scope inside) (named_in names scope inside body) own.args).flat) in
       let same : (flat_at t (flat_named names scope inside) (named_in names scope inside body) own.args).flat
       ≡ (flat_list t (flat_named names scope s) (named_in names scope s body) here).flat
       = ap (λ (n : ℕ). (flat_at t (f n) (named_in names scope inside body) own.args).flat) calls
@@ -163,5 +164,5 @@ module _ (names : Names) (scope : PatternScope) (s : HeldStanding) where
       ∙ ap (λ (n : ℕ). check_list sc (check_calls sc (deepest_calls - n)) (stands names scope inside) body (walked own)) (sym calls)
       ∙ steps.checked in
       loop_steps sc (check_named names scope s) (stands names scope s) line times body
-      (flat_list t (flat_named names scope s) (named_in names scope s body) here) before after out few form checked (tree ∙ same)
+      (flat_list t (flat_named names scope s) (named_in names scope s body) here) before after out few form checked (tree ∙ ap kept same)
       (e ∙ ap (λ (x : Flat). joined before.out (repeat times x done)) moved)

@@ -8,7 +8,7 @@ use Rattle.stil_ast.specs.Data.Items.{items_of}
 use Rattle.stil_ast.specs.declared.data.ItemRun.{ItemRun}
 use Rattle.stil_ast.specs.Meaning.Statements.{Assign, Item}
 use Rattle.stil_ast.specs.Meaning.Dealing.{Gift, deal, deal_pairs, spread, hashed, takers}
-use Rattle.stil_ast.specs.Meaning.Flattening.{joined, gifts_front}
+use Rattle.stil_ast.specs.Meaning.Flattening.{gifts_front}
 use Rattle.stil_ast.specs.Meaning.Resolved.{Scope, resolved_assign, resolved_assigns}
 use Rattle.stil_ast.specs.Faults.AssignmentFaults.{Walked, Checked, refused, then_check, rule, rule_kind, Standing, fault_on, may_walk, check_assign, check_assigns}
 use Rattle.stil_ast.specs.declared.body.Assignment.{Assignment}
@@ -21,7 +21,7 @@ use Rattle.macro_expand.specs.declared.walk.Walk.{Walk}
 use Rattle.macro_expand.specs.Placing.{placed, placed_from, assign_of, Writes}
 use Rattle.macro_expand.specs.Refusing.{IsAt}
 use Rattle.macro_expand.specs.Stepping.{WritesOr, IsAssigning}
-use Rattle.macro_expand.specs.Walks.{walked}
+use Rattle.macro_expand.specs.Walks.{walked, then_kept}
 use Rattle.macro_expand.proofs.FlatLemmas.{gifts_front-append}
 use Rattle.macro_expand.proofs.PlaceLemmas.{ruled_out, not_ruled_out}
 
@@ -127,10 +127,10 @@ module _ (sc : Scope) (s : Standing) (all : List Assignment) (start : Walk) wher
         checked = ap (λ (c : Checked). then_check c (check_assigns sc s left)) (sym e.checked) ∙ before.checked;
         args = ap (λ (args : List Argument). (deal rest args).args) e.args ∙ before.args;
         out = λ more.
-            ap (λ (args : List Argument). joined after.out (gifts_front (deal rest args).gifts more)) e.args
+            ap (λ (args : List Argument). then_kept after.out (gifts_front (deal rest args).gifts more)) e.args
             ∙ e.out (gifts_front (deal rest first.args).gifts more)
-            ∙ ap (joined now.out) (sym (gifts_front-append first.gifts (deal rest first.args).gifts more))
-            ∙ ap (λ (gifts : List Gift). joined now.out (gifts_front gifts more)) (sym (deal-first a rest now.args))
+            ∙ ap (then_kept now.out) (sym (gifts_front-append first.gifts (deal rest first.args).gifts more))
+            ∙ ap (λ (gifts : List Gift). then_kept now.out (gifts_front gifts more)) (sym (deal-first a rest now.args))
             ∙ before.out more;
         taken = ap (λ xs. xs ++ takers rest) e.taken ∙ append_assoc now.taken (takers (a ∷ [])) (takers rest)
             ∙ ap (λ xs. now.taken ++ xs) (sym (takers-first a rest)) ∙ before.taken;

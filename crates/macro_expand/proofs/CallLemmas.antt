@@ -1,12 +1,12 @@
 -- The body that a Macro or Call names is run: what is checked, and what is written.
-use Rattle.std.proofs.Common.{◌≡◌, ℕ, ◌-◌, true, List, Option, Some, ap, sym, ◌∙◌, subst, length, slice_get}
+use Rattle.std.proofs.Common.{◌≡◌, ℕ, ◌-◌, List, Option, Some, ap, sym, ◌∙◌, subst, length, slice_get}
 use Rattle.std.proofs.lemmas.List.{length-map}
 use Rattle.std.proofs.lemmas.Option.{slice_get-map}
 use Rattle.std.specs.Option.{option_map}
 use Rattle.text_bytes.specs.Limits.{deepest_calls}
 use Rattle.stil_ast.specs.Data.Places.{Origin, of_pattern, of_macro, of_procedure}
 use Rattle.stil_ast.specs.Meaning.Arguments.{Argument, arguments}
-use Rattle.stil_ast.specs.Meaning.Flat.{Flat, done, save}
+use Rattle.stil_ast.specs.Meaning.Flat.{Flat, done}
 use Rattle.stil_ast.specs.Meaning.Flattening.{joined, Piece}
 use Rattle.stil_ast.specs.Meaning.Resolved.{origin, is_out, resolved, resolved_assigns, body_number}
 use Rattle.stil_ast.specs.Meaning.Signals.{Signal, Names}
@@ -16,6 +16,7 @@ use Rattle.stil_ast.specs.Faults.PatternFaults.{inside_body, check_call, callee_
 use Rattle.stil_ast.specs.declared.blocks.BodyDef.{BodyDef}
 use Rattle.stil_ast.specs.declared.body.Assignment.{Assignment}
 use Rattle.stil_ast.specs.declared.body.Step.TheVariants.{Macro, Call}
+use Rattle.flat_tree.specs.Kept.{kept, call_front}
 use Rattle.flat_tree.specs.declared.place.BodyKind.TheVariants as kind
 use Rattle.macro_expand.specs.Actions.{step_check, step_piece}
 use Rattle.macro_expand.specs.Calling.{MayCall, Begins, Runs, statements_of}
@@ -23,6 +24,7 @@ use Rattle.macro_expand.specs.Recursing.{setting_in, stands, check_named, flat_n
 use Rattle.macro_expand.specs.Scopes.{scope_in}
 use Rattle.macro_expand.specs.Standings.{callee_in}
 use Rattle.macro_expand.specs.Stepping.{Steps, spot_on}
+use Rattle.macro_expand.specs.Walks.{then_kept}
 use Rattle.macro_expand.specs.declared.scope.PatternScope.{PatternScope}
 use Rattle.macro_expand.specs.declared.standing.Callee.{Callee as HeldCallee}
 use Rattle.macro_expand.specs.declared.standing.Standing.{Standing as HeldStanding}
@@ -75,8 +77,8 @@ module _ (names : Names) (scope : PatternScope) (s : HeldStanding) (line : ℕ) 
             begins.gives begins.hashes_none steps.checked;
         written = λ rest.
             steps.out rest
-            ∙ ap (λ (f : Flat). joined f (joined (call_piece_of (Some (resolved sc b d.body)) own.args (origin of_pattern 0)).flat rest)) begins.out_same
-            ∙ ap (λ (f : Flat). joined out (joined f rest)) flats;
+            ∙ ap (λ (f : Flat). then_kept f (joined (call_piece_of (Some (resolved sc b d.body)) own.args (origin of_pattern 0)).flat rest)) begins.out_same
+            ∙ ap (λ (f : Flat). then_kept out (joined f rest)) flats;
       }
 
   -- the number of a name is that of the body
@@ -97,12 +99,12 @@ module _ (names : Names) (scope : PatternScope) (s : HeldStanding) (line : ℕ) 
       macro_steps sc (check_named names scope s) (stands names scope s) line (callee_of sc of_macro name) assigns
       (own_piece (slice_get (setting_in names scope).macros (body_number scope.macros.now name))) before own ran.checked
       (λ rest. ran.written rest
-      ∙ ap (λ (f : Flat). joined f (joined (own_piece (statements_of sc (callee_of sc of_macro name))).flat rest)) same
-      ∙ ap (λ (o : Option Statements). joined before.out (joined (own_piece o).flat rest)) (sym at))
+      ∙ ap (λ (f : Flat). then_kept f (joined (own_piece (statements_of sc (callee_of sc of_macro name))).flat rest)) same
+      ∙ ap (λ (o : Option Statements). then_kept before.out (joined (own_piece o).flat rest)) (sym at))
 
   -- a Call whose body was run, into a tree of its own
   pub call_runs_in : (name : List ℕ) (n : ℕ) (before own : Walk) (empty out : Flat) → n ≡ body_number scope.procedures.now name
-      → empty ≡ done → out ≡ joined before.out (save true own.out done)
+      → empty ≡ done → out ≡ joined before.out (call_front own.out done)
       → RunsAt (record { kind = kind.Procedure; number = n }) before empty own
       → Steps (step_check names scope s line (Call name assigns)) (step_piece names scope s (Call name assigns) (spot_on s.body line before))
       before (record before { count = own.count; out = out })
@@ -111,8 +113,9 @@ module _ (names : Names) (scope : PatternScope) (s : HeldStanding) (line : ℕ) 
       let ran = subst (λ (k : ℕ). RunsAt (record { kind = kind.Procedure; number = k }) before empty own) number runs in
       let at = slice_get-map (λ (d : BodyDef). resolved sc of_procedure d.body) scope.procedures.now (body_number scope.procedures.now name) in
       let piece = own_piece (statements_of sc (callee_of sc of_procedure name)) in
-      let whole : own.out ≡ piece.flat
-      = sym (joined-done own.out) ∙ ran.written done ∙ ap (λ (f : Flat). joined f (joined piece.flat done)) none ∙ joined-done piece.flat in
+      let whole : own.out ≡ kept piece.flat
+      = sym (joined-done own.out) ∙ ran.written done ∙ ap (λ (f : Flat). then_kept f (joined piece.flat done)) none
+      ∙ ap kept (joined-done piece.flat) in
       call_steps sc (check_named names scope s) (stands names scope s) line (callee_of sc of_procedure name) assigns
       (own_piece (slice_get (setting_in names scope).procedures (body_number scope.procedures.now name))) before own out ran.checked
-      (whole ∙ ap (λ (o : Option Statements). (own_piece o).flat) (sym at)) e
+      (whole ∙ ap (λ (o : Option Statements). kept (own_piece o).flat) (sym at)) e

@@ -2,10 +2,10 @@
 use Rattle.std.proofs.Common.{◌≡◌, ℕ, Bool, true, false, List, [], ◌∷◌, ◌++◌, refl, ap, sym, ◌∙◌, append-nil, append_assoc, if◌then◌else◌}
 use Rattle.stil_ast.specs.Meaning.Arguments.{Argument}
 use Rattle.stil_ast.specs.Meaning.Dealing.{deal_item}
-use Rattle.stil_ast.specs.Meaning.Flattening.{joined, gifts_front}
+use Rattle.stil_ast.specs.Meaning.Flattening.{gifts_front}
 use Rattle.macro_expand.specs.declared.walk.Walk.{Walk}
 use Rattle.macro_expand.specs.Pairs.{Taker, hash_front, hashed_in, dealt_to}
-use Rattle.macro_expand.specs.Walks.{Deals, IsDealing}
+use Rattle.macro_expand.specs.Walks.{then_kept, Deals, IsDealing}
 use Rattle.macro_expand.proofs.PairLemmas.{hash_front_append}
 use Rattle.macro_expand.proofs.FlatLemmas.{gifts_front-append}
 
@@ -35,9 +35,9 @@ dealing_step in_shift takers start t left now after before e =
     record {
       args = ap (λ (args : List Argument). (dealt_to left args).args) e.args ∙ before.args;
       out = λ rest.
-          ap (λ (args : List Argument). joined after.out (gifts_front (dealt_to left args).gifts rest)) e.args
+          ap (λ (args : List Argument). then_kept after.out (gifts_front (dealt_to left args).gifts rest)) e.args
           ∙ e.out (gifts_front (dealt_to left d.args).gifts rest)
-          ∙ ap (joined now.out) (sym (gifts_front-append d.gifts (dealt_to left d.args).gifts rest))
+          ∙ ap (then_kept now.out) (sym (gifts_front-append d.gifts (dealt_to left d.args).gifts rest))
           ∙ before.out rest;
       taken = ap (λ xs. xs ++ hashed_in left) e.taken ∙ more now.taken ∙ before.taken;
       hashes = noted in_shift start.hashes (hashed_in takers) now.hashes hashed (hashed_in left) (hashed_in (t ∷ left)) after.hashes

@@ -16,7 +16,7 @@ use Rattle.flat_tree.specs.Origins.{body_of}
 use Rattle.macro_expand.specs.Standings.{callee_in, standing_in}
 use Rattle.macro_expand.specs.Stepping.{StepsOr}
 use Rattle.macro_expand.specs.Walking.{flat_at}
-use Rattle.macro_expand.specs.Walks.{walked}
+use Rattle.macro_expand.specs.Walks.{walked, then_kept}
 use Rattle.macro_expand.specs.declared.standing.Callee.{Callee as HeldCallee}
 use Rattle.macro_expand.specs.declared.standing.Standing.{Standing as HeldStanding}
 use Rattle.macro_expand.specs.declared.trouble.Trouble.{Trouble}
@@ -31,7 +31,7 @@ pub steps_same : {A : Type 0} (titles : Titles) (check other : Walked → Checke
     → StepsOr titles other another before after r
 steps_same titles check other piece another before after (Ok nothing) e p h = record {
   checked = e ∙ h.checked;
-  out = λ rest. h.out rest ∙ ap (λ (x : Piece). joined before.out (joined x.flat rest)) (sym p);
+  out = λ rest. h.out rest ∙ ap (λ (x : Piece). then_kept before.out (joined x.flat rest)) (sym p);
   args = h.args ∙ ap (λ (x : Piece). x.spot.args) (sym p);
 }
 steps_same titles check other piece another before after (Err trouble) e p h =

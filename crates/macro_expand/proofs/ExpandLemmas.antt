@@ -16,6 +16,7 @@ use Rattle.stil_ast.specs.declared.fault.StilFault.{StilFault}
 use Rattle.stil_ast.specs.declared.fault.StilRefusal.{StilRefusal}
 use Rattle.stil_ast.specs.declared.fault.StilRefusal.TheVariants as refusal
 use Rattle.stil_ast.proofs.SteadyLemmas.{checked_tree_agrees}
+use Rattle.flat_tree.specs.Kept.{kept}
 use Rattle.flat_tree.specs.Lean.{IsLean}
 use Rattle.macro_expand.specs.declared.scope.PatternScope.{PatternScope}
 use Rattle.macro_expand.specs.declared.standing.Standing.{Standing as HeldStanding}
@@ -25,8 +26,10 @@ use Rattle.macro_expand.specs.Recursing.{setting_in, flat_named, list_check}
 use Rattle.macro_expand.specs.Scopes.{scope_in, IsNamed}
 use Rattle.macro_expand.specs.Stepping.{Steps}
 use Rattle.macro_expand.specs.Walking.{flat_at}
-use Rattle.macro_expand.specs.Walks.{walked}
+use Rattle.macro_expand.specs.Walks.{walked, then_kept}
 use Rattle.flat_tree.proofs.FlatLemmas.{joined-done}
+use Rattle.flat_tree.proofs.KeptLemmas.{kept_is_same}
+use Rattle.flat_tree.proofs.SameLemmas.{same-trans}
 
 -- a check has one end
 not_both : (c : Checked) (w : Walked) (f : StilFault) → c ≡ fine w → c ≡ refused f → ⊥
@@ -79,7 +82,7 @@ module _ (names : Names) (scope : PatternScope) (body : Written) (count : ℕ) w
       → Steps (list_check names scope top on_top body) (flat_at (setting_in names scope) (flat_named names scope top) (pattern_in names scope body) start.args)
       start after
       → (pattern_check names scope body count ≡ fine (walked after))
-      × (after.out ≡ flat_of (setting_in names scope) (pattern_in names scope body))
+      × (after.out ≡ kept (flat_of (setting_in names scope) (pattern_in names scope body)))
   from_start top start after args hashes out counts calls steps =
       let begins : walked start ≡ record { args = []; hashes = []; count = count }
       = ap (λ (xs : List Argument). record { args = xs; hashes = start.hashes; count = start.count }) args
@@ -92,10 +95,10 @@ module _ (names : Names) (scope : PatternScope) (body : Written) (count : ℕ) w
             ∙ ap (λ (n : ℕ). at_top (record top { calls = n }) (walked start)) (sym calls)
             ∙ steps.checked,
         sym (joined-done after.out) ∙ steps.out done
-            ∙ ap (λ (f : Flat). joined f (joined (piece top.calls start.args) done)) out
-            ∙ joined-done (piece top.calls start.args)
-            ∙ ap (λ (n : ℕ). piece n start.args) calls
-            ∙ ap (piece 0) args,
+            ∙ ap (λ (f : Flat). then_kept f (joined (piece top.calls start.args) done)) out
+            ∙ ap kept (joined-done (piece top.calls start.args))
+            ∙ ap (λ (n : ℕ). kept (piece n start.args)) calls
+            ∙ ap (λ (args : List Argument). kept (piece 0 args)) args,
       )
     where
       pattern_check_at : Walked → Checked
@@ -103,11 +106,12 @@ module _ (names : Names) (scope : PatternScope) (body : Written) (count : ℕ) w
 
   -- the tree that is kept serves for the pattern
   pub tree_serves : (whole flat : Flat) (w : Walked) (signals : ℕ) → pattern_check names scope body count ≡ fine w
-      → whole ≡ flat_of (setting_in names scope) (pattern_in names scope body) → IsSameFlat flat whole
+      → whole ≡ kept (flat_of (setting_in names scope) (pattern_in names scope body)) → IsSameFlat flat whole
       → signals ≡ length names.signals → IsLean signals flat → IsTreeOf names scope body flat
   tree_serves whole flat w signals checked is same few lean =
-      let whole_same : IsSameFlat flat (flat_of (setting_in names scope) (pattern_in names scope body))
-      = subst (λ (f : Flat). IsSameFlat flat f) is same in record {
+      let defined = flat_of (setting_in names scope) (pattern_in names scope body) in
+      let whole_same : IsSameFlat flat defined
+      = same-trans flat (kept defined) defined (subst (λ (f : Flat). IsSameFlat flat f) is same) (kept_is_same defined) in record {
         runs = λ s.
             whole_same.runs (outside s).held s
             ∙ checked_tree_agrees (scope_in names scope) scope.scan_outs.now body count w s checked;

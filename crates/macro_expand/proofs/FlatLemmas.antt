@@ -5,7 +5,9 @@ use Rattle.stil_ast.specs.Meaning.Arguments.{Entry, given, padding}
 use Rattle.stil_ast.specs.Meaning.Dealing.{Gift}
 use Rattle.stil_ast.specs.Meaning.Flat.{Flat, done, table, character, back, cycle}
 use Rattle.stil_ast.specs.Meaning.Flattening.{joined, entry_front, gifts_front}
+use Rattle.flat_tree.specs.Kept.{kept}
 use Rattle.flat_tree.proofs.FlatLemmas.{joined-assoc}
+use Rattle.macro_expand.specs.Walks.{then_kept}
 
 pub append_none : (xs : List ℕ) → xs ++ [] ≡ xs
 append_none xs = append-nil xs
@@ -15,20 +17,20 @@ pub puts : (before one after rest : Flat) → after ≡ joined before one → jo
 puts before one after rest e = ap (λ (f : Flat). joined f rest) e ∙ joined-assoc before one rest
 
 pub puts_character : (before after : Flat) (signal c : ℕ) (rest : Flat)
-    → after ≡ joined before (character signal c done) → joined after rest ≡ joined before (character signal c rest)
-puts_character before after signal c rest e = puts before (character signal c done) after rest e
+    → after ≡ joined before (character signal c done) → then_kept after rest ≡ then_kept before (character signal c rest)
+puts_character before after signal c rest e = puts before (character signal c done) after (kept rest) e
 
 pub puts_back : (before after : Flat) (signal : ℕ) (rest : Flat)
-    → after ≡ joined before (back signal done) → joined after rest ≡ joined before (back signal rest)
-puts_back before after signal rest e = puts before (back signal done) after rest e
+    → after ≡ joined before (back signal done) → then_kept after rest ≡ then_kept before (back signal rest)
+puts_back before after signal rest e = puts before (back signal done) after (kept rest) e
 
 pub puts_table : (before after : Flat) (t : ℕ) (rest : Flat)
-    → after ≡ joined before (table t done) → joined after rest ≡ joined before (table t rest)
-puts_table before after t rest e = puts before (table t done) after rest e
+    → after ≡ joined before (table t done) → then_kept after rest ≡ then_kept before (table t rest)
+puts_table before after t rest e = puts before (table t done) after (kept rest) e
 
 pub puts_cycle : (before after : Flat) (mark : ℕ) (spot : Origin) (rest : Flat)
-    → after ≡ joined before (cycle mark spot done) → joined after rest ≡ joined before (cycle mark spot rest)
-puts_cycle before after mark spot rest e = puts before (cycle mark spot done) after rest e
+    → after ≡ joined before (cycle mark spot done) → then_kept after rest ≡ then_kept before (cycle mark spot rest)
+puts_cycle before after mark spot rest e = puts before (cycle mark spot done) after (kept rest) e
 
 -- gifts one after another
 pub gifts_front-append : (gifts more : List Gift) (rest : Flat)

@@ -4,7 +4,7 @@ use Rattle.text_bytes.specs.Limits.{deepest_loops}
 use Rattle.stil_ast.specs.Data.Places.{Titles}
 use Rattle.stil_ast.specs.Data.Written.{Written}
 use Rattle.stil_ast.specs.Meaning.Arguments.{Argument, no_argument}
-use Rattle.stil_ast.specs.Meaning.Flat.{Flat, done, repeat, save}
+use Rattle.stil_ast.specs.Meaning.Flat.{Flat, done, repeat}
 use Rattle.stil_ast.specs.Meaning.Flattening.{joined, Spot, Piece, repeat_piece, macro_piece, call_piece}
 use Rattle.stil_ast.specs.Meaning.Resolved.{Scope, origin, resolved_assigns}
 use Rattle.stil_ast.specs.Faults.AssignmentFaults.{Walked, Checked, fine, then_check, rule, bar_if, Callee, Standing, fault_on, check_arguments}
@@ -19,7 +19,9 @@ use Rattle.macro_expand.specs.Calling.{MayCall}
 use Rattle.macro_expand.specs.Giving.{at_count, Gives}
 use Rattle.macro_expand.specs.Refusing.{IsAt}
 use Rattle.macro_expand.specs.Stepping.{Steps}
-use Rattle.macro_expand.specs.Walks.{walked}
+use Rattle.flat_tree.specs.Kept.{kept, call_front}
+use Rattle.flat_tree.proofs.KeptLemmas.{call_front-joined}
+use Rattle.macro_expand.specs.Walks.{walked, then_kept}
 use Rattle.macro_expand.proofs.FlatLemmas.{puts}
 use Rattle.macro_expand.proofs.LoopLemmas.{loop-args}
 use Rattle.macro_expand.proofs.NamingLemmas.{call_runs}
@@ -90,7 +92,7 @@ module _ (sc : Scope) (check : Standing → Written → Walked → Checked) (s :
   -- what a Macro whose body has no fault writes
   pub macro_steps : (c : Callee) (assigns : List Assignment) (piece : Piece) (before after : Walk)
       → check_call sc check s line c assigns (walked before) ≡ fine (at_count before.args before.hashes after.count)
-      → ((more : Flat) → joined after.out more ≡ joined before.out (joined piece.flat more))
+      → ((more : Flat) → then_kept after.out more ≡ then_kept before.out (joined piece.flat more))
       → Steps (check_call sc check s line c assigns) (macro_piece (here before.args) piece) before
       (record before { count = after.count; out = after.out })
   macro_steps c assigns piece before after checks writes = record { checked = checks; out = writes; args = refl }
@@ -98,14 +100,15 @@ module _ (sc : Scope) (check : Standing → Written → Walked → Checked) (s :
   -- what a Call whose body has no fault writes
   pub call_steps : (c : Callee) (assigns : List Assignment) (piece : Piece) (before after : Walk) (out : Flat)
       → check_call sc check s line c assigns (walked before) ≡ fine (at_count before.args before.hashes after.count)
-      → after.out ≡ piece.flat → out ≡ joined before.out (save true after.out done)
+      → after.out ≡ kept piece.flat → out ≡ joined before.out (call_front after.out done)
       → Steps (check_call sc check s line c assigns) (call_piece (here before.args) piece) before
       (record before { count = after.count; out = out })
   call_steps c assigns piece before after out checks is e = record {
     checked = checks;
     out = λ more.
-        puts before.out (save true after.out done) out more e
-        ∙ ap (λ (body : Flat). joined before.out (joined (save true body done) more)) is;
+        puts before.out (call_front after.out done) out (kept more) e
+        ∙ ap (joined before.out) (call_front-joined after.out done (kept more))
+        ∙ ap (λ (body : Flat). joined before.out (call_front body (kept more))) is;
     args = refl;
   }
 
@@ -113,7 +116,7 @@ module _ (sc : Scope) (check : Standing → Written → Walked → Checked) (s :
   pub loop_steps : (times : ℕ) (body : Written) (piece : Piece) (before after : Walk) (out : Flat)
       → nat_lt s.loops deepest_loops ≡ true → s.in_shift ≡ false
       → check_list sc check (inside_loop s) body (walked before) ≡ fine (walked after)
-      → after.out ≡ piece.flat → out ≡ joined before.out (repeat times after.out done)
+      → after.out ≡ kept piece.flat → out ≡ joined before.out (repeat times after.out done)
       → Steps (rule (nat_lt s.loops deepest_loops) (fault_on sc s line TooLarge)
       (bar_if s.in_shift (fault_on sc s line ShiftForm) (check_list sc check (inside_loop s) body)))
       (repeat_piece times (here before.args) piece) before (record after { out = out })
@@ -124,7 +127,7 @@ module _ (sc : Scope) (check : Standing → Written → Walked → Checked) (s :
         ∙ not_barred s.in_shift (fault_on sc s line ShiftForm) (check_list sc check (inside_loop s) body) (walked before) form
         ∙ checks;
     out = λ more.
-        puts before.out (repeat times after.out done) out more e
-        ∙ ap (λ (inside : Flat). joined before.out (joined (repeat times inside done) more)) is;
+        puts before.out (repeat times after.out done) out (kept more) e
+        ∙ ap (λ (inside : Flat). joined before.out (repeat times inside (kept more))) is;
     args = loop-args sc check (inside_loop s) body (walked before) (walked after) refl checks;
   }

@@ -11,6 +11,7 @@ use Rattle.stil_ast.specs.Meaning.Signals.{Names}
 use Rattle.stil_ast.specs.Faults.AssignmentFaults.{Walked, Checked, fine, then_check, rule, Standing, fault_on}
 use Rattle.stil_ast.specs.Faults.PatternFaults.{inside_shift, back_from, times_checked, one_pass, check_passes, may_shift, takers_in, check_list}
 use Rattle.stil_ast.specs.declared.fault.StilKind.TheVariants.{ShiftForm}
+use Rattle.flat_tree.specs.Kept.{kept}
 use Rattle.flat_tree.specs.Origins.{body_of}
 use Rattle.flat_tree.proofs.FlatLemmas.{joined-assoc}
 use Rattle.macro_expand.specs.declared.trouble.Trouble.{Trouble}
@@ -24,7 +25,7 @@ use Rattle.macro_expand.specs.Refusing.{IsAt}
 use Rattle.macro_expand.specs.Scopes.{scope_in}
 use Rattle.macro_expand.specs.Stepping.{Steps}
 use Rattle.macro_expand.specs.Walking.{flat_at}
-use Rattle.macro_expand.specs.Walks.{walked}
+use Rattle.macro_expand.specs.Walks.{walked, then_kept}
 use Rattle.flat_tree.proofs.FlatLemmas.{joined-done}
 use Rattle.macro_expand.proofs.FlatLemmas.{puts}
 use Rattle.macro_expand.proofs.PlaceLemmas.{not_ruled_out}
@@ -45,10 +46,10 @@ module _ (check : Walked → Checked) (f : Spot → Piece) (p : Origin) (all : �
       record {
         checked = ap (λ (c : Checked). then_check c (times_checked left (one_pass check))) (sym e.checked) ∙ before.checked;
         out = λ more.
-            ap (λ (args : List Argument). joined after.out (joined (passes_at f p left args).flat more)) args
+            ap (λ (args : List Argument). then_kept after.out (joined (passes_at f p left args).flat more)) args
             ∙ e.out (joined next.flat more)
-            ∙ ap (λ (flat : Flat). joined now.out (joined flat (joined next.flat more))) flats
-            ∙ ap (joined now.out) (sym (joined-assoc (pass now.args).flat next.flat more))
+            ∙ ap (λ (flat : Flat). then_kept now.out (joined flat (joined next.flat more))) flats
+            ∙ ap (then_kept now.out) (sym (joined-assoc (pass now.args).flat next.flat more))
             ∙ before.out more;
         args = ap (λ (args : List Argument). (passes_at f p left args).spot.args) args ∙ before.args;
       }
@@ -160,8 +161,8 @@ module _ (sc : Scope) (inner : Standing → Written → Walked → Checked) (f :
             ∙ ap (back_from (walked before)) e.checked
             ∙ ap (λ (args : List Argument). fine (record { args = args; hashes = before.hashes; count = after.count })) (sym same);
         out = λ more.
-            puts before.out (save false done done) out more is
-            ∙ ap (λ n. joined before.out (joined (save false (made n).flat done) more)) (sym none);
+            puts before.out (save false done done) out (kept more) is
+            ∙ ap (λ n. then_kept before.out (joined (save false (made n).flat done) more)) (sym none);
         args = same ∙ sym (columns-none outs signals before.args none) ∙ ap (λ n. (made n).spot.args) (sym none);
       }
 
@@ -199,14 +200,14 @@ module _ (sc : Scope) (inner : Standing → Written → Walked → Checked) (f :
       → Steps whole (tree before.args) before (record after { out = out })
   passed_steps n before after out many e is =
       let made = λ (n : ℕ). passes_at f (origin s.body line) n (laid before).args in
-      let wrote : after.out ≡ (made (suc n)).flat
-      = sym (joined-done after.out) ∙ e.out done ∙ joined-done (made (suc n)).flat in
+      let wrote : after.out ≡ kept (made (suc n)).flat
+      = sym (joined-done after.out) ∙ e.out done ∙ ap kept (joined-done (made (suc n)).flat) in
       record {
         checked = passed n before many ∙ e.checked;
         out = λ more.
-            puts before.out (save false after.out done) out more is
-            ∙ ap (λ (flat : Flat). joined before.out (joined (save false flat done) more)) wrote
-            ∙ ap (λ n. joined before.out (joined (save false (made n).flat done) more)) (sym many);
+            puts before.out (save false after.out done) out (kept more) is
+            ∙ ap (λ (flat : Flat). joined before.out (save false flat (kept more))) wrote
+            ∙ ap (λ n. then_kept before.out (joined (save false (made n).flat done) more)) (sym many);
         args = e.args ∙ ap (λ n. (made n).spot.args) (sym many);
       }
 

@@ -3,7 +3,7 @@ use Rattle.std.proofs.Common.{◌≡◌, ℕ, ◌+◌, Bool, true, false, List, 
 use Rattle.stil_ast.specs.Meaning.Arguments.{Argument}
 use Rattle.stil_ast.specs.Meaning.Statements.{Assign}
 use Rattle.stil_ast.specs.Meaning.Dealing.{Dealt, deal, spread, takers}
-use Rattle.stil_ast.specs.Meaning.Flattening.{joined, gifts_front}
+use Rattle.stil_ast.specs.Meaning.Flattening.{gifts_front}
 use Rattle.stil_ast.specs.Meaning.Resolved.{Scope}
 use Rattle.stil_ast.specs.Faults.AssignmentFaults.{Walked, Checked, fine, refused, rule, bar_if, Standing, fault_on, hash_misplaced, width_fits, data_there, hashes_after, walked_assign}
 use Rattle.stil_ast.specs.declared.fault.StilFault.{StilFault}
@@ -11,7 +11,7 @@ use Rattle.stil_ast.specs.declared.fault.StilKind.TheVariants.{ShiftForm, Width,
 use Rattle.macro_expand.specs.declared.walk.Walk.{Walk}
 use Rattle.macro_expand.specs.Pairs.{Taker, paired, hashed_in, dealt_to}
 use Rattle.macro_expand.specs.Placing.{placed, Writes}
-use Rattle.macro_expand.specs.Walks.{walked, Deals}
+use Rattle.macro_expand.specs.Walks.{walked, then_kept, Deals}
 use Rattle.macro_expand.proofs.PairLemmas.{takers_paired, deal_paired}
 
 -- one rule after another
@@ -85,7 +85,7 @@ places sc s line a ts before form fits there same dealt d =
     = record {
       checked = done ∙ ap fine same_walked;
       args = args;
-      out = λ rest. d.out rest ∙ ap (λ (x : Dealt). joined before.out (gifts_front x.gifts rest)) gets;
+      out = λ rest. d.out rest ∙ ap (λ (x : Dealt). then_kept before.out (gifts_front x.gifts rest)) gets;
       taken = d.taken ∙ ap (λ xs. before.taken ++ xs) takes;
     } in
     subst (λ n. Writes (placed sc s line a) (a ∷ []) before (record dealt { count = n + length a.signals })) (sym d.count) all

@@ -10,6 +10,7 @@ use Rattle.stil_ast.specs.Faults.AssignmentFaults.{Walked, Checked}
 use Rattle.macro_expand.specs.declared.walk.Walk.{Walk}
 use Rattle.macro_expand.specs.Placing.{Writes}
 use Rattle.macro_expand.specs.Stepping.{Steps}
+use Rattle.macro_expand.specs.Walks.{then_kept}
 use Rattle.macro_expand.proofs.FlatLemmas.{puts_cycle, gifts_front-joined}
 
 -- assignments are written, with nothing noted before, and then a vector
@@ -27,9 +28,9 @@ vector_steps check t assigns before wrote place w out e =
       checked = w.checked;
       out = λ rest.
           puts_cycle wrote.out out (mark_of t.scan_outs wrote.taken wrote.args) place rest e
-          ∙ ap (λ n. joined wrote.out (cycle n place rest)) same
+          ∙ ap (λ n. then_kept wrote.out (cycle n place rest)) same
           ∙ w.out (cycle (mark_of t.scan_outs (takers assigns) d.args) place rest)
-          ∙ ap (joined before.out)
+          ∙ ap (then_kept before.out)
           (sym (gifts_front-joined d.gifts (cycle (mark_of t.scan_outs (takers assigns) d.args) place done) rest));
       args = w.args;
     }
@@ -42,6 +43,6 @@ condition_steps check assigns before after place w =
     let d = deal assigns before.args in
     record {
       checked = w.checked;
-      out = λ rest. w.out rest ∙ ap (joined before.out) (sym (gifts_front-joined d.gifts done rest));
+      out = λ rest. w.out rest ∙ ap (then_kept before.out) (sym (gifts_front-joined d.gifts done rest));
       args = w.args;
     }

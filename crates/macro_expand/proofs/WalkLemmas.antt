@@ -19,7 +19,7 @@ use Rattle.macro_expand.specs.declared.walk.Walk.{Walk}
 use Rattle.macro_expand.specs.Refusing.{IsAt}
 use Rattle.macro_expand.specs.Stepping.{Steps}
 use Rattle.macro_expand.specs.Walking.{flat_at, IsWalking}
-use Rattle.macro_expand.specs.Walks.{walked}
+use Rattle.macro_expand.specs.Walks.{walked, then_kept}
 use Rattle.macro_expand.proofs.PlaceLemmas.{not_ruled_out}
 
 module _ (sc : Scope) (t : Setting) (f : Option Statements → Spot → Piece) where
@@ -56,11 +56,11 @@ module _ (sc : Scope) (t : Setting) (check : Standing → Written → Walked →
         record {
           checked = ap (λ (c : Checked). then_check c (check_list sc check s rest)) (sym e.checked) ∙ sym checks ∙ before.checked;
           out = λ more.
-              ap (λ (args : List Argument). joined after.out (joined (flat_at t f (resolved sc s.body rest) args).flat more)) e.args
-              ∙ ap (λ (flat : Flat). joined after.out (joined flat more)) (flat-anywhere sc t f s.body rest piece.spot.args there piece.spot.place)
+              ap (λ (args : List Argument). then_kept after.out (joined (flat_at t f (resolved sc s.body rest) args).flat more)) e.args
+              ∙ ap (λ (flat : Flat). then_kept after.out (joined flat more)) (flat-anywhere sc t f s.body rest piece.spot.args there piece.spot.place)
               ∙ e.out (joined (next piece.spot).flat more)
-              ∙ ap (joined now.out) (sym (joined-assoc piece.flat (next piece.spot).flat more))
-              ∙ ap (λ (p : Piece). joined now.out (joined p.flat more)) (sym flats)
+              ∙ ap (then_kept now.out) (sym (joined-assoc piece.flat (next piece.spot).flat more))
+              ∙ ap (λ (p : Piece). then_kept now.out (joined p.flat more)) (sym flats)
               ∙ before.out more;
           args =
               ap (λ (args : List Argument). (flat_at t f (resolved sc s.body rest) args).spot.args) e.args
@@ -91,7 +91,7 @@ module _ (sc : Scope) (t : Setting) (check : Standing → Written → Walked →
         = not_ruled_out (may_walk (now.count + 1)) (fault_on sc s line TooLarge) (λ (w : Walked). fine (one_more w)) (walked now) few
         ∙ ap (λ (w : Walk). fine (walked w)) (sym is) in record {
           checked = sym e.checked ∙ counts;
-          out = λ more. ap (λ (w : Walk). joined w.out more) is ∙ e.out more;
+          out = λ more. ap (λ (w : Walk). then_kept w.out more) is ∙ e.out more;
           args = ap (λ (w : Walk). w.args) is ∙ e.args;
         }
 

@@ -16,6 +16,7 @@ use Rattle.stil_ast.specs.Faults.PatternFaults.{check_pattern}
 use Rattle.stil_ast.specs.declared.fault.StilFault.{StilFault}
 use Rattle.stil_ast.specs.declared.fault.StilRefusal.{StilRefusal}
 use Rattle.stil_ast.specs.declared.fault.StilRefusal.TheVariants as refusal
+use Rattle.flat_tree.specs.Kept.{kept}
 use Rattle.flat_tree.specs.Lean.{IsLean}
 use Rattle.macro_expand.specs.Recursing.{setting_in}
 use Rattle.macro_expand.specs.Refusing.{IsAt}
@@ -56,11 +57,12 @@ pub record IsPatternFault (names : Names) (scope : PatternScope) (body : Written
   pub is : r ≡ refusal.Fault fault
   pub first : pattern_check names scope body before ≡ refused fault
 
--- a pattern was walked from the start to its end: how far it came, and the tree that the language defines; or its fault
+-- a pattern was walked from the start to its end: how far it came, and what calls leave in the tree that the language
+-- defines; or its fault
 abbrev pub WalksOr : Names → PatternScope → Written → ℕ → Result Walk Trouble → Type 0
 WalksOr names scope body before (Ok walk) =
     (pattern_check names scope body before ≡ fine (walked walk))
-    × (walk.out ≡ flat_of (setting_in names scope) (pattern_in names scope body))
+    × (walk.out ≡ kept (flat_of (setting_in names scope) (pattern_in names scope body)))
 WalksOr names scope body before (Err trouble) =
     IsAt (titles_in scope.titles) (pattern_check names scope body before) trouble
 

@@ -17,7 +17,7 @@ use Rattle.macro_expand.specs.declared.walk.Walk.{Walk}
 use Rattle.macro_expand.specs.Recursing.{setting_in, stands, flat_named, named_in, list_check}
 use Rattle.macro_expand.specs.Scopes.{titles_in}
 use Rattle.macro_expand.specs.Stepping.{StepsOr}
-use Rattle.macro_expand.specs.Walks.{walked}
+use Rattle.macro_expand.specs.Walks.{walked, then_kept}
 
 -- so many passes of a Shift in this place, which begin with these arguments left
 abbrev pub passes_at : (Spot → Piece) → Origin → ℕ → List Argument → Piece
@@ -27,8 +27,8 @@ passes_at f p count args = pieces count (pass_piece p f) (record { args = args; 
 pub record IsPassing (check : Walked → Checked) (f : Spot → Piece) (p : Origin) (all : ℕ) (start : Walk)
     (left : ℕ) (now : Walk) : Type 0 where
   pub checked : times_checked left (one_pass check) (walked now) ≡ times_checked all (one_pass check) (walked start)
-  pub out : (rest : Flat) → joined now.out (joined (passes_at f p left now.args).flat rest)
-      ≡ joined start.out (joined (passes_at f p all start.args).flat rest)
+  pub out : (rest : Flat) → then_kept now.out (joined (passes_at f p left now.args).flat rest)
+      ≡ then_kept start.out (joined (passes_at f p all start.args).flat rest)
   pub args : (passes_at f p left now.args).spot.args ≡ (passes_at f p all start.args).spot.args
 
 -- one pass of statements that stand in a Shift is checked

@@ -14,7 +14,7 @@ use Rattle.macro_expand.specs.declared.trouble.Trouble.{Trouble}
 use Rattle.macro_expand.specs.declared.walk.Walk.{Walk}
 use Rattle.macro_expand.specs.Placing.{Writes}
 use Rattle.macro_expand.specs.Refusing.{IsAt}
-use Rattle.macro_expand.specs.Walks.{walked, Puts}
+use Rattle.macro_expand.specs.Walks.{walked, then_kept, Puts}
 
 -- assignments are written, or refused
 abbrev pub WritesOr : {A : Type 0} → Titles → (Walked → Checked) → List Assign → Walk → Walk → Result A Trouble → Type 0
@@ -27,8 +27,8 @@ pub record IsAssigning (sc : Scope) (s : Standing) (all : List Assignment) (star
   pub checked : check_assigns sc s left (walked now) ≡ check_assigns sc s all (walked start)
   pub args : (deal (resolved_assigns sc.names left) now.args).args
       ≡ (deal (resolved_assigns sc.names all) start.args).args
-  pub out : (rest : Flat) → joined now.out (gifts_front (deal (resolved_assigns sc.names left) now.args).gifts rest)
-      ≡ joined start.out (gifts_front (deal (resolved_assigns sc.names all) start.args).gifts rest)
+  pub out : (rest : Flat) → then_kept now.out (gifts_front (deal (resolved_assigns sc.names left) now.args).gifts rest)
+      ≡ then_kept start.out (gifts_front (deal (resolved_assigns sc.names all) start.args).gifts rest)
   pub taken : now.taken ++ takers (resolved_assigns sc.names left)
       ≡ start.taken ++ takers (resolved_assigns sc.names all)
 

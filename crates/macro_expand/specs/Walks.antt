@@ -4,6 +4,7 @@ use Rattle.stil_ast.specs.Faults.AssignmentFaults.{Walked}
 use Rattle.stil_ast.specs.Meaning.Dealing.{Dealt}
 use Rattle.stil_ast.specs.Meaning.Flat.{Flat}
 use Rattle.stil_ast.specs.Meaning.Flattening.{joined, gifts_front}
+use Rattle.flat_tree.specs.Kept.{kept}
 use Rattle.macro_expand.specs.declared.walk.Walk.{Walk}
 use Rattle.macro_expand.specs.Pairs.{Taker, hashed_in, dealt_to}
 
@@ -11,9 +12,13 @@ use Rattle.macro_expand.specs.Pairs.{Taker, hashed_in, dealt_to}
 abbrev pub walked : Walk → Walked
 walked w = record { args = w.args; hashes = w.hashes; count = w.count }
 
--- behind a tree stands another one, whatever comes behind that
+-- a tree, and behind it what calls leave in another one
+abbrev pub then_kept : Flat → Flat → Flat
+then_kept before rest = joined before (kept rest)
+
+-- behind a tree stands another one, whatever comes behind that, with what calls leave in it
 abbrev pub Puts : Flat → (Flat → Flat) → Flat → Type 0
-Puts before front after = (rest : Flat) → joined after rest ≡ joined before (front rest)
+Puts before front after = (rest : Flat) → then_kept after rest ≡ then_kept before (front rest)
 
 -- signals were given what they get, and those that got a `#` are noted
 pub record Deals (in_shift : Bool) (d : Dealt) (hashed : List ℕ) (before after : Walk) : Type 0 where
@@ -27,8 +32,8 @@ pub record Deals (in_shift : Bool) (d : Dealt) (hashed : List ℕ) (before after
 pub record IsDealing (in_shift : Bool) (takers : List Taker) (start : Walk) (left : List Taker) (now : Walk)
     : Type 0 where
   pub args : (dealt_to left now.args).args ≡ (dealt_to takers start.args).args
-  pub out : (rest : Flat) → joined now.out (gifts_front (dealt_to left now.args).gifts rest)
-      ≡ joined start.out (gifts_front (dealt_to takers start.args).gifts rest)
+  pub out : (rest : Flat) → then_kept now.out (gifts_front (dealt_to left now.args).gifts rest)
+      ≡ then_kept start.out (gifts_front (dealt_to takers start.args).gifts rest)
   pub taken : now.taken ++ hashed_in left ≡ start.taken ++ hashed_in takers
   pub hashes : (if in_shift then now.hashes ++ hashed_in left else now.hashes)
       ≡ (if in_shift then start.hashes ++ hashed_in takers else start.hashes)

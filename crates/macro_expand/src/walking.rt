@@ -229,7 +229,7 @@ fn walk_macro(
     }
 }
 
-/// Call: the procedure's body stands in a save that puts all back.
+/// Call: the procedure's body stands in a save that puts all back, where it has a vector; else only its loops stay.
 #[cycle(walk)]
 fn walk_call(
     alloc: Global,
@@ -254,7 +254,7 @@ fn walk_call(
     match walk_named(alloc, scope, s, line, callee, assigns, walk.count, out) {
         Ok(own) => {
             walk.count = own.count;
-            walk.out.push_save(true, own.out)?;
+            walk.out.push_call(own.out)?;
             Ok(())
         }
         Err(trouble) => Err(trouble),

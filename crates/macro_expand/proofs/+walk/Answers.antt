@@ -253,11 +253,11 @@ walking::walk_macro-returns-in-Err t c = λ names named.
     (record { kind = kind.Macro; number = n }) (walked walk)) c.in-Err.trouble)
     c.number.ensures (c.in-Err.ensures names walk.args walk.hashes named)
 
-pub walking::walk_call-returns-in_ok-push_save-in-Ok : goal.walking::walk_call-returns-in_ok-push_save-in-Ok
-walking::walk_call-returns-in_ok-push_save-in-Ok t c = λ names named.
+pub walking::walk_call-returns-in_ok-push_call-in-Ok : goal.walking::walk_call-returns-in_ok-push_call-in-Ok
+walking::walk_call-returns-in_ok-push_call-in-Ok t c = λ names named.
     let walk = c.args.walk.now in
     call_runs_in names c.args.scope.now c.args.s.now c.args.line c.args.assigns.now c.args.name.now c.number.result walk c.in-Ok.own
-    c.new-out.result c.push_save.new.self c.number.ensures c.new-out.ensures c.in_ok-push_save-in-Ok.ensures.made
+    c.new-out.result c.push_call.new.self c.number.ensures c.new-out.ensures c.in_ok-push_call-in-Ok.ensures.made
     (c.in-Ok.ensures names walk.args walk.hashes named)
 
 pub walking::walk_call-returns-in-Err : goal.walking::walk_call-returns-in-Err

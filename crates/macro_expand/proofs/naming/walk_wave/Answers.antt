@@ -3,12 +3,11 @@ use Rattle.std.proofs.lemmas.List.{length-map}
 use Rattle.stil_ast.specs.Data.Texts.{same, has_name}
 use Rattle.stil_ast.specs.Faults.AssignmentFaults.{fine, fault_on}
 use Rattle.stil_ast.specs.Meaning.Flat.{table}
-use Rattle.stil_ast.specs.Meaning.Flattening.{joined}
 use Rattle.stil_ast.specs.declared.fault.StilKind.TheVariants.{UnknownName}
 use Rattle.tester_types.specs.declared.wave.Table.{Table}
 use Rattle.macro_expand.specs.Scopes.{scope_in}
 use Rattle.macro_expand.specs.Standings.{standing_in}
-use Rattle.macro_expand.specs.Walks.{walked}
+use Rattle.macro_expand.specs.Walks.{walked, then_kept}
 use Rattle.macro_expand.proofs.FlatLemmas.{puts_table}
 use Rattle.macro_expand.proofs.NamingLemmas.{found_nowhere, found_somewhere}
 use Rattle.macro_expand.proofs.PlaceLemmas.{ruled_out, not_ruled_out}
@@ -36,6 +35,6 @@ returns c = λ names.
           (λ none. c.if-number-len.false (c.table_number-number.ensures ∙ none ∙ length-map tables name ∙ sym c.len.ensures)));
       out = λ rest.
           puts_table before c.push_table.new.self c.table_number-number.result rest c.in_ok-push_table.ensures.made
-          ∙ ap (λ (n : ℕ). joined before (table n rest)) c.table_number-number.ensures;
+          ∙ ap (λ (n : ℕ). then_kept before (table n rest)) c.table_number-number.ensures;
       args = refl;
     }
