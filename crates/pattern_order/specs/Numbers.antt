@@ -1,12 +1,13 @@
 -- Blocks by their numbers. A name stands for the first block of its kind that has it (IEEE 1450-1999, clauses 16 and
 -- 17).
-use Rattle.std.specs.Prelude.{◌≡◌, ◌<◌, ℕ, Bool, true, false, List, [], Option, Some, None, length, map, position, slice_get, if◌then◌else◌}
+use Rattle.std.specs.Prelude.{◌≡◌, ◌<◌, ℕ, Bool, true, false, List, [], Option, Some, None, is_some, length, map, position, slice_get, if◌then◌else◌}
 use Rattle.std.specs.Borrow.{Bor}
+use Rattle.std.specs.List.{list_any}
 use Rattle.indexmap.specs.IndexMap.{IndexMap, get_by}
 use Rattle.std.specs.Str.{bytes_eq}
 use Rattle.stil_ast.specs.Data.Texts.{same}
 use Rattle.stil_ast.specs.Meaning.Bursts.{Played, is_entry}
-use Rattle.stil_ast.specs.Faults.BurstFaults.{has_block}
+use Rattle.stil_ast.specs.Faults.BurstFaults.{has_block, is_category}
 use Rattle.stil_ast.specs.declared.blocks.Blocks.{Blocks}
 use Rattle.stil_ast.specs.declared.blocks.DefBlock.{DefBlock}
 use Rattle.stil_ast.specs.declared.blocks.Pattern.{Pattern}
@@ -14,6 +15,8 @@ use Rattle.stil_ast.specs.declared.executive.Burst.{Burst}
 use Rattle.stil_ast.specs.declared.executive.BurstItem.{BurstItem}
 use Rattle.stil_ast.specs.declared.scan.ScanBlock.{ScanBlock}
 use Rattle.stil_ast.specs.declared.signal.GroupBlock.{GroupBlock}
+use Rattle.stil_ast.specs.declared.variable.Category.{Category}
+use Rattle.stil_ast.specs.declared.variable.SpecBlock.{SpecBlock}
 use Rattle.pattern_order.specs.Walk.{pattern_played}
 use Rattle.pattern_order.specs.declared.meaning.Meaning.{Meaning}
 use Rattle.pattern_order.specs.declared.meaning.Meaning.TheVariants.{Unknown, Block, Pattern as APattern, Burst as ABurst}
@@ -21,6 +24,18 @@ use Rattle.pattern_order.specs.declared.meaning.Meaning.TheVariants.{Unknown, Bl
 -- the place that is kept for a name
 abbrev pub place_in : {S : Type 0} → IndexMap (Bor (List ℕ)) ℕ S → List ℕ → Option ℕ
 place_in places name = get_by (λ k. bytes_eq name k.now) places
+
+-- whether a category has this name
+abbrev pub is_called : List ℕ → Category → Bool
+is_called name c = same c.name name
+
+-- whether a Spec has a category of this name
+abbrev pub has_category : List ℕ → SpecBlock → Bool
+has_category name s = list_any (is_called name) s.categories
+
+-- a place for each name of a category
+abbrev pub AreCategories : {S : Type 0} → Blocks → IndexMap (Bor (List ℕ)) ℕ S → Type 0
+AreCategories blocks categories = (name : List ℕ) → is_some (place_in categories name) ≡ is_category blocks name
 
 -- the number of the pattern of a name
 abbrev pub pattern_number : Blocks → List ℕ → Option ℕ

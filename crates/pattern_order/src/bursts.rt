@@ -1,6 +1,7 @@
-//! The bursts of a text, with what each name in them means.
+//! The bursts of a text, with what each name in them means, and the names of its categories.
 
 ghost use Rattle.std.specs.Prelude.{◌≡◌, ◌<◌, List, Some, length, map, slice_get, slice_index_or, IfOk};
+ghost use Rattle.stil_ast.specs.Faults.BurstFaults.{is_category};
 ghost use Rattle.stil_ast.specs.declared.blocks.Pattern.{Pattern};
 ghost use Rattle.stil_ast.specs.declared.executive.Burst.{Burst};
 ghost use Rattle.stil_ast.specs.declared.executive.BurstItem.{BurstItem};
@@ -8,7 +9,7 @@ ghost use Rattle.pattern_order.specs.declared.meaning.Meaning.TheVariants as mea
 ghost use Rattle.pattern_order.specs.Numbers.{burst_number, meaning_of, meanings_of};
 
 use crate::meaning::Meaning;
-use crate::places::BlockPlaces;
+use crate::places::{BlockPlaces, Places, categories_of, place_of};
 use std::alloc::{AllocError, Global};
 use std::marker::Model;
 use stil_ast::{Blocks, Burst, Pattern};
@@ -55,17 +56,19 @@ fn all_meanings(
     Ok(meanings)
 }
 
-/// The bursts of a text with the meanings of all names in them, which are looked up once.
+/// The bursts of a text with the meanings of all names in them, which are looked up once, and the names of its
+/// categories.
 #[derive(Drop)]
 pub struct BurstNames<'a> {
     places: BlockPlaces<'a>,
+    categories: Places<'a>,
     meanings: Vec<MeaningList>,
 }
 
 impl<'a> Model for BurstNames<'a> {
     ghost use Rattle.std.specs.Prelude.{◌≡◌, map};
     ghost use Rattle.stil_ast.specs.declared.blocks.Blocks.{Blocks};
-    ghost use Rattle.pattern_order.specs.Numbers.{meanings_of};
+    ghost use Rattle.pattern_order.specs.Numbers.{meanings_of, AreCategories};
 
     ghost Value = { Blocks };
 
@@ -75,7 +78,8 @@ impl<'a> Model for BurstNames<'a> {
 
     ghost view = { λ n. n.places };
 
-    ghost invariant = { λ n. n.meanings.items ≡ map (meanings_of n.places) n.places.bursts };
+    ghost invariant = { λ n. (n.meanings.items ≡ map (meanings_of n.places) n.places.bursts)
+        × AreCategories n.places n.categories };
 }
 
 impl<'a> BurstNames<'a> {
@@ -84,8 +88,13 @@ impl<'a> BurstNames<'a> {
         ensures { IfOk result (λ names. names ≡ blocks.now) }
     {
         let places = BlockPlaces::new(alloc, blocks)?;
+        let categories = categories_of(alloc, blocks)?;
         let meanings = all_meanings(alloc, &places, blocks.bursts.as_slice())?;
-        Ok(BurstNames { places, meanings })
+        Ok(BurstNames {
+            places,
+            categories,
+            meanings,
+        })
     }
 
     /// The blocks whose bursts they are.
@@ -100,6 +109,13 @@ impl<'a> BurstNames<'a> {
         ensures { result ≡ burst_number self.now name.now }
     {
         self.places.burst_number(name)
+    }
+
+    /// Whether some Spec has a category of this name.
+    pub(crate) fn is_category(&self, name: &[u8]) -> bool
+        ensures { result ≡ is_category self.now name.now }
+    {
+        place_of(&self.categories, name).is_some()
     }
 
     /// How many bursts there are.

@@ -5,30 +5,9 @@ ghost use Rattle.std.specs.List.{list_any};
 ghost use Rattle.stil_ast.specs.Data.Texts.{same};
 ghost use Rattle.stil_ast.specs.Data.BlockForms.{is_macros_word, is_procedures_word};
 ghost use Rattle.stil_ast.specs.Meaning.Bursts.{macros_name, procedures_name};
-ghost use Rattle.stil_ast.specs.Faults.BurstFaults.{is_category, is_selector, is_timing};
-ghost use Rattle.stil_ast.specs.declared.variable.Category.{Category};
+ghost use Rattle.stil_ast.specs.Faults.BurstFaults.{is_selector, is_timing};
 
-use stil_ast::{Blocks, BurstItem, BurstWord, Category};
-
-/// Whether one of these categories has this name.
-fn is_category_among(categories: &[Category], name: &[u8]) -> bool
-    ensures { result ≡ list_any (λ (c : Category). same c.name name.now) categories.now }
-{
-    categories
-        .iter()
-        .any(|category| category.name.as_slice() == name)
-}
-
-/// Whether some Spec has a category of this name.
-pub(crate) fn is_category(blocks: &Blocks, name: &[u8]) -> bool
-    ensures { result ≡ is_category blocks.now name.now }
-{
-    blocks
-        .specs
-        .as_slice()
-        .iter()
-        .any(|spec| is_category_among(spec.categories.as_slice(), name))
-}
+use stil_ast::{Blocks, BurstItem, BurstWord};
 
 /// Whether there is a Selector of this name.
 pub(crate) fn is_selector(blocks: &Blocks, name: &[u8]) -> bool

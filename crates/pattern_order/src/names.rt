@@ -7,7 +7,8 @@ ghost use Rattle.stil_ast.specs.declared.fault.StilKind.TheVariants.{UnknownName
 ghost use Rattle.signal_groups.specs.Begun.{Refuses, FirstTells};
 ghost use Rattle.pattern_order.specs.Answer.{own_fault};
 
-use crate::found::{is_category, is_selector, is_timing};
+use crate::bursts::BurstNames;
+use crate::found::{is_selector, is_timing};
 use std::alloc::{AllocError, Global};
 use stil_ast::{Blocks, ExecDecl, Named, StilFault, StilKind, StilRefusal};
 use tester_types::Items;
@@ -52,16 +53,11 @@ fn check_name(
 }
 
 /// Checks the names of categories.
-fn check_categories(alloc: Global, blocks: &Blocks, exec: &ExecDecl) -> Result<(), StilRefusal>
-    ensures { FirstTells result (first_in (named_fault exec.now (is_category blocks.now)) exec.now.categories) }
+fn check_categories(alloc: Global, names: &BurstNames, exec: &ExecDecl) -> Result<(), StilRefusal>
+    ensures { FirstTells result (first_in (named_fault exec.now (is_category names.now)) exec.now.categories) }
 {
     for named in exec.categories.as_slice() {
-        check_name(
-            alloc,
-            exec,
-            named,
-            is_category(blocks, named.name.as_slice()),
-        )?;
+        check_name(alloc, exec, named, names.is_category(named.name.as_slice()))?;
     }
     Ok(())
 }
@@ -92,10 +88,15 @@ fn check_timing(alloc: Global, blocks: &Blocks, exec: &ExecDecl) -> Result<(), S
 }
 
 /// Checks the names that an executive gives but for its burst.
-pub(crate) fn check_own(alloc: Global, blocks: &Blocks, exec: &ExecDecl) -> Result<(), StilRefusal>
-    ensures { FirstTells result (own_fault blocks.now exec.now) }
+pub(crate) fn check_own(
+    alloc: Global,
+    names: &BurstNames,
+    exec: &ExecDecl,
+) -> Result<(), StilRefusal>
+    ensures { FirstTells result (own_fault names.now exec.now) }
 {
-    check_categories(alloc, blocks, exec)?;
+    check_categories(alloc, names, exec)?;
+    let blocks = names.blocks();
     check_selector(alloc, blocks, exec)?;
     check_timing(alloc, blocks, exec)
 }

@@ -52,7 +52,7 @@ fn ordered<'a>(
 ) -> Result<PlayOrder<'a>, StilRefusal>
     ensures { Orders (exec_names_fault names.now exec.now) (played names.now exec.now) result }
 {
-    if let Err(refusal) = check_own(alloc, names.blocks(), exec) {
+    if let Err(refusal) = check_own(alloc, names, exec) {
         return Err(refusal);
     }
     match names.number(exec.burst.name.as_slice()) {

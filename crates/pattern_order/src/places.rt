@@ -1,17 +1,21 @@
 //! The blocks of a text by their names, which are looked up by hash.
 
-ghost use Rattle.std.specs.Prelude.{◌≡◌, ℕ, List, Some, None, IfOk, OnOk, position, is_some, if◌then◌else◌};
+ghost use Rattle.std.specs.Prelude.{◌≡◌, ◌||◌, ℕ, List, Some, None, IfOk, OnOk, position, is_some, if◌then◌else◌};
+ghost use Rattle.std.specs.List.{list_any};
 ghost use Rattle.std.specs.Option.{option_or};
 ghost use Rattle.std.specs.Str.{bytes_eq};
 ghost use Rattle.stil_ast.specs.Data.Texts.{same};
 ghost use Rattle.stil_ast.specs.Faults.BurstFaults.{has_block};
-ghost use Rattle.pattern_order.specs.Numbers.{place_in, burst_number, meaning_of, entry_meaning, block_meaning};
+ghost use Rattle.pattern_order.specs.Numbers.{place_in, is_called, has_category, AreCategories, burst_number, meaning_of, entry_meaning, block_meaning};
 
 use crate::meaning::Meaning;
 use indexmap::IndexMap;
 use std::alloc::{AllocError, Global};
 use std::marker::Model;
-use stil_ast::{Blocks, Burst, BurstItem, BurstWord, DefBlock, GroupBlock, Pattern, ScanBlock};
+use stil_ast::{
+    Blocks, Burst, BurstItem, BurstWord, Category, DefBlock, GroupBlock, Pattern, ScanBlock,
+    SpecBlock,
+};
 
 /// What has a name.
 pub(crate) trait HasName {
@@ -64,6 +68,14 @@ impl HasName for ScanBlock {
     }
 }
 
+impl HasName for Category {
+    ghost called = { λ c. c.name };
+
+    fn name(&self) -> &[u8] {
+        self.name.as_slice()
+    }
+}
+
 /// The place of each name among others, which are counted from 0.
 pub type Places<'a> = IndexMap<&'a [u8], usize>;
 
@@ -100,6 +112,36 @@ fn places_of<'a, T: HasName>(alloc: Global, items: &'a [T]) -> Result<Places<'a>
         add_place(&mut places, item.name(), place)?;
     }
     Ok(places)
+}
+
+/// Gives the names of these categories places among those before.
+fn add_categories<'a>(places: &mut Places<'a>, categories: &'a [Category]) -> Result<(), AllocError>
+    ensures { OnOk result ((name : List ℕ) → is_some (place_in places.new name)
+        ≡ (is_some (place_in places.old name) || list_any (is_called name) categories.now)) }
+{
+    for (place, category) in categories.iter().enumerate() {
+        add_place(places, category.name(), place)?;
+    }
+    Ok(())
+}
+
+/// A place for the name of each category of each Spec.
+fn category_places<'a>(alloc: Global, specs: &'a [SpecBlock]) -> Result<Places<'a>, AllocError>
+    ensures { IfOk result (λ places. (name : List ℕ) → is_some (place_in places name)
+        ≡ list_any (has_category name) specs.now) }
+{
+    let mut places = IndexMap::new(alloc);
+    for spec in specs {
+        add_categories(&mut places, spec.categories.as_slice())?;
+    }
+    Ok(places)
+}
+
+/// A place for the name of each category of these blocks.
+pub(crate) fn categories_of<'a>(alloc: Global, blocks: &'a Blocks) -> Result<Places<'a>, AllocError>
+    ensures { IfOk result (λ places. AreCategories blocks.now places) }
+{
+    category_places(alloc, blocks.specs.as_slice())
 }
 
 /// What an entry of a PatList means.

@@ -1,9 +1,5 @@
-use Rattle.std.proofs.Common.{sym, ap, subst, ◌∙◌}
-use Rattle.std.specs.Prelude.{Err}
-use Rattle.stil_ast.specs.declared.blocks.Blocks.{Blocks}
-use Rattle.signal_groups.specs.Begun.{FirstTells}
+use Rattle.std.proofs.Common.{sym, ap, ◌∙◌}
 use Rattle.pattern_order.specs.Numbers.{burst_number}
-use Rattle.pattern_order.specs.Answer.{own_fault}
 use Rattle.pattern_order.proofs.OrderLemmas.{own-refused, order-known, order-unknown}
 use Rattle.pattern_order.proofs.MeaningLemmas.{number-first}
 use Rattle.pattern_order.proofs.order.ordered.Goals as goal
@@ -16,16 +12,15 @@ burst_order-requires c =
 pub returns-in-Some : goal.returns-in-Some
 returns-in-Some c =
     order-known c.args.names.now c.args.exec.now c.in-Some.number c.burst_order.result
-    (ap (λ (bs : Blocks). own_fault bs c.args.exec.now) (sym c.blocks-2.ensures) ∙ c.in_default.ensures)
+    c.in_default.ensures
     (ap (burst_number c.args.names.now) (sym c.as_slice.ensures) ∙ sym c.number.ensures ∙ c.in-Some.is) c.burst_order.ensures
 
 pub returns-in-None : goal.returns-in-None
 returns-in-None c =
     order-unknown c.args.names.now c.args.exec.now c.refused.result
-    (ap (λ (bs : Blocks). own_fault bs c.args.exec.now) (sym c.blocks-2.ensures) ∙ c.in_default.ensures)
+    c.in_default.ensures
     (ap (burst_number c.args.names.now) (sym c.as_slice.ensures) ∙ sym c.number.ensures ∙ c.in-None.is) c.refused.ensures
 
 pub returns-in-Err : goal.returns-in-Err
 returns-in-Err c =
-    own-refused c.args.names.now c.args.exec.now c.in-Err.refusal
-    (subst (λ (bs : Blocks). FirstTells (Err c.in-Err.refusal) (own_fault bs c.args.exec.now)) c.blocks-2.ensures c.in-Err.ensures)
+    own-refused c.args.names.now c.args.exec.now c.in-Err.refusal c.in-Err.ensures

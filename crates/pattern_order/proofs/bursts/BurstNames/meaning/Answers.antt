@@ -13,4 +13,4 @@ returns c = λ b i there here.
     ∙ subst (λ (bs : Blocks). slice_get bs.bursts c.args.number ≡ Some b
     → slice_index_or c.index.result.now c.args.place Unknown ≡ meaning_of bs i) c.self.view_is
     (λ at. meaning-kept c.self.inside.places c.self.inside.meanings.items c.index.result.now c.args.number c.args.place b i
-    c.self.invariant c.index.ensures at here) there
+    c.self.invariant.0 c.index.ensures at here) there
