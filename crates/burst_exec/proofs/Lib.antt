@@ -3,6 +3,7 @@ pub mod FindLemmas
 pub mod ListLemmas
 pub mod WaveLemmas
 pub mod StagedLemmas
+pub mod MadeLemmas
 pub mod JoinedLemmas
 pub mod StopLemmas
 pub mod OutLemmas

@@ -6,7 +6,7 @@ use Rattle.stil_ast.specs.Faults.Found.{or_else, IsRefusal}
 use Rattle.stil_ast.specs.Faults.BurstFaults.{exec_names_fault}
 use Rattle.stil_ast.specs.Faults.ExecutiveFaults.{timed_of, exec_waves, exec_walked, exec_fault, check_patterns, checked_fault}
 use Rattle.stil_ast.specs.Faults.TableFaults.{tables_fault}
-use Rattle.stil_ast.specs.Meaning.Bursts.{Played, played}
+use Rattle.stil_ast.specs.Meaning.Bursts.{Played, played, exec_scans}
 use Rattle.stil_ast.specs.Meaning.Chains.{Chain}
 use Rattle.stil_ast.specs.Meaning.Executive.{table_list, chain_list, exec_value}
 use Rattle.stil_ast.specs.Meaning.Variables.{picked, variables_fault}
@@ -21,7 +21,7 @@ use Rattle.time_expr.specs.Ratio.{Ratio}
 use Rattle.time_expr.specs.TimeIn.{AreNames}
 use Rattle.time_expr.specs.TimesOf.{times_of}
 use Rattle.pattern_order.specs.Answer.{IsNamesFault}
-use Rattle.scan_chain.specs.Fault.{chain_list_fault, IsChainFault}
+use Rattle.scan_chain.specs.Fault.{chain_list_fault, chains_titled, titled_fault, Scans}
 use Rattle.wave_tables.proofs.CountLemmas.{waves_counted}
 use Rattle.wave_tables.specs.Waves.{waves_at}
 use Rattle.burst_exec.specs.Finding.{Finds}
@@ -74,14 +74,15 @@ tables_found blocks waves e (Ok set) found fault = found
 tables_found blocks waves e (Err r) found fault =
     refuses (tables_fault (timed_of times_of blocks e) waves) r fault
 
-pub chains_found : (blocks : Blocks) (e : ExecDecl) (r : Result (List Chain) StilRefusal)
-    → IfOk r (λ chains. (chain_list_fault blocks e ≡ None) × (chains ≡ chain_list blocks e))
-    → IfErr r (λ r. (r ≡ refusal.NoMemory) ⊎ IsChainFault blocks e r)
+pub chains_found : (blocks : Blocks) (e : ExecDecl) (title : List ℕ) (r : Result (List Chain) StilRefusal)
+    → title ≡ exec_scans blocks e → Scans blocks title r
     → Finds (ends_fault blocks e) (λ chains. chains ≡ chains_of blocks e) r
 unfolding ends_fault chains_of
-chains_found blocks e (Ok chains) found fault = found
-chains_found blocks e (Err r) found (inl m) = rw m tt
-chains_found blocks e (Err r) found (inr h) = rw h.is h.first
+chains_found blocks e title (Ok chains) is h =
+    subst (λ (x : List ℕ). (titled_fault blocks x ≡ None) × (chains ≡ chains_titled blocks x)) is h
+chains_found blocks e title (Err refusal.NoMemory) is h = tt
+chains_found blocks e title (Err (refusal.Fault f)) is h =
+    subst (λ (x : List ℕ). titled_fault blocks x ≡ Some f) is h
 
 pub chains_there : (blocks : Blocks) (e : ExecDecl) (chains : List Chain) → chains ≡ chains_of blocks e
     → chains ≡ chain_list blocks e

@@ -7,16 +7,18 @@ use Rattle.stil_ast.specs.Meaning.Flat.{Flat}
 use Rattle.stil_ast.specs.declared.blocks.Blocks.{Blocks}
 use Rattle.stil_ast.specs.declared.executive.ExecDecl.{ExecDecl}
 use Rattle.stil_ast.specs.declared.fault.StilRefusal.{StilRefusal}
+use Rattle.burst_exec.specs.Booked.{AreBooked}
 use Rattle.burst_exec.specs.Held.{trees_in}
 use Rattle.burst_exec.specs.Joined.{AreJoined}
 use Rattle.burst_exec.specs.Patterns.{IsExpanded, played_fault, ArePlayed, IsPlaying}
 use Rattle.burst_exec.specs.declared.progress.Progress.{Progress}
 use Rattle.burst_exec.specs.declared.trees.Draft.{Draft}
 
--- the bodies are those of these blocks
+-- the bodies and the chains are those of these blocks
 pub record IsCarried (blocks : Blocks) (p : Progress) : Type 0 where
   pub macros_are : AreJoined blocks.macros p.macros
   pub procedures_are : AreJoined blocks.procedures p.procedures
+  pub scans_are : AreBooked blocks p.scans
 
 -- a pattern was expanded
 pub record HasExpanded (blocks : Blocks) (e : ExecDecl) (p : Played) (before after : Progress) (flat : Flat)

@@ -30,6 +30,7 @@ use signal_groups::SignalTable;
 use std::alloc::Global;
 use stil_ast::{Blocks, ExecDecl, StilRefusal};
 use tester_types::Items;
+use time_expr::TimeTexts;
 
 /// The executives of a text, in text order, with the tables, the chains and the flat trees that they are compiled from.
 /// The signals are those of the blocks.
@@ -66,6 +67,21 @@ fn gathered<'a>(
     requires signals { signals.now ≡ table_of (names_of blocks.now) }
     ensures { Finds (text_fault blocks.now) (AreAllOf blocks.now) result }
 {
+    let texts = TimeTexts::new(alloc, blocks)?;
+    gathered_by(alloc, blocks, &texts, signals)
+}
+
+/// The same, with the texts of times that are kept.
+fn gathered_by<'a>(
+    alloc: Global,
+    blocks: &'a Blocks,
+    texts: &TimeTexts,
+    signals: &SignalTable,
+) -> Result<ExecList<'a>, StilRefusal>
+    requires text { AreOfOneText blocks.now }
+    requires signals { signals.now ≡ table_of (names_of blocks.now) }
+    ensures { Finds (text_fault blocks.now) (AreAllOf blocks.now) result }
+{
     let outs = outs_in(alloc, signals)?;
     let names = BurstNames::new(alloc, blocks)?;
     let mut progress = Progress::new(alloc);
@@ -73,6 +89,7 @@ fn gathered<'a>(
     match take_all(
         alloc,
         &names,
+        texts,
         signals,
         outs.as_slice(),
         &mut progress,
@@ -87,6 +104,7 @@ fn gathered<'a>(
 fn take_all<'a>(
     alloc: Global,
     names: &BurstNames<'a>,
+    texts: &TimeTexts,
     signals: &SignalTable,
     outs: &[bool],
     progress: &mut Progress<'a>,
@@ -100,7 +118,7 @@ fn take_all<'a>(
     ensures { Finds (text_fault names.now) (λ _. AreAllOf names.now execs.new.items) result }
 {
     for exec in 0..names.blocks().executives.len() {
-        match take_next(alloc, names, exec, signals, outs, progress, execs) {
+        match take_next(alloc, names, texts, exec, signals, outs, progress, execs) {
             Ok(()) => {}
             Err(refusal) => return Err(refusal),
         }
@@ -112,6 +130,7 @@ fn take_all<'a>(
 fn take_next<'a>(
     alloc: Global,
     names: &BurstNames<'a>,
+    texts: &TimeTexts,
     exec: usize,
     signals: &SignalTable,
     outs: &[bool],
@@ -128,7 +147,7 @@ fn take_next<'a>(
     ensures takes { MatchResult result (λ _. IsGathering names.now (exec + 1) progress.new execs.new.items)
         (IsRefusal (text_fault names.now)) }
 {
-    let taken = match exec_behind(alloc, names, exec, signals, outs, progress) {
+    let taken = match exec_behind(alloc, names, texts, exec, signals, outs, progress) {
         Ok(taken) => taken,
         Err(refusal) => return Err(refusal),
     };
@@ -140,6 +159,7 @@ fn take_next<'a>(
 fn exec_behind<'a>(
     alloc: Global,
     names: &BurstNames<'a>,
+    texts: &TimeTexts,
     exec: usize,
     signals: &SignalTable,
     outs: &[bool],
@@ -155,7 +175,15 @@ fn exec_behind<'a>(
         → Finds (whole_fault names.now progress.old.waves progress.old.walked e)
         (IsTaken names.now e progress.old progress.new) result }
 {
-    let stage = match stage_exec(alloc, names, exec, signals, progress.waves) {
+    let stage = match stage_exec(
+        alloc,
+        names,
+        texts,
+        exec,
+        signals,
+        progress.waves,
+        &mut progress.scans,
+    ) {
         Ok(stage) => stage,
         Err(refusal) => return Err(refusal),
     };

@@ -3,6 +3,7 @@
 #![tactic(auto)]
 
 mod building;
+mod chain_book;
 mod exec;
 mod joined;
 mod progress;

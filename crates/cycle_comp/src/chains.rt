@@ -9,20 +9,9 @@ ghost use Rattle.cycle_comp.specs.Compiled.{chain_of};
 use page_code::{CodeChain, CodeChainList};
 use scan_chain::{Chains, ScanChain};
 use std::alloc::{AllocError, Global};
-use tester_types::{Text, TextList};
+use tester_types::Text;
 
-/// Texts, copied.
-fn copy_texts(alloc: Global, texts: &[Text]) -> Result<TextList, AllocError>
-    ensures { IfOk result (λ list. list ≡ texts.now) }
-{
-    let mut list = Vec::new(alloc);
-    for text in texts {
-        list.push(Text::from_slice(alloc, text.as_slice())?)?;
-    }
-    Ok(TextList::from_vec(list))
-}
-
-/// A chain of the code.
+/// A chain of the code, which shares the names of its cells.
 fn copy_chain(alloc: Global, chain: &ScanChain) -> Result<CodeChain, AllocError>
     requires { is_short (chain_in chain.now) ≡ true }
     ensures { IfOk result (λ c. c ≡ chain_of (chain_in chain.now)) }
@@ -31,7 +20,7 @@ fn copy_chain(alloc: Global, chain: &ScanChain) -> Result<CodeChain, AllocError>
         name: Text::from_slice(alloc, chain.name.as_slice())?,
         out: chain.scan_out,
         length: chain.length as u32,
-        cells: copy_texts(alloc, chain.cells.as_slice())?,
+        cells: chain.cells.share()?,
     })
 }
 

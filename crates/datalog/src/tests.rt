@@ -2,6 +2,7 @@
 
 use crate::cells::put_cell_in;
 use crate::trials::put_verdict;
+use cell_names::CellNames;
 use page_code::CodeChain;
 use std::alloc::Global;
 use std::test::Fail;
@@ -27,7 +28,7 @@ fn chain(alloc: Global) -> Result<CodeChain, NoMemory> {
         name: text(alloc, b"c1")?,
         out: 1,
         length: 3,
-        cells: Items::from_vec(cells),
+        cells: CellNames::new(alloc, cells)?,
     })
 }
 

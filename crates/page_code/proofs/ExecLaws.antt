@@ -5,6 +5,7 @@ use Rattle.std.specs.List.{flat_map}
 use Rattle.std.proofs.lemmas.Bool.{and_parts, and_from, ltb-true, leb-true, eqb-true, lt-ltb, le-leb}
 use Rattle.std.proofs.lemmas.List.{append-nil, length-take, length-drop, take-append-drop, drop-drop, drop_all}
 use Rattle.std.proofs.lemmas.Nat.{from_le_bytes-to_le_bytes_2, from_le_bytes-to_le_bytes_4, from_le_bytes-to_le_bytes_8}
+use Rattle.std.proofs.lemmas.Option.{same_Some}
 use Rattle.tester_types.specs.declared.wave.Table.{Table}
 use Rattle.page_meaning.specs.declared.instr.Instr.{Instr}
 use Rattle.page_meaning.specs.declared.instr.Instr.TheVariants.{Run, Loop, End, Done}
@@ -90,9 +91,6 @@ zero_stands raw op size first zeros =
     let z : part 1 15 raw ≡ replicate 15 0 = zeros_are (part 1 15 raw) zeros ∙ ap (λ (k : ℕ). replicate k 0) (length-part 1 15 raw (omega arith)) in
     first_is raw (omega arith) ∙ ap (λ (x : ℕ). x ∷ drop 1 raw) first ∙ ap (λ (x : List ℕ). op ∷ x) (ends_at 1 15 raw size ∙ z)
 
-some_is : {A : Type 0} (x y : A) → Some x ≡ Some y → x ≡ y
-some_is x y e = cc
-
 -- 16 bytes that stand for an instruction spell it
 instr_is : (raw : List ℕ) (i : Instr) → length raw ≡ 16 → IsBytes raw → instr_of raw ≡ Some i → Stands raw i
 unfolding instr_of
@@ -100,19 +98,19 @@ instr_is raw i size fits e =
     elim (chosen (eqb (get_or raw 0 0) 1 && eqb (get_or raw 1 0) 0) _ _ (Some i) e) [
       | inl run ↦
           (let p = and_parts (eqb (get_or raw 0 0) 1) (eqb (get_or raw 1 0) 0) run.0 in
-          subst (Stands raw) (some_is _ i run.1) (run_stands raw size fits (eqb-true (get_or raw 0 0) 1 p.0) (eqb-true (get_or raw 1 0) 0 p.1)))
+          subst (Stands raw) (same_Some _ i run.1) (run_stands raw size fits (eqb-true (get_or raw 0 0) 1 p.0) (eqb-true (get_or raw 1 0) 0 p.1)))
       | inr e1 ↦ elim (chosen (eqb (get_or raw 0 0) 2 && are_zero (part 1 7 raw)) _ _ (Some i) e1.1) [
         | inl loop ↦
             (let p = and_parts (eqb (get_or raw 0 0) 2) (are_zero (part 1 7 raw)) loop.0 in
-            subst (Stands raw) (some_is _ i loop.1) (loop_stands raw size fits (eqb-true (get_or raw 0 0) 2 p.0) p.1))
+            subst (Stands raw) (same_Some _ i loop.1) (loop_stands raw size fits (eqb-true (get_or raw 0 0) 2 p.0) p.1))
         | inr e2 ↦ elim (chosen (eqb (get_or raw 0 0) 3 && are_zero (part 1 15 raw)) _ _ (Some i) e2.1) [
           | inl end ↦
               (let p = and_parts (eqb (get_or raw 0 0) 3) (are_zero (part 1 15 raw)) end.0 in
-              subst (Stands raw) (some_is _ i end.1) (zero_stands raw 3 size (eqb-true (get_or raw 0 0) 3 p.0) p.1, tt))
+              subst (Stands raw) (same_Some _ i end.1) (zero_stands raw 3 size (eqb-true (get_or raw 0 0) 3 p.0) p.1, tt))
           | inr e3 ↦ elim (chosen (eqb (get_or raw 0 0) 4 && are_zero (part 1 15 raw)) _ _ (Some i) e3.1) [
             | inl done ↦
                 (let p = and_parts (eqb (get_or raw 0 0) 4) (are_zero (part 1 15 raw)) done.0 in
-                subst (Stands raw) (some_is _ i done.1) (zero_stands raw 4 size (eqb-true (get_or raw 0 0) 4 p.0) p.1, tt))
+                subst (Stands raw) (same_Some _ i done.1) (zero_stands raw 4 size (eqb-true (get_or raw 0 0) 4 p.0) p.1, tt))
             | inr none ↦ absurd (none_some i none.1)
           ]
         ]

@@ -1,7 +1,8 @@
 //! The parts of a code: its signals, chains and instructions.
 
+use cell_names::CellNames;
 use page_meaning::Instr;
-use tester_types::{Direction, Items, Text, TextList};
+use tester_types::{Direction, Items, Text};
 
 /// A signal.
 #[derive(Debug, Drop)]
@@ -15,12 +16,12 @@ pub type CodeSignalList = Items<CodeSignal>;
 
 /// A scan chain: its name, the number of its scan-out signal, how many cells it has, and the names of
 /// the cells, from the one next to the scan input on.
-#[derive(Debug, Drop)]
+#[derive(Drop)]
 pub struct CodeChain {
     pub name: Text,
     pub out: u16,
     pub length: u32,
-    pub cells: TextList,
+    pub cells: CellNames,
 }
 
 /// Chains in order.

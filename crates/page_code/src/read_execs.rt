@@ -15,12 +15,13 @@ use crate::fields::{bad, name, number16_below, number16_to, number32, number32_t
 use crate::parts::{CodeChain, CodeChainList};
 use crate::read_instrs::instrs;
 use crate::rows::RowList;
+use cell_names::CellNames;
 use std::alloc::Global;
-use tester_types::{Table, TextList};
+use tester_types::Table;
 use text_bytes::{MOST_CELLS, MOST_CHAINS};
 
 /// So many names of cells.
-fn cells(alloc: Global, count: u32, bytes: &[u8]) -> Result<(TextList, &[u8]), ReadError>
+fn cells(alloc: Global, count: u32, bytes: &[u8]) -> Result<(CellNames, &[u8]), ReadError>
     ensures { Gives (λ x. (x.0, x.1.now)) result (items_at (λ before. name_at) count [] bytes.now) }
 {
     let mut cells = Vec::new(alloc);
@@ -30,7 +31,7 @@ fn cells(alloc: Global, count: u32, bytes: &[u8]) -> Result<(TextList, &[u8]), R
         cells.push(cell)?;
         rest = after;
     }
-    Ok((TextList::from_vec(cells), rest))
+    Ok((CellNames::new(alloc, cells)?, rest))
 }
 
 /// A chain.

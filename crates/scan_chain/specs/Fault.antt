@@ -1,14 +1,21 @@
 -- What is answered of the chains of an executive.
-use Rattle.std.specs.Prelude.{◌≡◌, List, [], Option, Some, None, Result, Ok, Err}
+use Rattle.std.specs.Prelude.{◌≡◌, ℕ, List, [], Option, Some, None, Result, Ok, Err}
 use Rattle.stil_ast.specs.Meaning.Signals.{names_of}
-use Rattle.stil_ast.specs.Meaning.Chains.{Chain, chains_named, chains_fault}
+use Rattle.stil_ast.specs.Meaning.Chains.{Chain, chains_named, chains_of, chains_fault}
 use Rattle.stil_ast.specs.Meaning.Bursts.{exec_scans}
-use Rattle.stil_ast.specs.Meaning.Executive.{chain_list}
 use Rattle.stil_ast.specs.declared.blocks.Blocks.{Blocks}
 use Rattle.stil_ast.specs.declared.executive.ExecDecl.{ExecDecl}
 use Rattle.stil_ast.specs.declared.fault.StilFault.{StilFault}
 use Rattle.stil_ast.specs.declared.fault.StilRefusal.{StilRefusal}
 use Rattle.stil_ast.specs.declared.fault.StilRefusal.TheVariants as refusal
+
+-- the chains of the ScanStructures of a name
+abbrev pub chains_titled : Blocks → List ℕ → List Chain
+chains_titled blocks title = chains_of (names_of blocks) (chains_named blocks.scans title)
+
+-- and their first fault
+abbrev pub titled_fault : Blocks → List ℕ → Option StilFault
+titled_fault blocks title = chains_fault (names_of blocks) title [] (chains_named blocks.scans title)
 
 -- the first fault of the chains of an executive
 abbrev pub chain_list_fault : Blocks → ExecDecl → Option StilFault
@@ -21,8 +28,8 @@ pub record IsChainFault (blocks : Blocks) (e : ExecDecl) (r : StilRefusal) : Typ
   pub is : r ≡ refusal.Fault fault
   pub first : chain_list_fault blocks e ≡ Some fault
 
--- the chains of an executive, or their first fault, or want of memory
-abbrev pub Scans : Blocks → ExecDecl → Result (List Chain) StilRefusal → Type 0
-Scans blocks e (Ok chains) = (chain_list_fault blocks e ≡ None) × (chains ≡ chain_list blocks e)
-Scans blocks e (Err refusal.NoMemory) = Unit {0}
-Scans blocks e (Err (refusal.Fault fault)) = chain_list_fault blocks e ≡ Some fault
+-- the chains of the ScanStructures of a name, or their first fault, or want of memory
+abbrev pub Scans : Blocks → List ℕ → Result (List Chain) StilRefusal → Type 0
+Scans blocks title (Ok chains) = (titled_fault blocks title ≡ None) × (chains ≡ chains_titled blocks title)
+Scans blocks title (Err refusal.NoMemory) = Unit {0}
+Scans blocks title (Err (refusal.Fault fault)) = titled_fault blocks title ≡ Some fault

@@ -2,6 +2,7 @@
 
 ghost use Rattle.std.specs.Prelude.{◌≡◌, ◌⊎◌, ◌<◌, None, Some, length, slice_get, IfOk, IfErr, MatchResult};
 ghost use Rattle.stil_ast.specs.Meaning.Signals.{names_of};
+ghost use Rattle.stil_ast.specs.Meaning.Bursts.{exec_scans};
 ghost use Rattle.stil_ast.specs.Meaning.Executive.{chain_list};
 ghost use Rattle.stil_ast.specs.declared.executive.ExecDecl.{ExecDecl};
 ghost use Rattle.stil_ast.specs.declared.fault.StilFault.{StilFault};
@@ -15,7 +16,7 @@ use crate::found::{chains_named, exec_scans};
 use crate::making::chains_of;
 use signal_groups::SignalTable;
 use std::alloc::Global;
-use stil_ast::{Blocks, ExecDecl, StilRefusal};
+use stil_ast::{Blocks, StilRefusal};
 
 /// The chains of the ScanStructures that the executive with this index uses: those that its burst names, else the
 /// unnamed ones. A chain without ScanOut is left away, and of two with one ScanOut the first counts. Without ScanLength
@@ -42,20 +43,29 @@ pub fn build(
         → chain_list_fault blocks.now e ≡ Some f
         → MatchResult result (λ _. ⊥) (λ r. (r ≡ refusal.NoMemory) ⊎ (r ≡ refusal.Fault f)) }
 {
-    built(alloc, blocks, &blocks.executives.as_slice()[exec], signals)
+    build_named(alloc, blocks, scans_of(blocks, exec), signals)
 }
 
-/// The same, with what is answered as one fact.
-fn built(
+/// The name of the ScanStructures that the executive with this index uses; it is empty where they are the unnamed ones.
+pub fn scans_of(blocks: &Blocks, exec: usize) -> &[u8]
+    requires { exec < length blocks.now.executives }
+    ensures { (e : ExecDecl) → slice_get blocks.now.executives exec ≡ Some e
+        → result.now ≡ exec_scans blocks.now e }
+{
+    exec_scans(blocks, &blocks.executives.as_slice()[exec])
+}
+
+/// The chains of the ScanStructures of a name, or the first fault of their declarations, as `build` has them for each
+/// executive that uses these.
+pub fn build_named(
     alloc: Global,
     blocks: &Blocks,
-    exec: &ExecDecl,
+    block: &[u8],
     signals: &SignalTable,
 ) -> Result<Chains, StilRefusal>
     requires { signals.now ≡ table_of (names_of blocks.now) }
-    ensures { Scans blocks.now exec.now result }
+    ensures { Scans blocks.now block.now result }
 {
-    let block = exec_scans(blocks, exec);
     let decls = chains_named(alloc, blocks.scans.as_slice(), block)?;
     match check_chains(alloc, signals, block, decls.as_slice()) {
         Ok(()) => {

@@ -11,19 +11,20 @@ ghost use Rattle.scan_chain.specs.Held.{chain_in, chain_behind, chains_in};
 ghost use Rattle.scan_chain.specs.Cell.{by_names, chain_at, cell_in, cell_of};
 
 use crate::outs::ends_among;
+use cell_names::CellNames;
 use signal_groups::{SignalList, SignalTable};
 use std::alloc::{AllocError, Global};
 use std::marker::Model;
-use tester_types::{Text, TextList};
+use tester_types::Text;
 
 /// A scan chain: its name, the number of the signal at its end, its length, and its cells from scan-in to scan-out.
-#[derive(Debug, Drop)]
+#[derive(Drop)]
 pub struct ScanChain {
     pub name: Text,
     pub scan_out: u16,
     /// In cells; it may differ from the number of those that are listed.
     pub length: usize,
-    pub cells: TextList,
+    pub cells: CellNames,
 }
 
 /// The chains of an executive in text order, one for each signal at which chains end.
@@ -57,6 +58,14 @@ impl Chains {
         self.chains
     }
 
+    /// The same chains once more, which share the names of their cells.
+    pub fn share(&self, alloc: Global) -> Result<Chains, AllocError>
+        ensures { IfOk result (λ chains. chains ≡ self.now) }
+    {
+        let chains = share_each(alloc, self.chains.as_slice())?;
+        Ok(Chains { chains })
+    }
+
     /// The signals at which chains end, in declared order.
     pub fn scan_outs(&self, alloc: Global, signals: &SignalTable) -> Result<SignalList, AllocError>
         ensures { IfOk result (λ outs. (names : Names) → signals.now ≡ table_of names
@@ -76,6 +85,29 @@ impl Chains {
             None => None,
         }
     }
+}
+
+/// A chain once more, which shares the names of its cells.
+fn share_chain(alloc: Global, chain: &ScanChain) -> Result<ScanChain, AllocError>
+    ensures { IfOk result (λ c. chain_in c ≡ chain_in chain.now) }
+{
+    Ok(ScanChain {
+        name: Text::from_slice(alloc, chain.name.as_slice())?,
+        scan_out: chain.scan_out,
+        length: chain.length,
+        cells: chain.cells.share()?,
+    })
+}
+
+/// Chains once more.
+fn share_each(alloc: Global, chains: &[ScanChain]) -> Result<Vec<ScanChain>, AllocError>
+    ensures { IfOk result (λ shared. chains_in shared.items ≡ chains_in chains.now) }
+{
+    let mut shared = Vec::with_capacity(alloc, chains.len())?;
+    for chain in chains {
+        shared.push(share_chain(alloc, chain)?)?;
+    }
+    Ok(shared)
 }
 
 /// The chain that ends at a signal.

@@ -10,7 +10,7 @@ mod making;
 mod outs;
 mod shift;
 
-pub use building::build;
+pub use building::{build, build_named, scans_of};
 pub use chain::{Chains, ScanChain};
 pub use laws::chains_are_short;
 pub use shift::{ColumnList, column, column_place, passes};

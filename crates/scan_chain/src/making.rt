@@ -11,10 +11,11 @@ ghost use Rattle.scan_chain.specs.Held.{chain_in, chains_in, cells_if};
 
 use crate::chain::ScanChain;
 use crate::outs::is_end;
+use cell_names::CellNames;
 use signal_groups::{SignalTable, index_at, index_count, indexed};
 use std::alloc::{AllocError, Global};
 use stil_ast::{CellsDecl, ChainDecl, ChainStmt, IndexRange, NameRef};
-use tester_types::{Items, Text, TextList};
+use tester_types::{Items, Text};
 
 /// Puts a cell for each index behind the others.
 fn add_range(
@@ -95,15 +96,15 @@ fn out_in(stmts: &[ChainStmt]) -> Option<&[u8]>
 }
 
 /// The texts of a chain's cells.
-fn cells_in(alloc: Global, stmts: &[ChainStmt]) -> Result<TextList, AllocError>
+fn cells_in(alloc: Global, stmts: &[ChainStmt]) -> Result<CellNames, AllocError>
     ensures { IfOk result (λ cells. cells ≡ cells_in stmts.now) }
 {
     match cells_decl(stmts) {
         Some(cells) => {
             let texts = cells_of(alloc, cells)?;
-            Ok(TextList::from_vec(texts))
+            CellNames::new(alloc, texts)
         }
-        None => Ok(TextList::from_vec(Vec::new(alloc))),
+        None => CellNames::new(alloc, Vec::new(alloc)),
     }
 }
 

@@ -11,6 +11,7 @@ pub mod ReadLemmas
 pub mod RationalLemmas
 pub mod ValueLemmas
 pub mod TimesLemmas
+pub mod KeptLemmas
 pub mod VarsLemmas
 pub mod SelectedLemmas
 pub mod PickedLemmas

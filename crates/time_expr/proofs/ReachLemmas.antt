@@ -26,7 +26,7 @@ use Rattle.time_expr.specs.Choosing.{variable_named, GoesBy, StopsAt, IsStopBy, 
 use Rattle.time_expr.specs.declared.fault.ExprFault.{ExprFault}
 use Rattle.time_expr.specs.declared.fault.ExprFault.TheVariants.{UnknownName}
 use Rattle.time_expr.specs.declared.fault.ExprFault.TheVariants as fault
-use Rattle.time_expr.specs.Spelling.{IsFault}
+use Rattle.time_expr.specs.Spelling.{Spells, IsFault}
 use Rattle.time_expr.specs.TimesOf.{times_of}
 use Rattle.time_expr.proofs.TimesLemmas.{times_of_is}
 use Rattle.time_expr.specs.declared.expr.Expr.{Expr}
@@ -127,6 +127,14 @@ same-reaches vs vars value other same (Ok r) h = λ names g. same names ∙ h na
 same-reaches vs vars value other same (Err stop.NoMemory) h = tt
 same-reaches vs vars value other same (Err (stop.Fault kind)) h = λ names g. same names ∙ h names g
 same-reaches vs vars value other same (Err (stop.Needs next)) h = (h.0, λ names g met e. same names ∙ h.1 names g met e)
+
+-- a text that spells an expression
+pub spelled-reaches : (vs : List Variable) (vars : List (List ℕ × Ratio)) (text : List ℕ) (e : Expr) (r : Result Ratio Stop)
+    → Spells text (tree_of e) true → Reaches vs vars (λ names. value_by names (tree_of e)) r
+    → Reaches vs vars (λ names. times_of.value names text) r
+spelled-reaches vs vars text e r spells h =
+    same-reaches vs vars (λ names. times_of.value names text) (λ names. value_by names (tree_of e))
+    (λ names. times_of_is.spelled names text (tree_of e) spells) r h
 
 -- a text that is refused
 pub refused-reaches : (vs : List Variable) (vars : List (List ℕ × Ratio)) (text : List ℕ) (f : ExprFault) (s : Stop)

@@ -16,6 +16,7 @@ pub mod Memory
 pub mod NamedValue
 pub mod TimesOf
 pub mod TimeIn
+pub mod Kept
 pub mod Selected
 pub mod Picked
 pub mod Names

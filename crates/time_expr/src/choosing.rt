@@ -17,6 +17,7 @@ use crate::fraction::Fraction;
 use crate::order::ordered_values;
 use crate::picked::{Picked, Spot, picked_of};
 use crate::stop::{Variables, refused, spot_of};
+use crate::texts::TimeTexts;
 use crate::vars::Vars;
 use crate::walk::walk;
 use std::alloc::Global;
@@ -80,19 +81,24 @@ fn values_of(alloc: Global, variables: &Variables) -> Result<Vars, StilRefusal>
 }
 
 /// The values of these variables.
-fn chosen(alloc: Global, picked: &[Picked]) -> Result<Vars, StilRefusal>
+fn chosen(alloc: Global, texts: &TimeTexts, picked: &[Picked]) -> Result<Vars, StilRefusal>
     ensures { Chooses (variables_of picked.now) result }
 {
-    let variables = Variables::new(alloc, picked)?;
+    let variables = Variables::new(alloc, texts, picked)?;
     values_of(alloc, &variables)
 }
 
 /// The values of the variables of an executive.
-fn chosen_for(alloc: Global, blocks: &Blocks, exec: &ExecDecl) -> Result<Vars, StilRefusal>
+fn chosen_for(
+    alloc: Global,
+    texts: &TimeTexts,
+    blocks: &Blocks,
+    exec: &ExecDecl,
+) -> Result<Vars, StilRefusal>
     ensures { Chooses (picked blocks.now exec.now) result }
 {
     let picked = picked_of(alloc, blocks, exec)?;
-    chosen(alloc, &picked)
+    chosen(alloc, texts, &picked)
 }
 
 /// The values of the variables that the executive with this index picks: those of the categories that it names, each
@@ -103,7 +109,12 @@ fn chosen_for(alloc: Global, blocks: &Blocks, exec: &ExecDecl) -> Result<Vars, S
 /// ZeroDivisor, UnknownName for a name that is no variable or has no chosen value, and Cyclic for a name that is met
 /// again while it is evaluated. A variable without a chosen value that is met first for itself has its own statement's
 /// line.
-pub fn choose(alloc: Global, blocks: &Blocks, exec: usize) -> Result<Vars, StilRefusal>
+pub fn choose(
+    alloc: Global,
+    texts: &TimeTexts,
+    blocks: &Blocks,
+    exec: usize,
+) -> Result<Vars, StilRefusal>
     requires executive { exec < length blocks.now.executives }
     ensures found { (e : ExecDecl) → slice_get blocks.now.executives exec ≡ Some e
         → IfOk result (λ vars. (variables_fault times_of (picked blocks.now e) ≡ None)
@@ -118,5 +129,5 @@ pub fn choose(alloc: Global, blocks: &Blocks, exec: usize) -> Result<Vars, StilR
         → variables_fault times_of (picked blocks.now e) ≡ Some f
         → MatchResult result (λ _. ⊥) (λ r. (r ≡ refusal.NoMemory) ⊎ (r ≡ refusal.Fault f)) }
 {
-    chosen_for(alloc, blocks, &blocks.executives.as_slice()[exec])
+    chosen_for(alloc, texts, blocks, &blocks.executives.as_slice()[exec])
 }

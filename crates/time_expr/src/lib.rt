@@ -18,6 +18,7 @@ mod reader;
 mod selected;
 mod stop;
 mod sum;
+mod texts;
 mod time;
 mod token;
 mod unit;
@@ -34,6 +35,7 @@ pub use laws::{
     quotients_are_rational, sums_are_rational, times_are_of_language, whole_numbers_in_units,
 };
 pub use read::read_expr;
+pub use texts::TimeTexts;
 pub use time::{TimeFault, time_of};
 pub use unit::Unit;
 pub use vars::Vars;

@@ -43,6 +43,18 @@ fn places_in(alloc: Global, variables: &Variables, expr: &Expr) -> Result<Vec<us
     places_of(alloc, variables, &names)
 }
 
+/// The places of the variables that a text names, which is read.
+fn places_read(
+    alloc: Global,
+    variables: &Variables,
+    text: &[u8],
+) -> Result<Vec<usize>, AllocError> {
+    match read_expr(alloc, text) {
+        Ok(expr) => places_in(alloc, variables, &expr),
+        Err(_) => Ok(Vec::new(alloc)),
+    }
+}
+
 /// The places of the variables that a variable's text names, as often as it names them.
 fn named_places(
     alloc: Global,
@@ -52,9 +64,9 @@ fn named_places(
     let Some(text) = variable.text else {
         return Ok(Vec::new(alloc));
     };
-    match read_expr(alloc, text.text.as_slice()) {
-        Ok(expr) => places_in(alloc, variables, &expr),
-        Err(_) => Ok(Vec::new(alloc)),
+    match variables.kept(text.text.as_slice()) {
+        Some(expr) => places_in(alloc, variables, expr),
+        None => places_read(alloc, variables, text.text.as_slice()),
     }
 }
 

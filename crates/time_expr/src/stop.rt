@@ -1,8 +1,9 @@
 //! The variables of an executive by their names, and texts that name them.
 
-ghost use Rattle.std.specs.Prelude.{◌≡◌, ℕ, List, Err, IfOk};
+ghost use Rattle.std.specs.Prelude.{◌≡◌, ℕ, List, Err, true, IfOk, IfSome};
 ghost use Rattle.stil_ast.specs.Faults.Found.{fault_at};
 ghost use Rattle.time_expr.specs.Tree.{tree_of};
+ghost use Rattle.time_expr.specs.Spelling.{Spells};
 ghost use Rattle.time_expr.specs.TimesOf.{times_of};
 ghost use Rattle.time_expr.specs.NamedValue.{value_by};
 ghost use Rattle.time_expr.specs.Picked.{place_of, variable_of, variables_of};
@@ -16,6 +17,7 @@ use crate::fraction::Fraction;
 use crate::names::first_missing;
 use crate::picked::{Picked, Spot};
 use crate::read::read_expr;
+use crate::texts::TimeTexts;
 use crate::time::kind_of;
 use crate::vars::Vars;
 use indexmap::IndexMap;
@@ -59,9 +61,10 @@ pub(crate) fn spot_of<'a>(variable: &Picked<'a>) -> Spot<'a>
     }
 }
 
-/// The variables that an executive picks, no two of a name, with an index of their names.
+/// The variables that an executive picks, no two of a name, with an index of their names, and the texts that are kept.
 #[derive(Drop)]
 pub(crate) struct Variables<'a> {
+    texts: &'a TimeTexts<'a>,
     picked: &'a [Picked<'a>],
     index: IndexMap<&'a [u8], &'a Picked<'a>>,
 }
@@ -81,12 +84,20 @@ impl<'a> Model for Variables<'a> {
 
 impl<'a> Variables<'a> {
     /// These variables, if they are not too many and no two of a name.
-    pub(crate) fn new(alloc: Global, picked: &'a [Picked<'a>]) -> Result<Variables<'a>, StilRefusal>
+    pub(crate) fn new(
+        alloc: Global,
+        texts: &'a TimeTexts<'a>,
+        picked: &'a [Picked<'a>],
+    ) -> Result<Variables<'a>, StilRefusal>
         ensures made { IfOk result (λ made. made ≡ variables_of picked.now) }
         ensures apart { AreApart (variables_of picked.now) result }
     {
         let index = index_of(alloc, picked)?;
-        Ok(Variables { picked, index })
+        Ok(Variables {
+            texts,
+            picked,
+            index,
+        })
     }
 
     /// The variable of a name.
@@ -99,6 +110,13 @@ impl<'a> Variables<'a> {
     /// The place of the variable of a name.
     pub(crate) fn place(&self, name: &[u8]) -> Option<usize> {
         self.index.get_index_of(name)
+    }
+
+    /// The expression that is kept for a text.
+    pub(crate) fn kept(&self, text: &[u8]) -> Option<&Expr>
+        ensures { IfSome result (λ expr. Spells text.now (tree_of expr.now) true) }
+    {
+        self.texts.kept(text)
     }
 
     /// The variables in text order.
@@ -209,8 +227,8 @@ fn stop_at<'a>(fault: ExprFault) -> Stop<'a>
     }
 }
 
-/// The value of a text by the values known so far, or what stands in its way.
-pub(crate) fn text_value<'a>(
+/// The value of a text that is read, by the values known so far, or what stands in its way.
+fn read_value<'a>(
     alloc: Global,
     variables: &Variables<'a>,
     vars: &Vars,
@@ -221,5 +239,20 @@ pub(crate) fn text_value<'a>(
     match read_expr(alloc, text) {
         Ok(expr) => expr_value(alloc, variables, vars, &expr),
         Err(fault) => Err(stop_at(fault)),
+    }
+}
+
+/// The value of a text by the values known so far, or what stands in its way.
+pub(crate) fn text_value<'a>(
+    alloc: Global,
+    variables: &Variables<'a>,
+    vars: &Vars,
+    text: &[u8],
+) -> Result<Fraction, Stop<'a>>
+    ensures { Reaches variables.now vars.now (λ names. times_of.value names text.now) result }
+{
+    match variables.kept(text) {
+        Some(expr) => expr_value(alloc, variables, vars, expr),
+        None => read_value(alloc, variables, vars, text),
     }
 }

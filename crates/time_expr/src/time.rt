@@ -10,6 +10,7 @@ use crate::expr::value;
 use crate::fault::ExprFault;
 use crate::fraction::{Fraction, whole_fs};
 use crate::read::read_expr;
+use crate::texts::TimeTexts;
 use crate::vars::Vars;
 use std::alloc::Global;
 use stil_ast::{Quoted, StilKind};
@@ -34,8 +35,8 @@ pub(crate) fn kind_of(fault: ExprFault) -> StilKind
     }
 }
 
-/// The value of a text.
-fn value_in(alloc: Global, vars: &Vars, text: &[u8]) -> Result<Fraction, ExprFault>
+/// The value of a text, which is read.
+fn value_read(alloc: Global, vars: &Vars, text: &[u8]) -> Result<Fraction, ExprFault>
     ensures { IsValueIn vars.now text.now result }
 {
     match read_expr(alloc, text) {
@@ -44,17 +45,37 @@ fn value_in(alloc: Global, vars: &Vars, text: &[u8]) -> Result<Fraction, ExprFau
     }
 }
 
+/// The value of a text, which is read unless its expression is kept.
+fn value_in(
+    alloc: Global,
+    texts: &TimeTexts,
+    vars: &Vars,
+    text: &[u8],
+) -> Result<Fraction, ExprFault>
+    ensures { IsValueIn vars.now text.now result }
+{
+    match texts.kept(text) {
+        Some(expr) => value(expr, vars),
+        None => value_read(alloc, vars, text),
+    }
+}
+
 /// The time in a text, a whole number of femtoseconds, where names stand for these values.
 ///
 /// A text that spells no expression is BadExpr, and a number on the way that is too large is OutOfRange. A name that
 /// stands for no value is UnknownName, and a divisor that is 0 is ZeroDivisor. A value that is no whole number of
 /// femtoseconds is NotWhole.
-pub fn time_of(alloc: Global, vars: &Vars, quoted: &Quoted) -> Result<i128, TimeFault>
+pub fn time_of(
+    alloc: Global,
+    texts: &TimeTexts,
+    vars: &Vars,
+    quoted: &Quoted,
+) -> Result<i128, TimeFault>
     ensures found { IfOk result (λ time. HasTime vars.now quoted.now (Ok time)) }
     ensures fault { IfErr result (λ e. (e ≡ time.NoMemory)
         ⊎ ((kind : StilKind) × (e ≡ time.Refused kind) × HasTime vars.now quoted.now (Err kind))) }
 {
-    match value_in(alloc, vars, quoted.text.as_slice()) {
+    match value_in(alloc, texts, vars, quoted.text.as_slice()) {
         Ok(value) => whole_fs(&value).ok_or(TimeFault::Refused(StilKind::NotWhole)),
         Err(ExprFault::NoMemory) => Err(TimeFault::NoMemory),
         Err(fault) => Err(TimeFault::Refused(kind_of(fault))),

@@ -84,7 +84,7 @@ impl<'a> Scope<'a> {
         ensures { IfOk result (λ time. IsTimeOf (timed self.now) quoted.now time) }
     {
         let line = quoted.line;
-        match time_of(alloc, self.vars, quoted) {
+        match time_of(alloc, self.texts, self.vars, quoted) {
             Ok(time) => Ok(ReadTime {
                 time: Ok(time),
                 line,

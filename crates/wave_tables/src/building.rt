@@ -30,7 +30,7 @@ use signal_groups::SignalTable;
 use std::alloc::{AllocError, Global};
 use stil_ast::{Blocks, ExecDecl, StilFault, StilKind, StilRefusal};
 use tester_types::Text;
-use time_expr::Vars;
+use time_expr::{TimeTexts, Vars};
 
 /// The waveform tables of the executive with this index: those of the Timing blocks that it names, in text order, each
 /// with its period and its waves in femtoseconds. The signals are those of the blocks, the variables those of the
@@ -47,6 +47,7 @@ pub fn build(
     exec: usize,
     signals: &SignalTable,
     vars: &Vars,
+    texts: &TimeTexts,
     before: u32,
 ) -> Result<WaveSet, StilRefusal>
     requires text { AreOfOneText blocks.now }
@@ -73,6 +74,7 @@ pub fn build(
         &blocks.executives.as_slice()[exec],
         signals,
         vars,
+        texts,
         before,
     )
 }
@@ -84,6 +86,7 @@ pub(crate) fn built_for(
     exec: &ExecDecl,
     signals: &SignalTable,
     vars: &Vars,
+    texts: &TimeTexts,
     before: u32,
 ) -> Result<WaveSet, StilRefusal>
     requires lettered { are_lettered (exec_tables blocks.now exec.now) ≡ true }
@@ -99,6 +102,7 @@ pub(crate) fn built_for(
         tables,
         signals,
         vars,
+        texts,
     };
     match set_of(alloc, &scope, u64::from(before)) {
         Ok(set) => Ok(set),

@@ -11,9 +11,10 @@ ghost use Rattle.wave_tables.specs.Letters.{are_lettered};
 
 use signal_groups::SignalTable;
 use stil_ast::{Blocks, ExecDecl, TableDecl};
-use time_expr::Vars;
+use time_expr::{TimeTexts, Vars};
 
-/// The blocks, the executive, its tables in text order, the signals of the text, and the variables of the executive.
+/// The blocks, the executive, its tables in text order, the signals of the text, the variables of the executive, and the texts
+/// that are kept.
 #[derive(Drop)]
 pub(crate) struct Scope<'a> {
     pub(crate) blocks: &'a Blocks,
@@ -21,6 +22,7 @@ pub(crate) struct Scope<'a> {
     pub(crate) tables: Vec<&'a TableDecl>,
     pub(crate) signals: &'a SignalTable,
     pub(crate) vars: &'a Vars,
+    pub(crate) texts: &'a TimeTexts<'a>,
     ghost in_order: { behind tables.items ≡ exec_tables blocks.now exec.now },
     ghost all_signals: { signals.now ≡ table_of (names_of blocks.now) },
     ghost lettered: { are_lettered (exec_tables blocks.now exec.now) ≡ true },

@@ -15,12 +15,12 @@ use Rattle.burst_exec.proofs.building.exec_behind.Goals as goal
 
 pub returns-in-Err-clause-taken : goal.returns-in-Err-clause-taken
 returns-in-Err-clause-taken c = λ e at.
-    for_stage c.args.names.now e c.args.progress.now c.in-Err.refusal (c.in-Err.ensures e at)
+    for_stage c.args.names.now e c.args.progress.now c.in-Err.refusal (c.in-Err.ensures.staged e at)
 
 pub returns-clause-taken : goal.returns-clause-taken
 returns-clause-taken c = λ e at.
     let names = c.args.names.now in
-    let stage = c.in-Ok.ensures e at in
+    let stage = c.in-Ok.ensures.staged e at in
     for_patterns names e c.args.progress.now c.in-Err-trees_of.refusal stage.0
     (subst (λ (b : Blocks). c.args.signals.now ≡ table_of (names_of b) → c.args.outs.now ≡ outs_of (names_of b)
     → IsStageOf b c.args.progress.now.waves e c.in-Ok.stage
@@ -31,8 +31,8 @@ pub returns-in-Ok-trees_of-clause-taken : goal.returns-in-Ok-trees_of-clause-tak
 returns-in-Ok-trees_of-clause-taken c = λ e at.
     let names = c.args.names.now in
     let old = c.args.progress.now in
-    let begin : Progress = record { macros = old.macros; procedures = old.procedures; waves = c.in-Ok.stage.waves; walked = old.walked } in
-    let stage = c.in-Ok.ensures e at in
+    let begin : Progress = record { macros = old.macros; procedures = old.procedures; scans = c.stage_exec.new.scans; waves = c.in-Ok.stage.waves; walked = old.walked } in
+    let stage = c.in-Ok.ensures.staged e at in
     let run = subst (λ (b : Blocks). c.args.signals.now ≡ table_of (names_of b) → c.args.outs.now ≡ outs_of (names_of b)
     → IsStageOf b old.waves e c.in-Ok.stage
     → (played_fault b e (order_of b e) old.walked ≡ None)

@@ -5,18 +5,18 @@ use Rattle.burst_exec.specs.Staged.{values_fault, waves_fault, ends_fault, table
 use Rattle.burst_exec.proofs.StagedLemmas.{in_blocks, for_names, for_values, for_tables, for_chains, for_nothing, waves_there}
 use Rattle.burst_exec.proofs.staging.stage_exec.Goals as goal
 
-pub returns-in-Err : goal.returns-in-Err
-returns-in-Err c = λ e at. for_names c.args.names.now c.args.before e c.in-Err.refusal (c.in-Err.ensures e at)
+pub returns-in-Err-clause-staged : goal.returns-in-Err-clause-staged
+returns-in-Err-clause-staged c = λ e at. for_names c.args.names.now c.args.before e c.in-Err.refusal (c.in-Err.ensures e at)
 
-pub returns-in-Err-valued : goal.returns-in-Err-valued
-returns-in-Err-valued c = λ e at.
+pub returns-in-Err-valued-clause-staged : goal.returns-in-Err-valued-clause-staged
+returns-in-Err-valued-clause-staged c = λ e at.
     let names = c.args.names.now in
     for_values names c.args.before e c.in-Err-valued.refusal (c.in-Ok.ensures e at).0
     (in_blocks c.blocks-2.result.now names c.args.exec e (λ (b : Blocks). IsRefusal (values_fault b e) c.in-Err-valued.refusal)
     c.blocks-2.ensures (c.in-Err-valued.ensures e) at)
 
-pub returns-in-Err-tabled : goal.returns-in-Err-tabled
-returns-in-Err-tabled c = λ e at.
+pub returns-in-Err-tabled-clause-staged : goal.returns-in-Err-tabled-clause-staged
+returns-in-Err-tabled-clause-staged c = λ e at.
     let names = c.args.names.now in
     let values = in_blocks c.blocks-2.result.now names c.args.exec e (λ (b : Blocks). values_fault b e ≡ None)
     c.blocks-2.ensures (λ h. (c.in-Ok-valued.ensures e h).0) at in
@@ -24,8 +24,8 @@ returns-in-Err-tabled c = λ e at.
     (in_blocks c.blocks-3.result.now names c.args.exec e (λ (b : Blocks). IsRefusal (waves_fault b c.args.before e) c.in-Err-tabled.refusal)
     c.blocks-3.ensures (c.in-Err-tabled.ensures e) at)
 
-pub returns : goal.returns
-returns c = λ e at.
+pub returns-clause-staged : goal.returns-clause-staged
+returns-clause-staged c = λ e at.
     let names = c.args.names.now in
     let values = in_blocks c.blocks-2.result.now names c.args.exec e (λ (b : Blocks). values_fault b e ≡ None)
     c.blocks-2.ensures (λ h. (c.in-Ok-valued.ensures e h).0) at in
@@ -33,10 +33,10 @@ returns c = λ e at.
     c.blocks-3.ensures (λ h. (c.in-Ok-tabled.ensures e h).0) at in
     for_chains names c.args.before e c.in-Err-chained.refusal (c.in-Ok.ensures e at).0 values tables
     (in_blocks c.blocks-4.result.now names c.args.exec e (λ (b : Blocks). IsRefusal (ends_fault b e) c.in-Err-chained.refusal)
-    c.blocks-4.ensures (c.in-Err-chained.ensures e) at)
+    c.blocks-4.ensures (c.in-Err-chained.ensures.found e) at)
 
-pub returns-in-Ok-chained : goal.returns-in-Ok-chained
-returns-in-Ok-chained c = λ e at.
+pub returns-in-Ok-chained-clause-staged : goal.returns-in-Ok-chained-clause-staged
+returns-in-Ok-chained-clause-staged c = λ e at.
     let names = c.args.names.now in
     let order = c.in-Ok.ensures e at in
     let values = in_blocks c.blocks-2.result.now names c.args.exec e (λ (b : Blocks). values_fault b e ≡ None)
@@ -46,7 +46,7 @@ returns-in-Ok-chained c = λ e at.
     c.blocks-3.ensures (c.in-Ok-tabled.ensures e) at in
     let chains = in_blocks c.blocks-4.result.now names c.args.exec e
     (λ (b : Blocks). (ends_fault b e ≡ None) × (c.in-Ok-chained.chains ≡ chains_of b e))
-    c.blocks-4.ensures (c.in-Ok-chained.ensures e) at in (
+    c.blocks-4.ensures (c.in-Ok-chained.ensures.found e) at in (
       for_nothing names c.args.before e order.0 values tables.0 chains.0,
       record {
         order_is = order.1;

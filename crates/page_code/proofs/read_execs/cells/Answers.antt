@@ -22,4 +22,4 @@ pub returns : goal.returns
 returns c =
     is_done (λ before. name_at) c.loop.cells.items c.args.count c.loop.counter c.loop.rest.now
     (items_at (λ before. name_at) c.args.count [] c.args.bytes.now) c.loop-test.false c.loop.invariant
-    ∙ ap (λ (items : List (List ℕ)). Ok (items, c.loop.rest.now)) (sym c.from_vec.ensures)
+    ∙ ap (λ (items : List (List ℕ)). Ok (items, c.loop.rest.now)) (sym c.in_ok-new.ensures)

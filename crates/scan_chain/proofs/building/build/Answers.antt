@@ -1,29 +1,22 @@
-use Rattle.std.proofs.Common.{◌≡◌, List, get_or, ap, ◌∙◌}
-use Rattle.stil_ast.specs.declared.executive.ExecDecl.{ExecDecl}
 use Rattle.scan_chain.proofs.ScanLemmas.{scans-of, is_found, only_chains, is_fault, is_refused}
 use Rattle.scan_chain.proofs.building.build.Goals as goal
 
-here : (c : goal.After-built) → c.index-as_slice-exec.result ≡ get_or c.args.blocks.now.executives c.args.exec c.index-as_slice-exec.result
-here c =
-    c.index-as_slice-exec.is
-    ∙ ap (λ (xs : List ExecDecl). get_or xs c.args.exec c.index-as_slice-exec.result) c.as_slice.ensures
-
 pub returns-clause-found : goal.returns-clause-found
 returns-clause-found c = λ e at.
-    is_found c.args.blocks.now e c.built.result
-    (scans-of c.args.blocks.now c.args.exec e _ c.built.result at (here c) c.built.ensures)
+    is_found c.args.blocks.now e c.build_named.result
+    (scans-of c.args.blocks.now e _ c.build_named.result (c.scans_of.ensures e at) c.build_named.ensures)
 
 pub returns-clause-only : goal.returns-clause-only
 returns-clause-only c = λ e at.
-    only_chains c.args.blocks.now e c.built.result
-    (scans-of c.args.blocks.now c.args.exec e _ c.built.result at (here c) c.built.ensures)
+    only_chains c.args.blocks.now e c.build_named.result
+    (scans-of c.args.blocks.now e _ c.build_named.result (c.scans_of.ensures e at) c.build_named.ensures)
 
 pub returns-clause-fault : goal.returns-clause-fault
 returns-clause-fault c = λ e at.
-    is_fault c.args.blocks.now e c.built.result
-    (scans-of c.args.blocks.now c.args.exec e _ c.built.result at (here c) c.built.ensures)
+    is_fault c.args.blocks.now e c.build_named.result
+    (scans-of c.args.blocks.now e _ c.build_named.result (c.scans_of.ensures e at) c.build_named.ensures)
 
 pub returns-clause-refused : goal.returns-clause-refused
 returns-clause-refused c = λ e f at.
-    is_refused c.args.blocks.now e c.built.result
-    (scans-of c.args.blocks.now c.args.exec e _ c.built.result at (here c) c.built.ensures) f
+    is_refused c.args.blocks.now e c.build_named.result
+    (scans-of c.args.blocks.now e _ c.build_named.result (c.scans_of.ensures e at) c.build_named.ensures) f

@@ -5,7 +5,7 @@ use Rattle.stil_ast.specs.Meaning.Signals.{names_of}
 use Rattle.stil_ast.specs.declared.blocks.Blocks.{Blocks}
 use Rattle.burst_exec.specs.Gathered.{IsGathering}
 use Rattle.burst_exec.proofs.GatherLemmas.{starts}
-use Rattle.burst_exec.proofs.building.gathered.Goals as goal
+use Rattle.burst_exec.proofs.building.gathered_by.Goals as goal
 
 pub take_all-requires-clause-outs : goal.take_all-requires-clause-outs
 take_all-requires-clause-outs c =
@@ -17,3 +17,6 @@ pub take_all-requires-clause-none : goal.take_all-requires-clause-none
 take_all-requires-clause-none c =
     subst (λ (all : List Executive). IsGathering c.in_ok-names.names 0 c.new-progress.result all) (sym c.new-execs.ensures.items)
     (starts c.in_ok-names.names c.new-progress.result c.new-progress.ensures.no_waves c.new-progress.ensures.nothing_walked)
+
+pub take_all-requires-clause-carried : goal.take_all-requires-clause-carried
+take_all-requires-clause-carried c = c.new-progress.ensures.carried c.in_ok-names.names
