@@ -1,6 +1,6 @@
 -- What is asked of a socket, and what it shows.
 use Rattle.std.proofs.Common.{◌≡◌, ℕ, ◌+◌, ◌<◌, ◌≤◌, Bool, true, false, eqb, List, [], ◌∷◌, length, get_or, set, Option, Some, None, refl, sym, ap, ◌∙◌, subst, arith, inl, inr, zero-add}
-use Rattle.std.proofs.lemmas.Bool.{cases_lt, or_cases, eqb-true, and_parts}
+use Rattle.std.proofs.lemmas.Bool.{cases_lt, both_ways, or_cases, eqb-true, and_parts}
 use Rattle.std.proofs.lemmas.List.{get_or_past, get_or-set_same, get_or-set_other}
 use Rattle.std.proofs.lemmas.List.FromFn.{get_or-map-range_with_len, length-map-range_with_len}
 use Rattle.tester_types.specs.declared.level.Level.{Level}
@@ -17,6 +17,7 @@ use Rattle.die_sim.specs.Die.{Device, State, Settled, bind_at, is_clock, IsBound
 use Rattle.die_sim.specs.Moment.{edge, captured, IsStep}
 use Rattle.die_sim.specs.Socket.{Told, CanDrive, CanSense, Moves, Shows}
 use Rattle.strobe_check.specs.Sensed.{is_sensed}
+use Rattle.strobe_check.specs.Ahead.{Skips}
 use Rattle.strobe_check.specs.Step.{is_watched}
 use Rattle.strobe_check.specs.History.{Held, Answers, sensed, open_window}
 use Rattle.strobe_check.proofs.SensedLemmas.{is_sensed-watched}
@@ -124,18 +125,13 @@ levels-more first now held moment i levels level within loaded state shows befor
           subst (λ (x : Level). Shows first.loaded first.state signal x) (sym there) c
     ]
 
--- one more signal is not wanted
-pub levels-skip : (first : Told) (held : Held) (moment : Moment) (i : ℕ) (levels : List Level) (wanted : Bool)
-    → Answers (sensed moment i) held wanted → wanted ≡ false
-    → AreLevels first held moment i levels → AreLevels first held moment (i + 1) levels
-levels-skip first held moment i levels wanted answers so before history seen signal below is =
-    elim (cases_lt signal i) [
+-- signals that are not wanted are skipped
+pub levels-skips : (first : Told) (held : Held) (moment : Moment) (from upto : ℕ) (levels : List Level)
+    → Skips moment held from upto → AreLevels first held moment from levels → AreLevels first held moment upto levels
+levels-skips first held moment from upto levels skips before history seen signal below is =
+    elim (cases_lt signal from) [
       | inl l ↦ before history seen signal l is
-      | inr l ↦
-          let same : signal ≡ i = omega arith in
-          let here : is_sensed history.bound history.entries moment i ≡ true =
-          subst (λ (k : ℕ). is_sensed history.bound history.entries moment k ≡ true) same is in
-          absurd (let answer = answers history seen in cc (answer, so, here))
+      | inr l ↦ absurd (both_ways (is_sensed history.bound history.entries moment signal) (sym (skips signal l below history seen)) is)
     ]
 
 -- ---- tapes

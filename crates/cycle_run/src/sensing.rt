@@ -1,14 +1,13 @@
 //! What a moment does at the socket: it drives the die, and senses what the checker wants.
 
 ghost use Rattle.std.specs.Prelude.{◌≡◌, ◌≢◌, ◌≤◌, [], length, OnOk, OnErr};
-ghost use Rattle.text_bytes.specs.Limits.{most_nets};
 ghost use Rattle.tester_types.specs.Outside.{HasRisen};
 ghost use Rattle.die_sim.specs.Socket.{CanDrive, Moves};
 ghost use Rattle.cycle_run.specs.Tape.{call_at, with_calls};
 ghost use Rattle.cycle_run.specs.Step.{AreLevels, WantsSome, IsCheckedBy, IsSettled};
 
 use die_sim::{Contact, Socket};
-use strobe_check::Checker;
+use strobe_check::{Ahead, Checker};
 use tester_types::{Drive, Level, Moment};
 
 /// Drives the die, if there is anything to drive. No drives leave the die as it is.
@@ -42,7 +41,7 @@ pub(crate) fn sense_wanted<K: Socket>(
     moment: &Moment,
     levels: &mut Vec<Level>,
 ) -> Result<(), Contact>
-    requires few { length levels.old.items ≤ most_nets }
+    requires wide { length checker.now.bound ≤ length levels.old.items }
     requires checked { IsCheckedBy (K.told socket.old).loaded checker.now }
     ensures levels { OnOk result (AreLevels (K.told socket.old) checker.now moment.now
         (length levels.old.items) levels.new.items) }
@@ -54,11 +53,9 @@ pub(crate) fn sense_wanted<K: Socket>(
     ensures count { (K.told socket.old).count ≤ (K.told socket.new).count }
     ensures cause { OnErr result (HasRisen (K.told socket.old).count (K.told socket.new).count) }
 {
-    for signal in 0..levels.len() {
-        let number = signal as u16;
-        if checker.wanted(moment, number) {
-            levels[signal] = socket.sense(number)?;
-        }
+    let mut ahead = Ahead::of(moment);
+    while let Some(signal) = checker.next_wanted(&mut ahead) {
+        levels[usize::from(signal)] = socket.sense(signal)?;
     }
     Ok(())
 }

@@ -2,7 +2,6 @@ mod StandardFacts
 pub mod GateLemmas
 pub mod MomentLemmas
 pub mod OrderLemmas
-pub mod BitLemmas
 pub mod PendingLemmas
 pub mod WalkLemmas
 pub mod StepLemmas

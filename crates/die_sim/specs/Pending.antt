@@ -1,18 +1,7 @@
--- Gates that are pending, by the places at which the gates stand in an order, in words of 64; no public clause cites
--- it.
-use Rattle.std.specs.Prelude.{◌≡◌, ◌≢◌, ◌==◌, ℕ, ◌<◌, ◌≤◌, ◌*◌, ◌/◌, ◌%◌, ◌⊎◌, Bool, true, false, List, length, map, count_by, slice_index, slice_index_or}
-use Rattle.std.specs.List.{range_with_len}
-use Rattle.std.specs.Int.{bit_at}
+-- Gates that are pending, by the places at which the gates stand in an order; no public clause cites it.
+use Rattle.std.specs.Prelude.{◌≡◌, ◌≢◌, ◌==◌, ℕ, ◌<◌, ◌≤◌, ◌⊎◌, Bool, true, false, List, length, count_by, slice_index, slice_index_or}
 use Rattle.bench_net.specs.declared.gate.Driver.{Driver}
 use Rattle.die_sim.specs.Spread.{Reads}
-
--- a bit of the words, counted from the lowest bit of the first
-abbrev pub bit_of : List ℕ → ℕ → Bool
-bit_of words k = bit_at (slice_index words (k / 64)) (k % 64) == 1
-
--- all bits of the words
-unfoldable pub bits_of : List ℕ → List Bool
-bits_of words = map (bit_of words) (range_with_len 0 (64 * length words))
 
 -- the place of a net that no gate drives
 abbrev pub nowhere : ℕ

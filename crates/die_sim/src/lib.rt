@@ -1,7 +1,6 @@
 //! Dies: what a die is after each moment, exactly, and the socket through which a tester meets a die.
 #![tactic(auto)]
 
-mod bits;
 mod die;
 mod failing_socket;
 mod gate;

@@ -4,8 +4,8 @@ ghost use Rattle.std.specs.Prelude.{◌≡◌, ℕ, ◌+◌, ◌<◌, ◌≤◌,
 ghost use Rattle.bench_net.specs.Wiring.{gate_at};
 ghost use Rattle.die_sim.specs.Pending.{place_at, is_pending, nowhere, HasPlace, SetsPending, AreSeats, SeatedTo};
 
-use crate::bits::Bits;
 use bench_net::Netlist;
+use place_bits::Bits;
 use std::alloc::{AllocError, Global};
 use std::marker::Model;
 

@@ -189,3 +189,36 @@ fn agrees_with_the_slow_program(rt: HostRuntime) -> Result<(), Failure> {
     }
     Ok(())
 }
+
+/// The signals that the checker names at its next moment.
+fn named(alloc: Global, checker: &Checker, next: &Moment) -> Result<Vec<u16>, NoMemory> {
+    let mut names = Vec::new(alloc);
+    let mut ahead = Ahead::of(next);
+    while let Some(signal) = checker.next_wanted(&mut ahead) {
+        names.push(signal)?;
+    }
+    Ok(names)
+}
+
+/// Windows of three signals, of which the second one has failed.
+const OPEN: [Shown<'static>; 1] = [(
+    3,
+    &[
+        (0, Look::LowWindow),
+        (1, Look::HighWindow),
+        (2, Look::OffWindow),
+    ],
+    [ZERO, ZERO, Z],
+)];
+
+/// Signals 0 and 2 have windows that are open; at the next moment the first is looked at as well, or the second is and the third
+/// one's window is closed.
+#[test]
+fn names_what_is_sensed(rt: HostRuntime) -> Result<(), Failure> {
+    let checker = checker_of(rt.alloc(), ALL, 0, &OPEN)?;
+    let both = moment(rt.alloc(), 5, &[(0, Look::High)])?;
+    assert!(rt; named(rt.alloc(), &checker, &both)?.as_slice() == [0, 2].as_slice());
+    let other = moment(rt.alloc(), 5, &[(1, Look::High), (2, Look::Close)])?;
+    assert!(rt; named(rt.alloc(), &checker, &other)?.as_slice() == [0, 1].as_slice());
+    Ok(())
+}

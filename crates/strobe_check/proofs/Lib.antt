@@ -9,5 +9,7 @@ pub mod CycleLemmas
 pub mod SensedLemmas
 pub mod WindowLemmas
 pub mod HistoryLemmas
+pub mod PassLemmas
 pub mod UnderwayLemmas
+pub mod AheadLemmas
 pub mod AgreeLemmas

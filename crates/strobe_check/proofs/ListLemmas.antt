@@ -1,6 +1,6 @@
 -- Lists of any elements.
-use Rattle.std.proofs.Common.{◌≡◌, ℕ, zero, suc, ◌+◌, ◌<◌, Bool, true, false, cond, List, [], ◌∷◌, ◌++◌, length, get_or, set, take, drop, Option, Some, None, refl, sym, ap, ◌∙◌, arith}
-use Rattle.std.proofs.lemmas.List.{append_assoc, map-id, take_more, drop_more, set_at, get_or_at, length-take-le}
+use Rattle.std.proofs.Common.{◌≡◌, ℕ, zero, suc, ◌+◌, ◌<◌, Bool, true, false, cond, List, [], ◌∷◌, ◌++◌, length, get_or, ext_get_or, replicate, set, take, drop, Option, Some, None, refl, sym, ap, ◌∙◌, arith}
+use Rattle.std.proofs.lemmas.List.{append_assoc, map-id, take_more, drop_more, set_at, get_or_at, get_or-replicate, length-replicate, length-take-le}
 use Rattle.std.proofs.lemmas.List.FromFn.{map-range_with_len_more}
 use Rattle.std.specs.List.{AllByRecursion, cons_option, flat_map, range_with_len}
 
@@ -85,3 +85,11 @@ pub kept-seam : {X : Type 0} (xs ys : List X) (i : ℕ) (d : X) → i < length x
 kept-seam xs ys i d within long same =
     seam xs ys i d within long ∙ ap (λ x. take i xs ++ x ∷ drop (i + 1) ys) same
     ∙ front-more xs (drop (i + 1) ys) i d within
+
+-- ---- a list of one element alone
+
+pub all_same : {X : Type 0} (xs : List X) (n : ℕ) (x : X) → length xs ≡ n → ((k : ℕ) → k < n → get_or xs k x ≡ x)
+    → xs ≡ replicate n x
+all_same xs n x long each =
+    ext_get_or x xs (replicate n x) (long ∙ sym (length-replicate n x))
+    (λ k l. each k (omega (arith, l, long)) ∙ sym (get_or-replicate n k x x (omega (arith, l, long))))

@@ -29,7 +29,7 @@ looks_of-other signal look looks other =
     ∙ ap (λ b. cond b (look.1 ∷ []) [] ++ looks_of signal looks) (ne_eqb look.0 signal other)
 
 -- none of the looks from the next signal on is at this one
-looks_of-later : (signal : ℕ) (looks : List (ℕ × Look)) → Ascends (signal + 1) looks → looks_of signal looks ≡ []
+pub looks_of-later : (signal : ℕ) (looks : List (ℕ × Look)) → Ascends (signal + 1) looks → looks_of signal looks ≡ []
 looks_of-later signal [] h = refl
 looks_of-later signal (look ∷ looks) h =
     looks_of-other signal look looks (λ e. omega (arith, h.0, e))

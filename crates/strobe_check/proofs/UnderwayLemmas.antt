@@ -1,6 +1,6 @@
 -- One more entry, signal after signal.
-use Rattle.std.proofs.Common.{◌≡◌, ℕ, ◌+◌, ◌<◌, ◌≤◌, Bool, true, false, cond, List, [], ◌∷◌, ◌++◌, length, get_or, set, take, drop, map, filter, Option, None, refl, sym, ap, subst, ◌∙◌, arith, zero-add}
-use Rattle.std.proofs.lemmas.List.{append-nil, append_assoc, map-append, take_more, take_all, drop_all}
+use Rattle.std.proofs.Common.{◌≡◌, ℕ, zero, suc, ◌+◌, ◌-◌, ◌<◌, ◌≤◌, Bool, true, false, cond, List, [], ◌∷◌, ◌++◌, length, get_or, set, take, drop, map, filter, Option, None, refl, sym, ap, subst, ◌∙◌, arith, zero-add}
+use Rattle.std.proofs.lemmas.List.{append-nil, append_assoc, map-append, take_more, take_all, drop_all, set-get_or}
 use Rattle.std.proofs.lemmas.List.Concat.{flat_map-append}
 use Rattle.std.proofs.lemmas.List.Elements.{filter-append}
 use Rattle.std.specs.List.{enumerate_from, flat_map}
@@ -13,6 +13,8 @@ use Rattle.strobe_check.specs.Fails.{bound_signals, fails}
 use Rattle.strobe_check.specs.Count.{Count, HasCounted, Counts}
 use Rattle.strobe_check.specs.History.{History, all_fails, with_entry, open_window, open_windows, Held, HasSeen}
 use Rattle.strobe_check.specs.Step.{window_after, left_open, failed, fail_in}
+use Rattle.strobe_check.specs.Windows.{Passes}
+use Rattle.strobe_check.specs.Ahead.{HasLeft}
 use Rattle.strobe_check.proofs.ListLemmas.{front_len, get_or-seam, set-seam, kept-seam}
 use Rattle.strobe_check.proofs.CycleLemmas.{new_fails, fails-push}
 use Rattle.strobe_check.proofs.FailLemmas.{open_window-push}
@@ -105,7 +107,7 @@ fails-more history entry i b within is =
 pub IsUnderway-judged : (history : History) (entry : Entry) (i : ℕ) (bound : List Bool)
     (windows : List (Option Look)) (count after : Count)
     (window next : Option Look) (level : Level) → IsUnderway history entry i bound windows count
-    → i < length bound → get_or bound i false ≡ true → window ≡ get_or windows i window → level ≡ level_of i entry
+    → i < length bound → get_or bound i false ≡ true → window ≡ get_or windows i None → level ≡ level_of i entry
     → next ≡ left_open level (window_after window (looks_at i entry.moment))
     → Counts (map (fail_in (sight_of i level entry)) (failed level window (looks_at i entry.moment))) count after
     → IsUnderway history entry (i + 1) bound (set windows i next) after
@@ -117,9 +119,9 @@ IsUnderway-judged history entry i bound windows count after window next level be
     let inside = within_after history entry i place in
     let long = same_long history entry in
     let was : window ≡ open_window i entries =
-    read ∙ ap (λ l. get_or l i window) before.opened
-    ∙ get_or-seam (after_entry history entry) (before_entry history) i window inside long
-    ∙ get_or-open_windows history.bound entries i window place
+    read ∙ ap (λ l. get_or l i None) before.opened
+    ∙ get_or-seam (after_entry history entry) (before_entry history) i None inside long
+    ∙ get_or-open_windows history.bound entries i None place
     ∙ ap (λ b. cond b (open_window i entries) None) here in
     let becomes : next ≡ get_or (after_entry history entry) i next =
     left ∙ ap (λ l. left_open l (window_after window looks)) is
@@ -165,6 +167,68 @@ IsUnderway-unbound history entry i bound windows count before within is_bound =
           (none_before ∙ sym none_after);
       counted = subst (λ l. HasCounted history.keep (all_fails history ++ l) count) (sym all) before.counted;
     }
+
+-- none has been judged
+pub IsUnderway-none : (history : History) (entry : Entry) (held : Held) → HasSeen history held
+    → IsUnderway history entry 0 held.bound held.windows held.count
+IsUnderway-none history entry held seen = record {
+  same = seen.bound;
+  opened = seen.windows;
+  counted = subst (λ l. HasCounted history.keep l held.count) (sym (append-nil (all_fails history))) seen.count;
+}
+
+-- ---- signals at which nothing is to be judged
+
+counts_none : (count : Count) → Counts [] count count
+counts_none count keep before counted = subst (λ l. HasCounted keep l count) (sym (append-nil before)) counted
+
+-- a signal without a look and without a window
+IsUnderway-idle : (history : History) (entry : Entry) (i : ℕ) (bound : List Bool)
+    (windows : List (Option Look)) (count : Count)
+    → IsUnderway history entry i bound windows count → i < length bound
+    → looks_at i entry.moment ≡ [] → get_or windows i None ≡ None
+    → IsUnderway history entry (i + 1) bound windows count
+IsUnderway-idle history entry i bound windows count before within none closed = by (get_or bound i false) refl
+  where
+    level : Level
+    level = level_of i entry
+
+    counts : Counts (map (fail_in (sight_of i level entry)) (failed level None (looks_at i entry.moment))) count count
+    counts =
+        subst (λ (l : List Look). Counts (map (fail_in (sight_of i level entry)) (failed level None l)) count count)
+        (sym none) (counts_none count)
+
+    by : (b : Bool) → get_or bound i false ≡ b → IsUnderway history entry (i + 1) bound windows count
+    by false e = IsUnderway-unbound history entry i bound windows count before within e
+    by true e =
+        subst (λ (w : List (Option Look)). IsUnderway history entry (i + 1) bound w count)
+        (ap (set windows i) (sym closed) ∙ set-get_or windows i None)
+        (IsUnderway-judged history entry i bound windows count count None None level before within e (sym closed) refl
+        (sym (ap (λ (l : List Look). left_open level (window_after None l)) none)) counts)
+
+-- so many of them
+IsUnderway-passes : (history : History) (entry : Entry) (n i upto : ℕ) (bound : List Bool)
+    (windows : List (Option Look)) (count : Count) → i + n ≡ upto → upto ≤ length bound
+    → ((k : ℕ) → i ≤ k → k < upto → looks_at k entry.moment ≡ [])
+    → ((k : ℕ) → i ≤ k → k < upto → get_or windows k None ≡ None)
+    → IsUnderway history entry i bound windows count → IsUnderway history entry upto bound windows count
+IsUnderway-passes history entry zero i upto bound windows count sum within none closed before =
+    let same : i ≡ upto = omega (arith, sum) in
+    subst (λ (k : ℕ). IsUnderway history entry k bound windows count) same before
+IsUnderway-passes history entry (suc n) i upto bound windows count sum within none closed before =
+    IsUnderway-passes history entry n (i + 1) upto bound windows count (omega (arith, sum)) within
+    (λ k a b. none k (omega arith) b) (λ k a b. closed k (omega arith) b)
+    (IsUnderway-idle history entry i bound windows count before (omega (arith, sum, within))
+    (none i (omega arith) (omega (arith, sum))) (closed i (omega arith) (omega (arith, sum))))
+
+-- all that a search passes
+pub IsUnderway-on : (history : History) (entry : Entry) (sorted : Bool) (rest : List (ℕ × Look)) (i upto : ℕ)
+    (bound : List Bool) (windows : List (Option Look)) (count : Count) → Passes sorted rest windows i upto
+    → HasLeft entry.moment sorted i rest → upto ≤ length bound
+    → IsUnderway history entry i bound windows count → IsUnderway history entry upto bound windows count
+IsUnderway-on history entry sorted rest i upto bound windows count passes left within before =
+    IsUnderway-passes history entry (upto - i) i upto bound windows count (omega (arith, passes.onward)) within
+    (λ k a b. sym (left.all k a) ∙ passes.no_look left.ascends k a b) passes.no_window before
 
 -- all signals have been judged
 pub HasSeen-entry : (history : History) (entry : Entry) (i : ℕ) (held : Held)

@@ -7,3 +7,5 @@ pub mod Count
 pub mod History
 pub mod Agree
 pub mod Step
+pub mod Windows
+pub mod Ahead

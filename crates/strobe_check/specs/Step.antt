@@ -1,11 +1,12 @@
--- What the parts of the code compute. No public clause cites it.
-use Rattle.std.specs.Prelude.{◌≡◌, ℕ, ◌==◌, ◌+◌, ◌<◌, ◌≤◌, Bool, true, not, ◌&&◌, ◌||◌, if◌then◌else◌, List, [], ◌∷◌, ◌++◌, map, filter, Option, Some, None, is_some}
+-- What the parts of the code compute. Of all this a public clause cites which looks are left to be asked about alone.
+use Rattle.std.specs.Prelude.{◌≡◌, ℕ, ◌==◌, ◌+◌, ◌<◌, ◌≤◌, Bool, true, false, not, ◌&&◌, ◌||◌, if◌then◌else◌, List, [], ◌∷◌, ◌++◌, map, filter, Option, Some, None, is_some, slice_index_or}
 use Rattle.std.specs.List.{list_any}
 use Rattle.tester_types.specs.declared.wave.Look.{Look}
 use Rattle.tester_types.specs.declared.level.Level.{Level}
 use Rattle.tester_types.specs.declared.record.Fail.{Fail}
 use Rattle.strobe_check.specs.declared.judge.Sight.{Sight}
 use Rattle.strobe_check.specs.Look.{is_edge, is_window, is_met}
+use Rattle.strobe_check.specs.History.{Held}
 
 -- the looks at a signal among all looks of a moment
 abbrev pub looks_of : ℕ → List (ℕ × Look) → List Look
@@ -39,6 +40,11 @@ has_edge signal looks = list_any (λ look. look.0 == signal && is_edge look.1) l
 abbrev pub is_watched : Option Look → ℕ → List (ℕ × Look) → Bool
 is_watched window signal looks =
     has_edge signal looks || is_some (window_after window (looks_of signal looks))
+
+-- the signal is bound, and watched with the window that is held for it
+abbrev pub is_wanted : Held → ℕ → List (ℕ × Look) → Bool
+is_wanted held signal looks =
+    slice_index_or held.bound signal false && is_watched (slice_index_or held.windows signal None) signal looks
 
 -- the edge looks that a level doesn't meet
 abbrev pub failed_edges : Level → List Look → List Look

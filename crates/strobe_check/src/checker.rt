@@ -1,11 +1,16 @@
 //! The checker of a try's strobes.
 
 ghost use Rattle.std.specs.Prelude.{◌≡◌, ◌≤◌, length, IfOk};
+ghost use Rattle.tester_types.specs.declared.cycle.Moment.{Moment};
+ghost use Rattle.strobe_check.specs.Ahead.{Stands, Asks};
 ghost use Rattle.strobe_check.specs.History.{HasSeen, numbered, fresh, SeesEntry, SeesEnd, Answers, sensed, total_of, kept_of};
+ghost use Rattle.strobe_check.specs.Step.{is_wanted};
 
+use crate::ahead::Ahead;
 use crate::judge::{Sight, is_watched, judge};
 use crate::run::{are_sorted, split_run};
 use crate::tally::Tally;
+use crate::windows::{Windows, next_place};
 use std::alloc::Global;
 use std::marker::Model;
 use tester_types::{FailList, Level, Look, Moment, NoMemory};
@@ -17,19 +22,19 @@ const MOST_NUMBERED: usize = 65_536;
 #[derive(Drop)]
 pub struct Checker {
     bound: Vec<bool>,
-    windows: Vec<Option<Look>>,
+    windows: Windows,
     tally: Tally,
 }
 
 impl Model for Checker {
-    ghost use Rattle.std.specs.Prelude.{◌≡◌, ◌≤◌, vec_len};
+    ghost use Rattle.std.specs.Prelude.{◌≡◌, ◌≤◌, vec_len, length};
     ghost use Rattle.strobe_check.specs.History.{Held, most_numbered};
 
     ghost Value = { Held };
 
-    ghost view = { λ c. record { bound = c.bound.items; windows = c.windows.items; count = c.tally } };
+    ghost view = { λ c. record { bound = c.bound.items; windows = c.windows; count = c.tally } };
 
-    ghost invariant = { λ c. (vec_len c.bound ≡ vec_len c.windows) × (vec_len c.windows ≤ most_numbered) };
+    ghost invariant = { λ c. (vec_len c.bound ≡ length c.windows) × (length c.windows ≤ most_numbered) };
 }
 
 impl Checker {
@@ -41,7 +46,7 @@ impl Checker {
         let signals = bound.len().min(MOST_NUMBERED);
         Ok(Checker {
             bound: Vec::from_slice(alloc, &bound[..signals])?,
-            windows: vec![in alloc; None; signals]?,
+            windows: Windows::make(alloc, signals)?,
             tally: Tally::new(alloc, keep)?,
         })
     }
@@ -51,18 +56,50 @@ impl Checker {
     pub fn wanted(&self, moment: &Moment, signal: u16) -> bool
         ensures { Answers (sensed moment.now signal) self.now result }
     {
+        self.is_wanted(signal, moment.looks.as_slice())
+    }
+
+    /// The next signal that is to be sensed at the next moment of the open cycle, from where the asking stands on; none where
+    /// there is no further one.
+    ///
+    /// Where the looks stand in the order of their signals, it goes over those that have a look or a window alone. It takes no
+    /// memory.
+    pub fn next_wanted(&self, ahead: &mut Ahead) -> Option<u16>
+        requires { ahead.old.signal ≤ length self.now.bound }
+        ensures { (moment : Moment) → Stands moment ahead.old → Asks moment self.now ahead.old ahead.new result }
+    {
+        let sorted = ahead.sorted;
+        let mut rest = ahead.looks;
+        let mut signal = next_place(&self.windows, rest, sorted, ahead.signal);
+        while signal < self.windows.len() {
+            let (looks, later) = split_run(rest, sorted, signal as u16);
+            rest = later;
+            if self.is_wanted(signal as u16, looks) {
+                ahead.looks = later;
+                ahead.signal = signal + 1;
+                return Some(signal as u16);
+            }
+            signal = next_place(&self.windows, rest, sorted, signal + 1);
+        }
+        None
+    }
+
+    /// Whether the signal is to be sensed at a moment with these looks at it.
+    fn is_wanted(&self, signal: u16, looks: &[(u16, Look)]) -> bool
+        ensures { result ≡ is_wanted self.now signal looks.now }
+    {
         let at = usize::from(signal);
         if at >= self.windows.len() || !self.bound[at] {
             return false;
         }
-        is_watched(self.windows[at], moment.looks.as_slice(), signal)
+        is_watched(self.windows.get(at), looks, signal)
     }
 
     /// Judges the next moment of the open cycle, with one level a signal after the moment's drives. It has
     /// the numbers of its executive and its cycle, and the cycle's mark.
     ///
-    /// Where the looks stand in the order of their signals, it goes over them and over the signals once; else once for
-    /// each bound signal. It takes no memory.
+    /// Where the looks stand in the order of their signals, it goes over them once, and over the signals that have a look or a
+    /// window; else over all looks once for each bound signal. It takes no memory.
     pub fn look(&mut self, exec: u16, cycle: u64, mark: u32, moment: &Moment, levels: &[Level])
         requires { length self.old.bound ≤ length levels.now }
         ensures same { self.new.bound ≡ self.old.bound }
@@ -72,7 +109,8 @@ impl Checker {
     {
         let mut rest = moment.looks.as_slice();
         let sorted = are_sorted(rest);
-        for signal in 0..self.windows.len() {
+        let mut signal = next_place(&self.windows, rest, sorted, 0);
+        while signal < self.windows.len() {
             let (looks, later) = split_run(rest, sorted, signal as u16);
             rest = later;
             if self.bound[signal] {
@@ -84,8 +122,10 @@ impl Checker {
                     signal: signal as u16,
                     level: levels[signal],
                 };
-                self.windows[signal] = judge(&mut self.tally, self.windows[signal], looks, &sight);
+                let left = judge(&mut self.tally, self.windows.get(signal), looks, &sight);
+                self.windows.put(signal, left);
             }
+            signal = next_place(&self.windows, rest, sorted, signal + 1);
         }
     }
 
@@ -94,7 +134,7 @@ impl Checker {
         ensures same { self.new.bound ≡ self.old.bound }
         ensures seen { SeesEnd self.old self.new }
     {
-        self.windows.fill(None);
+        self.windows.close();
     }
 
     /// How many fails there were, up to the largest `u64`.

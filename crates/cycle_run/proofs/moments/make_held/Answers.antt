@@ -21,6 +21,12 @@ pub drive_die-requires-clause-settled : goal.drive_die-requires-clause-settled
 drive_die-requires-clause-settled g c =
     is_settled (device_of c.args.image.now) _ _ c.requires.ready.loaded c.requires.ready.state
 
+pub sense_wanted-requires-clause-wide : goal.sense_wanted-requires-clause-wide
+sense_wanted-requires-clause-wide g c =
+    checker_fits (device_of c.args.image.now)
+    (point_at c.args.bench.now.checker c.args.bench.now.last.items (g.K.Socket.told c.args.socket.now))
+    c.args.bench.now.levels.items c.args.bench.now.levels.items c.requires.ready c.requires.room.levels_count refl
+
 pub sense_wanted-requires-clause-checked : goal.sense_wanted-requires-clause-checked
 sense_wanted-requires-clause-checked g c =
     is_checked (device_of c.args.image.now) _ _ c.in-Ok.ensures.loaded c.requires.ready

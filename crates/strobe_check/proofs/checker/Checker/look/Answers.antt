@@ -1,53 +1,100 @@
-use Rattle.std.proofs.Common.{ℕ, ◌+◌, ◌≤◌, ◌<◌, length, false, sym, ◌∙◌, arith}
+use Rattle.std.proofs.Common.{◌≡◌, ◌+◌, ◌<◌, List, Option, length, false, ap, sym, subst, ◌∙◌, arith}
 use Rattle.std.proofs.lemmas.List.{get_or_read, get_or_default, length-set}
+use Rattle.tester_types.specs.declared.wave.Look.{Look}
 use Rattle.tester_types.specs.declared.level.Level.TheVariants.{X}
-use Rattle.strobe_check.proofs.UnderwayLemmas.{IsUnderway-judged, IsUnderway-unbound, HasSeen-entry}
+use Rattle.strobe_check.specs.Entry.{Entry}
+use Rattle.strobe_check.specs.Step.{looks_of}
+use Rattle.strobe_check.specs.History.{Held, HasSeen}
+use Rattle.strobe_check.specs.Ahead.{HasLeft}
+use Rattle.strobe_check.proofs.PassLemmas.{HasLeft-on, HasLeft-cut}
+use Rattle.strobe_check.proofs.UnderwayLemmas.{IsUnderway, IsUnderway-none, IsUnderway-on, IsUnderway-judged, IsUnderway-unbound, HasSeen-entry}
 use Rattle.strobe_check.proofs.checker.Checker.look.Goals as goal
 use Rattle.strobe_check.proofs.checker.Checker.look.Goals.{then-index, else-index}
+
+pub loop-signal-init : goal.loop-signal-init
+loop-signal-init c =
+    let moment = c.args.moment.now in
+    let sorted = c.are_sorted-sorted.result in
+    let looks = c.as_slice-rest.result.now in
+    let next = c.next_place-signal in
+    let all : HasLeft moment sorted 0 looks = record {
+      all = λ k a. ap (looks_of k) c.as_slice-rest.ensures;
+      ascends = c.are_sorted-sorted.ensures;
+    } in
+    let long : length c.self.inside.bound.items ≡ length c.self.inside.windows =
+    omega (arith, c.self.invariant.0, c.self.inside.bound.ok.0) in
+    record {
+      same = ap (λ (h : Held). h.bound) c.self.view_is;
+      long = long;
+      most = c.self.invariant.1;
+      levels_len = omega (arith, long, c.requires, ap (λ (h : Held). length h.bound) c.self.view_is);
+      within = next.ensures.within;
+      left = HasLeft-on moment sorted c.self.inside.windows looks 0 next.result next.ensures.passes all;
+      underway = λ history seen.
+          IsUnderway-on history _ sorted looks 0 next.result _ _ _ next.ensures.passes all (omega (arith, long, next.ensures.within))
+          (IsUnderway-none history _ _ (subst (HasSeen history) (sym c.self.view_is) seen));
+    }
 
 pub loop-signal-preserved : goal.loop-signal-preserved
 loop-signal-preserved c =
     let i = c.loop-signal.signal in
     let now = c.loop-signal.self-inside in
     let before = c.loop-signal.invariant in
-    let split = c.split_run.ensures in
-    let rest_all = λ (k : ℕ) (l : i + 1 ≤ k). split.behind before.ascends k (omega arith) ∙ before.rest_all k (omega arith) in
-    let ascends = split.ascends before.ascends in
-    let own = split.here before.ascends ∙ before.rest_all i (omega arith) in
-    let within : i < length now.bound.items = omega (arith, before.bound_len) in
+    let moment = c.args.moment.now in
+    let entry : Entry = record {
+      exec = c.args.exec;
+      cycle = c.args.cycle;
+      mark = c.args.mark;
+      moment = moment;
+      levels = c.args.levels.now;
+    } in
+    let sorted = c.are_sorted-sorted.result in
+    let later = c.split_run.result.1.now in
+    let next = c.next_place-signal-in-loop-signal in
+    let own = c.split_run.ensures.here before.left.ascends ∙ before.left.all i (omega arith) in
+    let left = HasLeft-cut moment sorted i c.loop-signal.rest.now c.split_run.result.0.now later c.split_run.ensures before.left in
+    let within : i < length now.bound.items = omega (arith, before.long, c.loop-signal-test.true, c.len.ensures) in
     let read = get_or_read now.bound.items i c.index.result.now within c.index.ensures false in
     elim c.if-index.branch [
       | then-index w ↦
-          let level = get_or_default c.args.levels.now i _ X (omega (arith, before.levels_len)) in
-          let counted = rw own at w.judge.ensures.counted in
-          let opened = rw own at w.judge.ensures.stays in
+          let lit : i < length c.args.levels.now = omega (arith, before.long, before.levels_len, within) in
+          let counted = rw own at w.judge-left.ensures.counted in
+          let opened = rw own at w.judge-left.ensures.stays in
+          let passes = rw w.self-inside-is at next.ensures.passes in
+          let upto = rw w.self-inside-is at next.ensures.within in
+          let same_long : length w.put.new.self ≡ length now.windows =
+          ap (λ (l : List (Option Look)). length l) w.put.ensures ∙ length-set now.windows i w.judge-left.result in
           rw w.self-inside-is (record {
             same = before.same;
-            bound_len = before.bound_len;
-            windows_len = length-set now.windows.items i w.judge.result ∙ before.windows_len;
-            most = before.most;
-            levels_len = before.levels_len;
-            rest_all = rest_all;
-            ascends = ascends;
+            long = before.long ∙ sym same_long;
+            most = omega (arith, before.most, same_long);
+            levels_len = omega (arith, before.levels_len, same_long);
+            within = upto;
+            left = HasLeft-on moment sorted w.put.new.self later (i + 1) next.result passes left;
             underway = λ history seen.
-                IsUnderway-judged history _ i _ _ _ _ _ _ _ (before.underway history seen) within (sym read ∙ w.if-index.true)
-                w.index-then-index.ensures level opened counted;
+                IsUnderway-on history _ sorted later (i + 1) next.result _ _ _ passes left (omega (arith, upto, before.long, same_long))
+                (subst (λ (l : List (Option Look)). IsUnderway history entry (i + 1) now.bound.items l w.judge-left.new.tally) (sym w.put.ensures)
+                (IsUnderway-judged history _ i _ _ _ _ _ _ _ (before.underway history seen) within (sym read ∙ w.if-index.true)
+                w.get.ensures (get_or_default c.args.levels.now i _ X lit) opened counted));
           })
       | else-index w ↦
+          let passes = rw w.self-inside-is at next.ensures.passes in
+          let upto = rw w.self-inside-is at next.ensures.within in
           rw w.self-inside-is (record {
             same = before.same;
-            bound_len = before.bound_len;
-            windows_len = before.windows_len;
+            long = before.long;
             most = before.most;
             levels_len = before.levels_len;
-            rest_all = rest_all;
-            ascends = ascends;
+            within = upto;
+            left = HasLeft-on moment sorted now.windows later (i + 1) next.result passes left;
             underway = λ history seen.
-                IsUnderway-unbound history _ i _ _ _ (before.underway history seen) within (sym read ∙ w.if-index.false);
+                IsUnderway-on history _ sorted later (i + 1) next.result _ _ _ passes left (omega (arith, upto, before.long))
+                (IsUnderway-unbound history _ i _ _ _ (before.underway history seen) within (sym read ∙ w.if-index.false));
           })
     ]
 
 pub returns-clause-seen : goal.returns-clause-seen
 returns-clause-seen c = λ history seen.
     let after = c.loop-signal.invariant in
-    HasSeen-entry history _ _ _ (after.underway history seen) (omega (arith, after.bound_len))
+    HasSeen-entry history _ _ _ (after.underway history seen)
+    (omega (arith, after.long, c.loop-signal-test.false, c.len.ensures))

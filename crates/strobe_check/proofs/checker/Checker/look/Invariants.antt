@@ -1,6 +1,6 @@
-use Rattle.std.proofs.Common.{◌≡◌, ◌≤◌, ℕ, true, length}
+use Rattle.std.proofs.Common.{◌≡◌, ◌≤◌, ◌-◌, length}
 use Rattle.strobe_check.specs.History.{History, HasSeen}
-use Rattle.strobe_check.specs.Step.{looks_of, Ascends}
+use Rattle.strobe_check.specs.Ahead.{HasLeft}
 use Rattle.strobe_check.proofs.UnderwayLemmas.{IsUnderway}
 use Rattle.strobe_check.proofs.checker.Checker.look.Given as goal
 
@@ -8,14 +8,16 @@ use Rattle.strobe_check.proofs.checker.Checker.look.Given as goal
 abbrev pub invariant-loop-signal : goal.invariant-loop-signal
 invariant-loop-signal l = record {
   same : l.self-inside.bound.items ≡ l.fn.self.bound;
-  bound_len : length l.self-inside.bound.items ≡ l.signal-end;
-  windows_len : length l.self-inside.windows.items ≡ l.signal-end;
-  most : l.signal-end ≤ 65536;
-  levels_len : l.signal-end ≤ length l.levels;
-  rest_all : (k : ℕ) → l.signal ≤ k → looks_of k l.rest ≡ looks_of k l.moment.looks;
-  ascends : l.sorted ≡ true → Ascends l.signal l.rest;
+  long : length l.self-inside.bound.items ≡ length l.self-inside.windows;
+  most : length l.self-inside.windows ≤ 65536;
+  levels_len : length l.self-inside.windows ≤ length l.levels;
+  within : l.signal ≤ length l.self-inside.windows;
+  left : HasLeft l.moment l.sorted l.signal l.rest;
   underway : (history : History) → HasSeen history l.fn.self
       → IsUnderway history
       (record { exec = l.exec; cycle = l.cycle; mark = l.mark; moment = l.moment; levels = l.levels })
-      l.signal l.self-inside.bound.items l.self-inside.windows.items l.self-inside.tally;
+      l.signal l.self-inside.bound.items l.self-inside.windows l.self-inside.tally;
 }
+
+abbrev pub decreases-loop-signal : goal.decreases-loop-signal
+decreases-loop-signal l = length l.self-inside.windows - l.signal

@@ -1,4 +1,4 @@
-use Rattle.std.proofs.Common.{take, replicate, None, sym, ap, ◌∙◌, rules, length-take}
+use Rattle.std.proofs.Common.{take, replicate, None, sym, ap, ◌∙◌, length-take}
 use Rattle.std.proofs.Math.Nat.{min_comm}
 use Rattle.std.proofs.lemmas.List.{take_min}
 use Rattle.strobe_check.specs.History.{most_numbered, numbered}
@@ -12,6 +12,6 @@ returns c =
     let least = c.min-signals.ensures ∙ min_comm _ _ in
     let bound = c.in_ok-from_slice.ensures.items ∙ ap (λ n. take n all) least
     ∙ take_min most_numbered all in
-    let windows = c.in_ok-vec.ensures.items_if_clones_equal (λ y q. search rules)
+    let windows = c.in_ok-make.ensures
     ∙ ap (λ n. replicate n None) (least ∙ sym (length-take most_numbered all)) in
     HasSeen-fresh (take most_numbered all) c.args.keep _ bound windows c.in_ok-new.ensures

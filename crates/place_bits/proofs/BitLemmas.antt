@@ -1,12 +1,12 @@
 -- Words of 64 as a list of bits: a bit that is set or cleared, and the first bit that is 1.
-use Rattle.std.proofs.Common.{◌≡◌, ℕ, min, subst, ◌+◌, ◌-◌, ◌*◌, ◌/◌, ◌%◌, ◌^◌, ◌<◌, ◌≤◌, Bool, true, false, eqb, List, length, get_or, set, sym, ◌∙◌, ap, inl, inr, arith, ext_get_or, length-set, get_or-set_same, get_or-set_other, eq-eqb, ne_eqb, w64}
+use Rattle.std.proofs.Common.{◌≡◌, ℕ, min, subst, ◌+◌, ◌-◌, ◌*◌, ◌/◌, ◌%◌, ◌^◌, ◌<◌, ◌≤◌, Bool, true, false, eqb, List, length, get_or, set, replicate, sym, ◌∙◌, ap, inl, inr, arith, ext_get_or, length-set, get_or-set_same, get_or-set_other, eq-eqb, ne_eqb, w64}
 use Rattle.std.proofs.lemmas.List.FromFn.{length-map-range_with_len, get_or-map-range_with_len}
-use Rattle.std.proofs.lemmas.List.{get_or_past}
+use Rattle.std.proofs.lemmas.List.{get_or_past, get_or-replicate, length-replicate}
 use Rattle.std.proofs.lemmas.Bool.{cases_eq, cases_lt}
 use Rattle.std.proofs.lemmas.Nat.Bits.{bit_at_set_same, bit_at_set_other, bit_at_clear_same, bit_at_clear_other, bit_at-zero, bit_at-lt, bit_at_and, bit_at_mask_below, bit_at_mask_inside, ones_shl}
 use Rattle.std.specs.Prelude.{bit_and, bit_or}
 use Rattle.std.specs.Int.{bit_at, bit_not}
-use Rattle.die_sim.specs.Pending.{bit_of, bits_of}
+use Rattle.place_bits.specs.Bits.{bit_of, bits_of}
 
 pub length-bits_of : (words : List ℕ) → length (bits_of words) ≡ 64 * length words
 unfolding bits_of
@@ -89,6 +89,18 @@ bit_of_zero words k w z lo hi =
 -- past the words no bit is 1
 pub bits_of-past : (words : List ℕ) (k : ℕ) → 64 * length words ≤ k → get_or (bits_of words) k false ≡ false
 bits_of-past words k h = get_or_past (bits_of words) k false (omega (arith, h, length-bits_of words))
+
+-- of words that are all 0 no bit is 1
+pub bits_of-zeros : (words : List ℕ) (n k : ℕ) → words ≡ replicate n 0 → get_or (bits_of words) k false ≡ false
+bits_of-zeros words n k zeros = elim (cases_lt k (64 * length words)) [
+  | inl l ↦
+      let within : k / 64 < n = omega (arith, l, ap (λ (x : List ℕ). length x) zeros, length-replicate {A = ℕ} n 0) in
+      get_or-bits_of words k l
+      ∙ bit_of_zero words k (k / 64)
+      (ap (λ (x : List ℕ). get_or x (k / 64) 0) zeros ∙ get_or-replicate {A = ℕ} n (k / 64) 0 0 within)
+      (omega arith) (omega arith)
+  | inr l ↦ bits_of-past words k l
+]
 
 min_none : (a : ℕ) → min a 0 ≡ 0
 min_none a = omega arith

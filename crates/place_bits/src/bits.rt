@@ -1,21 +1,21 @@
 //! A set of places, packed into words of 64.
+
 ghost use Rattle.std.specs.Prelude.{◌≡◌, ℕ, ◌+◌, ◌*◌, ◌/◌, ◌%◌, ◌<◌, ◌≤◌, true, false, length, IfOk, slice_set, slice_index, slice_index_or};
 ghost use Rattle.std.specs.Int.{bit_at};
-ghost use Rattle.text_bytes.specs.Limits.{most_nets};
-ghost use Rattle.die_sim.specs.Pending.{bit_of};
+ghost use Rattle.place_bits.specs.Bits.{most_places, bit_of};
 
 use std::alloc::{AllocError, Global};
 use std::marker::Model;
 
 /// Whether each place is in the set.
 #[derive(Drop)]
-pub(crate) struct Bits {
+pub struct Bits {
     words: Vec<u64>,
 }
 
 impl Model for Bits {
     ghost use Rattle.std.specs.Prelude.{List, Bool, ◌≤◌, length};
-    ghost use Rattle.die_sim.specs.Pending.{bits_of};
+    ghost use Rattle.place_bits.specs.Bits.{bits_of};
 
     ghost Value = { List Bool };
 
@@ -26,18 +26,19 @@ impl Model for Bits {
 
 impl Bits {
     /// A set of none of so many places, and of up to 64 more.
-    pub(crate) fn new(alloc: Global, places: usize) -> Result<Bits, AllocError>
-        requires { places ≤ most_nets }
+    pub fn new(alloc: Global, places: usize) -> Result<Bits, AllocError>
+        requires { places ≤ most_places }
         ensures room { IfOk result (λ b. places ≤ length b) }
         ensures few { IfOk result (λ b. length b ≤ 65600) }
+        ensures none { IfOk result (λ b. (k : ℕ) → slice_index_or b k false ≡ false) }
     {
-        let mut words = Vec::new(alloc);
-        words.resize(places / 64 + 1, 0)?;
-        Ok(Bits { words })
+        Ok(Bits {
+            words: vec![in alloc; 0; places / 64 + 1]?,
+        })
     }
 
     /// Puts a place into the set.
-    pub(crate) fn set(&mut self, place: usize)
+    pub fn set(&mut self, place: usize)
         requires { place < length self.old }
         ensures { self.new ≡ slice_set self.old place true }
     {
@@ -46,7 +47,7 @@ impl Bits {
     }
 
     /// Takes a place out of the set.
-    pub(crate) fn clear(&mut self, place: usize)
+    pub fn clear(&mut self, place: usize)
         requires { place < length self.old }
         ensures { self.new ≡ slice_set self.old place false }
     {
@@ -55,7 +56,7 @@ impl Bits {
     }
 
     /// The first place from this one on that is in the set, past the last place where there is none.
-    pub(crate) fn next(&self, from: usize) -> usize
+    pub fn next(&self, from: usize) -> usize
         requires { from ≤ length self.now }
         ensures onward { from ≤ result }
         ensures skipped { (k : ℕ) → from ≤ k → k < result → slice_index_or self.now k false ≡ false }

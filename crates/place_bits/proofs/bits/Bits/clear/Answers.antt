@@ -1,7 +1,7 @@
 use Rattle.std.proofs.Common.{◌≡◌, ◌*◌, ◌/◌, ◌<◌, ◌∙◌, Bool, false, List, length, get_or, set, ap, arith}
 use Rattle.std.proofs.lemmas.List.{get_or_read}
-use Rattle.die_sim.proofs.BitLemmas.{length-bits_of, bits_of-clear}
-use Rattle.die_sim.proofs.bits.Bits.clear.Goals as goal
+use Rattle.place_bits.proofs.BitLemmas.{length-bits_of, bits_of-clear}
+use Rattle.place_bits.proofs.bits.Bits.clear.Goals as goal
 
 pub index-word-requires : goal.index-word-requires
 index-word-requires c =

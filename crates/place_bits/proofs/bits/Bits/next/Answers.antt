@@ -1,7 +1,7 @@
 use Rattle.std.proofs.Common.{List, ℕ, ap, sym, ◌∙◌, length, arith}
-use Rattle.die_sim.specs.Pending.{bit_of}
-use Rattle.die_sim.proofs.BitLemmas.{length-bits_of, skipped-bits_of, found-bits_of}
-use Rattle.die_sim.proofs.bits.Bits.next.Goals as goal
+use Rattle.place_bits.specs.Bits.{bit_of}
+use Rattle.place_bits.proofs.BitLemmas.{length-bits_of, skipped-bits_of, found-bits_of}
+use Rattle.place_bits.proofs.bits.Bits.next.Goals as goal
 
 pub next_bit-requires-clause-within : goal.next_bit-requires-clause-within
 next_bit-requires-clause-within c =

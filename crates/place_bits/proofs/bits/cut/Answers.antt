@@ -1,5 +1,5 @@
-use Rattle.die_sim.proofs.BitLemmas.{cut-below, cut-above}
-use Rattle.die_sim.proofs.bits.cut.Goals as goal
+use Rattle.place_bits.proofs.BitLemmas.{cut-below, cut-above}
+use Rattle.place_bits.proofs.bits.cut.Goals as goal
 
 pub returns-clause-below : goal.returns-clause-below
 returns-clause-below c = λ k l. cut-below c.args.word c.args.from k c.requires l
