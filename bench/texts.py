@@ -75,7 +75,7 @@ def told(name, command, body):
 wanted = sys.argv[2:]
 if not wanted or "listing" in wanted:
     body = vectors(65_535)
-    for command in ("check", "cycles", "events", "save"):
+    for command in ("check", "cycles", "events", "save", "flat"):
         told(f"{command} of 65,535 vectors", command, body)
 for name, make in kinds.items():
     if not wanted or name in wanted:

@@ -7,6 +7,7 @@ _stil() {
         'cycles:print the dated cycles of a STIL text'
         'events:print the moments of its cycles'
         'save:write its code as a saved program'
+        'flat:write its code as a flat STIL text'
         'lot:test the dies of a plan, and print their datalog'
         'grade:print the first cycle that finds each stuck-at fault'
         'dump:print what is driven at a site, as a value change dump'
@@ -20,7 +21,7 @@ _stil() {
         return
     fi
     case $words[2]:$CURRENT in
-        (check:3|cycles:3|events:3|save:3) _files -g '*.stil(-.)' ;;
+        (check:3|cycles:3|events:3|save:3|flat:3) _files -g '*.stil(-.)' ;;
         (lot:3|grade:3|dump:3) _files -g '*.(stil|saved)(-.)' ;;
         (lot:4|grade:4|dump:4) _files -g '*.csv(-.)' ;;
         (dump:5) compadd {0..15} ;;

@@ -6,7 +6,7 @@ ghost use Rattle.code_listing.specs.Letters.{look_letter, push_letter};
 use tester_types::{Look, Push};
 
 /// The letter of a drive.
-pub(crate) fn push_letter(push: Push) -> &'static [u8]
+pub fn push_letter(push: Push) -> &'static [u8]
     ensures { result.now ≡ push_letter push }
 {
     match push {

@@ -11,5 +11,5 @@ mod room;
 
 pub use check::{cycle_total, put_check};
 pub use fault::ListFault;
-pub use letters::look_letter;
+pub use letters::{look_letter, push_letter};
 pub use listing::{put_cycles, put_events};

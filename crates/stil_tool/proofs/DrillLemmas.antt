@@ -18,7 +18,7 @@ use Rattle.stil_ast.specs.declared.fault.StilRefusal.{StilRefusal}
 use Rattle.stil_ast.specs.declared.fault.StilRefusal.TheVariants as stil
 use Rattle.stil_program.specs.Program.{IsTextFault, IsRefusal}
 use Rattle.tool_inputs.specs.declared.status.Status.{Status}
-use Rattle.tool_inputs.specs.declared.status.Status.TheVariants.{Done, Usage, ReadFault, WriteFault, RefusedStil, RefusedNet, RefusedPlan, TooFewSockets, OutOfMemory, TooLong, RefusedSaved, NoDie, TapeTooLong}
+use Rattle.tool_inputs.specs.declared.status.Status.TheVariants.{Done, Usage, ReadFault, WriteFault, RefusedStil, RefusedNet, RefusedPlan, TooFewSockets, OutOfMemory, TooLong, RefusedSaved, TooFlat, NoDie, TapeTooLong}
 use Rattle.tool_inputs.specs.declared.refusal.Refusal.{Refusal}
 use Rattle.tool_inputs.specs.declared.refusal.Refusal.TheVariants as refused
 use Rattle.tool_inputs.specs.Refusals.{status_of, line_of}
@@ -118,5 +118,6 @@ run_wants tells number old new code bound RefusedPlan text ready enough want = a
 run_wants tells number old new code bound TooFewSockets text ready enough want = absurd want
 run_wants tells number old new code bound TooLong text ready enough want = absurd want
 run_wants tells number old new code bound RefusedSaved text ready enough want = absurd want
+run_wants tells number old new code bound TooFlat text ready enough want = absurd want
 run_wants tells number old new code bound NoDie text ready enough want = absurd want
 run_wants tells number old new code bound TapeTooLong text ready enough want = absurd want

@@ -8,7 +8,7 @@ use Rattle.tool_inputs.specs.declared.status.Status.{Status}
 use Rattle.tool_inputs.specs.declared.status.Status.TheVariants.{WriteFault, OutOfMemory}
 use Rattle.tool_inputs.specs.declared.refusal.Refusal.{Refusal}
 use Rattle.text_commands.specs.declared.command.Command.{Command}
-use Rattle.text_commands.specs.declared.command.Command.TheVariants.{Check, Cycles, Events, Save}
+use Rattle.text_commands.specs.declared.command.Command.TheVariants.{Check, Cycles, Events, Save, Flat}
 use Rattle.text_commands.specs.Commands.{command_word}
 use Rattle.tool_inputs.specs.Endings.{Answers, IsDone}
 use Rattle.stil_tool.specs.Offline.{IsFine}
@@ -94,6 +94,7 @@ other_word Check is = let wrong : 99 ≡ 100 = ap first_byte is in omega (arith,
 other_word Cycles is = let wrong : 99 ≡ 100 = ap first_byte is in omega (arith, wrong)
 other_word Events is = let wrong : 101 ≡ 100 = ap first_byte is in omega (arith, wrong)
 other_word Save is = let wrong : 115 ≡ 100 = ap first_byte is in omega (arith, wrong)
+other_word Flat is = let wrong : 102 ≡ 100 = ap first_byte is in omega (arith, wrong)
 
 pub fine_needs_none : (words : List (List ℕ)) (told : Option Files) (before now faults faults' : ℕ)
     → IsFine words told before now faults faults' → NeedTester words → ⊥

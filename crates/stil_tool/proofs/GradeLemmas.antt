@@ -11,7 +11,7 @@ use Rattle.fault_grade.specs.declared.graded.Grade.{Grade}
 use Rattle.fault_grade.specs.Grade.{first_part, grade_of}
 use Rattle.grade_listing.specs.GradeText.{grade_text}
 use Rattle.tool_inputs.specs.declared.status.Status.{Status}
-use Rattle.tool_inputs.specs.declared.status.Status.TheVariants.{Done, Usage, ReadFault, WriteFault, RefusedStil, RefusedNet, RefusedPlan, TooFewSockets, OutOfMemory, TooLong, RefusedSaved, NoDie, TapeTooLong}
+use Rattle.tool_inputs.specs.declared.status.Status.TheVariants.{Done, Usage, ReadFault, WriteFault, RefusedStil, RefusedNet, RefusedPlan, TooFewSockets, OutOfMemory, TooLong, RefusedSaved, TooFlat, NoDie, TapeTooLong}
 use Rattle.tool_inputs.specs.declared.refusal.Refusal.{Refusal}
 use Rattle.tool_inputs.specs.declared.refusal.Refusal.TheVariants as refused
 use Rattle.tool_inputs.specs.Endings.{Answers, IsDone}
@@ -64,6 +64,7 @@ run_wants told before now program plan code bound RefusedPlan text ready some wa
 run_wants told before now program plan code bound TooFewSockets text ready some want = absurd want
 run_wants told before now program plan code bound TooLong text ready some want = absurd want
 run_wants told before now program plan code bound RefusedSaved text ready some want = absurd want
+run_wants told before now program plan code bound TooFlat text ready some want = absurd want
 run_wants told before now program plan code bound NoDie text ready some want = absurd want
 run_wants told before now program plan code bound TapeTooLong text ready some want = absurd want
 

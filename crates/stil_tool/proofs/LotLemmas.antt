@@ -6,7 +6,7 @@ use Rattle.plan_rows.specs.Rows.{sites_of}
 use Rattle.die_sim.specs.Socket.{Told}
 use Rattle.lot_plan.specs.Bound.{Bound}
 use Rattle.tool_inputs.specs.declared.status.Status.{Status}
-use Rattle.tool_inputs.specs.declared.status.Status.TheVariants.{Done, Usage, ReadFault, WriteFault, RefusedStil, RefusedNet, RefusedPlan, TooFewSockets, OutOfMemory, TooLong, RefusedSaved, NoDie, TapeTooLong}
+use Rattle.tool_inputs.specs.declared.status.Status.TheVariants.{Done, Usage, ReadFault, WriteFault, RefusedStil, RefusedNet, RefusedPlan, TooFewSockets, OutOfMemory, TooLong, RefusedSaved, TooFlat, NoDie, TapeTooLong}
 use Rattle.tool_inputs.specs.declared.refusal.Refusal.{Refusal}
 use Rattle.tool_inputs.specs.declared.refusal.Refusal.TheVariants as refused
 use Rattle.tool_inputs.specs.Refusals.{status_of, line_of}
@@ -40,6 +40,7 @@ run_wants tells told before now old new program plan code bound RefusedPlan text
 run_wants tells told before now old new program plan code bound TooFewSockets text ready enough want = absurd want
 run_wants tells told before now old new program plan code bound TooLong text ready enough want = absurd want
 run_wants tells told before now old new program plan code bound RefusedSaved text ready enough want = absurd want
+run_wants tells told before now old new program plan code bound TooFlat text ready enough want = absurd want
 run_wants tells told before now old new program plan code bound NoDie text ready enough want = absurd want
 run_wants tells told before now old new program plan code bound TapeTooLong text ready enough want = absurd want
 

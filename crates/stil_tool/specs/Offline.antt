@@ -21,7 +21,7 @@ AreOf words command file = words ≡ command_word command ∷ file ∷ []
 abbrev pub usage_line : List ℕ
 usage_line =
     codes "usage: check FILE | cycles FILE | events FILE | save FILE | lot PROGRAM PLAN | drill N"
-    ++ codes " | grade PROGRAM PLAN | dump PROGRAM PLAN SITE\n"
+    ++ codes " | flat FILE | grade PROGRAM PLAN | dump PROGRAM PLAN SITE\n"
 
 -- the words are those of a command on a text, or of a dump
 abbrev pub NeedNoTester : List (List ℕ) → Type 0

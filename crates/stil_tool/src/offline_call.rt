@@ -13,11 +13,12 @@ use text_commands::{Command, command_of, run_file};
 use tool_inputs::{Status, ended, read_number};
 
 /// Runs a command that needs no tester. On a STIL text `check FILE` prints the numbers of its code, `cycles FILE` its dated
-/// cycles, `events FILE` the moments of its cycles, and `save FILE` writes its code as a saved program. `dump PROGRAM PLAN
-/// SITE` prints what is driven in the first try of the site's first die, as a value change dump. The words, the files and
-/// their contents decide the answer, and with each answer comes its line or its text; a put that fails or takes nothing is
-/// answered as a write fault. A text is refused by its first fault; `cycles` and `events` refuse one of more than 65,536
-/// cycles too. Want of memory may come at any time; of `events` whole lines may stand before its line.
+/// cycles, `events FILE` the moments of its cycles, `save FILE` writes its code as a saved program, and `flat FILE` as a
+/// flat STIL text. `dump PROGRAM PLAN SITE` prints what is driven in the first try of the site's first die, as a value
+/// change dump. The words, the files and their contents decide the answer, and with each answer comes its line or its text;
+/// a put that fails or takes nothing is answered as a write fault. A text is refused by its first fault; `cycles` and
+/// `events` refuse one of more than 65,536 cycles too, and `flat` one whose flat text would be too long or refused. Want of
+/// memory may come at any time; of `events` whole lines may stand before its line.
 pub fn offline<F: Shelf, K: Sink>(
     alloc: Global,
     words: &[String],
@@ -46,7 +47,7 @@ pub fn offline<F: Shelf, K: Sink>(
 
 const USAGE: &[u8] =
     b"usage: check FILE | cycles FILE | events FILE | save FILE | lot PROGRAM PLAN | drill N | \
-grade PROGRAM PLAN | dump PROGRAM PLAN SITE\n";
+flat FILE | grade PROGRAM PLAN | dump PROGRAM PLAN SITE\n";
 
 /// The command of these words, and the file that it names.
 fn file_command(words: &[String]) -> Option<(Command, &str)>

@@ -14,15 +14,19 @@ use Rattle.code_listing.specs.Lines.{AreFirstLines, GainsLines}
 use Rattle.code_listing.specs.Listing.{listing_of}
 use Rattle.code_listing.specs.Text.{names_of, cycles_among, events_text}
 use Rattle.code_listing.proofs.ListingLemmas.{length-listing}
-use Rattle.stil_program.specs.Program.{IsRefusal, IsCompiledText}
+use Rattle.stil_program.specs.Program.{IsRefusal, IsProgramOf, IsCompiledText}
+use Rattle.flat_stil.specs.FlatFault.{IsCause}
+use Rattle.flat_stil.specs.declared.fault.FlatFault.{FlatFault}
+use Rattle.flat_stil.specs.declared.fault.FlatFault.TheVariants as fault
 use Rattle.stil_program.proofs.ProgramLemmas.{execs_are}
 use Rattle.text_commands.specs.declared.command.Command.{Command}
-use Rattle.text_commands.specs.declared.command.Command.TheVariants.{Events}
+use Rattle.text_commands.specs.declared.command.Command.TheVariants.{Events, Flat}
 use Rattle.tool_inputs.specs.declared.status.Status.{Status}
-use Rattle.tool_inputs.specs.declared.status.Status.TheVariants.{OutOfMemory}
+use Rattle.tool_inputs.specs.declared.status.Status.TheVariants.{Done, Usage, ReadFault, WriteFault, RefusedStil, RefusedNet, RefusedPlan, TooFewSockets, OutOfMemory, TooLong, RefusedSaved, TooFlat, NoDie, TapeTooLong}
 use Rattle.text_commands.specs.Commands.{IsListing, BytesWant}
 use Rattle.tool_inputs.specs.Endings.{Ends, Answers, memory_line}
 use Rattle.text_commands.specs.Commands.Wanting.{at_once, behind}
+use Rattle.text_commands.specs.FlatWants.{FlatWant, flat_status, flat_line}
 use Rattle.text_commands.specs.TextListing.{signal_names}
 use Rattle.text_commands.specs.FewCycles.{Crosses, IsListedCode, IsListRefused, IsToldOf}
 use Rattle.tool_inputs.specs.Refusals.{stil_status, stil_line}
@@ -120,3 +124,39 @@ events_wanting file bytes code held before now faults between faults' result is 
           (subst (λ (whole : List ℕ). AreFirstLines whole lines) text first) refl;
       ends = ends_behind held before now faults between faults' lines memory_line OutOfMemory result put low high ends;
     }
+
+-- ---- a flat text
+
+-- what is wanted of a code is wanted of the bytes that it is of
+want_flat : (file bytes : List ℕ) (code : Program) (status : Status) (text : List ℕ) → IsProgramOf bytes code
+    → FlatWant file code status text → BytesWant Flat file bytes status text
+want_flat file bytes code Done text is want = (code, is, want)
+want_flat file bytes code OutOfMemory text is want = at_once want
+want_flat file bytes code TooLong text is want = (record { code = code; is = is; long = want.0 }, want.1)
+want_flat file bytes code TooFlat text is want = (record { flattens = refl; code = code; is = is; flat = want.0 }, want.1)
+want_flat file bytes code Usage text is want = absurd want
+want_flat file bytes code ReadFault text is want = absurd want
+want_flat file bytes code WriteFault text is want = absurd want
+want_flat file bytes code RefusedStil text is want = absurd want
+want_flat file bytes code RefusedNet text is want = absurd want
+want_flat file bytes code RefusedPlan text is want = absurd want
+want_flat file bytes code TooFewSockets text is want = absurd want
+want_flat file bytes code RefusedSaved text is want = absurd want
+want_flat file bytes code NoDie text is want = absurd want
+want_flat file bytes code TapeTooLong text is want = absurd want
+
+pub flat_answers : (file bytes : List ℕ) (code : Program) (held held' : Option (List ℕ)) (faults faults' : ℕ) (result : Status)
+    → IsProgramOf bytes code → Answers (FlatWant file code) held faults result held' faults'
+    → Answers (BytesWant Flat file bytes) held faults result held' faults'
+flat_answers file bytes code held held' faults faults' result is a = record {
+  status = a.status;
+  text = a.text;
+  wanted = want_flat file bytes code a.status a.text is a.wanted;
+  ends = a.ends;
+}
+
+-- the status and the line of a fault are wanted
+pub want_fault : (file : List ℕ) (code : Program) (f : FlatFault) → IsCause code f → FlatWant file code (flat_status f) (flat_line file f)
+want_fault file code fault.NoMemory cause = refl
+want_fault file code fault.TooLong cause = (cause, refl)
+want_fault file code fault.TooFlat cause = (cause, refl)

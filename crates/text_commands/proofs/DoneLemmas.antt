@@ -7,13 +7,14 @@ use Rattle.stil_ast.specs.declared.fault.StilFault.{StilFault}
 use Rattle.stil_ast.specs.Faults.FrontFaults.{Front, refused_by, read_as, too_many_at}
 use Rattle.stil_program.specs.Program.{IsTextFault}
 use Rattle.stil_program.proofs.FaultLemmas.{one_text_fault}
+use Rattle.flat_stil.specs.FlatText.{flat_text}
 use Rattle.text_front.proofs.FrontLemmas.{one_front}
 use Rattle.text_commands.specs.declared.command.Command.{Command}
-use Rattle.text_commands.specs.declared.command.Command.TheVariants.{Check, Cycles, Events, Save}
+use Rattle.text_commands.specs.declared.command.Command.TheVariants.{Check, Cycles, Events, Save, Flat}
 use Rattle.tool_inputs.specs.declared.status.Status.{Status}
-use Rattle.tool_inputs.specs.declared.status.Status.TheVariants.{Done, Usage, ReadFault, WriteFault, RefusedStil, RefusedNet, RefusedPlan, TooFewSockets, OutOfMemory, TooLong, RefusedSaved, NoDie, TapeTooLong}
+use Rattle.tool_inputs.specs.declared.status.Status.TheVariants.{Done, Usage, ReadFault, WriteFault, RefusedStil, RefusedNet, RefusedPlan, TooFewSockets, OutOfMemory, TooLong, RefusedSaved, TooFlat, NoDie, TapeTooLong}
 use Rattle.tool_inputs.specs.Endings.{limit, IsFile, Answers, IsThere, IsDone}
-use Rattle.text_commands.specs.Commands.{command_word, IsListed, IsListing, HasTooMany, IsRefusedBy, IsSavedTooLong, BytesWant, FileWants, IsAccepted}
+use Rattle.text_commands.specs.Commands.{command_word, IsListed, IsListing, HasTooMany, IsRefusedBy, IsWrittenTooLong, IsWrittenTooFlat, BytesWant, FileWants, IsAccepted}
 use Rattle.text_commands.specs.Commands.FileWants.{of_bytes, unread, too_long, no_memory}
 use Rattle.tool_inputs.proofs.FileLemmas.{same_bytes, not_lacking, not_too_long}
 
@@ -28,18 +29,27 @@ one_command Check Check is = refl
 one_command Check Cycles is = let wrong : 104 ≡ 121 = ap second is in absurd (omega (arith, wrong))
 one_command Check Events is = let wrong : 104 ≡ 118 = ap second is in absurd (omega (arith, wrong))
 one_command Check Save is = let wrong : 104 ≡ 97 = ap second is in absurd (omega (arith, wrong))
+one_command Check Flat is = let wrong : 104 ≡ 108 = ap second is in absurd (omega (arith, wrong))
 one_command Cycles Check is = let wrong : 121 ≡ 104 = ap second is in absurd (omega (arith, wrong))
 one_command Cycles Cycles is = refl
 one_command Cycles Events is = let wrong : 121 ≡ 118 = ap second is in absurd (omega (arith, wrong))
 one_command Cycles Save is = let wrong : 121 ≡ 97 = ap second is in absurd (omega (arith, wrong))
+one_command Cycles Flat is = let wrong : 121 ≡ 108 = ap second is in absurd (omega (arith, wrong))
 one_command Events Check is = let wrong : 118 ≡ 104 = ap second is in absurd (omega (arith, wrong))
 one_command Events Cycles is = let wrong : 118 ≡ 121 = ap second is in absurd (omega (arith, wrong))
 one_command Events Events is = refl
 one_command Events Save is = let wrong : 118 ≡ 97 = ap second is in absurd (omega (arith, wrong))
+one_command Events Flat is = let wrong : 118 ≡ 108 = ap second is in absurd (omega (arith, wrong))
 one_command Save Check is = let wrong : 97 ≡ 104 = ap second is in absurd (omega (arith, wrong))
 one_command Save Cycles is = let wrong : 97 ≡ 121 = ap second is in absurd (omega (arith, wrong))
 one_command Save Events is = let wrong : 97 ≡ 118 = ap second is in absurd (omega (arith, wrong))
 one_command Save Save is = refl
+one_command Save Flat is = let wrong : 97 ≡ 108 = ap second is in absurd (omega (arith, wrong))
+one_command Flat Check is = let wrong : 108 ≡ 104 = ap second is in absurd (omega (arith, wrong))
+one_command Flat Cycles is = let wrong : 108 ≡ 121 = ap second is in absurd (omega (arith, wrong))
+one_command Flat Events is = let wrong : 108 ≡ 118 = ap second is in absurd (omega (arith, wrong))
+one_command Flat Save is = let wrong : 108 ≡ 97 = ap second is in absurd (omega (arith, wrong))
+one_command Flat Flat is = refl
 
 -- ---- a text that is accepted isn't refused
 
@@ -48,12 +58,14 @@ accepted_fault Check bytes accepted = accepted
 accepted_fault Cycles bytes accepted = no_fault bytes accepted.0 accepted.1.text
 accepted_fault Events bytes accepted = no_fault bytes accepted.0 accepted.1.text
 accepted_fault Save bytes accepted = accepted.0
+accepted_fault Flat bytes accepted = accepted.0
 
 few_of : (command : Command) (bytes : List ℕ) → IsListing command → IsAccepted command bytes → (blocks : Blocks) × IsListed bytes blocks
 few_of Check bytes lists accepted = absurd lists
 few_of Cycles bytes lists accepted = accepted
 few_of Events bytes lists accepted = accepted
 few_of Save bytes lists accepted = absurd lists
+few_of Flat bytes lists accepted = absurd lists
 
 -- what is read, where it isn't refused
 abbrev blocks_or : Blocks → Front → Blocks
@@ -74,12 +86,23 @@ not_refused command bytes fault accepted (inr many) =
     let listed = few_of command bytes many.0 accepted in
     not_many bytes fault listed.0 listed.1 many.1
 
-not_long : (command : Command) (bytes : List ℕ) → IsAccepted command bytes → IsSavedTooLong command bytes → ⊥
-not_long Check bytes accepted long = let wrong = long.saves in cc
-not_long Cycles bytes accepted long = let wrong = long.saves in cc
-not_long Events bytes accepted long = let wrong = long.saves in cc
+not_long : (command : Command) (bytes : List ℕ) → IsAccepted command bytes → IsWrittenTooLong command bytes → ⊥
+not_long Check bytes accepted long = long.long
+not_long Cycles bytes accepted long = long.long
+not_long Events bytes accepted long = long.long
 not_long Save bytes accepted long =
-    let few = accepted.1 long.code long.is in omega (arith, few, long.more)
+    let few = accepted.1 long.code long.is in let more = long.long in omega (arith, few, more)
+not_long Flat bytes accepted long =
+    let few = (accepted.1 long.code long.is).short in let more = long.long in omega (arith, few, more)
+
+not_flat : (command : Command) (bytes : List ℕ) → IsAccepted command bytes → IsWrittenTooFlat command bytes → ⊥
+not_flat Check bytes accepted flat = let wrong = flat.flattens in cc
+not_flat Cycles bytes accepted flat = let wrong = flat.flattens in cc
+not_flat Events bytes accepted flat = let wrong = flat.flattens in cc
+not_flat Save bytes accepted flat = let wrong = flat.flattens in cc
+not_flat Flat bytes accepted flat =
+    let is = flat.flat in
+    let same = one_text_fault (flat_text flat.code) (Some is.fault) None is.first (accepted.1 flat.code flat.is).fine in cc
 
 bytes_done : (command : Command) (file bytes : List ℕ) (status : Status) (text : List ℕ) → IsAccepted command bytes
     → BytesWant command file bytes status text → IsDone status
@@ -87,6 +110,7 @@ bytes_done command file bytes Done text accepted want = inl refl
 bytes_done command file bytes OutOfMemory text accepted want = inr refl
 bytes_done command file bytes RefusedStil text accepted want = absurd (not_refused command bytes want.0 accepted want.1)
 bytes_done command file bytes TooLong text accepted want = absurd (not_long command bytes accepted want.0)
+bytes_done command file bytes TooFlat text accepted want = absurd (not_flat command bytes accepted want.0)
 bytes_done command file bytes Usage text accepted want = absurd want
 bytes_done command file bytes ReadFault text accepted want = absurd want
 bytes_done command file bytes WriteFault text accepted want = absurd want

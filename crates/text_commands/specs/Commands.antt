@@ -12,12 +12,14 @@ use Rattle.page_code.specs.Spelling as spell
 use Rattle.code_listing.specs.Lines.{AreFirstLines}
 use Rattle.code_listing.specs.Text.{check_text, cycles_text, events_text}
 use Rattle.stil_program.specs.Program.{IsTextFault, IsTextOf, IsProgramOf}
+use Rattle.flat_stil.specs.FlatText.{flat_text}
+use Rattle.flat_stil.specs.FlatFault.{IsFlat, IsTooLong, IsTooFlat}
 use Rattle.tool_inputs.specs.declared.status.Status.{Status}
-use Rattle.tool_inputs.specs.declared.status.Status.TheVariants.{Done, ReadFault, RefusedStil, OutOfMemory, TooLong}
+use Rattle.tool_inputs.specs.declared.status.Status.TheVariants.{Done, ReadFault, RefusedStil, OutOfMemory, TooLong, TooFlat}
 use Rattle.text_commands.specs.declared.command.Command.{Command}
-use Rattle.text_commands.specs.declared.command.Command.TheVariants.{Check, Cycles, Events, Save}
+use Rattle.text_commands.specs.declared.command.Command.TheVariants.{Check, Cycles, Events, Save, Flat}
 use Rattle.text_commands.specs.TextListing.{text_listing, signal_names}
-use Rattle.tool_inputs.specs.Endings.{limit, read_fault_line, too_long_line, refused_line, memory_line, LoadFailed, IsTooLong, IsFile}
+use Rattle.tool_inputs.specs.Endings.{limit, read_fault_line, too_long_line, too_flat_line, refused_line, memory_line, LoadFailed, IsTooLong as IsFileTooLong, IsFile}
 
 -- the word of a command
 abbrev pub command_word : Command → List ℕ
@@ -25,6 +27,7 @@ command_word Check = codes "check"
 command_word Cycles = codes "cycles"
 command_word Events = codes "events"
 command_word Save = codes "save"
+command_word Flat = codes "flat"
 
 -- ---- a text
 
@@ -45,6 +48,7 @@ IsOutput Events bytes text =
     (blocks : Blocks) × IsListed bytes blocks × (text ≡ events_text (signal_names blocks) (text_listing blocks))
 IsOutput Save bytes text =
     (code : Program) × IsProgramOf bytes code × IsProgram code × (text ≡ saved_form code) × (length text ≤ limit)
+IsOutput Flat bytes text = (code : Program) × IsProgramOf bytes code × IsFlat code text
 
 -- a command prints cycle by cycle
 abbrev pub IsListing : Command → Type 0
@@ -52,6 +56,7 @@ IsListing Check = ⊥
 IsListing Cycles = Unit {0}
 IsListing Events = Unit {0}
 IsListing Save = ⊥
+IsListing Flat = ⊥
 
 -- a text without a fault has too many cycles to be printed, up to this executive
 pub record HasTooMany (bytes : List ℕ) (fault : StilFault) : Type 0 where
@@ -64,12 +69,26 @@ abbrev pub IsRefusedBy : Command → List ℕ → StilFault → Type 0
 IsRefusedBy command bytes fault =
     IsTextFault bytes (Some fault) ⊎ (IsListing command × HasTooMany bytes fault)
 
--- what would be saved has too many bytes
-pub record IsSavedTooLong (command : Command) (bytes : List ℕ) : Type 0 where
-  pub saves : command ≡ Save
+-- what a command would write of a code has too many bytes
+abbrev pub HasTooLong : Command → Program → Type 0
+HasTooLong Check code = ⊥
+HasTooLong Cycles code = ⊥
+HasTooLong Events code = ⊥
+HasTooLong Save code = limit < length (saved_form code)
+HasTooLong Flat code = IsTooLong code
+
+-- what would be written of a text has
+pub record IsWrittenTooLong (command : Command) (bytes : List ℕ) : Type 0 where
   pub code : Program
   pub is : IsProgramOf bytes code
-  pub more : limit < length (saved_form code)
+  pub long : HasTooLong command code
+
+-- the flat text of a text would be refused
+pub record IsWrittenTooFlat (command : Command) (bytes : List ℕ) : Type 0 where
+  pub flattens : command ≡ Flat
+  pub code : Program
+  pub is : IsProgramOf bytes code
+  pub flat : IsTooFlat code
 
 -- want of memory, which may come at any time; of events the first lines may stand before it
 pub data Wanting (command : Command) (bytes text : List ℕ) : Type 0 where
@@ -83,7 +102,8 @@ abbrev pub BytesWant : Command → List ℕ → List ℕ → Status → List ℕ
 BytesWant command file bytes Done text = IsOutput command bytes text
 BytesWant command file bytes RefusedStil text =
     (fault : StilFault) × IsRefusedBy command bytes fault × (text ≡ refused_line fault)
-BytesWant command file bytes TooLong text = IsSavedTooLong command bytes × (text ≡ too_long_line file)
+BytesWant command file bytes TooLong text = IsWrittenTooLong command bytes × (text ≡ too_long_line file)
+BytesWant command file bytes TooFlat text = IsWrittenTooFlat command bytes × (text ≡ too_flat_line file)
 BytesWant command file bytes OutOfMemory text = Wanting command bytes text
 BytesWant command file bytes _ text = ⊥
 
@@ -96,14 +116,17 @@ pub data FileWants (command : Command) (file : List ℕ) (told : Option Files) (
       → FileWants command file told before now status text
   unread : status ≡ ReadFault → LoadFailed told before now file → text ≡ read_fault_line file
       → FileWants command file told before now status text
-  too_long : status ≡ TooLong → TellsFile told file IsTooLong → text ≡ too_long_line file
+  too_long : status ≡ TooLong → TellsFile told file IsFileTooLong → text ≡ too_long_line file
       → FileWants command file told before now status text
   no_memory : status ≡ OutOfMemory → text ≡ memory_line → FileWants command file told before now status text
 
--- the text has no fault, and not too many cycles for a command that prints them, nor too many bytes for one that saves
+-- the text has no fault, and not too many cycles for a command that prints them, nor too many bytes for one that saves;
+-- its flat text, for one that writes it, isn't too long and has no fault
 abbrev pub IsAccepted : Command → List ℕ → Type 0
 IsAccepted Check bytes = IsTextFault bytes None
 IsAccepted Cycles bytes = (blocks : Blocks) × IsListed bytes blocks
 IsAccepted Events bytes = (blocks : Blocks) × IsListed bytes blocks
 IsAccepted Save bytes =
     IsTextFault bytes None × ((code : Program) → IsProgramOf bytes code → length (saved_form code) ≤ limit)
+IsAccepted Flat bytes =
+    IsTextFault bytes None × ((code : Program) → IsProgramOf bytes code → IsFlat code (flat_text code))

@@ -2,3 +2,4 @@
 pub mod TextListing
 pub mod Commands
 pub mod FewCycles
+pub mod FlatWants

@@ -15,6 +15,8 @@ pub enum Command {
     Events,
     /// Writes the code as a saved program.
     Save,
+    /// Writes the code as a flat STIL text.
+    Flat,
 }
 
 /// The command of a word.
@@ -30,6 +32,8 @@ pub fn command_of(word: &str) -> Option<Command>
         Some(Command::Events)
     } else if word == "save" {
         Some(Command::Save)
+    } else if word == "flat" {
+        Some(Command::Flat)
     } else {
         None
     }

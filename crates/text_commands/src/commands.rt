@@ -4,17 +4,19 @@ ghost use Rattle.std.specs.Prelude.{◌≡◌, ◌≤◌, ℕ, List, length};
 ghost use Rattle.text_bytes.specs.Limits.{most_bytes};
 ghost use Rattle.page_code.specs.Conditions.{IsProgram};
 ghost use Rattle.text_commands.specs.Commands.{saved_form, FileWants, BytesWant};
+ghost use Rattle.text_commands.specs.FlatWants.{FlatWant, flat_status, flat_line};
 ghost use Rattle.tool_inputs.specs.Endings.{Answers, Ends, IsDone};
 ghost use Rattle.tool_inputs.specs.declared.status.Status.TheVariants.{Done};
-ghost use Rattle.text_commands.specs.declared.command.Command.TheVariants.{Check, Cycles, Events, Save};
+ghost use Rattle.text_commands.specs.declared.command.Command.TheVariants.{Check, Cycles, Events, Save, Flat};
 
 use crate::command::Command;
 use crate::few_cycles::listed_code;
 use code_listing::{ListFault, put_check, put_cycles, put_events};
+use flat_stil::{FlatFault, flat, has_plain_names};
 use page_code::{Code, save, saved_len};
 use std::alloc::Global;
 use stil_program::program;
-use tester_types::{Piece, Shelf, ShelfFault, Sink};
+use tester_types::{Piece, Shelf, ShelfFault, Sink, put_all};
 use tool_inputs::{LIMIT, Status, ended, no_memory, put_stil};
 
 /// Runs a command on a file.
@@ -70,6 +72,7 @@ fn run_text<K: Sink>(
         Command::Cycles => cycles(alloc, bytes, out),
         Command::Events => events(alloc, bytes, out),
         Command::Save => save_text(alloc, file, bytes, out),
+        Command::Flat => flat_command(alloc, file, bytes, out),
     }
 }
 
@@ -158,5 +161,62 @@ fn put_saved<K: Sink>(code: &Code, out: &mut K) -> Status
     match save(code, out) {
         Ok(()) => Status::Done,
         Err(_) => Status::WriteFault,
+    }
+}
+
+/// Writes the flat text of a text.
+fn flat_command<K: Sink>(alloc: Global, file: &str, bytes: &[u8], out: &mut K) -> Status
+    requires { length bytes.now ≤ most_bytes }
+    ensures answers { Answers (BytesWant Flat file.now bytes.now)
+        (K.told out.old) (K.faults out.old) result (K.told out.new) (K.faults out.new) }
+    ensures puts { K.faults out.old ≤ K.faults out.new }
+{
+    match program(alloc, bytes) {
+        Ok(code) => put_flat(alloc, file, &code, out),
+        Err(refusal) => put_stil(out, &refusal),
+    }
+}
+
+/// Writes the flat text of a code of this file.
+fn put_flat<K: Sink>(alloc: Global, file: &str, code: &Code, out: &mut K) -> Status
+    ensures answers { Answers (FlatWant file.now code.now)
+        (K.told out.old) (K.faults out.old) result (K.told out.new) (K.faults out.new) }
+    ensures puts { K.faults out.old ≤ K.faults out.new }
+{
+    if !has_plain_names(code) {
+        return no_memory(out);
+    }
+    match flat(alloc, code) {
+        Ok(text) => match put_all(out, text.as_slice()) {
+            Ok(()) => Status::Done,
+            Err(_) => Status::WriteFault,
+        },
+        Err(fault) => put_flat_fault(file, fault, out),
+    }
+}
+
+/// Writes why a code of this file has no flat text.
+fn put_flat_fault<K: Sink>(file: &str, fault: FlatFault, out: &mut K) -> Status
+    ensures ends { Ends (K.told out.old) (K.faults out.old) (flat_status fault) (flat_line file.now fault) result
+        (K.told out.new) (K.faults out.new) }
+    ensures puts { K.faults out.old ≤ K.faults out.new }
+{
+    let name = Piece::Name(file.as_bytes());
+    match fault {
+        FlatFault::NoMemory => no_memory(out),
+        FlatFault::TooLong => {
+            ended(
+                out,
+                &[Piece::Text(b"too long "), name, Piece::Text(b"\n")],
+                Status::TooLong,
+            )
+        }
+        FlatFault::TooFlat => {
+            ended(
+                out,
+                &[Piece::Text(b"not flat "), name, Piece::Text(b"\n")],
+                Status::TooFlat,
+            )
+        }
     }
 }

@@ -1,4 +1,5 @@
-//! The commands on a STIL text: the numbers of its code, its dated cycles, their moments, and its code as a saved program.
+//! The commands on a STIL text: the numbers of its code, its dated cycles, their moments, and its code as a saved program or
+//! as a flat STIL text.
 #![tactic(auto)]
 
 mod command;

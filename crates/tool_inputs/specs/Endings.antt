@@ -16,9 +16,13 @@ limit = most_bytes
 abbrev pub read_fault_line : List ℕ → List ℕ
 read_fault_line name = codes "read fault " ++ printed_name name ++ codes "\n"
 
--- what is written where a file, or what is to be saved of it, has too many bytes
+-- what is written where a file, or what is to be written of it, has too many bytes
 abbrev pub too_long_line : List ℕ → List ℕ
 too_long_line name = codes "too long " ++ printed_name name ++ codes "\n"
+
+-- what is written where the flat text of a file would be refused
+abbrev pub too_flat_line : List ℕ → List ℕ
+too_flat_line name = codes "not flat " ++ printed_name name ++ codes "\n"
 
 -- what is written where a text is refused: the kind of its first fault, the block and its name, and the line
 abbrev pub refused_line : StilFault → List ℕ

@@ -24,10 +24,12 @@ pub enum Status {
     TooFewSockets,
     /// There was no memory.
     OutOfMemory,
-    /// A file has more than 16,777,216 bytes.
+    /// A file has more than 16,777,216 bytes, or what is to be written of it has.
     TooLong,
     /// The bytes are no saved program.
     RefusedSaved,
+    /// The flat text of a code would be refused.
+    TooFlat,
     /// The plan has no die where one is asked for.
     NoDie,
     /// A try drives the die more often than a dump tells.
@@ -51,6 +53,7 @@ impl Status {
             Status::OutOfMemory => 8,
             Status::TooLong => 9,
             Status::RefusedSaved => 10,
+            Status::TooFlat => 11,
             Status::NoDie => 12,
             Status::TapeTooLong => 13,
         }

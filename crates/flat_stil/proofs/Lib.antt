@@ -1,0 +1,5 @@
+pub mod SheetLemmas
+pub mod OrderLemmas
+pub mod LineLemmas
+pub mod FlatLemmas
+mod StandardFacts

@@ -1,0 +1,8 @@
+use Rattle.std.proofs.Common.{◌≡◌}
+use Rattle.std.specs.List.{flat_map, range_with_len}
+use Rattle.flat_stil.specs.FlatText.{pattern_lines}
+use Rattle.flat_stil.specs.Working.{prints}
+use Rattle.flat_stil.proofs.patterns.put_patterns.Given as goal
+
+abbrev pub invariant-loop-exec : goal.invariant-loop-exec
+invariant-loop-exec l = l.sheet ≡ prints l.fn.sheet (flat_map (pattern_lines l.code) (range_with_len 0 l.exec))
