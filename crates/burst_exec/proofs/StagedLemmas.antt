@@ -17,7 +17,7 @@ use Rattle.stil_ast.specs.declared.fault.StilRefusal.{StilRefusal}
 use Rattle.stil_ast.specs.declared.fault.StilRefusal.TheVariants as refusal
 use Rattle.stil_ast.proofs.FoundLemmas.{or_else-none, or_else-both}
 use Rattle.tester_types.specs.declared.wave.Table.{Table}
-use Rattle.time_expr.specs.Ratio.{Ratio}
+use Rattle.expr_text.specs.Ratio.{Ratio}
 use Rattle.time_expr.specs.TimeIn.{AreNames}
 use Rattle.time_expr.specs.TimesOf.{times_of}
 use Rattle.pattern_order.specs.Answer.{IsNamesFault}

@@ -14,7 +14,7 @@ use Rattle.stil_ast.specs.declared.blocks.Blocks.{Blocks}
 use Rattle.stil_ast.specs.declared.executive.ExecDecl.{ExecDecl}
 use Rattle.stil_ast.specs.declared.fault.StilFault.{StilFault}
 use Rattle.tester_types.specs.declared.wave.Table.{Table}
-use Rattle.time_expr.specs.Ratio.{Ratio}
+use Rattle.expr_text.specs.Ratio.{Ratio}
 use Rattle.time_expr.specs.TimeIn.{AreNames}
 use Rattle.time_expr.specs.TimesOf.{times_of}
 use Rattle.scan_chain.specs.Fault.{chain_list_fault}

@@ -9,9 +9,9 @@ use Rattle.tester_types.specs.declared.cycle.Moment.{Moment}
 use Rattle.page_meaning.specs.Meaning.{Means}
 use Rattle.edge_gen.specs.Signals.{no_skews, is_inside, keeps_inside}
 use Rattle.edge_gen.specs.Moments.{moments_of}
-use Rattle.page_code.specs.Program.{Exec, Program}
-use Rattle.page_code.specs.Conditions.{IsProgram, IsEvent, IsRow, IsTable, IsWave, wave_count}
-use Rattle.page_code.proofs.Lists.{behind_at}
+use Rattle.packed_code.specs.Program.{Exec, Program}
+use Rattle.packed_code.specs.Conditions.{IsProgram, IsEvent, IsRow, IsTable, IsWave, wave_count}
+use Rattle.packed_code.proofs.Lists.{behind_at}
 use Rattle.std.proofs.lemmas.Option.{get_or_from_slice_get, slice_get_within}
 use Rattle.std.proofs.lemmas.List.Sums.{list_all-from_AllPass}
 use Rattle.edge_gen.proofs.InsideLemmas.{unmoved_inside}
@@ -22,7 +22,7 @@ use Rattle.std.proofs.lemmas.List.FromFn.{length-enumerate_from}
 use Rattle.std.proofs.Math.Seq.{get_or-append_seam}
 use Rattle.std.proofs.Math.ListN.{get_or-eq_default}
 use Rattle.std.proofs.lemmas.List.Sums.{sum_by_more, sum_by-append}
-use Rattle.page_code.specs.Cycles.{cycles_of, exec_of}
+use Rattle.packed_code.specs.Cycles.{cycles_of, exec_of}
 use Rattle.code_listing.specs.declared.listing.Form.{Form}
 use Rattle.code_listing.specs.declared.listing.Form.TheVariants.{Cycles, Events}
 use Rattle.code_listing.specs.Listing.{Listed, ListedExec, no_table, listed, listed_exec, listing_of, cycles_in, time_of}
@@ -30,7 +30,7 @@ use Rattle.code_listing.specs.Lines.{AreLines}
 use Rattle.code_listing.specs.Room.{text_of}
 use Rattle.code_listing.specs.Text.{names_of, exec_line, exec_text, execs_text, cycle_line, moment_line, moments_head, moments_text, instant_words, acts_words, cycles_among, instrs_among}
 use Rattle.code_listing.proofs.LineLemmas.{ends_behind, lines_both, lines_all}
-use Rattle.page_code.proofs.WalkLemmas.{exec_is, length-cycles}
+use Rattle.packed_code.proofs.WalkLemmas.{exec_is, length-cycles}
 
 -- ---- each text is whole lines
 

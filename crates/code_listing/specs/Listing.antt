@@ -3,9 +3,9 @@ use Rattle.std.specs.Prelude.{ℕ, List, [], length, map, sum_by, slice_index_or
 use Rattle.std.specs.List.{enumerate_from, flat_map, range_with_len}
 use Rattle.tester_types.specs.declared.wave.Table.{Table}
 use Rattle.tester_types.specs.declared.cycle.Cycle.{Cycle}
-use Rattle.page_code.specs.Program.{Program}
-use Rattle.page_code.specs.Conditions.{letters_of}
-use Rattle.page_code.specs.Cycles.{cycles_of, exec_of}
+use Rattle.packed_code.specs.Program.{Program}
+use Rattle.packed_code.specs.Conditions.{letters_of}
+use Rattle.packed_code.specs.Cycles.{cycles_of, exec_of}
 
 -- a cycle: its number and its start in its executive, its table, and its row, which has the character of each signal, 0
 -- for a signal without one

@@ -1,7 +1,7 @@
 -- What the code keeps while it lists. No public clause cites it.
 use Rattle.std.specs.Prelude.{◌≡◌, ℕ, List, Result, length}
 use Rattle.edge_gen.specs.Signals.{no_skews}
-use Rattle.page_code.specs.Program.{Program}
+use Rattle.packed_code.specs.Program.{Program}
 use Rattle.code_listing.specs.declared.room.Room.{Room}
 use Rattle.code_listing.specs.declared.listing.Form.{Form}
 use Rattle.code_listing.specs.declared.listing.Form.TheVariants.{Cycles, Events}

@@ -6,8 +6,8 @@ use Rattle.tester_types.specs.declared.cycle.Moment.{Moment}
 use Rattle.tester_types.specs.declared.wave.Push.{Push}
 use Rattle.tester_types.specs.declared.wave.Look.{Look}
 use Rattle.page_meaning.specs.Meaning.{Means}
-use Rattle.page_code.specs.Program.{Exec, Program}
-use Rattle.page_code.specs.Cycles.{pages_of}
+use Rattle.packed_code.specs.Program.{Exec, Program}
+use Rattle.packed_code.specs.Cycles.{pages_of}
 use Rattle.edge_gen.specs.Signals.{no_skews}
 use Rattle.edge_gen.specs.Moments.{moments_of}
 use Rattle.code_listing.specs.Letters.{push_letter, look_letter}

@@ -4,7 +4,7 @@ ghost use Rattle.std.specs.Prelude.{◌≡◌, ◌≤◌, ◌*◌, OnErr};
 ghost use Rattle.tester_types.specs.Outside.{HasRisen, Puts};
 ghost use Rattle.code_listing.specs.Text.{check_text, cycles_among, instrs_among};
 
-use page_code::Code;
+use packed_code::Code;
 use tester_types::{Piece, Sink, SinkFault, put_each};
 
 /// How many cycles the executives of a code have in all.

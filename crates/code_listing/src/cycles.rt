@@ -2,11 +2,11 @@
 
 ghost use Rattle.std.specs.Prelude.{◌≡◌, ◌≤◌, OnErr, length, map};
 ghost use Rattle.tester_types.specs.Outside.{HasRisen, Puts};
-ghost use Rattle.page_code.specs.Walk.{IsOf};
+ghost use Rattle.packed_code.specs.Walk.{IsOf};
 ghost use Rattle.code_listing.specs.Listing.{listed};
 ghost use Rattle.code_listing.specs.Text.{cycle_line, row_line, letter_or_dash};
 
-use page_code::Code;
+use packed_code::Code;
 use tester_types::{Cycle, Piece, Sink, SinkFault, put_each};
 
 /// A character of a signal, `-` for none.

@@ -4,7 +4,7 @@ ghost use Rattle.std.specs.Prelude.{◌≡◌, ◌+◌, ◌<◌, ◌≤◌, ◌^
 ghost use Rattle.std.specs.List.{flat_map};
 ghost use Rattle.text_bytes.specs.Limits.{most_listed};
 ghost use Rattle.tester_types.specs.Outside.{HasRisen, Puts};
-ghost use Rattle.page_code.specs.Walk.{IsOf};
+ghost use Rattle.packed_code.specs.Walk.{IsOf};
 ghost use Rattle.code_listing.specs.Listing.{listed, listed_exec, listing_of, cycles_in, time_of};
 ghost use Rattle.code_listing.specs.Lines.{Lists, ListsWhole, IsFor};
 ghost use Rattle.code_listing.specs.Room.{Fits, IsSure, text_of};
@@ -16,7 +16,7 @@ use crate::cycles::put_cycle_line;
 use crate::fault::ListFault;
 use crate::moments::put_moments;
 use crate::room::Room;
-use page_code::{Code, walk};
+use packed_code::{Code, walk};
 use std::alloc::Global;
 use tester_types::{Cycle, Piece, Sink, SinkFault, put_each};
 

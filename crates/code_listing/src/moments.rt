@@ -3,7 +3,7 @@
 ghost use Rattle.std.specs.Prelude.{◌≡◌, ◌<◌, ◌≤◌, ◌^◌, ◌++◌, OnErr, length, slice_index_or, []};
 ghost use Rattle.std.specs.List.{flat_map};
 ghost use Rattle.tester_types.specs.Outside.{HasRisen, Puts};
-ghost use Rattle.page_code.specs.Walk.{IsOf};
+ghost use Rattle.packed_code.specs.Walk.{IsOf};
 ghost use Rattle.edge_gen.specs.Signals.{no_skews};
 ghost use Rattle.code_listing.specs.Listing.{listed};
 ghost use Rattle.code_listing.specs.Lines.{Lists, IsFor};
@@ -13,7 +13,7 @@ ghost use Rattle.code_listing.specs.Text.{moment_line, head_line, moments_head, 
 use crate::fault::ListFault;
 use crate::letters::{look_letter, push_letter};
 use edge_gen::schedule;
-use page_code::Code;
+use packed_code::Code;
 use std::alloc::Global;
 use tester_types::{Cycle, Look, Moment, Piece, Push, Sink, SinkFault, put_all, put_each};
 

@@ -3,7 +3,7 @@
 ghost use Rattle.std.specs.Prelude.{IfOk, length};
 ghost use Rattle.code_listing.specs.Room.{Fits};
 
-use page_code::Code;
+use packed_code::Code;
 use std::alloc::{AllocError, Global};
 
 /// A byte for each signal, and no skew for each.

@@ -1,7 +1,7 @@
 //! What a memory shows: the same cycles as a walk, whatever pages its pool holds and whoever else asks it.
 
 ghost use Rattle.std.specs.Prelude.{◌≡◌, ◌<◌, ◌≤◌, length};
-ghost use Rattle.page_code.specs.Cycles.{pages_of};
+ghost use Rattle.packed_code.specs.Cycles.{pages_of};
 ghost use Rattle.pattern_mem.specs.Cursor.{IsCursorOf};
 
 use page_code::{Code, load, walk};

@@ -20,7 +20,7 @@ use Rattle.page_meaning.specs.Meaning.{Means}
 use Rattle.stil_ast.specs.Meaning.State.{State, start_of}
 use Rattle.stil_ast.specs.Meaning.Flat.{Flat}
 use Rattle.stil_ast.specs.Meaning.Running.{Made, outside}
-use Rattle.page_code.specs.Program.{Exec}
+use Rattle.packed_code.specs.Program.{Exec}
 use Rattle.instr_writer.specs.Counting.{vector_count}
 use Rattle.instr_writer.specs.Working.{flats_measure}
 use Rattle.instr_writer.proofs.CountLemmas.{run-count}

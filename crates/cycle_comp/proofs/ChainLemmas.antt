@@ -22,8 +22,8 @@ use Rattle.stil_ast.specs.declared.scan.ChainDecl.{ChainDecl}
 use Rattle.stil_ast.proofs.FoundLemmas.{or_else-none}
 use Rattle.scan_chain.specs.Short.{is_short}
 use Rattle.tester_types.specs.declared.signal.Direction.TheVariants as direction
-use Rattle.page_code.specs.Conditions.{IsName, IsChain}
-use Rattle.page_code.proofs.Lists.{all_each}
+use Rattle.packed_code.specs.Conditions.{IsName, IsChain}
+use Rattle.packed_code.proofs.Lists.{all_each}
 use Rattle.cycle_comp.specs.Compiled.{chain_of}
 use Rattle.cycle_comp.proofs.EachLemmas.{all_weaker, all_map, all_flat_map, all_passing, all_both}
 use Rattle.burst_exec.proofs.WaveLemmas.{passed}

@@ -20,10 +20,10 @@ use Rattle.burst_exec.specs.Executives.{AreExecutives}
 use Rattle.signal_groups.specs.Table.{Table as SignalNames, table_of}
 use Rattle.signal_groups.proofs.BegunLemmas.{signals_few}
 use Rattle.wave_tables.specs.Waves.{AreInOrder, key_in}
-use Rattle.page_code.specs.declared.parts.CodeSignal.{CodeSignal}
-use Rattle.page_code.specs.Program.{Exec, code_of}
-use Rattle.page_code.specs.Conditions.{EachBehind, last_of, is_behind, wave_count, IsSignal, IsWave, IsTable, IsRow, IsExec, IsProgram}
-use Rattle.page_code.proofs.Lists.{all_each, last_of_push}
+use Rattle.packed_code.specs.declared.parts.CodeSignal.{CodeSignal}
+use Rattle.packed_code.specs.Program.{Exec, code_of}
+use Rattle.packed_code.specs.Conditions.{EachBehind, last_of, is_behind, wave_count, IsSignal, IsWave, IsTable, IsRow, IsExec, IsProgram}
+use Rattle.packed_code.proofs.Lists.{all_each, last_of_push}
 use Rattle.cycle_comp.specs.Compiled.{signal_of, IsExecOf, IsCodeOf}
 use Rattle.cycle_comp.specs.OfText.{AreOfText}
 use Rattle.cycle_comp.specs.Working.{AreMade, IsBuilt, IsFit}

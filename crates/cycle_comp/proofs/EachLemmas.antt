@@ -4,7 +4,7 @@ use Rattle.std.proofs.lemmas.Bool.{and_parts, and_from}
 use Rattle.std.proofs.lemmas.List.{append-nil}
 use Rattle.std.specs.List.{list_all, flat_map, filter_map, cons_option, AllByRecursion}
 use Rattle.text_bytes.proofs.ListLemmas.{all_append}
-use Rattle.page_code.specs.Conditions.{EachBehind}
+use Rattle.packed_code.specs.Conditions.{EachBehind}
 
 -- each item fits behind those before it where it does so wherever the list is cut
 pub each_behind_cuts : {A : Type 0} (Fits : List A → A → Type 0) (before items : List A)

@@ -16,8 +16,8 @@ use Rattle.stil_ast.specs.declared.timing.EventDecl.{EventDecl}
 use Rattle.stil_ast.proofs.FoundLemmas.{or_else-none}
 use Rattle.tester_types.specs.declared.wave.Act.{Act}
 use Rattle.tester_types.specs.declared.wave.Event.{Event}
-use Rattle.page_code.specs.Conditions.{EachBehind, IsEvent, latest}
-use Rattle.page_code.proofs.Lists.{last_of_push}
+use Rattle.packed_code.specs.Conditions.{EachBehind, IsEvent, latest}
+use Rattle.packed_code.proofs.Lists.{last_of_push}
 use Rattle.burst_exec.proofs.WaveLemmas.{passed}
 
 -- what is judged by a time is judged by one that is there

@@ -13,7 +13,7 @@ use Rattle.text_bytes.specs.Limits.{longest_name}
 use Rattle.stil_ast.specs.Data.Forms.{is_optional_name, is_absent_or, is_range}
 use Rattle.stil_ast.specs.Data.Texts.{is_name, upwards, indices, indexed, names_with}
 use Rattle.stil_ast.specs.declared.name.IndexRange.{IndexRange}
-use Rattle.page_code.specs.Conditions.{IsText, IsName}
+use Rattle.packed_code.specs.Conditions.{IsText, IsName}
 use Rattle.cycle_comp.proofs.EachLemmas.{all_weaker, all_map}
 use Rattle.cycle_comp.proofs.FoundLemmas.{all_below, reverse_all}
 

@@ -17,11 +17,11 @@ use Rattle.page_meaning.specs.declared.instr.Entry.{Entry}
 use Rattle.page_meaning.specs.declared.instr.Instr.{Instr}
 use Rattle.page_meaning.specs.declared.instr.Instr.TheVariants.{Run, Loop, End, Done}
 use Rattle.page_meaning.specs.Meaning.{Means}
-use Rattle.page_code.specs.declared.parts.CodeChain.{CodeChain}
-use Rattle.page_code.specs.Program.{Exec, Program}
-use Rattle.page_code.specs.Cycles.{timed, period_of, exec_of}
-use Rattle.page_code.specs.Conditions.{IsText, IsChain, IsInstr, IsExec, has_waves, waves_of, letters_of}
-use Rattle.page_code.proofs.Lists.{all_each}
+use Rattle.packed_code.specs.declared.parts.CodeChain.{CodeChain}
+use Rattle.packed_code.specs.Program.{Exec, Program}
+use Rattle.packed_code.specs.Cycles.{timed, period_of, exec_of}
+use Rattle.packed_code.specs.Conditions.{IsText, IsChain, IsInstr, IsExec, has_waves, waves_of, letters_of}
+use Rattle.packed_code.proofs.Lists.{all_each}
 use Rattle.wave_tables.specs.Waves.{AreInOrder}
 use Rattle.wave_tables.proofs.TableLemmas.{within_at}
 use Rattle.instr_writer.specs.Entries.{IsEntry}
@@ -35,7 +35,7 @@ use Rattle.cycle_comp.proofs.RowLemmas.{IsGoodRow}
 use Rattle.cycle_comp.proofs.VectorLemmas.{IsRunnable, vectors_runnable, waves_in, row_has, HasGoodWaves, letters_are, row_places}
 use Rattle.cycle_comp.proofs.InstrLemmas.{Runs, each_run, runs_back, entries_all, vectors_back}
 use Rattle.cycle_comp.proofs.CycleLemmas.{IsRead, read_all}
-use Rattle.page_code.proofs.PageLemmas.{slice_get_left, slice_get_right}
+use Rattle.packed_code.proofs.PageLemmas.{slice_get_left, slice_get_right}
 
 -- an executive without a fault before it is compiled
 pub record IsGoodExec (signals : ℕ) (e : Executive) : Type 0 where

@@ -4,8 +4,8 @@ use Rattle.std.specs.List.{list_all, AllByRecursion}
 use Rattle.std.proofs.lemmas.List.{append-nil}
 use Rattle.stil_ast.specs.Data.Texts.{has_name}
 use Rattle.stil_ast.specs.Meaning.ExecutiveData.{distinct_rows}
-use Rattle.page_code.specs.Letters.{is_place}
-use Rattle.page_code.specs.Conditions.{EachBehind, IsRow}
+use Rattle.packed_code.specs.Letters.{is_place}
+use Rattle.packed_code.specs.Conditions.{EachBehind, IsRow}
 
 -- a row with a character or none for each signal
 pub record IsGoodRow (signals : ℕ) (row : List ℕ) : Type 0 where

@@ -16,8 +16,8 @@ use Rattle.stil_ast.specs.declared.name.IndexRange.{IndexRange}
 use Rattle.stil_ast.specs.declared.signal.SignalDecl.{SignalDecl}
 use Rattle.stil_ast.specs.declared.fault.StilFault.{StilFault}
 use Rattle.signal_groups.proofs.LookupLemmas.{same-sym}
-use Rattle.page_code.specs.declared.parts.CodeSignal.{CodeSignal}
-use Rattle.page_code.specs.Conditions.{EachBehind, IsSignal, is_named}
+use Rattle.packed_code.specs.declared.parts.CodeSignal.{CodeSignal}
+use Rattle.packed_code.specs.Conditions.{EachBehind, IsSignal, is_named}
 use Rattle.cycle_comp.specs.Compiled.{signal_of}
 use Rattle.cycle_comp.proofs.EachLemmas.{all_flat_map, all_passing}
 use Rattle.burst_exec.proofs.WaveLemmas.{passed}

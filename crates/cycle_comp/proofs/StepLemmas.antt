@@ -10,7 +10,7 @@ use Rattle.tester_types.specs.declared.signal.Direction.{Direction}
 use Rattle.scan_chain.specs.Held.{chain_in, chains_in}
 use Rattle.scan_chain.specs.Short.{is_short}
 use Rattle.scan_chain.specs.declared.chain.ScanChain.{ScanChain}
-use Rattle.page_code.specs.declared.parts.CodeSignal.{CodeSignal}
+use Rattle.packed_code.specs.declared.parts.CodeSignal.{CodeSignal}
 use Rattle.burst_exec.proofs.ListLemmas.{take_next}
 use Rattle.cycle_comp.specs.Compiled.{signal_of}
 

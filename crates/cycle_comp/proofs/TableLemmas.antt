@@ -18,7 +18,7 @@ use Rattle.stil_ast.specs.declared.fault.StilKind.TheVariants.{TooLarge}
 use Rattle.stil_ast.specs.declared.timing.TableDecl.{TableDecl}
 use Rattle.stil_ast.proofs.FoundLemmas.{or_else-none}
 use Rattle.tester_types.specs.declared.wave.Table.{Table}
-use Rattle.page_code.specs.Conditions.{IsName}
+use Rattle.packed_code.specs.Conditions.{IsName}
 use Rattle.cycle_comp.proofs.EachLemmas.{all_weaker, all_map, all_flat_map, all_both}
 use Rattle.burst_exec.proofs.WaveLemmas.{passed}
 use Rattle.cycle_comp.proofs.EventLemmas.{timed}

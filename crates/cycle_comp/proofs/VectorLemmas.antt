@@ -20,8 +20,8 @@ use Rattle.stil_ast.specs.Faults.Found.{fault_in, first_in}
 use Rattle.stil_ast.specs.Faults.CodeFaults.{has_wave as has_one, have_waves, made_fault, vector_fault, trees_fault}
 use Rattle.stil_ast.specs.declared.fault.StilKind.TheVariants.{NoWave}
 use Rattle.stil_ast.proofs.FoundLemmas.{or_else-none}
-use Rattle.page_code.specs.Conditions.{has_wave, has_waves}
-use Rattle.page_code.specs.Letters.{is_place}
+use Rattle.packed_code.specs.Conditions.{has_wave, has_waves}
+use Rattle.packed_code.specs.Letters.{is_place}
 use Rattle.instr_writer.proofs.EffectLemmas.{run-length}
 use Rattle.cycle_comp.proofs.EachLemmas.{all_map}
 use Rattle.burst_exec.proofs.WaveLemmas.{passed}

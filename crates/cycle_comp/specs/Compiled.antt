@@ -9,12 +9,12 @@ use Rattle.stil_ast.specs.Meaning.Cycles.{Dated}
 use Rattle.stil_ast.specs.Meaning.ExecutiveData.{Executive, cycles_of as text_cycles, measure_of, least_in, rows_of, tables_of}
 use Rattle.stil_ast.specs.Faults.CodeFaults.{compile_faults}
 use Rattle.stil_ast.specs.declared.fault.StilFault.{StilFault}
-use Rattle.page_code.specs.declared.parts.CodeSignal.{CodeSignal}
-use Rattle.page_code.specs.declared.parts.CodeChain.{CodeChain}
+use Rattle.packed_code.specs.declared.parts.CodeSignal.{CodeSignal}
+use Rattle.packed_code.specs.declared.parts.CodeChain.{CodeChain}
 use Rattle.tester_types.specs.declared.cycle.Cycle.{Cycle}
-use Rattle.page_code.specs.Program.{Program}
-use Rattle.page_code.specs.Conditions.{letters_of}
-use Rattle.page_code.specs.Cycles.{cycles_of, exec_of}
+use Rattle.packed_code.specs.Program.{Program}
+use Rattle.packed_code.specs.Conditions.{letters_of}
+use Rattle.packed_code.specs.Cycles.{cycles_of, exec_of}
 
 -- a signal of a code
 abbrev pub signal_of : Signal → CodeSignal

@@ -14,7 +14,7 @@ use Rattle.page_meaning.specs.declared.instr.Instr.{Instr}
 use Rattle.page_meaning.specs.declared.instr.Instr.TheVariants.{Run, Loop, End, Done}
 use Rattle.page_meaning.specs.Meaning.{Means}
 use Rattle.page_meaning.specs.Whole.{IsWhole}
-use Rattle.page_code.specs.Program.{Exec}
+use Rattle.packed_code.specs.Program.{Exec}
 use Rattle.instr_writer.specs.Entries.{AreEntries}
 use Rattle.cycle_comp.specs.Compiled.{chain_of, least_of}
 use Rattle.cycle_comp.specs.declared.building.Building.{Building}

@@ -1,6 +1,6 @@
 //! The code of executives as it grows.
 
-use page_code::{CodeExec, RowList};
+use packed_code::{CodeExec, RowList};
 use tester_types::Table;
 
 /// What was made of the executives so far: their tables, their rows, their instructions, and their measure.

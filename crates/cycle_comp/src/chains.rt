@@ -6,7 +6,7 @@ ghost use Rattle.scan_chain.specs.Held.{chain_in, chains_in};
 ghost use Rattle.scan_chain.specs.Short.{is_short};
 ghost use Rattle.cycle_comp.specs.Compiled.{chain_of};
 
-use page_code::{CodeChain, CodeChainList};
+use packed_code::{CodeChain, CodeChainList};
 use scan_chain::{Chains, ScanChain};
 use std::alloc::{AllocError, Global};
 use tester_types::Text;

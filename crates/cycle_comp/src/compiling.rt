@@ -26,7 +26,7 @@ use crate::sizes::checked_measure;
 use crate::tables::add_tables;
 use burst_exec::{Exec, ExecList};
 use instr_writer::write;
-use page_code::{Code, CodeExec, CodeExecList, InstrList, RowList, pack};
+use packed_code::{Code, CodeExec, CodeExecList, InstrList, RowList, pack};
 use signal_groups::SignalTable;
 use std::alloc::{AllocError, Global};
 use stil_ast::{StilKind, StilRefusal};

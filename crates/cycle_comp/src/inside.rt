@@ -4,7 +4,7 @@ ghost use Rattle.std.specs.Prelude.{◌≡◌, ◌+◌, true, OnOk};
 ghost use Rattle.std.specs.List.{AllByRecursion};
 ghost use Rattle.cycle_comp.specs.Working.{IsInside};
 
-use page_code::Instr;
+use packed_code::Instr;
 use std::alloc::AllocError;
 
 /// Whether an instruction names one of so many tables, if it names one.

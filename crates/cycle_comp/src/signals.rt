@@ -5,7 +5,7 @@ ghost use Rattle.stil_ast.specs.Meaning.Signals.{Names};
 ghost use Rattle.signal_groups.specs.Table.{table_of};
 ghost use Rattle.cycle_comp.specs.Compiled.{signal_of};
 
-use page_code::{CodeSignal, CodeSignalList};
+use packed_code::{CodeSignal, CodeSignalList};
 use signal_groups::SignalTable;
 use std::alloc::{AllocError, Global};
 use tester_types::Text;

@@ -8,7 +8,7 @@ use Rattle.std.proofs.lemmas.List.Sums.{fold-append}
 use Rattle.tester_types.specs.declared.wave.Table.{Table}
 use Rattle.tester_types.specs.declared.record.Fail.{Fail}
 use Rattle.tester_types.specs.declared.cycle.Cycle.{Cycle}
-use Rattle.page_code.specs.Cycles.{period_of}
+use Rattle.packed_code.specs.Cycles.{period_of}
 use Rattle.die_sim.specs.Socket.{Calls}
 use Rattle.strobe_check.specs.History.{HasSeen}
 use Rattle.site_meaning.specs.Playing.{Stand, Going, PlayedCycle, played_cycle, after_cycle}

@@ -5,11 +5,11 @@ use Rattle.edge_gen.specs.Signals.{keeps_inside}
 use Rattle.lot_plan.specs.Bound.{Bound, signals_of}
 use Rattle.lot_plan.specs.Refusal.{IsBound}
 use Rattle.lot_plan.specs.Skews.{skew_by, site_skews}
-use Rattle.page_code.proofs.WalkLemmas.{exec_is, length-cycles}
-use Rattle.page_code.specs.Conditions.{IsProgram}
-use Rattle.page_code.specs.Cycles.{exec_of, cycles_of}
-use Rattle.page_code.specs.Program.{Program}
-use Rattle.page_code.specs.declared.parts.CodeSignal.{CodeSignal}
+use Rattle.packed_code.proofs.WalkLemmas.{exec_is, length-cycles}
+use Rattle.packed_code.specs.Conditions.{IsProgram}
+use Rattle.packed_code.specs.Cycles.{exec_of, cycles_of}
+use Rattle.packed_code.specs.Program.{Program}
+use Rattle.packed_code.specs.declared.parts.CodeSignal.{CodeSignal}
 use Rattle.page_meaning.proofs.CountLemmas.{cycle_count-length}
 use Rattle.plan_rows.specs.Rows.{skews_at}
 use Rattle.site_meaning.proofs.PartLemmas.{skews_in-part_of}

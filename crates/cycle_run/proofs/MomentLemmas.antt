@@ -10,9 +10,9 @@ use Rattle.tester_types.specs.declared.wave.Push.{Push}
 use Rattle.tester_types.specs.declared.wave.Event.{Event}
 use Rattle.tester_types.specs.declared.wave.Wave.{Wave}
 use Rattle.tester_types.specs.declared.wave.Table.{Table}
-use Rattle.page_code.specs.Program.{Program}
-use Rattle.page_code.specs.Conditions.{IsProgram, IsRow}
-use Rattle.page_code.proofs.Lists.{behind_at}
+use Rattle.packed_code.specs.Program.{Program}
+use Rattle.packed_code.specs.Conditions.{IsProgram, IsRow}
+use Rattle.packed_code.proofs.Lists.{behind_at}
 use Rattle.edge_gen.specs.Signals.{events_of, moved, skew_of, signals_of, stays_inside, stay_inside, keeps_inside, FitSkews}
 use Rattle.edge_gen.proofs.InsideLemmas.{fit_rows}
 use Rattle.edge_gen.proofs.InstantLemmas.{All-instants}

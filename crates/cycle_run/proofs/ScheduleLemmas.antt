@@ -8,8 +8,8 @@ use Rattle.std.proofs.lemmas.Option.{get_or_from_slice_get}
 use Rattle.tester_types.specs.declared.wave.Table.{Table}
 use Rattle.tester_types.specs.declared.cycle.Cycle.{Cycle}
 use Rattle.tester_types.specs.declared.cycle.Moment.{Moment}
-use Rattle.page_code.specs.Program.{Program}
-use Rattle.page_code.specs.Conditions.{letters_of}
+use Rattle.packed_code.specs.Program.{Program}
+use Rattle.packed_code.specs.Conditions.{letters_of}
 use Rattle.edge_gen.specs.Moments.{moments_of, later}
 use Rattle.edge_gen.specs.Held.{Held, is_pair, is_held, HoldsOnly, asked}
 use Rattle.edge_gen.proofs.MomentLemmas.{moments_of-later}

@@ -4,7 +4,7 @@ use Rattle.tester_types.specs.declared.level.Drive.{Drive}
 use Rattle.tester_types.specs.declared.cycle.Cycle.{Cycle}
 use Rattle.tester_types.specs.declared.cycle.Moment.{Moment}
 use Rattle.tester_types.specs.declared.record.Fail.{Fail}
-use Rattle.page_code.specs.Program.{Program}
+use Rattle.packed_code.specs.Program.{Program}
 use Rattle.die_sim.specs.Die.{Device, State, Settled}
 use Rattle.die_sim.specs.Socket.{Told}
 use Rattle.strobe_check.specs.History.{History, Held, HasSeen, all_fails}

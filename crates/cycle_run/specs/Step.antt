@@ -13,12 +13,12 @@ use Rattle.strobe_check.specs.Entry.{Entry}
 use Rattle.strobe_check.specs.Sensed.{is_sensed}
 use Rattle.strobe_check.specs.Fails.{fails}
 use Rattle.tester_types.specs.declared.record.Fail.{Fail}
-use Rattle.page_code.specs.Conditions.{letters_of}
+use Rattle.packed_code.specs.Conditions.{letters_of}
 use Rattle.edge_gen.specs.Moments.{moments_of}
 use Rattle.edge_gen.specs.Held as schedules
 use Rattle.std.specs.Option.{option_map_or}
 use Rattle.strobe_check.specs.History.{History, Held, HasSeen}
-use Rattle.page_code.specs.Program.{Program}
+use Rattle.packed_code.specs.Program.{Program}
 use Rattle.edge_gen.specs.Signals.{keeps_inside}
 use Rattle.site_meaning.specs.Playing.{Stand, Along, Whose, Going, bound_of, after_moments, entries_in, makes_call}
 use Rattle.cycle_run.specs.declared.stop.Stop.{Stop}

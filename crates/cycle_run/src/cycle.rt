@@ -2,8 +2,8 @@
 
 ghost use Rattle.std.specs.Prelude.{◌≡◌, ◌≤◌, ◌<◌, ◌^◌, map, length, All, OnOk, IfErr};
 ghost use Rattle.text_bytes.specs.Limits.{most_signals};
-ghost use Rattle.page_code.specs.Conditions.{IsProgram};
-ghost use Rattle.page_code.specs.Walk.{IsOf};
+ghost use Rattle.packed_code.specs.Conditions.{IsProgram};
+ghost use Rattle.packed_code.specs.Walk.{IsOf};
 ghost use Rattle.bench_net.specs.Circuit.{IsWhole};
 ghost use Rattle.edge_gen.specs.Moments.{later};
 ghost use Rattle.die_sim.specs.Die.{device_of};
@@ -16,7 +16,7 @@ use crate::place::Place;
 use crate::stop::Stop;
 use die_sim::{DieImage, Socket};
 use edge_gen::Schedules;
-use page_code::Code;
+use packed_code::Code;
 use tester_types::Moment;
 
 /// Makes the moments of a schedule in the cycle of this place, and closes the cycle.

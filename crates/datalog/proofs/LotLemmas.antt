@@ -4,7 +4,7 @@ use Rattle.std.proofs.lemmas.List.{get_or-map, length-map}
 use Rattle.std.specs.List.{flat_map}
 use Rattle.tester_types.specs.declared.record.Record.{Record}
 use Rattle.tester_types.specs.Records.{SiteRecords, records_of}
-use Rattle.page_code.specs.Program.{Program}
+use Rattle.packed_code.specs.Program.{Program}
 use Rattle.lot_plan.specs.Bound.{Bound}
 use Rattle.datalog.specs.DatalogText.{site_line, site_text, filed_text, record_text, numbered}
 use Rattle.datalog.specs.Printable.{ArePrintable, IsPrintableAt}

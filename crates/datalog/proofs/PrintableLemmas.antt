@@ -6,7 +6,7 @@ use Rattle.tester_types.specs.declared.record.Fail.{Fail}
 use Rattle.tester_types.specs.declared.record.Record.{Record}
 use Rattle.tester_types.specs.declared.record.Trial.{Trial}
 use Rattle.tester_types.specs.Records.{SiteRecords, records_of}
-use Rattle.page_code.proofs.Lists.{all_at}
+use Rattle.packed_code.proofs.Lists.{all_at}
 use Rattle.die_sim.specs.Die.{Image}
 use Rattle.plan_rows.specs.Rows.{sites_of, dies_at}
 use Rattle.lot_plan.specs.Bound.{Bound}

@@ -11,7 +11,7 @@ use Rattle.tester_types.specs.declared.record.Verdict.{Verdict}
 use Rattle.tester_types.specs.declared.record.Verdict.TheVariants as verdict
 use Rattle.tester_types.specs.declared.wave.Look.TheVariants as look
 use Rattle.tester_types.specs.declared.signal.Direction.TheVariants as direction
-use Rattle.page_code.specs.Program.{Program}
+use Rattle.packed_code.specs.Program.{Program}
 use Rattle.plan_rows.specs.declared.row.Row.{Row}
 use Rattle.plan_rows.specs.declared.row.Row.TheVariants as row
 use Rattle.plan_rows.specs.declared.row.Ending.TheVariants as ending

@@ -15,9 +15,9 @@ use Rattle.tester_types.specs.declared.record.Trial.{Trial}
 use Rattle.tester_types.specs.declared.record.Verdict.{Verdict}
 use Rattle.tester_types.specs.declared.record.Verdict.TheVariants as verdict
 use Rattle.code_listing.specs.Letters.{look_letter}
-use Rattle.page_code.specs.declared.parts.CodeChain.{CodeChain}
-use Rattle.page_code.specs.Program.{Program}
-use Rattle.page_code.specs.Cycles.{exec_of}
+use Rattle.packed_code.specs.declared.parts.CodeChain.{CodeChain}
+use Rattle.packed_code.specs.Program.{Program}
+use Rattle.packed_code.specs.Cycles.{exec_of}
 use Rattle.lot_plan.specs.Bound.{Bound, die_at}
 use Rattle.lot_plan.specs.Readings.{bin_of}
 

@@ -5,7 +5,7 @@ use Rattle.tester_types.specs.Records.{SiteRecords}
 use Rattle.tester_types.specs.declared.record.Fail.{Fail}
 use Rattle.tester_types.specs.declared.record.Record.{Record}
 use Rattle.tester_types.specs.declared.record.Trial.{Trial}
-use Rattle.page_code.specs.Program.{Program}
+use Rattle.packed_code.specs.Program.{Program}
 use Rattle.plan_rows.specs.Rows.{sites_of, dies_at}
 use Rattle.lot_plan.specs.Bound.{Bound}
 use Rattle.site_meaning.specs.Part.{part_of}

@@ -7,7 +7,7 @@ ghost use Rattle.tester_types.specs.Cells.{cell_behind, marked_cell};
 ghost use Rattle.tester_types.specs.Outside.{HasRisen, Puts};
 ghost use Rattle.datalog.specs.DatalogText.{chain_at, cell_in, cell_of, cell_words};
 
-use page_code::{Code, CodeChain};
+use packed_code::{Code, CodeChain};
 use tester_types::{Fail, Piece, Sink, SinkFault, Text, put_each};
 
 /// Puts the cell that a fail names, if it names one.

@@ -9,7 +9,7 @@ ghost use Rattle.datalog.specs.Printable.{IsKnown};
 use crate::cells::put_cell;
 use crate::letters::seen_letter;
 use code_listing::look_letter;
-use page_code::Code;
+use packed_code::Code;
 use tester_types::{Fail, Piece, Sink, SinkFault, put_all, put_each};
 
 /// Puts the lines of fails.

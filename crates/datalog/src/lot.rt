@@ -12,7 +12,7 @@ use crate::summary::put_sums;
 use crate::trials::put_numbered;
 use floor_core::BookState;
 use lot_plan::BoundPlan;
-use page_code::Code;
+use packed_code::Code;
 use tester_types::{Record, RecordList, Sink, SinkFault};
 
 /// Puts the text of a lot whose records are sound: the records of each site, by the sites' numbers, and how many dies each

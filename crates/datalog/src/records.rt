@@ -12,7 +12,7 @@ ghost use Rattle.datalog.specs.Printable.{IsPrintable};
 
 use crate::trials::{put_numbered, put_trials};
 use lot_plan::BoundPlan;
-use page_code::Code;
+use packed_code::Code;
 use tester_types::{Piece, Record, Sink, SinkFault, put_each};
 
 /// Puts the text of a sound record: its die's name, its tries, and its bin. It takes no memory.

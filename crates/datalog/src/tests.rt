@@ -3,7 +3,7 @@
 use crate::cells::put_cell_in;
 use crate::trials::put_verdict;
 use cell_names::CellNames;
-use page_code::CodeChain;
+use packed_code::CodeChain;
 use std::alloc::Global;
 use std::test::Fail;
 use tester_types::{By, Items, MemSink, NoMemory, Text, Verdict};

@@ -8,7 +8,7 @@ ghost use Rattle.datalog.specs.DatalogText.{try_line, verdict_line, stopped_line
 ghost use Rattle.datalog.specs.Printable.{IsKnownTrial};
 
 use crate::fails::put_fails;
-use page_code::Code;
+use packed_code::Code;
 use tester_types::{By, Piece, Sink, SinkFault, Trial, Verdict, put_all, put_each};
 
 /// Puts the texts of tries.

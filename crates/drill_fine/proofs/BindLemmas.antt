@@ -14,7 +14,7 @@ use Rattle.bench_net.specs.Circuit.{Net, Circuit, number}
 use Rattle.bench_net.specs.Line.{Form}
 use Rattle.bench_net.specs.Net.{names, named, shown, driver_for}
 use Rattle.bench_net.proofs.NamesLemmas.{numbers_within, number-within}
-use Rattle.page_code.specs.Program.{Program}
+use Rattle.packed_code.specs.Program.{Program}
 use Rattle.lot_plan.specs.Needs.{PinNeed, needs_of}
 use Rattle.lot_plan.specs.Binds.{binds_of, unbound_in}
 use Rattle.lot_plan.specs.Bound.{Bound}

@@ -10,7 +10,7 @@ use Rattle.plan_rows.specs.Rows.{sites_of}
 use Rattle.plan_rows.specs.declared.row.Row.{Row}
 use Rattle.plan_rows.specs.declared.fault.PlanFault.{PlanFault}
 use Rattle.plan_rows.proofs.PlanLemmas.{one_list, no_fault_where_read}
-use Rattle.page_code.specs.Program.{Program}
+use Rattle.packed_code.specs.Program.{Program}
 use Rattle.lot_plan.specs.Refusal.{refusal}
 use Rattle.stil_ast.specs.Meaning.Signals.{names_of}
 use Rattle.stil_ast.specs.Faults.FrontFaults.{Front, read_as}

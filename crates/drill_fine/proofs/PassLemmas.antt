@@ -17,9 +17,9 @@ use Rattle.stil_ast.specs.Faults.BurstFaults.{exec_names_fault}
 use Rattle.stil_ast.specs.Faults.AssignmentFaults.{Checked, fine}
 use Rattle.stil_ast.specs.Faults.PatternFaults.{check_pattern}
 use Rattle.stil_ast.specs.Faults.ExecutiveFaults.{timed_of, behind_pattern, check_patterns, checked_fault, exec_fault, fifth_fault}
-use Rattle.time_expr.specs.Range.{divisor_of, remainders}
-use Rattle.time_expr.specs.Ratio.{lowest, lowest_signed}
-use Rattle.time_expr.specs.Front.{capped, unit_front, number_front, paren_len, short_name, word_front, quoted_front, sign_front, front_of, lexed}
+use Rattle.expr_text.specs.Range.{divisor_of, remainders}
+use Rattle.expr_text.specs.Ratio.{lowest, lowest_signed}
+use Rattle.expr_text.specs.Front.{capped, unit_front, number_front, paren_len, short_name, word_front, quoted_front, sign_front, front_of, lexed}
 use Rattle.time_expr.specs.TimesOf.{times_of}
 use Rattle.drill_fine.specs.Blocks.{drill_exec, drill_blocks}
 use Rattle.drill_fine.proofs.ReadLemmas.{stmts_from}

@@ -26,9 +26,9 @@ use Rattle.stil_ast.specs.Faults.BurstFaults.{exec_place}
 use Rattle.stil_ast.specs.declared.fault.StilFault.{StilFault}
 use Rattle.stil_ast.specs.declared.fault.StilKind.TheVariants.{TooLarge, TooManyCycles}
 use Rattle.stil_ast.specs.Faults.CodeFaults.{have_waves, vector_fault, trees_fault, compile_fault, compile_faults, sixth_fault}
-use Rattle.time_expr.specs.Range.{divisor_of, remainders}
-use Rattle.time_expr.specs.Ratio.{lowest, lowest_signed}
-use Rattle.time_expr.specs.Front.{capped, unit_front, number_front, paren_len, short_name, word_front, sign_front, front_of, lexed}
+use Rattle.expr_text.specs.Range.{divisor_of, remainders}
+use Rattle.expr_text.specs.Ratio.{lowest, lowest_signed}
+use Rattle.expr_text.specs.Front.{capped, unit_front, number_front, paren_len, short_name, word_front, sign_front, front_of, lexed}
 use Rattle.time_expr.specs.TimesOf.{times_of}
 use Rattle.drill_texts.specs.Texts.{driven_bit}
 use Rattle.drill_fine.specs.Said.{bit_byte, look_byte}

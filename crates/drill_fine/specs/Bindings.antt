@@ -1,7 +1,7 @@
 -- What a drill's code has of signals.
 use Rattle.std.specs.Prelude.{List, [], ◌∷◌, codes}
 use Rattle.tester_types.specs.declared.signal.Direction.TheVariants as direction
-use Rattle.page_code.specs.declared.parts.CodeSignal.{CodeSignal}
+use Rattle.packed_code.specs.declared.parts.CodeSignal.{CodeSignal}
 
 -- the signals of the code
 abbrev pub code_signals : List CodeSignal

@@ -8,7 +8,7 @@ use Rattle.plan_rows.specs.Plan as plans
 use Rattle.plan_rows.specs.Rows.{sites_of}
 use Rattle.plan_rows.specs.declared.row.Row.{Row}
 use Rattle.plan_rows.specs.declared.fault.PlanFault.{PlanFault}
-use Rattle.page_code.specs.Program.{Program}
+use Rattle.packed_code.specs.Program.{Program}
 use Rattle.lot_plan.specs.Refusal.{refusal}
 use Rattle.stil_ast.specs.declared.fault.StilFault.{StilFault}
 use Rattle.stil_program.specs.Program.{IsTextFault, IsProgramOf}

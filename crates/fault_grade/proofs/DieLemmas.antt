@@ -6,9 +6,9 @@ use Rattle.std.specs.Option.{option_map_or}
 use Rattle.std.proofs.lemmas.List.{length-map}
 use Rattle.std.proofs.lemmas.Bool.{eq-eqb}
 use Rattle.tester_types.specs.declared.wave.Table.{Table}
-use Rattle.page_code.specs.declared.parts.CodeSignal.{CodeSignal}
-use Rattle.page_code.specs.Program.{Program}
-use Rattle.page_code.specs.Conditions.{IsProgram}
+use Rattle.packed_code.specs.declared.parts.CodeSignal.{CodeSignal}
+use Rattle.packed_code.specs.Program.{Program}
+use Rattle.packed_code.specs.Conditions.{IsProgram}
 use Rattle.edge_gen.specs.Signals.{keeps_inside}
 use Rattle.bench_net.specs.Circuit.{Circuit, IsWhole}
 use Rattle.die_sim.specs.Die.{Image}

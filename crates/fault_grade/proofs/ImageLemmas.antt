@@ -5,7 +5,7 @@ use Rattle.std.proofs.lemmas.List.{map-append}
 use Rattle.die_sim.specs.Die.{Image, Device, Die, device_of}
 use Rattle.die_sim.specs.Socket.{loaded_of, HoldsNetOf}
 use Rattle.die_sim.specs.declared.image.StuckAt.{StuckAt}
-use Rattle.page_code.specs.Program.{Program}
+use Rattle.packed_code.specs.Program.{Program}
 use Rattle.fault_grade.specs.Run.{fault_at}
 use Rattle.fault_grade.specs.Search.{graded_on, run_on}
 use Rattle.fault_grade.specs.declared.graded.Graded.{Graded}

@@ -4,7 +4,7 @@ use Rattle.std.specs.Option.{option_copied}
 use Rattle.std.specs.Map.{lookup}
 use Rattle.indexmap.specs.IndexMap.{insert_entry}
 use Rattle.tester_types.specs.declared.cycle.Moment.{Moment}
-use Rattle.page_code.specs.Program.{Program}
+use Rattle.packed_code.specs.Program.{Program}
 use Rattle.edge_gen.specs.Held.{is_pair}
 use Rattle.edge_gen.proofs.HeldLemmas.{same_pair}
 use Rattle.cycle_run.specs.Step.{schedule_of}

@@ -8,8 +8,8 @@ use Rattle.tester_types.specs.declared.level.Drive.{Drive}
 use Rattle.tester_types.specs.declared.level.Drive.TheVariants as drive
 use Rattle.tester_types.specs.declared.level.Level.TheVariants.{X}
 use Rattle.tester_types.specs.declared.record.Fail.{Fail}
-use Rattle.page_code.specs.Program.{Program}
-use Rattle.page_code.specs.Cycles.{cycles_of}
+use Rattle.packed_code.specs.Program.{Program}
+use Rattle.packed_code.specs.Cycles.{cycles_of}
 use Rattle.bench_net.specs.Circuit.{IsWhole}
 use Rattle.strobe_check.specs.History.{Held, HasSeen, Answers, kept_of}
 use Rattle.strobe_check.proofs.HistoryLemmas.{fails-none}

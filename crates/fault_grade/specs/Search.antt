@@ -5,7 +5,7 @@ use Rattle.std.specs.List.{AllByRecursion, range_with_len}
 use Rattle.tester_types.specs.declared.cycle.Cycle.{Cycle}
 use Rattle.tester_types.specs.declared.cycle.Moment.{Moment}
 use Rattle.tester_types.specs.declared.record.Fail.{Fail}
-use Rattle.page_code.specs.Program.{Program}
+use Rattle.packed_code.specs.Program.{Program}
 use Rattle.bench_net.specs.Circuit.{IsWhole}
 use Rattle.die_sim.specs.Die.{Device, Image, device_of}
 use Rattle.die_sim.specs.declared.image.StuckAt.{StuckAt}

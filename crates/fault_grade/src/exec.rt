@@ -1,8 +1,8 @@
 //! An executive up to its first fail.
 
 ghost use Rattle.std.specs.Prelude.{◌≡◌, ◌+◌, ◌<◌, length, IfOk, OnOk};
-ghost use Rattle.page_code.specs.Walk.{IsOver, cycles_left};
-ghost use Rattle.page_code.specs.Cycles.{cycles_of};
+ghost use Rattle.packed_code.specs.Walk.{IsOver, cycles_left};
+ghost use Rattle.packed_code.specs.Cycles.{cycles_of};
 ghost use Rattle.die_sim.specs.Die.{device_of};
 ghost use Rattle.cycle_run.specs.Cycle.{point_at, stand_of};
 ghost use Rattle.cycle_run.specs.Batch.{between_at};
@@ -14,7 +14,7 @@ use crate::next::{Underway, make_next};
 use cycle_run::Stop;
 use die_sim::{DieImage, Socket};
 use edge_gen::Schedules;
-use page_code::Code;
+use packed_code::Code;
 
 /// Runs the cycles of an executive up to the first one with a fail, and answers whether there is one.
 pub(crate) fn run_exec<K: Socket>(

@@ -15,7 +15,7 @@ use crate::lent::Lent;
 use crate::run::{try_image, try_run};
 use die_sim::StuckAt;
 use lot_plan::BoundPlan;
-use page_code::Code;
+use packed_code::Code;
 use std::alloc::Global;
 use tester_types::NoMemory;
 

@@ -1,15 +1,15 @@
 //! The moments of a program's cycles, made once for each table and row that is run, as far as they fit.
 
 ghost use Rattle.std.specs.Prelude.{◌≡◌, ◌<◌, ℤ, List, length, IfOk, IfSome, OnOk};
-ghost use Rattle.page_code.specs.Program.{Program};
-ghost use Rattle.page_code.specs.Cycles.{exec_of};
-ghost use Rattle.page_code.specs.Walk.{IsOf};
+ghost use Rattle.packed_code.specs.Program.{Program};
+ghost use Rattle.packed_code.specs.Cycles.{exec_of};
+ghost use Rattle.packed_code.specs.Walk.{IsOf};
 ghost use Rattle.cycle_run.specs.Step.{FitCode, schedule_of};
 ghost use Rattle.fault_grade.specs.Search.{HoldsMoments};
 
 use edge_gen::schedule;
 use indexmap::IndexMap;
-use page_code::{Code, Instr};
+use packed_code::{Code, Instr};
 use std::alloc::Global;
 use std::marker::Model;
 use tester_types::{Moment, MomentList, NoMemory};

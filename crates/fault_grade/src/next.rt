@@ -1,7 +1,7 @@
 //! The next cycle of a try.
 
 ghost use Rattle.std.specs.Prelude.{◌≡◌, ◌+◌, ◌≤◌, ◌<◌, ◌^◌, ◌∷◌, length, take, drop, OnOk};
-ghost use Rattle.page_code.specs.Walk.{IsOf, IsOver, cycles_left};
+ghost use Rattle.packed_code.specs.Walk.{IsOf, IsOver, cycles_left};
 ghost use Rattle.die_sim.specs.Die.{device_of};
 ghost use Rattle.cycle_run.specs.Cycle.{point_at, going_at, stand_of, IsBetween, PlaysCycle};
 ghost use Rattle.cycle_run.specs.Batch.{between_at, PlaysCycles};
@@ -12,7 +12,7 @@ use crate::lent::Lent;
 use cycle_run::{Bench, Place, Stop, make_all, make_cycle};
 use die_sim::{DieImage, Socket};
 use edge_gen::Schedules;
-use page_code::{Code, Walk};
+use packed_code::{Code, Walk};
 use tester_types::Cycle;
 
 /// A try that is under way, between two cycles.

@@ -10,7 +10,7 @@ use crate::lent::Lent;
 use crate::search::first_cycle_of;
 use die_sim::{DieImage, SimSocket, Socket};
 use edge_gen::Schedules;
-use page_code::Code;
+use packed_code::Code;
 use std::alloc::Global;
 use tester_types::NoMemory;
 

@@ -14,7 +14,7 @@ use crate::next::Underway;
 use cycle_run::{Bench, Stop};
 use die_sim::{DieImage, Socket};
 use edge_gen::Schedules;
-use page_code::{Code, walk};
+use packed_code::{Code, walk};
 use std::alloc::Global;
 use tester_types::{Fail, NoMemory};
 

@@ -14,7 +14,7 @@ use crate::graded::{Grade, GradeList};
 use crate::grading::{first_lent, first_with, run_with};
 use crate::lent::Lent;
 use lot_plan::BoundPlan;
-use page_code::Code;
+use packed_code::Code;
 use std::alloc::Global;
 use std::sync::Wait;
 use std::thread;

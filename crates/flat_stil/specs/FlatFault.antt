@@ -3,7 +3,7 @@ use Rattle.std.specs.Prelude.{◌≡◌, ℕ, Bool, not, ◌==◌, ◌&&◌, ◌
 use Rattle.std.specs.List.{list_all}
 use Rattle.text_bytes.specs.Limits.{most_bytes}
 use Rattle.stil_ast.specs.declared.fault.StilFault.{StilFault}
-use Rattle.page_code.specs.Program.{Program}
+use Rattle.packed_code.specs.Program.{Program}
 use Rattle.stil_program.specs.Program.{IsTextFault}
 use Rattle.flat_stil.specs.FlatText.{flat_text}
 use Rattle.flat_stil.specs.declared.fault.FlatFault.{FlatFault}

@@ -14,10 +14,10 @@ use Rattle.tester_types.specs.declared.wave.Wave.{Wave}
 use Rattle.tester_types.specs.declared.wave.Table.{Table}
 use Rattle.page_meaning.specs.declared.instr.Instr.{Instr}
 use Rattle.page_meaning.specs.declared.instr.Instr.TheVariants.{Run, Loop, End, Done}
-use Rattle.page_code.specs.declared.parts.CodeSignal.{CodeSignal}
-use Rattle.page_code.specs.Program.{Program}
-use Rattle.page_code.specs.Conditions.{letters_of}
-use Rattle.page_code.specs.Cycles.{exec_of}
+use Rattle.packed_code.specs.declared.parts.CodeSignal.{CodeSignal}
+use Rattle.packed_code.specs.Program.{Program}
+use Rattle.packed_code.specs.Conditions.{letters_of}
+use Rattle.packed_code.specs.Cycles.{exec_of}
 use Rattle.code_listing.specs.Letters.{push_letter, look_letter}
 use Rattle.flat_stil.specs.Order.{is_in, tables_in, table_order, row_order, number_in}
 

@@ -3,7 +3,7 @@ use Rattle.std.specs.Prelude.{ℕ, Bool, not, ◌==◌, List, [], ◌∷◌}
 use Rattle.std.specs.List.{filter, flat_map, list_any, position_or_len}
 use Rattle.page_meaning.specs.declared.instr.Instr.{Instr}
 use Rattle.page_meaning.specs.declared.instr.Instr.TheVariants.{Run, Loop, End, Done}
-use Rattle.page_code.specs.Program.{Exec, Program}
+use Rattle.packed_code.specs.Program.{Exec, Program}
 
 -- the table that a Run names
 abbrev pub run_table : Instr → List ℕ

@@ -5,7 +5,7 @@ use Rattle.flat_stil.specs.declared.sheet.Part.{Part}
 use Rattle.flat_stil.specs.declared.sheet.Part.TheVariants.{Text, Letter, Number, Name}
 use Rattle.text_bytes.specs.Limits.{most_bytes}
 use Rattle.stil_ast.specs.declared.fault.StilFault.{StilFault}
-use Rattle.page_code.specs.Program.{Program}
+use Rattle.packed_code.specs.Program.{Program}
 use Rattle.stil_program.specs.Program.{IsTextFault}
 use Rattle.flat_stil.specs.FlatText.{text_of, flat_text}
 use Rattle.flat_stil.specs.Order.{is_in, number_in}

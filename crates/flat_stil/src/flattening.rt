@@ -17,7 +17,7 @@ use crate::sheet::{Part, Sheet};
 use crate::signals::put_signals;
 use crate::tables::put_timings;
 use crate::text::FlatText;
-use page_code::Code;
+use packed_code::Code;
 use std::alloc::Global;
 use stil_ast::StilRefusal;
 use stil_program::program;

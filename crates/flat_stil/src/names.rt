@@ -5,7 +5,7 @@ ghost use Rattle.std.specs.List.{list_all};
 ghost use Rattle.flat_stil.specs.FlatText.{name_of};
 ghost use Rattle.flat_stil.specs.FlatFault.{is_plain, has_plain_names};
 
-use page_code::{Code, CodeSignal};
+use packed_code::{Code, CodeSignal};
 
 /// The name of a signal, empty where there is none.
 pub(crate) fn name_at(code: &Code, signal: u16) -> &[u8]

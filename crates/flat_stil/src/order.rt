@@ -2,11 +2,11 @@
 
 ghost use Rattle.std.specs.Prelude.{◌≡◌, ◌++◌, ◌<◌, ℕ, List, IfOk, OnOk, length};
 ghost use Rattle.std.specs.List.{flat_map};
-ghost use Rattle.page_code.specs.Cycles.{exec_of};
+ghost use Rattle.packed_code.specs.Cycles.{exec_of};
 ghost use Rattle.flat_stil.specs.Order.{run_table, run_row, tables_in, firsts, table_order, row_order};
 
 use crate::numbers::Numbers;
-use page_code::{Code, Instr, PackedInstr};
+use packed_code::{Code, Instr, PackedInstr};
 use std::alloc::Global;
 use tester_types::NoMemory;
 

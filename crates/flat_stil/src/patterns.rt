@@ -2,14 +2,14 @@
 
 ghost use Rattle.std.specs.Prelude.{◌≡◌, ◌<◌, [], ◌∷◌, map, length};
 ghost use Rattle.std.specs.List.{flat_map};
-ghost use Rattle.page_code.specs.Cycles.{exec_of};
+ghost use Rattle.packed_code.specs.Cycles.{exec_of};
 ghost use Rattle.flat_stil.specs.Order.{table_order, row_order};
 ghost use Rattle.flat_stil.specs.FlatText.{one_line, many_line, run_line, instr_lines, pattern_lines, burst_line, title, exec_parts, exec_text, exec_line, executives};
 ghost use Rattle.flat_stil.specs.Working.{wrote, prints};
 
 use crate::numbers::Numbers;
 use crate::sheet::{Part, Sheet};
-use page_code::{Code, Instr, PackedInstr};
+use packed_code::{Code, Instr, PackedInstr};
 
 /// Writes a Run of this table and row.
 fn put_run(sheet: &mut Sheet, table: u64, row: u64, times: u32)

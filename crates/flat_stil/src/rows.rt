@@ -2,14 +2,14 @@
 
 ghost use Rattle.std.specs.Prelude.{◌≡◌, [], ◌∷◌, ◌++◌, codes, map, length, slice_index_or};
 ghost use Rattle.std.specs.List.{range_with_len};
-ghost use Rattle.page_code.specs.Conditions.{letters_of};
+ghost use Rattle.packed_code.specs.Conditions.{letters_of};
 ghost use Rattle.flat_stil.specs.Order.{row_order};
 ghost use Rattle.flat_stil.specs.FlatText.{letter_item, letter_items, row_front, row_text, row_line, row_lines};
 ghost use Rattle.flat_stil.specs.Working.{wrote, prints};
 
 use crate::names::name_at;
 use crate::sheet::{Part, Sheet};
-use page_code::Code;
+use packed_code::Code;
 
 /// The character of a signal in a row, 0 where it has none.
 fn letter_at(row: &[u8], signal: u16) -> u8

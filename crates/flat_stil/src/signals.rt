@@ -5,7 +5,7 @@ ghost use Rattle.flat_stil.specs.FlatText.{direction_word, signal_line, signal_l
 ghost use Rattle.flat_stil.specs.Working.{prints};
 
 use crate::sheet::{Part, Sheet};
-use page_code::{Code, CodeSignal, Direction};
+use packed_code::{Code, CodeSignal, Direction};
 
 /// The word of a direction.
 fn direction_word(direction: Direction) -> &'static [u8]

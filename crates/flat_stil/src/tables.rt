@@ -2,7 +2,7 @@
 
 ghost use Rattle.std.specs.Prelude.{◌≡◌, ◌<◌, [], ◌∷◌, ◌++◌, map, length, codes, OnOk};
 ghost use Rattle.std.specs.List.{flat_map, range_with_len};
-ghost use Rattle.page_code.specs.Cycles.{exec_of};
+ghost use Rattle.packed_code.specs.Cycles.{exec_of};
 ghost use Rattle.flat_stil.specs.Order.{tables_in, firsts, table_order};
 ghost use Rattle.flat_stil.specs.FlatText.{act_letter, event_item, wave_front, wave_line, waveform_lines, period_line, table_lines};
 ghost use Rattle.flat_stil.specs.FlatText.{numbered_table, table_among, own_table, timing_lines, executives};
@@ -13,7 +13,7 @@ use crate::numbers::Numbers;
 use crate::order::own_tables;
 use crate::sheet::{Part, Sheet};
 use code_listing::{look_letter, push_letter};
-use page_code::Code;
+use packed_code::Code;
 use std::alloc::Global;
 use tester_types::{Act, Event, NoMemory, Table, Wave};
 

@@ -4,7 +4,7 @@ use Rattle.std.specs.List.{AllByRecursion, AllPairs}
 use Rattle.std.specs.Option.{option_to_list}
 use Rattle.std.proofs.lemmas.List.Kept.{AllPairs-cons}
 use Rattle.tester_types.specs.declared.record.Record.{Record}
-use Rattle.page_code.specs.Conditions.{IsProgram}
+use Rattle.packed_code.specs.Conditions.{IsProgram}
 use Rattle.lot_plan.specs.Bound.{Bound}
 use Rattle.lot_plan.specs.Refusal.{IsBound}
 use Rattle.site_meaning.specs.Part.{part_of}

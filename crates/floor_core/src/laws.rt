@@ -2,7 +2,7 @@
 
 ghost use Rattle.std.specs.Prelude.{Bool, List};
 ghost use Rattle.tester_types.specs.declared.record.Record.{Record};
-ghost use Rattle.page_code.specs.Conditions.{IsProgram};
+ghost use Rattle.packed_code.specs.Conditions.{IsProgram};
 ghost use Rattle.lot_plan.specs.Refusal.{IsBound};
 ghost use Rattle.floor_core.specs.World.{World, Event};
 ghost use Rattle.floor_core.specs.Filing.{KeepsJournal};

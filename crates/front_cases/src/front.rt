@@ -1,7 +1,7 @@
 //! A text by the passes of the language, up to its first fault.
 
 use burst_exec::executives;
-use page_code::Code;
+use packed_code::Code;
 use std::alloc::{AllocError, AllocFailed, Global};
 use stil_ast::{StilFault, StilRefusal};
 use stil_program::program;

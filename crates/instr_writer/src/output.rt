@@ -5,7 +5,7 @@ ghost use Rattle.page_meaning.specs.declared.instr.Instr.TheVariants.{Run};
 ghost use Rattle.instr_writer.specs.Working.{IsOnceMore, IsPut, looped};
 ghost use Rattle.instr_writer.specs.Passes.{has_room, once_more, behind_last, with_entry, same_code, passes};
 
-use page_code::{Entry, Instr};
+use packed_code::{Entry, Instr};
 use std::alloc::AllocError;
 
 /// The same Run once more, where it runs this entry and has room for it.

@@ -9,7 +9,7 @@ ghost use Rattle.stil_ast.specs.Faults.CodeFaults.{have_waves};
 ghost use Rattle.instr_writer.specs.Known.{row_of_letters, has_wave_at, AreJudged, IsNumbered, Keeps, Moves, IsNoted, unknown, known};
 
 use crate::waves::{has_wave, have_waves};
-use page_code::RowList;
+use packed_code::RowList;
 use std::alloc::{AllocError, Global};
 use std::marker::Model;
 use wave_tables::WaveSet;

@@ -5,7 +5,7 @@ ghost use Rattle.wave_tables.specs.Waves.{AreInOrder};
 
 use super::*;
 use flat_tree::{BodyKind, FlatList, Origin};
-use page_code::{Instr, RowList};
+use packed_code::{Instr, RowList};
 use std::alloc::{AllocError, Global};
 use std::test::Fail;
 use stil_ast::StilKind;

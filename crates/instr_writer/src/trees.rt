@@ -15,7 +15,7 @@ use crate::state::State;
 use crate::trouble::Trouble;
 use crate::writing::{Source, write_list};
 use flat_tree::FlatList;
-use page_code::{Instr, InstrList, RowList};
+use packed_code::{Instr, InstrList, RowList};
 use std::alloc::Global;
 use wave_tables::WaveSet;
 

@@ -12,7 +12,7 @@ use crate::output::{put_cycle, put_loop, put_passes};
 use crate::state::State;
 use crate::trouble::Trouble;
 use flat_tree::{FlatItem, FlatList, Origin};
-use page_code::{Entry, Instr, RowList};
+use packed_code::{Entry, Instr, RowList};
 use std::alloc::Global;
 use stil_ast::StilKind;
 use wave_tables::WaveSet;

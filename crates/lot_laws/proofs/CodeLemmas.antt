@@ -7,10 +7,10 @@ use Rattle.std.proofs.lemmas.Bool.{cases_lt, le-leb, ne_eqb}
 use Rattle.std.proofs.lemmas.Option.{same_Some}
 use Rattle.tester_types.specs.declared.cycle.Cycle.{Cycle}
 use Rattle.tester_types.specs.declared.wave.Table.{Table}
-use Rattle.page_code.specs.Program.{Exec, Program}
-use Rattle.page_code.specs.Conditions.{letters_of}
+use Rattle.packed_code.specs.Program.{Exec, Program}
+use Rattle.packed_code.specs.Conditions.{letters_of}
 use Rattle.page_meaning.specs.Meaning.{Means}
-use Rattle.page_code.specs.Cycles.{exec_of, cycles_of, timed}
+use Rattle.packed_code.specs.Cycles.{exec_of, cycles_of, timed}
 use Rattle.page_code.specs.Saved.{Saved}
 use Rattle.page_code.proofs.LoadLemmas.{none_begins}
 use Rattle.stil_ast.specs.Meaning.Chains.{Chain}

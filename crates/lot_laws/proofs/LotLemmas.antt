@@ -7,7 +7,7 @@ use Rattle.std.proofs.lemmas.Option.{same_Some}
 use Rattle.tester_types.specs.Outside.{Files, file_of}
 use Rattle.tester_types.specs.Records.{SiteRecords, records_of}
 use Rattle.tester_types.specs.declared.record.Record.{Record}
-use Rattle.page_code.specs.Program.{Program}
+use Rattle.packed_code.specs.Program.{Program}
 use Rattle.plan_rows.specs.declared.row.Row.{Row}
 use Rattle.plan_rows.specs.Rows.{sites_of}
 use Rattle.plan_rows.specs.Plan.{IsPlan}

@@ -10,10 +10,10 @@ use Rattle.tester_types.specs.declared.record.Fail.{Fail}
 use Rattle.tester_types.specs.declared.record.Record.{Record}
 use Rattle.tester_types.specs.declared.record.Trial.{Trial}
 use Rattle.tester_types.specs.declared.record.Verdict.{Verdict}
-use Rattle.page_code.specs.Program.{Program}
-use Rattle.page_code.specs.Cycles.{exec_of}
-use Rattle.page_code.specs.declared.parts.CodeChain.{CodeChain}
-use Rattle.page_code.specs.declared.parts.CodeSignal.{CodeSignal}
+use Rattle.packed_code.specs.Program.{Program}
+use Rattle.packed_code.specs.Cycles.{exec_of}
+use Rattle.packed_code.specs.declared.parts.CodeChain.{CodeChain}
+use Rattle.packed_code.specs.declared.parts.CodeSignal.{CodeSignal}
 use Rattle.bench_net.specs.Circuit.{Circuit}
 use Rattle.bench_net.specs.Net.{IsNet}
 use Rattle.bench_net.proofs.ReadLemmas.{one_net}

@@ -4,7 +4,7 @@ use Rattle.std.specs.Prelude.{sum_by}
 use Rattle.std.specs.List.{flat_map, range_with_len}
 use Rattle.std.proofs.lemmas.List.Sums.{sum_by-cons}
 use Rattle.tester_types.specs.declared.record.Record.{Record}
-use Rattle.page_code.specs.Program.{Program}
+use Rattle.packed_code.specs.Program.{Program}
 use Rattle.lot_plan.specs.Bound.{Bound}
 use Rattle.datalog.proofs.CountLemmas.{dies_in-append}
 use Rattle.datalog.specs.DatalogText.{die_bin, site_text, numbered, bins_of, dies_in, total_line, totals_text, lot_text}

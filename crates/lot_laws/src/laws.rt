@@ -5,7 +5,7 @@ ghost use Rattle.std.specs.List.{flat_map, range_with_len};
 ghost use Rattle.tester_types.specs.Outside.{Files, file_of};
 ghost use Rattle.tester_types.specs.Records.{SiteRecords, records_of};
 ghost use Rattle.tester_types.specs.declared.record.Record.{Record};
-ghost use Rattle.page_code.specs.Program.{Program};
+ghost use Rattle.packed_code.specs.Program.{Program};
 ghost use Rattle.page_code.specs.Saved.{Saved};
 ghost use Rattle.bench_net.specs.Circuit.{Circuit, IsWhole};
 ghost use Rattle.bench_net.specs.Net.{IsNet};

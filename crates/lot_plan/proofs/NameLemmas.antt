@@ -11,7 +11,7 @@ use Rattle.std.proofs.lemmas.List.{get_or-map, length-map}
 use Rattle.std.proofs.lemmas.List.Folds.{list_any-append}
 use Rattle.std.proofs.Math.Bool.{or-false}
 use Rattle.text_bytes.specs.Texts.{behind, added}
-use Rattle.page_code.specs.declared.parts.CodeSignal.{CodeSignal}
+use Rattle.packed_code.specs.declared.parts.CodeSignal.{CodeSignal}
 use Rattle.plan_rows.specs.declared.row.DieRow.{DieRow}
 use Rattle.lot_plan.specs.Needs.{has_name}
 

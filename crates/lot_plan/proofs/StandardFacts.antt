@@ -8,8 +8,8 @@ use Rattle.die_sim.specs.declared.image.Bind.TheVariants as bind
 use Rattle.tester_types.specs.declared.wave.Push.TheVariants as push
 use Rattle.tester_types.specs.declared.wave.Look.TheVariants as look
 use Rattle.tester_types.specs.declared.wave.Act.TheVariants as act
-use Rattle.page_code.specs.Program.{Program}
-use Rattle.page_code.specs.declared.parts.CodeSignal.{CodeSignal}
+use Rattle.packed_code.specs.Program.{Program}
+use Rattle.packed_code.specs.declared.parts.CodeSignal.{CodeSignal}
 use Rattle.tester_types.specs.declared.signal.Direction.TheVariants as direction
 use Rattle.plan_rows.specs.declared.fault.PlanFault.TheVariants as refused
 use Rattle.plan_rows.specs.declared.row.Row.{Row}

@@ -7,8 +7,8 @@ use Rattle.bench_net.specs.Circuit.{Circuit, number}
 use Rattle.die_sim.specs.Die.{Image}
 use Rattle.die_sim.specs.declared.image.Binding.{Binding}
 use Rattle.die_sim.specs.declared.image.StuckAt.{StuckAt}
-use Rattle.page_code.specs.declared.parts.CodeSignal.{CodeSignal}
-use Rattle.page_code.specs.Program.{Program}
+use Rattle.packed_code.specs.declared.parts.CodeSignal.{CodeSignal}
+use Rattle.packed_code.specs.Program.{Program}
 use Rattle.plan_rows.specs.declared.row.Row.{Row}
 use Rattle.plan_rows.specs.declared.row.DieRow.{DieRow}
 use Rattle.plan_rows.specs.declared.row.FaultRow.{FaultRow}

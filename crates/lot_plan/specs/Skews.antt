@@ -5,7 +5,7 @@ use Rattle.std.specs.Option.{option_map_or}
 use Rattle.std.specs.Str.{bytes_eq}
 use Rattle.tester_types.specs.declared.wave.Wave.{Wave}
 use Rattle.tester_types.specs.declared.wave.Table.{Table}
-use Rattle.page_code.specs.declared.parts.CodeSignal.{CodeSignal}
+use Rattle.packed_code.specs.declared.parts.CodeSignal.{CodeSignal}
 use Rattle.edge_gen.specs.Signals.{stay_inside}
 use Rattle.plan_rows.specs.declared.fault.PlanFault.{PlanFault}
 use Rattle.plan_rows.specs.declared.fault.PlanFault.TheVariants.{UnknownName, SkewOutside}

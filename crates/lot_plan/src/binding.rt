@@ -24,7 +24,7 @@ use crate::{building, refusal};
 use bench_net::Netlist;
 use die_sim::Binding;
 use indexmap::IndexSet;
-use page_code::{Code, CodeSignal};
+use packed_code::{Code, CodeSignal};
 use plan_rows::{DieRow, PlanFault, Row};
 use std::alloc::Global;
 use std::sync::Arc;

@@ -19,7 +19,7 @@ use crate::rows::{copies_of, first_of, lot_of};
 use crate::skews::all_skews;
 use bench_net::Netlist;
 use die_sim::{Binding, DieImage};
-use page_code::Code;
+use packed_code::Code;
 use plan_rows::{BinRow, Ending, LotRow, PlanFault, PlanRows, Row, StopRow};
 use std::alloc::Global;
 use std::marker::Model;

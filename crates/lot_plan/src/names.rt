@@ -7,7 +7,7 @@ ghost use Rattle.bench_net.specs.Views.{texts};
 ghost use Rattle.lot_plan.specs.Refusal.{is_signal};
 
 use indexmap::IndexSet;
-use page_code::CodeSignal;
+use packed_code::CodeSignal;
 use plan_rows::DieRow;
 use std::alloc::{AllocError, Global};
 

@@ -12,7 +12,7 @@ ghost use Rattle.lot_plan.specs.Views.{needed_by, row_in};
 use crate::pin::{Pin, Role};
 use crate::rows::{clock_of, each_of};
 use indexmap::IndexMap;
-use page_code::{Code, CodeSignal, CodeSignalList, Direction};
+use packed_code::{Code, CodeSignal, CodeSignalList, Direction};
 use plan_rows::{BindRow, Row};
 use std::alloc::Global;
 use tester_types::{Items, NoMemory};

@@ -18,7 +18,7 @@ use crate::names::files_of;
 use crate::rows::{each_of, sites_of};
 use bench_net::Netlist;
 use indexmap::IndexSet;
-use page_code::Code;
+use packed_code::Code;
 use plan_rows::{DieRow, PlanFault, PlanRows, Row, read_rows};
 use std::alloc::Global;
 use std::marker::Model;

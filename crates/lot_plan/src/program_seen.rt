@@ -2,9 +2,9 @@
 
 ghost use Rattle.std.specs.Prelude.{◌≡◌};
 ghost use Rattle.std.specs.Borrow.{ftrue};
-ghost use Rattle.page_code.specs.Program.{Program};
+ghost use Rattle.packed_code.specs.Program.{Program};
 
-use page_code::Code;
+use packed_code::Code;
 use std::marker::Model;
 
 /// A program that was seen. It takes no memory.

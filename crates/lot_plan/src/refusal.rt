@@ -16,7 +16,7 @@ use crate::names::is_among;
 use crate::skews::skew_refusal;
 use bench_net::Netlist;
 use indexmap::IndexSet;
-use page_code::{Code, CodeSignal};
+use packed_code::{Code, CodeSignal};
 use plan_rows::{Ending, FaultRow, PlanFault, Row};
 use std::sync::Arc;
 

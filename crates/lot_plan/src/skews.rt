@@ -11,7 +11,7 @@ ghost use Rattle.lot_plan.specs.Skews.{wave_stays, waves_stay, skew_refusal, ske
 use crate::pins::place_of;
 use crate::rows::each_of;
 use edge_gen::stays_inside;
-use page_code::{Code, CodeSignal};
+use packed_code::{Code, CodeSignal};
 use plan_rows::{PlanFault, Row, SkewRow};
 use std::alloc::Global;
 use tester_types::{Items, NoMemory, Table};

@@ -6,7 +6,7 @@ use Rattle.std.proofs.lemmas.Option.{slice_get-get_or, get_or_from_slice_get}
 use Rattle.std.proofs.lemmas.Bool.{eqb-true, or_cases, and_parts}
 use Rattle.tester_types.specs.declared.wave.Wave.{Wave}
 use Rattle.tester_types.specs.declared.wave.Table.{Table}
-use Rattle.page_code.specs.Conditions.{has_waves, waves_of, letters_of}
+use Rattle.packed_code.specs.Conditions.{has_waves, waves_of, letters_of}
 use Rattle.page_code.specs.Accepted.{AreAccepted}
 use Rattle.text_bytes.proofs.ListLemmas.{all_append}
 

@@ -4,19 +4,20 @@ use Rattle.std.specs.Int.{w16, w32, w64, from_le_bytes}
 use Rattle.std.specs.List.{flat_map}
 use Rattle.std.proofs.lemmas.Bool.{and_parts, and_from, ltb-true, leb-true, eqb-true, lt-ltb, le-leb}
 use Rattle.std.proofs.lemmas.List.{append-nil, length-take, length-drop, take-append-drop, drop-drop, drop_all}
-use Rattle.std.proofs.lemmas.Nat.{from_le_bytes-to_le_bytes_2, from_le_bytes-to_le_bytes_4, from_le_bytes-to_le_bytes_8}
 use Rattle.std.proofs.lemmas.Option.{same_Some}
 use Rattle.tester_types.specs.declared.wave.Table.{Table}
 use Rattle.page_meaning.specs.declared.instr.Instr.{Instr}
 use Rattle.page_meaning.specs.declared.instr.Instr.TheVariants.{Run, Loop, End, Done}
 use Rattle.page_meaning.specs.Whole.{IsRest}
-use Rattle.page_code.specs.declared.parts.CodeChain.{CodeChain}
-use Rattle.page_code.specs.Program.{Exec}
-use Rattle.page_code.specs.Conditions.{IsChain, IsInstr, IsNarrow, IsExec}
+use Rattle.packed_code.specs.declared.parts.CodeChain.{CodeChain}
+use Rattle.packed_code.specs.Program.{Exec}
+use Rattle.packed_code.specs.Conditions.{IsChain, IsInstr, IsNarrow, IsExec}
 use Rattle.page_code.specs.Fields.{◌>>=◌, piece_at, number_at, checked, known, meant, items_at}
-use Rattle.page_code.specs.Spelling.{number, text, chain, instr, exec}
-use Rattle.page_code.specs.Reading.{text_at, chain_at, are_zero, part, instr_of, may_follow, instr_with, instr_at, exec_at}
-use Rattle.page_code.proofs.Lists.{all_each, each_all}
+use Rattle.packed_code.specs.Spelling.{number, text, chain, instr, exec}
+use Rattle.page_code.specs.Reading.{text_at, chain_at, may_follow, instr_with, instr_at, exec_at}
+use Rattle.packed_code.specs.Packed.{are_zero, part, instr_of}
+use Rattle.packed_code.proofs.Lists.{all_each, each_all}
+use Rattle.packed_code.proofs.PackedLemmas.{instr_again, instr_size}
 use Rattle.page_code.proofs.NestLemmas.{IsReadInstr, read_whole, whole_read}
 use Rattle.page_code.proofs.ReaderLaws.{IsBytes, IsBytes-take, IsBytes-drop, IsReader, adapted, done_reader, then_reader, checked_reader, wide16, wide32, wide64, number_reader, piece_reader, piece_again, known_takes, items_reader}
 use Rattle.text_bytes.proofs.BoolLemmas.{chosen}
@@ -119,28 +120,6 @@ instr_is raw i size fits e =
   where
     none_some : (i : Instr) → None ≡ Some i → ⊥
     none_some i e = cc
-
--- what an instruction is spelled as stands for it
-pub instr_again : (i : Instr) → IsNarrow i → instr_of (instr i) ≡ Some i
-unfolding instr_of number
-instr_again (Run t r m n) narrow =
-    (let r' : ℕ = from_le_bytes w32 (number w32 r) in
-    let m' : ℕ = from_le_bytes w32 (number w32 m) in
-    let n' : ℕ = from_le_bytes w32 (number w32 n) in
-    ap (λ (x : ℕ). Some (Run x r' m' n')) (from_le_bytes-to_le_bytes_2 t narrow.0)
-    ∙ ap (λ (x : ℕ). Some (Run t x m' n')) (from_le_bytes-to_le_bytes_4 r narrow.1)
-    ∙ ap (λ (x : ℕ). Some (Run t r x n')) (from_le_bytes-to_le_bytes_4 m narrow.2)
-    ∙ ap (λ (x : ℕ). Some (Run t r m x)) (from_le_bytes-to_le_bytes_4 n narrow.3))
-instr_again (Loop n) narrow = ap (λ (x : ℕ). Some (Loop x)) (from_le_bytes-to_le_bytes_8 n narrow)
-instr_again End narrow = refl
-instr_again Done narrow = refl
-
-pub instr_size : (i : Instr) → length (instr i) ≡ 16
-unfolding number
-instr_size (Run t r m n) = refl
-instr_size (Loop n) = refl
-instr_size End = refl
-instr_size Done = refl
 
 raw_instr_reader : IsReader (known (piece_at 16) instr_of) instr IsNarrow
 raw_instr_reader = record {

@@ -4,7 +4,7 @@ use Rattle.std.specs.List.{list_all, take_while}
 use Rattle.std.proofs.lemmas.Bool.{le-leb, lt-leb}
 use Rattle.std.proofs.lemmas.List.Sums.{take_while-cons}
 use Rattle.page_code.specs.declared.fault.Refusal.TheVariants.{BadCode}
-use Rattle.page_code.specs.Letters.{is_place}
+use Rattle.packed_code.specs.Letters.{is_place}
 use Rattle.page_code.specs.Fields.{piece_at}
 use Rattle.page_code.specs.Reading.{letters_at}
 

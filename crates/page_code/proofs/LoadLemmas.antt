@@ -5,16 +5,16 @@ use Rattle.std.specs.List.{AllByRecursion}
 use Rattle.std.proofs.lemmas.Bool.{eqb-true, leb-true}
 use Rattle.std.proofs.lemmas.List.{append-nil, nil_from_length}
 use Rattle.tester_types.specs.declared.wave.Table.{Table}
-use Rattle.page_code.specs.declared.version.Version.{Version}
-use Rattle.page_code.specs.declared.version.Version.TheVariants.{One, Two}
-use Rattle.page_code.specs.declared.parts.CodeSignal.{CodeSignal}
+use Rattle.packed_code.specs.declared.version.Version.{Version}
+use Rattle.packed_code.specs.declared.version.Version.TheVariants.{One, Two}
+use Rattle.packed_code.specs.declared.parts.CodeSignal.{CodeSignal}
 use Rattle.page_code.specs.declared.fault.Refusal.{Refusal}
 use Rattle.page_code.specs.declared.fault.Refusal.TheVariants.{BadCode}
 use Rattle.page_code.specs.declared.fault.ReadError.{ReadError}
 use Rattle.page_code.specs.declared.fault.ReadError.TheVariants as errors
-use Rattle.page_code.specs.Program.{Exec, Program}
-use Rattle.page_code.specs.Conditions.{IsRising, IsSignal, IsTable, IsProgram}
-use Rattle.page_code.specs.Spelling.{number, signal, table, head, earlier, later}
+use Rattle.packed_code.specs.Program.{Exec, Program}
+use Rattle.packed_code.specs.Conditions.{IsRising, IsSignal, IsTable, IsProgram}
+use Rattle.packed_code.specs.Spelling.{number, signal, table, head, earlier, later}
 use Rattle.page_code.specs.Saved.{SavedIn, Saved}
 use Rattle.page_code.specs.Fields.{◌>>=◌, Fails, Read, number_at, checked, items_at}
 use Rattle.page_code.specs.Reading.{head_at, signal_at, table_at, row_at, exec_at, program_at, whole_at, answered, load_of}
@@ -22,7 +22,7 @@ use Rattle.page_code.specs.declared.fault.SavedFault.{SavedFault}
 use Rattle.page_code.specs.declared.fault.SavedFault.TheVariants as saved
 use Rattle.std.specs.Prelude.{MatchResult, IfOk}
 use Rattle.page_code.proofs.WaveLemmas.{are_rising}
-use Rattle.page_code.proofs.SizeLemmas.{behind_all}
+use Rattle.packed_code.proofs.SizeLemmas.{behind_all}
 use Rattle.page_code.proofs.ReaderLaws.{IsBytes, bind_ok, guard_ok, wide16, number_reader, checked_reader, items_reader, ok_is}
 use Rattle.page_code.proofs.PartLaws.{signal_reader, table_reader}
 use Rattle.page_code.proofs.ProgramLaws.{head_reader, program_reader}

@@ -9,8 +9,9 @@ use Rattle.page_meaning.specs.declared.instr.Instr.TheVariants.{Run, Loop, End, 
 use Rattle.page_meaning.specs.Meaning.{cycle_count}
 use Rattle.page_meaning.specs.Whole.{IsRest, IsWhole}
 use Rattle.page_code.specs.declared.read_instrs.Nest.{Nest}
-use Rattle.page_code.specs.Conditions.{EachBehind, IsInstr, IsNarrow, has_waves, waves_of, letters_of}
-use Rattle.page_code.specs.Reading.{open_behind, begun_behind, follows, is_bounded, may_follow, instr_of, instr_with}
+use Rattle.packed_code.specs.Conditions.{EachBehind, IsInstr, IsNarrow, has_waves, waves_of, letters_of}
+use Rattle.page_code.specs.Reading.{open_behind, begun_behind, follows, is_bounded, may_follow, instr_with}
+use Rattle.packed_code.specs.Packed.{instr_of}
 use Rattle.page_code.specs.Nest.{IsNest, depth_after, begins}
 use Rattle.page_code.specs.declared.fault.Refusal.TheVariants.{BadCode}
 use Rattle.page_code.specs.Fields.{piece_at, known}

@@ -15,14 +15,14 @@ use Rattle.tester_types.specs.declared.wave.Wave.{Wave}
 use Rattle.tester_types.specs.declared.wave.Table.{Table}
 use Rattle.tester_types.specs.declared.signal.Direction.{Direction}
 use Rattle.tester_types.specs.declared.signal.Direction.TheVariants.{In, Out, InOut, Supply, Pseudo}
-use Rattle.page_code.specs.declared.parts.CodeSignal.{CodeSignal}
-use Rattle.page_code.specs.declared.parts.CodeChain.{CodeChain}
-use Rattle.page_code.specs.Letters.{direction_code, direction_of, act_code, acts, act_of}
+use Rattle.packed_code.specs.declared.parts.CodeSignal.{CodeSignal}
+use Rattle.packed_code.specs.declared.parts.CodeChain.{CodeChain}
+use Rattle.packed_code.specs.Letters.{direction_code, direction_of, act_code, acts, act_of}
 use Rattle.text_bytes.specs.Bytes.{is_printable, is_character}
 use Rattle.text_bytes.proofs.ByteLemmas.{is_character-ascii}
-use Rattle.page_code.specs.Conditions.{EachBehind, last_of, IsText, IsName, is_named, IsSignal, latest, IsEvent, is_behind, IsWave, wave_count, IsTable, IsChain}
+use Rattle.packed_code.specs.Conditions.{EachBehind, last_of, IsText, IsName, is_named, IsSignal, latest, IsEvent, is_behind, IsWave, wave_count, IsTable, IsChain}
 use Rattle.page_code.specs.Fields.{◌>>=◌, byte_at, piece_at, number_at, checked, known, meant, items_at}
-use Rattle.page_code.specs.Spelling.{number, text, signal, event, wave, table, chain}
+use Rattle.packed_code.specs.Spelling.{number, text, signal, event, wave, table, chain}
 use Rattle.page_code.specs.Reading.{raw_text_at, text_at, name_at, signal_at, event_at, pair_at, may_stand, wave_at, table_with, table_at, chain_at}
 use Rattle.page_code.proofs.ReaderLaws.{IsReader, adapted, done_reader, then_reader, checked_reader, byte_reader, wide16, wide32, wide64, number_reader, plain_reader, known_takes, items_reader}
 

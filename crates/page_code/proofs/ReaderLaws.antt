@@ -7,9 +7,9 @@ use Rattle.std.proofs.lemmas.List.{append-nil, take_at, drop_at, take-append-dro
 use Rattle.std.proofs.lemmas.Nat.{le_bytes_2, le_bytes_4, le_bytes_8, from_le_bytes-to_le_bytes_2, from_le_bytes-to_le_bytes_4, from_le_bytes-to_le_bytes_8}
 use Rattle.page_code.specs.declared.fault.Refusal.{Refusal}
 use Rattle.page_code.specs.declared.fault.Refusal.TheVariants.{Torn, BadCode}
-use Rattle.page_code.specs.Conditions.{EachBehind}
+use Rattle.packed_code.specs.Conditions.{EachBehind}
 use Rattle.page_code.specs.Fields.{◌>>=◌, Read, byte_at, piece_at, number_at, judged, checked, meant, known, items_at}
-use Rattle.page_code.specs.Spelling.{number, behind}
+use Rattle.packed_code.specs.Spelling.{number, behind}
 
 -- ---- bytes
 

@@ -8,17 +8,17 @@ use Rattle.std.proofs.lemmas.List.{take_at, nil_from_length}
 use Rattle.std.proofs.lemmas.List.Folds.{list_any_at}
 use Rattle.text_bytes.specs.Bytes.{is_character}
 use Rattle.text_bytes.proofs.ListLemmas.{all_append}
-use Rattle.page_code.specs.declared.version.Version.{Version}
-use Rattle.page_code.specs.declared.version.Version.TheVariants.{One, Two}
-use Rattle.page_code.specs.Letters.{is_place}
-use Rattle.page_code.specs.Conditions.{IsRow}
-use Rattle.page_code.specs.Rows.{is_row_of}
-use Rattle.page_code.specs.Changes.{last_row, changes, with_changes, is_shorter, is_difference}
+use Rattle.packed_code.specs.declared.version.Version.{Version}
+use Rattle.packed_code.specs.declared.version.Version.TheVariants.{One, Two}
+use Rattle.packed_code.specs.Letters.{is_place}
+use Rattle.packed_code.specs.Conditions.{IsRow}
+use Rattle.packed_code.specs.Rows.{is_row_of}
+use Rattle.packed_code.specs.Changes.{last_row, changes, with_changes, is_shorter, is_difference, least_behind}
 use Rattle.page_code.specs.Fields.{◌>>=◌, byte_at, piece_at, number_at, judged, checked, items_at}
-use Rattle.page_code.specs.Spelling.{number, behind, change, difference, row}
-use Rattle.page_code.specs.Reading.{letters_at, least_behind, change_from, change_at, changed_at, difference_at, whole_row_at, formed_row_at, spelled_row_at, row_at}
-use Rattle.page_code.proofs.Lists.{all_at}
-use Rattle.page_code.proofs.ChangesLemmas.{IsChange, read_again, changes_read, made_again, length-with_changes, places_stay}
+use Rattle.packed_code.specs.Spelling.{number, behind, change, difference, row}
+use Rattle.page_code.specs.Reading.{letters_at, change_from, change_at, changed_at, difference_at, whole_row_at, formed_row_at, spelled_row_at, row_at}
+use Rattle.packed_code.proofs.Lists.{all_at}
+use Rattle.packed_code.proofs.ChangesLemmas.{IsChange, read_again, changes_read, made_again, length-with_changes, places_stay}
 use Rattle.page_code.proofs.ReaderLaws.{IsReader, IsBytes, bind_ok, adapted, done_reader, then_reader, judged_reader, judged_then, mapped_reader, checked_reader, byte_reader, wide16, number_reader, plain_reader, items_reader, behind_reader}
 use Rattle.page_code.proofs.PartLaws.{IsBelow, IsNumber, AreItems, taken, character_small}
 

@@ -5,34 +5,11 @@ use Rattle.tester_types.specs.declared.wave.Act.TheVariants.{Look}
 use Rattle.tester_types.specs.declared.wave.Look.TheVariants as look
 use Rattle.page_code.specs.declared.fault.Refusal.TheVariants.{BadMagic, BadVersion, Torn, BadCode}
 use Rattle.text_bytes.specs.Bytes.{is_character}
-use Rattle.page_code.specs.declared.version.Version.TheVariants.{Two}
-use Rattle.page_code.specs.Spelling.{number, instr, text, wave, row}
+use Rattle.packed_code.specs.declared.version.Version.TheVariants.{Two}
+use Rattle.packed_code.proofs.StandardFacts.{first_row, second_row}
 use Rattle.page_code.specs.Fields.{number_at, items_at}
-use Rattle.page_code.specs.Reading.{instr_of, head_at, letters_at, change_from, difference_at, whole_row_at, formed_row_at, row_at}
-
--- runs table 0, row 1 three times without a mark
-pub example_instr : instr (Run 0 1 0 3) ≡ 1 ∷ 0 ∷ 0 ∷ 0 ∷ 1 ∷ 0 ∷ 0 ∷ 0 ∷ 0 ∷ 0 ∷ 0 ∷ 0 ∷ 3 ∷ 0 ∷ 0 ∷ 0 ∷ []
-unfolding number
-example_instr = refl
-
-pub example_again : instr_of (1 ∷ 0 ∷ 0 ∷ 0 ∷ 1 ∷ 0 ∷ 0 ∷ 0 ∷ 0 ∷ 0 ∷ 0 ∷ 0 ∷ 3 ∷ 0 ∷ 0 ∷ 0 ∷ []) ≡ Some (Run 0 1 0 3)
-unfolding instr_of
-example_again = refl
-
--- an End has zero bytes behind its number
-pub odd_end : instr_of (3 ∷ 0 ∷ 0 ∷ 0 ∷ 1 ∷ 0 ∷ 0 ∷ 0 ∷ 0 ∷ 0 ∷ 0 ∷ 0 ∷ 0 ∷ 0 ∷ 0 ∷ 0 ∷ []) ≡ None
-unfolding instr_of
-odd_end = refl
-
-pub example_text : text (97 ∷ 98 ∷ []) ≡ 2 ∷ 0 ∷ 97 ∷ 98 ∷ []
-unfolding number
-example_text = refl
-
--- signal 258, the letter H, and the act H at 2 ^ 16 femtoseconds
-pub example_wave : wave (record { signal = 258; letter = 72; events = record { time = 65536; act = Look look.High } ∷ [] })
-    ≡ 2 ∷ 1 ∷ 72 ∷ 1 ∷ 0 ∷ 0 ∷ 1 ∷ 0 ∷ 0 ∷ 0 ∷ 0 ∷ 0 ∷ 7 ∷ []
-unfolding number
-example_wave = refl
+use Rattle.page_code.specs.Reading.{head_at, letters_at, change_from, difference_at, whole_row_at, formed_row_at, row_at}
+use Rattle.packed_code.specs.Packed.{instr_of}
 
 -- a byte that is there and differs comes before one that is missing
 pub wrong_magic : head_at (0xD7 ∷ 0 ∷ []) ≡ Err BadMagic
@@ -61,23 +38,6 @@ unfolding letters_at is_character
 short_row = refl
 
 -- ---- rows of version 2
-
--- P110000XX
-abbrev first_row : List ℕ
-first_row = 80 ∷ 49 ∷ 49 ∷ 48 ∷ 48 ∷ 48 ∷ 48 ∷ 88 ∷ 88 ∷ []
-
--- P100000XX
-abbrev second_row : List ℕ
-second_row = 80 ∷ 49 ∷ 48 ∷ 48 ∷ 48 ∷ 48 ∷ 48 ∷ 88 ∷ 88 ∷ []
-
--- one character of nine changes: 5 is below 9
-pub one_change : row Two (first_row ∷ []) second_row ≡ 1 ∷ 1 ∷ 0 ∷ 2 ∷ 0 ∷ 0x30 ∷ []
-unfolding number
-one_change = refl
-
--- one of two changes: 5 is not below 2
-pub narrow_row : row Two ((48 ∷ 48 ∷ []) ∷ []) (49 ∷ 48 ∷ []) ≡ 0 ∷ 49 ∷ 48 ∷ []
-narrow_row = refl
 
 pub one_change_again : formed_row_at 9 (first_row ∷ []) (1 ∷ 1 ∷ 0 ∷ 2 ∷ 0 ∷ 0x30 ∷ 7 ∷ []) ≡ Ok (second_row, 7 ∷ [])
 unfolding formed_row_at difference_at change_from items_at number_at is_character

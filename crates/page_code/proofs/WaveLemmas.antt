@@ -5,8 +5,8 @@ use Rattle.std.specs.Option.{option_map_or}
 use Rattle.std.proofs.lemmas.Bool.{ltb-true, eqb-true, ne_eqb}
 use Rattle.std.proofs.lemmas.List.{drop_more}
 use Rattle.tester_types.specs.declared.wave.Wave.{Wave}
-use Rattle.page_code.proofs.Lists.{last_of_push}
-use Rattle.page_code.specs.Conditions.{EachBehind, IsRising, IsWave, is_behind, has_wave}
+use Rattle.packed_code.proofs.Lists.{last_of_push}
+use Rattle.packed_code.specs.Conditions.{EachBehind, IsRising, IsWave, is_behind, has_wave}
 
 -- no wave of later signals is one of this signal
 none_later : (ws : List Wave) (signal letter least : ℕ) → signal < least → AllByRecursion (λ later. least ≤ later.signal) ws → has_wave ws signal letter ≡ false

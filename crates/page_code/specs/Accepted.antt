@@ -2,7 +2,7 @@
 use Rattle.std.specs.Prelude.{◌≡◌, ℕ, true, List}
 use Rattle.std.specs.List.{AllByRecursion}
 use Rattle.tester_types.specs.declared.wave.Table.{Table}
-use Rattle.page_code.specs.Conditions.{has_waves, waves_of, letters_of}
+use Rattle.packed_code.specs.Conditions.{has_waves, waves_of, letters_of}
 
 -- the table of each pair has a wave for each character of its row
 pub record AreAccepted (tables : List Table) (rows : List (List ℕ)) (pairs : List (ℕ × ℕ)) : Type 0 where

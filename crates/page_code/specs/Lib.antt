@@ -1,15 +1,6 @@
-pub mod Rows
-pub mod Program
-pub mod Letters
-pub mod Conditions
-pub mod Changes
-pub mod Spelling
 pub mod Saved
 pub mod Fields
 pub mod Reading
 pub mod Accepted
 pub mod Nest
-pub mod Cycles
-pub mod Packed
-pub mod Walk
 pub mod FaultText

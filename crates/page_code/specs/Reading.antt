@@ -15,16 +15,17 @@ use Rattle.page_code.specs.declared.fault.Refusal.{Refusal}
 use Rattle.page_code.specs.declared.fault.Refusal.TheVariants.{BadMagic, BadVersion, Torn, BadCode}
 use Rattle.page_code.specs.declared.fault.SavedFault.{SavedFault}
 use Rattle.page_code.specs.declared.fault.SavedFault.TheVariants as saved
-use Rattle.page_code.specs.declared.version.Version.{Version}
-use Rattle.page_code.specs.declared.version.Version.TheVariants.{One, Two}
-use Rattle.page_code.specs.declared.parts.CodeSignal.{CodeSignal}
-use Rattle.page_code.specs.declared.parts.CodeChain.{CodeChain}
-use Rattle.page_code.specs.Letters.{direction_of, act_of, is_place}
-use Rattle.page_code.specs.Program.{Exec, Program}
-use Rattle.page_code.specs.Rows.{is_row_of}
-use Rattle.page_code.specs.Conditions.{last_of, is_named, latest, is_behind, wave_count, has_waves, waves_of, letters_of}
-use Rattle.page_code.specs.Changes.{last_row, with_changes, is_shorter, is_difference}
-use Rattle.page_code.specs.Spelling.{version_number}
+use Rattle.packed_code.specs.declared.version.Version.{Version}
+use Rattle.packed_code.specs.declared.version.Version.TheVariants.{One, Two}
+use Rattle.packed_code.specs.declared.parts.CodeSignal.{CodeSignal}
+use Rattle.packed_code.specs.declared.parts.CodeChain.{CodeChain}
+use Rattle.packed_code.specs.Letters.{direction_of, act_of, is_place}
+use Rattle.packed_code.specs.Program.{Exec, Program}
+use Rattle.packed_code.specs.Rows.{is_row_of}
+use Rattle.packed_code.specs.Conditions.{last_of, is_named, latest, is_behind, wave_count, has_waves, waves_of, letters_of}
+use Rattle.packed_code.specs.Changes.{last_row, with_changes, is_shorter, is_difference, least_behind}
+use Rattle.packed_code.specs.Packed.{instr_of}
+use Rattle.packed_code.specs.Spelling.{version_number}
 use Rattle.page_code.specs.Fields.{◌>>=◌, Read, byte_at, piece_at, number_at, judged, checked, known, items_at}
 
 -- a text is one field: its bytes are judged when all of them are there
@@ -94,10 +95,6 @@ letters_at signals bytes =
     if list_all is_place (take signals bytes) then piece_at signals bytes
     else Err (BadCode (length bytes - length (take_while is_place bytes)))
 
--- the least signal that may come behind these changes
-abbrev pub least_behind : List (ℕ × ℕ) → ℕ
-least_behind before = option_map_or (λ change. suc change.0) (last_of before) 0
-
 -- a change of the last row: a signal, at least so much, and a character that differs from the one in its place
 unfoldable pub change_from : ℕ → ℕ → List ℕ → List ℕ → Read (ℕ × ℕ)
 change_from least signals last bytes = do
@@ -153,25 +150,6 @@ chain_at signals bytes = do
   count ← checked (number_at w32) (λ count. nat_le count most_cells) size.1
   cells ← items_at (λ before. name_at) count.0 [] count.1
   Ok (record { name = name.0; out = out.0; length = size.0; cells = cells.0 }, cells.1)
-
--- whether bytes are zero
-abbrev pub are_zero : List ℕ → Bool
-are_zero bytes = list_all (λ byte. byte == 0) bytes
-
--- so many of the bytes from a place on
-abbrev pub part : ℕ → ℕ → List ℕ → List ℕ
-part place size bytes = take size (drop place bytes)
-
--- the instruction that 16 bytes stand for
-unfoldable pub instr_of : List ℕ → Option Instr
-instr_of bytes =
-    if slice_index bytes 0 == 1 && slice_index bytes 1 == 0 then
-    Some (Run (from_le_bytes w16 (part 2 2 bytes)) (from_le_bytes w32 (part 4 4 bytes))
-    (from_le_bytes w32 (part 8 4 bytes)) (from_le_bytes w32 (part 12 4 bytes)))
-    else (if slice_index bytes 0 == 2 && are_zero (part 1 7 bytes) then Some (Loop (from_le_bytes w64 (part 8 8 bytes)))
-    else (if slice_index bytes 0 == 3 && are_zero (part 1 15 bytes) then Some End
-    else (if slice_index bytes 0 == 4 && are_zero (part 1 15 bytes) then Some Done
-    else None)))
 
 -- how many loops are open behind these instructions, where so many are open before them
 abbrev pub open_behind : ℕ → List Instr → ℕ

@@ -2,12 +2,12 @@
 
 ghost use Rattle.std.specs.Prelude.{◌≡◌, ◌<◌, length, IfOk};
 ghost use Rattle.std.specs.List.{AllByRecursion};
-ghost use Rattle.page_code.specs.Conditions.{IsRising, has_waves, waves_of, letters_of};
+ghost use Rattle.packed_code.specs.Conditions.{IsRising, has_waves, waves_of, letters_of};
 ghost use Rattle.page_code.specs.Accepted.{AreAccepted};
 
-use crate::rows::RowList;
 use crate::wave_check::has_each_wave;
 use indexmap::IndexSet;
+use packed_code::RowList;
 use std::alloc::AllocError;
 use tester_types::Table;
 

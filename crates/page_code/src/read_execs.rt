@@ -4,18 +4,16 @@ ghost use Rattle.std.specs.Prelude.{◌≡◌, ◌&&◌, [], nat_le, nat_lt, tru
 ghost use Rattle.std.specs.List.{AllByRecursion};
 ghost use Rattle.std.specs.Int.{w32};
 ghost use Rattle.page_code.specs.Accepted.{AreAccepted};
-ghost use Rattle.page_code.specs.Conditions.{IsRising};
+ghost use Rattle.packed_code.specs.Conditions.{IsRising};
 ghost use Rattle.page_code.specs.Fields.{Gives, number_at, checked, items_at};
 ghost use Rattle.page_code.specs.Reading.{name_at, chain_at, exec_at};
 
 use crate::accepted::Accepted;
-use crate::exec::{CodeExec, CodeExecList};
 use crate::fault::ReadError;
 use crate::fields::{bad, name, number16_below, number16_to, number32, number32_to, text};
-use crate::parts::{CodeChain, CodeChainList};
 use crate::read_instrs::instrs;
-use crate::rows::RowList;
 use cell_names::CellNames;
+use packed_code::{CodeChain, CodeChainList, CodeExec, CodeExecList, RowList};
 use std::alloc::Global;
 use tester_types::Table;
 use text_bytes::{MOST_CELLS, MOST_CHAINS};

@@ -1,96 +1,24 @@
 //! Reading the instructions of a saved program.
 
-ghost use Rattle.std.specs.Prelude.{◌≡◌, ◌+◌, ◌-◌, ◌*◌, ◌^◌, ◌<◌, ◌≤◌, ◌&&◌, ◌||◌, ◌==◌, ◌++◌, ◌∷◌, true, false, [], not, nat_le, nat_lt, length, take, drop, ℕ, List, Ok, MatchResult, IfOk, IfSome};
-ghost use Rattle.std.specs.List.{list_all, list_any};
-ghost use Rattle.std.specs.Int.{w16, w32, w64, from_le_bytes};
+ghost use Rattle.std.specs.Prelude.{◌≡◌, ◌+◌, ◌-◌, ◌<◌, ◌≤◌, ◌&&◌, ◌||◌, ◌==◌, ◌++◌, ◌∷◌, true, false, [], not, List, Ok, MatchResult, IfOk};
 ghost use Rattle.page_code.specs.Fields.{Gives, Fails, known, piece_at, items_at};
-ghost use Rattle.page_code.specs.Reading.{are_zero, part, instr_of, follows, is_bounded, instr_with, instr_at};
+ghost use Rattle.page_code.specs.Reading.{follows, is_bounded, instr_with, instr_at};
+ghost use Rattle.packed_code.specs.Packed.{instr_of};
 ghost use Rattle.page_code.specs.Accepted.{AreAccepted};
-ghost use Rattle.page_code.specs.Conditions.{IsRising, IsNarrow};
+ghost use Rattle.packed_code.specs.Conditions.{IsRising, IsNarrow};
 ghost use Rattle.std.specs.List.{AllByRecursion};
 ghost use Rattle.page_meaning.specs.Whole.{IsRest, IsWhole};
 ghost use Rattle.page_meaning.specs.declared.instr.Instr.TheVariants.{Done};
 ghost use Rattle.page_code.specs.Nest.{IsNest, depth_after, begins};
 
 use crate::accepted::{Accepted, has_waves_for};
-use crate::counting::cycles;
 use crate::fault::ReadError;
 use crate::fields::{bad, piece};
-use crate::packed::{PackedInstr, PackedInstrList};
-use crate::rows::RowList;
+use packed_code::{PackedInstr, PackedInstrList, RowList, cycles, instr_of_bytes};
 use page_meaning::Instr;
 use std::alloc::{AllocError, Global};
 use tester_types::Table;
 use text_bytes::{DEEPEST_LOOPS, MOST_CYCLES, MOST_PASSES};
-
-/// A number of 16 bits at a place.
-fn part16(bytes: &[u8], place: usize) -> u16
-    requires { place + 2 ≤ length bytes.now }
-    ensures { result ≡ from_le_bytes w16 (part place 2 bytes.now) }
-{
-    let (_, rest) = bytes.split_at(place);
-    let (front, _) = rest.split_at(2);
-    u16::from_le_bytes([front[0], front[1]])
-}
-
-/// A number of 32 bits at a place.
-fn part32(bytes: &[u8], place: usize) -> u32
-    requires { place + 4 ≤ length bytes.now }
-    ensures { result ≡ from_le_bytes w32 (part place 4 bytes.now) }
-{
-    let (_, rest) = bytes.split_at(place);
-    let (front, _) = rest.split_at(4);
-    u32::from_le_bytes([front[0], front[1], front[2], front[3]])
-}
-
-/// A number of 64 bits at a place.
-fn part64(bytes: &[u8], place: usize) -> u64
-    requires { place + 8 ≤ length bytes.now }
-    ensures { result ≡ from_le_bytes w64 (part place 8 bytes.now) }
-{
-    let (_, rest) = bytes.split_at(place);
-    let (front, _) = rest.split_at(8);
-    u64::from_le_bytes([
-        front[0], front[1], front[2], front[3], front[4], front[5], front[6], front[7],
-    ])
-}
-
-/// Whether so many bytes from a place on are zero.
-fn zeros(bytes: &[u8], place: usize, size: usize) -> bool
-    requires { place + size ≤ length bytes.now }
-    ensures { result ≡ are_zero (part place size bytes.now) }
-{
-    let (_, rest) = bytes.split_at(place);
-    let (front, _) = rest.split_at(size);
-    front.iter().all(|byte| *byte == 0)
-}
-
-/// The instruction that 16 bytes stand for.
-#[tactic(auto, unfolding(crate::specs::Reading::instr_of))]
-pub(crate) fn instr_of_bytes(raw: &[u8]) -> Option<Instr>
-    requires { length raw.now ≡ 16 }
-    ensures meaning { result ≡ instr_of raw.now }
-    ensures narrow { IfSome result IsNarrow }
-{
-    if raw[0] == 1 && raw[1] == 0 {
-        Some(Instr::Run {
-            table: part16(raw, 2),
-            row: part32(raw, 4),
-            mark: part32(raw, 8),
-            times: part32(raw, 12),
-        })
-    } else if raw[0] == 2 && zeros(raw, 1, 7) {
-        Some(Instr::Loop {
-            times: part64(raw, 8),
-        })
-    } else if raw[0] == 3 && zeros(raw, 1, 15) {
-        Some(Instr::End)
-    } else if raw[0] == 4 && zeros(raw, 1, 15) {
-        Some(Instr::Done)
-    } else {
-        None
-    }
-}
 
 /// The 16 bytes of an instruction, which is not judged yet.
 fn raw_instr(bytes: &[u8]) -> Result<(Instr, &[u8]), ReadError>

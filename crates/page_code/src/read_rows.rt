@@ -3,16 +3,14 @@
 ghost use Rattle.std.specs.Prelude.{◌≡◌, ◌<◌, ◌&&◌, ◌++◌, ◌∷◌, [], nat_le, nat_lt, length, ℕ, List, Ok, IfOk, MatchResult};
 ghost use Rattle.std.specs.List.{take_while};
 ghost use Rattle.std.specs.Int.{w16};
-ghost use Rattle.page_code.specs.Letters.{is_place as may_stand};
-ghost use Rattle.page_code.specs.Changes.{last_row as the_last_row};
+ghost use Rattle.packed_code.specs.Letters.{is_place as may_stand};
+ghost use Rattle.packed_code.specs.Changes.{last_row as the_last_row};
 ghost use Rattle.page_code.specs.Fields.{Gives, Fails, number_at, checked, items_at};
 ghost use Rattle.page_code.specs.Reading.{letters_at, change_from, changed_at, difference_at, whole_row_at, formed_row_at, spelled_row_at, row_at};
 
-use crate::changes::{is_difference, is_shorter, last_row};
 use crate::fault::{ReadError, Refusal};
 use crate::fields::{bad, byte, number16, piece};
-use crate::rows::RowList;
-use crate::version::Version;
+use packed_code::{RowList, Version, is_difference, is_shorter, last_row};
 use std::alloc::Global;
 use text_bytes::is_character;
 

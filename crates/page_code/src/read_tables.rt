@@ -5,8 +5,8 @@ ghost use Rattle.std.specs.List.{list_all, list_any};
 ghost use Rattle.std.specs.Option.{option_map_or};
 ghost use Rattle.std.specs.Int.{w16, w32, w64};
 ghost use Rattle.text_bytes.specs.Limits.{longest_period};
-ghost use Rattle.page_code.specs.Letters.{direction_of, act_of};
-ghost use Rattle.page_code.specs.Conditions.{last_of, is_named, latest, is_behind, wave_count};
+ghost use Rattle.packed_code.specs.Letters.{direction_of, act_of};
+ghost use Rattle.packed_code.specs.Conditions.{last_of, is_named, latest, is_behind, wave_count};
 ghost use Rattle.page_code.specs.Fields.{Gives, byte_at, number_at, known, checked, items_at};
 ghost use Rattle.page_code.specs.Reading.{text_at, signal_at, event_at, pair_at, may_stand, wave_at, table_with, table_at};
 
@@ -14,7 +14,7 @@ use crate::fault::ReadError;
 use crate::fields::{
     bad, byte, byte_to, character, name, number16_below, number32, number64, raw_text,
 };
-use crate::parts::{CodeSignal, CodeSignalList};
+use packed_code::{CodeSignal, CodeSignalList};
 use std::alloc::Global;
 use tester_types::{
     Act, Direction, Event, EventList, Look, Push, Table, TableList, Text, Wave, WaveList,

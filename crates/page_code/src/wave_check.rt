@@ -1,7 +1,7 @@
 //! Whether each character of a row has a wave.
 
 ghost use Rattle.std.specs.Prelude.{◌≡◌, ◌<◌, ◌≤◌, ℕ, length};
-ghost use Rattle.page_code.specs.Conditions.{IsRising, has_wave, has_waves};
+ghost use Rattle.packed_code.specs.Conditions.{IsRising, has_wave, has_waves};
 
 use tester_types::Wave;
 

@@ -7,12 +7,12 @@ use Rattle.page_meaning.specs.declared.course.Course.{Course}
 use Rattle.page_meaning.specs.Meaning.{Means}
 use Rattle.page_meaning.specs.Whole.{IsRest}
 use Rattle.page_meaning.specs.Course.{coming, IsOn, StandsAt}
-use Rattle.page_code.specs.declared.walker.Walk.{Walk}
-use Rattle.page_code.specs.Program.{Program}
-use Rattle.page_code.specs.Conditions.{IsProgram}
-use Rattle.page_code.specs.Cycles.{exec_of, page_of}
-use Rattle.page_code.specs.Walk.{IsOf, IsOver, entries_left}
-use Rattle.page_code.proofs.WalkLemmas.{begins_over, exec_is}
+use Rattle.packed_code.specs.declared.walker.Walk.{Walk}
+use Rattle.packed_code.specs.Program.{Program}
+use Rattle.packed_code.specs.Conditions.{IsProgram}
+use Rattle.packed_code.specs.Cycles.{exec_of, page_of}
+use Rattle.packed_code.specs.Walk.{IsOf, IsOver, entries_left}
+use Rattle.packed_code.proofs.WalkLemmas.{begins_over, exec_is}
 use Rattle.pattern_mem.specs.Cursor.{instrs_of, ShowsPage, IsPlaced, IsCursorOf, IsSameBut}
 use Rattle.pattern_mem.specs.declared.cursor.Cursor.{Cursor}
 use Rattle.pattern_mem.proofs.PageLemmas.{StandsOn, stands_on, first_page-le, few_instrs}

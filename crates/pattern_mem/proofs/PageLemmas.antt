@@ -6,10 +6,10 @@ use Rattle.std.proofs.lemmas.List.{length-take}
 use Rattle.std.proofs.lemmas.Option.{slice_get-get_or, slice_get_within, get_or_from_slice_get}
 use Rattle.page_meaning.specs.declared.instr.Instr.{Instr}
 use Rattle.page_meaning.specs.declared.instr.Instr.TheVariants.{Done}
-use Rattle.page_code.specs.Program.{Exec, Program}
-use Rattle.page_code.specs.Conditions.{IsProgram}
-use Rattle.page_code.specs.Cycles.{exec_of, first_page, pieces, page_count, pages_of_exec, pages_of, page_of}
-use Rattle.page_code.proofs.PageLemmas.{few_instrs_at, pages_more, on_its_page, within_pages}
+use Rattle.packed_code.specs.Program.{Exec, Program}
+use Rattle.packed_code.specs.Conditions.{IsProgram}
+use Rattle.packed_code.specs.Cycles.{exec_of, first_page, pieces, page_count, pages_of_exec, pages_of, page_of}
+use Rattle.packed_code.proofs.PageLemmas.{few_instrs_at, pages_more, on_its_page, within_pages}
 use Rattle.pattern_mem.specs.Pool.{page_at, is_of, shown}
 use Rattle.pattern_mem.specs.Cursor.{instrs_of, ShowsPage}
 

@@ -1,7 +1,7 @@
 -- A known pool: of two frames over a code of three pages, asked for pages 0, 1, 0, 2 and 1.
 use Rattle.std.proofs.Common.{◌≡◌, ℕ, List, [], ◌∷◌, true, false, refl}
 use Rattle.std.specs.Map.{keys_of}
-use Rattle.page_code.specs.Program.{Program}
+use Rattle.packed_code.specs.Program.{Program}
 use Rattle.pattern_mem.specs.Pool.{Pool, new_pool, is_held, answered, asked, seen, is_of, shown}
 use Rattle.pattern_mem.specs.declared.pool.Fetched.{Fetched}
 use Rattle.pattern_mem.specs.declared.pool.Fetched.TheVariants.{Hit, Miss}

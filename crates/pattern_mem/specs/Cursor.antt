@@ -3,11 +3,11 @@ use Rattle.std.specs.Prelude.{◌≡◌, ℕ, ◌<◌, List, IfSome, Option, len
 use Rattle.tester_types.specs.declared.cycle.Cycle.{Cycle}
 use Rattle.page_meaning.specs.declared.instr.Instr.{Instr}
 use Rattle.page_meaning.specs.Course.{IsOn}
-use Rattle.page_code.specs.declared.walker.Walk.{Walk}
-use Rattle.page_code.specs.Program.{Program}
-use Rattle.page_code.specs.Conditions.{IsProgram}
-use Rattle.page_code.specs.Cycles.{exec_of, first_page}
-use Rattle.page_code.specs.Walk.{IsOver, cycles_left}
+use Rattle.packed_code.specs.declared.walker.Walk.{Walk}
+use Rattle.packed_code.specs.Program.{Program}
+use Rattle.packed_code.specs.Conditions.{IsProgram}
+use Rattle.packed_code.specs.Cycles.{exec_of, first_page}
+use Rattle.packed_code.specs.Walk.{IsOver, cycles_left}
 use Rattle.pattern_mem.specs.Pool.{page_at}
 use Rattle.pattern_mem.specs.declared.cursor.Cursor.{Cursor}
 

@@ -1,7 +1,7 @@
 -- Pattern memories and passes as clauses see them: which table their pool stands in, their code, and the pool's frames.
 use Rattle.std.specs.Prelude.{ℕ}
 use Rattle.atomic_table.specs.Seated.{TableId}
-use Rattle.page_code.specs.Program.{Program}
+use Rattle.packed_code.specs.Program.{Program}
 use Rattle.pattern_mem.specs.declared.view.Basis.{Basis}
 
 -- a pattern memory: the identity of its pool's table, its code, and how many decoded pages the pool has room for

@@ -4,8 +4,8 @@ use Rattle.std.specs.List.{IsDistinct}
 use Rattle.std.specs.Map.{keys_of, lookup, remove_entry}
 use Rattle.lru.specs.LruCache.{LruCache}
 use Rattle.page_meaning.specs.declared.instr.Instr.{Instr}
-use Rattle.page_code.specs.Program.{Program}
-use Rattle.page_code.specs.Cycles.{pages_of}
+use Rattle.packed_code.specs.Program.{Program}
+use Rattle.packed_code.specs.Cycles.{pages_of}
 use Rattle.pattern_mem.specs.declared.view.Basis.{Basis}
 use Rattle.pattern_mem.specs.declared.pool.Fetched.{Fetched}
 use Rattle.pattern_mem.specs.declared.pool.Fetched.TheVariants.{Hit, Miss}

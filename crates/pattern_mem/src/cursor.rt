@@ -2,15 +2,15 @@
 
 ghost use Rattle.std.specs.Prelude.{◌≡◌, ◌<◌, ◌^◌, [], ◌++◌, Some, IfOk, OnOk, OnErr, IfNone, IfSome, length, option_to_list, slice_get};
 ghost use Rattle.page_meaning.specs.Course.{Steps, coming};
-ghost use Rattle.page_code.specs.Cycles.{cycles_of, pages_of};
-ghost use Rattle.page_code.specs.Walk.{IsOf};
+ghost use Rattle.packed_code.specs.Cycles.{cycles_of, pages_of};
+ghost use Rattle.packed_code.specs.Walk.{IsOf};
 ghost use Rattle.pattern_mem.specs.Cursor.{instrs_of, cycles_to_come, IsPlaced, IsCursorOf, IsSameBut};
 ghost use Rattle.pattern_mem.specs.Pool.{page_at, shown};
 ghost use Rattle.pattern_mem.specs.Nexts.{IsNext};
 
 use crate::memory::{PatternMem, PoolPass};
 use crate::window::{PAGE, Window};
-use page_code::{Entry, Instr};
+use packed_code::{Entry, Instr};
 use page_meaning::{Course, Step};
 use std::alloc::Global;
 use std::sync::Wait;

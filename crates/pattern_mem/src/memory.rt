@@ -2,7 +2,7 @@
 
 ghost use Rattle.std.specs.Prelude.{◌≡◌, ◌<◌, ◌≤◌, [], ◌∷◌, IfOk, OnOk, OnErr, Some, length, replicate};
 ghost use Rattle.std.specs.Arc.{arc_value};
-ghost use Rattle.page_code.specs.Cycles.{pages_of};
+ghost use Rattle.packed_code.specs.Cycles.{pages_of};
 ghost use Rattle.pattern_mem.specs.Pool.{page_at};
 ghost use Rattle.pattern_mem.specs.Rule.{opener_view};
 ghost use Rattle.pattern_mem.specs.Memory.{basis_in};
@@ -14,7 +14,7 @@ use crate::turn;
 use crate::view::View;
 use crate::window::Window;
 use atomic_table::{Refused, Seat, Table};
-use page_code::Code;
+use packed_code::Code;
 use std::alloc::{AllocError, Global};
 use std::marker::Model;
 use std::sync::{Arc, Wait};

@@ -3,12 +3,12 @@
 ghost use Rattle.std.specs.Prelude.{◌≡◌, ◌<◌, ◌≤◌, Some, IfOk, OnOk, OnErr, length, nat_eq, slice_get};
 ghost use Rattle.std.specs.Map.{lookup};
 ghost use Rattle.std.specs.Arc.{arc_value};
-ghost use Rattle.page_code.specs.Cycles.{pages_of};
+ghost use Rattle.packed_code.specs.Cycles.{pages_of};
 ghost use Rattle.pattern_mem.specs.Pool.{new_pool, basis_of, page_at, is_held, answered, asked, IsPool};
 
 use crate::window::{PAGE, Window};
 use lru::LruCache;
-use page_code::{Code, Instr};
+use packed_code::{Code, Instr};
 use std::alloc::{AllocError, Global};
 use std::marker::Model;
 use std::num::NonZeroUsize;

@@ -7,7 +7,7 @@ ghost use Rattle.pattern_mem.specs.Steps.{Takes, Gives, opener_after_making, pas
 use crate::pool::PoolState;
 use crate::view::View;
 use atomic_table::{Play, Split, TableRule};
-use page_code::Code;
+use packed_code::Code;
 use std::sync::Arc;
 
 /// What the table of a pool is opened with: the code, and how many decoded pages there is room for.

@@ -1,7 +1,7 @@
 //! The turn of a pool: a pass takes it, asks the pool, and gives it back.
 
 ghost use Rattle.std.specs.Prelude.{◌≡◌, ◌<◌, OnOk, OnErr, Some, length};
-ghost use Rattle.page_code.specs.Cycles.{pages_of};
+ghost use Rattle.packed_code.specs.Cycles.{pages_of};
 ghost use Rattle.pattern_mem.specs.Memory.{basis_in};
 ghost use Rattle.pattern_mem.specs.Pool.{page_at};
 ghost use Rattle.pattern_mem.specs.Steps.{IsPass, HoldsPool};

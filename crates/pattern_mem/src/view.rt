@@ -1,6 +1,6 @@
 //! What a seat knows of the table of its pool. No value of these types is made: they stand in proofs alone.
 
-use page_code::Code;
+use packed_code::Code;
 
 /// What a pool is made of: the code, and how many decoded pages there is room for.
 pub struct Basis {

@@ -3,7 +3,7 @@
 ghost use Rattle.std.specs.Prelude.{◌≡◌, ◌<◌, ◌≤◌, Some, None, IfOk, length, slice_get};
 ghost use Rattle.pattern_mem.specs.Pool.{is_of, shown};
 
-use page_code::Instr;
+use packed_code::Instr;
 use std::alloc::{AllocError, Global};
 use std::marker::Model;
 use tester_types::NoMemory;

@@ -4,7 +4,7 @@ use Rattle.std.specs.Int.{Width, byte_len, from_le_bytes}
 use Rattle.std.specs.List.{list_all, take_while, prefix_len}
 use Rattle.std.proofs.lemmas.Bool.{cases_lt, ltb-false, lt-ltb, le-ltb}
 use Rattle.std.proofs.lemmas.List.{take-append-drop, length-append, length-take}
-use Rattle.page_code.specs.Letters.{is_place}
+use Rattle.packed_code.specs.Letters.{is_place}
 use Rattle.page_code.specs.Fields.{◌>>=◌, Read, byte_at, piece_at, number_at, judged, checked}
 use Rattle.page_code.specs.Reading.{letters_at}
 use Rattle.page_code.proofs.ReaderLaws.{bind_ok, guard_ok, guard_not, ok_is, piece_again}

@@ -6,7 +6,7 @@ use Rattle.std.proofs.lemmas.List.{append-nil, take-append-drop, length-append, 
 use Rattle.std.proofs.Math.Seq.{take-append_seam}
 use Rattle.page_code.specs.declared.fault.SavedFault.{SavedFault}
 use Rattle.page_code.specs.declared.fault.SavedFault.TheVariants as saved
-use Rattle.page_code.specs.Program.{Program}
+use Rattle.packed_code.specs.Program.{Program}
 use Rattle.page_code.specs.Saved.{Saved}
 use Rattle.page_code.specs.Fields.{◌>>=◌, Read, byte_at, number_at, checked}
 use Rattle.page_code.specs.Reading.{magic_at, known_version, version_of, head_at, program_at, whole_at, answered, load_of}

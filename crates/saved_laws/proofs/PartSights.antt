@@ -9,11 +9,12 @@ use Rattle.tester_types.specs.declared.wave.Event.{Event}
 use Rattle.tester_types.specs.declared.wave.Wave.{Wave}
 use Rattle.tester_types.specs.declared.wave.Table.{Table}
 use Rattle.page_meaning.specs.declared.instr.Instr.{Instr}
-use Rattle.page_code.specs.declared.parts.CodeSignal.{CodeSignal}
-use Rattle.page_code.specs.Letters.{direction_of, act_of}
-use Rattle.page_code.specs.Conditions.{is_named, latest}
+use Rattle.packed_code.specs.declared.parts.CodeSignal.{CodeSignal}
+use Rattle.packed_code.specs.Letters.{direction_of, act_of}
+use Rattle.packed_code.specs.Conditions.{is_named, latest}
 use Rattle.page_code.specs.Fields.{◌>>=◌, Read, byte_at, piece_at, number_at, checked, meant, known, items_at}
-use Rattle.page_code.specs.Reading.{raw_text_at, text_at, name_at, signal_at, event_at, pair_at, may_stand, wave_at, table_with, table_at, chain_at, instr_of, may_follow, instr_with, instr_at, exec_at}
+use Rattle.page_code.specs.Reading.{raw_text_at, text_at, name_at, signal_at, event_at, pair_at, may_stand, wave_at, table_with, table_at, chain_at, may_follow, instr_with, instr_at, exec_at}
+use Rattle.packed_code.specs.Packed.{instr_of}
 use Rattle.page_code.proofs.ReaderLaws.{bind_ok, ok_is, checked_test}
 use Rattle.saved_laws.proofs.Sights.{IsLocal, IsShort, then_local, done_local, checked_local, known_local, items_local}
 use Rattle.saved_laws.proofs.FieldSights.{byte_local, piece_local, number_local, byte_short, piece_short, shorter, then_short, number_short, done_short, checked_short}

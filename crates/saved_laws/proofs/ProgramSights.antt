@@ -5,8 +5,8 @@ use Rattle.std.proofs.lemmas.Bool.{leb-true}
 use Rattle.std.proofs.lemmas.List.{length-append}
 use Rattle.text_bytes.specs.Limits.{most_row_characters, most_code_tables}
 use Rattle.tester_types.specs.declared.wave.Table.{Table}
-use Rattle.page_code.specs.declared.parts.CodeSignal.{CodeSignal}
-use Rattle.page_code.specs.Program.{Program}
+use Rattle.packed_code.specs.declared.parts.CodeSignal.{CodeSignal}
+use Rattle.packed_code.specs.Program.{Program}
 use Rattle.page_code.specs.Fields.{◌>>=◌, Read, byte_at, number_at, checked, items_at}
 use Rattle.page_code.specs.Reading.{signal_at, table_at, exec_at, magic_at, version_of, known_version, program_at}
 use Rattle.page_code.proofs.ReaderLaws.{bind_ok, ok_is, checked_test}

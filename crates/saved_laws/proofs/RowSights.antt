@@ -3,11 +3,11 @@ use Rattle.std.proofs.Common.{◌≡◌, ℕ, zero, suc, ◌+◌, ◌*◌, ◌<�
 use Rattle.std.specs.Prelude.{slice_index}
 use Rattle.std.specs.Int.{w16}
 use Rattle.std.proofs.lemmas.Bool.{ltb-true}
-use Rattle.page_code.specs.Letters.{is_place}
-use Rattle.page_code.specs.Rows.{is_row_of}
-use Rattle.page_code.specs.Changes.{last_row, with_changes, is_shorter, is_difference}
+use Rattle.packed_code.specs.Letters.{is_place}
+use Rattle.packed_code.specs.Rows.{is_row_of}
+use Rattle.packed_code.specs.Changes.{last_row, with_changes, is_shorter, is_difference, least_behind}
 use Rattle.page_code.specs.Fields.{◌>>=◌, Read, byte_at, number_at, judged, checked, items_at}
-use Rattle.page_code.specs.Reading.{letters_at, least_behind, change_from, change_at, changed_at, difference_at, whole_row_at, formed_row_at, row_at, version_of, known_version}
+use Rattle.page_code.specs.Reading.{letters_at, change_from, change_at, changed_at, difference_at, whole_row_at, formed_row_at, row_at, version_of, known_version}
 use Rattle.page_code.proofs.ReaderLaws.{bind_ok, ok_is}
 use Rattle.saved_laws.proofs.Sights.{refused, IsLocal, IsShort, then_local, done_local, either_local, alike, checked_local, items_local}
 use Rattle.saved_laws.proofs.FieldSights.{shorter, then_short, done_short, judged_is, letters_local, letters_short}

@@ -2,7 +2,7 @@
 use Rattle.std.specs.Prelude.{◌≡◌, ℕ, ◌+◌, ◌<◌, ◌≤◌, ◌⊎◌, List, ◌++◌, length, take, Ok, Err}
 use Rattle.page_code.specs.declared.fault.SavedFault.{SavedFault}
 use Rattle.page_code.specs.declared.fault.SavedFault.TheVariants.{Torn, BadCode}
-use Rattle.page_code.specs.Program.{Program}
+use Rattle.packed_code.specs.Program.{Program}
 use Rattle.page_code.specs.Reading.{load_of}
 
 -- bytes with a refused field: it begins at the place, it is no longer than the longest text with its length, the

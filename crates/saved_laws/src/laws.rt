@@ -2,7 +2,7 @@
 
 ghost use Rattle.std.specs.Prelude.{◌≡◌, ◌<◌, ◌≤◌, ◌∷◌, ◌++◌, length, take, List, ℕ, Err};
 ghost use Rattle.page_code.specs.declared.fault.SavedFault.TheVariants.{BadMagic, BadVersion, Torn, BadCode};
-ghost use Rattle.page_code.specs.Program.{Program};
+ghost use Rattle.packed_code.specs.Program.{Program};
 ghost use Rattle.page_code.specs.Saved.{Saved};
 ghost use Rattle.page_code.specs.Reading.{load_of};
 ghost use Rattle.saved_laws.specs.Laws.{HasRefusedField, HasRefusedHead, AgreeUpTo};

@@ -7,9 +7,9 @@ use Rattle.tester_types.specs.declared.cycle.Moment.{Moment}
 use Rattle.tester_types.specs.declared.level.Level.{Level}
 use Rattle.tester_types.specs.declared.level.Drive.{Drive}
 use Rattle.tester_types.specs.declared.wave.Table.{Table}
-use Rattle.page_code.specs.Program.{Program}
-use Rattle.page_code.specs.Cycles.{period_of}
-use Rattle.page_code.specs.Conditions.{letters_of}
+use Rattle.packed_code.specs.Program.{Program}
+use Rattle.packed_code.specs.Cycles.{period_of}
+use Rattle.packed_code.specs.Conditions.{letters_of}
 use Rattle.bench_net.specs.Circuit.{Net, Circuit, IsWhole}
 use Rattle.edge_gen.specs.Moments.{moments_of}
 use Rattle.die_sim.specs.Die.{Device, State}

@@ -5,8 +5,8 @@ use Rattle.std.proofs.lemmas.List.{append_assoc, length-append, length_push}
 use Rattle.tester_types.specs.declared.cycle.Cycle.{Cycle}
 use Rattle.tester_types.specs.declared.record.Fail.{Fail}
 use Rattle.tester_types.specs.declared.record.Verdict.TheVariants as verdict
-use Rattle.page_code.specs.Program.{Program}
-use Rattle.page_code.specs.Cycles.{cycles_of}
+use Rattle.packed_code.specs.Program.{Program}
+use Rattle.packed_code.specs.Cycles.{cycles_of}
 use Rattle.site_meaning.specs.Playing.{Stand, PlayedCycle, FitStand}
 use Rattle.site_meaning.specs.Part.{Part, IsPart, lot_in, order_in, stand_for}
 use Rattle.site_meaning.specs.Trials.{played, after_cycles, fails_in, has_fails, Batch, more_in, cycles_in}

@@ -11,8 +11,8 @@ use Rattle.tester_types.specs.declared.record.By.TheVariants as by
 use Rattle.tester_types.specs.declared.record.Verdict.TheVariants as verdict
 use Rattle.tester_types.specs.declared.record.Trial.{Trial}
 use Rattle.tester_types.specs.declared.record.Record.{Record}
-use Rattle.page_code.specs.Program.{Program}
-use Rattle.page_code.specs.Cycles.{cycles_of}
+use Rattle.packed_code.specs.Program.{Program}
+use Rattle.packed_code.specs.Cycles.{cycles_of}
 use Rattle.site_meaning.specs.Playing.{PlayedMoment, PlayedCycle}
 use Rattle.site_meaning.specs.Part.{Part, IsPart, lot_in, dies_in, order_in, stand_for}
 use Rattle.site_meaning.specs.Trials.{Batch, tried, more_in, batches_of, cycles_in, Lost, reached}

@@ -11,8 +11,8 @@ use Rattle.tester_types.specs.declared.wave.Event.{Event}
 use Rattle.tester_types.specs.declared.wave.Table.{Table}
 use Rattle.tester_types.specs.declared.cycle.Cycle.{Cycle}
 use Rattle.tester_types.specs.declared.cycle.Moment.{Moment}
-use Rattle.page_code.specs.Conditions.{letters_of}
-use Rattle.page_code.specs.Cycles.{period_of}
+use Rattle.packed_code.specs.Conditions.{letters_of}
+use Rattle.packed_code.specs.Cycles.{period_of}
 use Rattle.edge_gen.specs.Signals.{wave_of, events_of, moved_time, moved, skew_of, signals_of, stays_inside, stay_inside, is_inside, keeps_inside}
 use Rattle.edge_gen.specs.Moments.{times_of, instants, moment_at, moments_of}
 use Rattle.edge_gen.proofs.SignalLemmas.{wave_of-signal}

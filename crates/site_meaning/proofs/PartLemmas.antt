@@ -10,9 +10,9 @@ use Rattle.std.proofs.lemmas.List.FromFn.{get_or-map-range_with_len}
 use Rattle.text_bytes.specs.Texts.{added}
 use Rattle.bench_net.specs.Circuit.{Circuit}
 use Rattle.die_sim.specs.declared.image.Binding.{Binding}
-use Rattle.page_code.specs.Program.{Program}
-use Rattle.page_code.proofs.Lists.{all_at}
-use Rattle.page_code.specs.declared.parts.CodeSignal.{CodeSignal}
+use Rattle.packed_code.specs.Program.{Program}
+use Rattle.packed_code.proofs.Lists.{all_at}
+use Rattle.packed_code.specs.declared.parts.CodeSignal.{CodeSignal}
 use Rattle.plan_rows.specs.declared.row.Row.{Row}
 use Rattle.plan_rows.specs.declared.row.LotRow.{LotRow}
 use Rattle.plan_rows.specs.declared.row.DieRow.{DieRow}

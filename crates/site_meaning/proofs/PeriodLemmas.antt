@@ -10,11 +10,11 @@ use Rattle.page_meaning.specs.declared.instr.Entry.{Entry}
 use Rattle.page_meaning.specs.declared.course.Course.{Course}
 use Rattle.page_meaning.specs.Meaning.{Means, bodies}
 use Rattle.page_meaning.proofs.CourseLemmas.{starts_on, starts_with}
-use Rattle.page_code.specs.Program.{Program, Exec}
-use Rattle.page_code.specs.Conditions.{IsProgram}
-use Rattle.page_code.specs.Cycles.{period_of, timed, exec_of, cycles_of}
-use Rattle.page_code.specs.Walk.{IsOf}
-use Rattle.page_code.proofs.WalkLemmas.{exec_is, begins_over, period_fits}
+use Rattle.packed_code.specs.Program.{Program, Exec}
+use Rattle.packed_code.specs.Conditions.{IsProgram}
+use Rattle.packed_code.specs.Cycles.{period_of, timed, exec_of, cycles_of}
+use Rattle.packed_code.specs.Walk.{IsOf}
+use Rattle.packed_code.proofs.WalkLemmas.{exec_is, begins_over, period_fits}
 use Rattle.site_meaning.specs.Part.{Part, IsPart, stand_for}
 use Rattle.site_meaning.proofs.InstantLemmas.{TakesTime}
 use Rattle.site_meaning.proofs.ReachedLemmas.{none_or_some}

@@ -8,8 +8,8 @@ use Rattle.tester_types.specs.declared.cycle.Cycle.{Cycle}
 use Rattle.tester_types.specs.declared.record.By.TheVariants as by
 use Rattle.tester_types.specs.declared.record.Verdict.TheVariants as verdict
 use Rattle.tester_types.specs.declared.record.Trial.{Trial}
-use Rattle.page_code.specs.Program.{Program}
-use Rattle.page_code.specs.Cycles.{cycles_of}
+use Rattle.packed_code.specs.Program.{Program}
+use Rattle.packed_code.specs.Cycles.{cycles_of}
 use Rattle.site_meaning.proofs.AllLemmas.{All-take, All-drop}
 use Rattle.site_meaning.specs.Playing.{Stand, Going, starting}
 use Rattle.site_meaning.specs.Part.{Part, IsPart, lot_in, order_in, stand_for}

@@ -10,7 +10,7 @@ use Rattle.tester_types.specs.declared.wave.Event.{Event}
 use Rattle.tester_types.specs.declared.wave.Table.{Table}
 use Rattle.tester_types.specs.declared.cycle.Cycle.{Cycle}
 use Rattle.tester_types.specs.declared.cycle.Moment.{Moment}
-use Rattle.page_code.specs.Conditions.{letters_of}
+use Rattle.packed_code.specs.Conditions.{letters_of}
 use Rattle.edge_gen.specs.Signals.{signals_of}
 use Rattle.edge_gen.specs.Moments.{Rises, times_of, instants, moment_at, moments_of}
 use Rattle.edge_gen.proofs.InstantLemmas.{instants_are}

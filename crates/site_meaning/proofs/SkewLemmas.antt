@@ -16,9 +16,9 @@ use Rattle.tester_types.specs.declared.signal.Direction.TheVariants.{In}
 use Rattle.tester_types.specs.declared.wave.Wave.{Wave}
 use Rattle.tester_types.specs.declared.wave.Table.{Table}
 use Rattle.bench_net.specs.Circuit.{Circuit}
-use Rattle.page_code.specs.declared.parts.CodeSignal.{CodeSignal}
-use Rattle.page_code.specs.Conditions.{EachBehind, is_named, IsSignal, IsEvent, IsWave, IsTable, IsProgram, wave_count}
-use Rattle.page_code.proofs.Lists.{behind_at}
+use Rattle.packed_code.specs.declared.parts.CodeSignal.{CodeSignal}
+use Rattle.packed_code.specs.Conditions.{EachBehind, is_named, IsSignal, IsEvent, IsWave, IsTable, IsProgram, wave_count}
+use Rattle.packed_code.proofs.Lists.{behind_at}
 use Rattle.edge_gen.specs.Signals.{skew_of, stay_inside, is_inside, keeps_inside}
 use Rattle.edge_gen.proofs.SignalLemmas.{find-passes}
 use Rattle.edge_gen.proofs.InsideLemmas.{unmoved_inside}

@@ -19,7 +19,7 @@ use Rattle.tester_types.specs.declared.record.Trial.{Trial}
 use Rattle.page_meaning.specs.declared.instr.Instr.{Instr}
 use Rattle.page_meaning.specs.declared.instr.Instr.TheVariants.{Run, Done}
 use Rattle.page_meaning.specs.Meaning.{bodies, repeated}
-use Rattle.page_code.specs.Program.{Program}
+use Rattle.packed_code.specs.Program.{Program}
 use Rattle.edge_gen.specs.Moments.{moments_of}
 use Rattle.die_sim.specs.Stepped.{levels_through, captured_levels}
 use Rattle.strobe_check.specs.Fails.{fails}

@@ -6,7 +6,7 @@ use Rattle.std.proofs.lemmas.Bool.{eqb-true, ltb-true, cond_both}
 use Rattle.tester_types.specs.declared.record.By.TheVariants as by
 use Rattle.tester_types.specs.declared.record.Verdict.TheVariants as verdict
 use Rattle.tester_types.specs.declared.record.Trial.{Trial}
-use Rattle.page_code.specs.Cycles.{cycles_of}
+use Rattle.packed_code.specs.Cycles.{cycles_of}
 use Rattle.site_meaning.specs.Part.{Part, order_in}
 use Rattle.site_meaning.specs.Trials.{Lost, reached}
 use Rattle.site_meaning.specs.Polls.{Running, Seat, try_now, Step, goes, ends, ended_now, ended_at, unloaded, next_exec, with_exec, onward, fresh_try, is_at_load, settled, after_batch, next_played, run_batch, is_ordered, before_batch, arrived, stepped_try, taken_at, live_number, Climbs}

@@ -9,8 +9,8 @@ use Rattle.std.proofs.lemmas.List.Folds.{find-append}
 use Rattle.tester_types.specs.declared.cycle.Cycle.{Cycle}
 use Rattle.tester_types.specs.declared.record.Verdict.{Verdict}
 use Rattle.tester_types.specs.declared.record.Verdict.TheVariants as verdict
-use Rattle.page_code.specs.Program.{Program}
-use Rattle.page_code.specs.Cycles.{cycles_of}
+use Rattle.packed_code.specs.Program.{Program}
+use Rattle.packed_code.specs.Cycles.{cycles_of}
 use Rattle.site_meaning.specs.Playing.{Stand, Going, PlayedCycle}
 use Rattle.site_meaning.specs.Part.{Part, lot_in, order_in, stand_for}
 use Rattle.site_meaning.specs.Trials.{played, after_cycles, fails_in, has_fails, pieces, Batch, of_exec, tried, more_in, batches_of, cycles_in, blamed}

@@ -2,9 +2,9 @@
 -- instructions say it, and in whatever order the gates lie.
 use Rattle.std.specs.Prelude.{◌≡◌, ℕ, ◌<◌, List, length, map}
 use Rattle.tester_types.specs.declared.cycle.Cycle.{Cycle}
-use Rattle.page_code.specs.Program.{Program}
-use Rattle.page_code.specs.Cycles.{exec_of, cycles_of}
-use Rattle.page_code.specs.Conditions.{letters_of}
+use Rattle.packed_code.specs.Program.{Program}
+use Rattle.packed_code.specs.Cycles.{exec_of, cycles_of}
+use Rattle.packed_code.specs.Conditions.{letters_of}
 use Rattle.bench_net.specs.Circuit.{Circuit, IsWhole}
 use Rattle.site_meaning.specs.Part.{Part, dies_in, circuit_in}
 

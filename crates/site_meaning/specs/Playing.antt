@@ -10,9 +10,9 @@ use Rattle.tester_types.specs.declared.level.Level.{Level}
 use Rattle.tester_types.specs.declared.cycle.Cycle.{Cycle}
 use Rattle.tester_types.specs.declared.cycle.Moment.{Moment}
 use Rattle.tester_types.specs.declared.record.Fail.{Fail}
-use Rattle.page_code.specs.Program.{Program}
-use Rattle.page_code.specs.Conditions.{letters_of}
-use Rattle.page_code.specs.Cycles.{period_of}
+use Rattle.packed_code.specs.Program.{Program}
+use Rattle.packed_code.specs.Conditions.{letters_of}
+use Rattle.packed_code.specs.Cycles.{period_of}
 use Rattle.edge_gen.specs.Signals.{keeps_inside}
 use Rattle.edge_gen.specs.Moments.{moments_of}
 use Rattle.die_sim.specs.Die.{Device, State, bind_at, is_clock, is_input, has_net, level_of}

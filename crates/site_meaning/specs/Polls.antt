@@ -9,8 +9,8 @@ use Rattle.tester_types.specs.declared.record.Verdict.{Verdict}
 use Rattle.tester_types.specs.declared.record.Verdict.TheVariants as verdict
 use Rattle.tester_types.specs.declared.record.Trial.{Trial}
 use Rattle.tester_types.specs.declared.record.Record.{Record}
-use Rattle.page_code.specs.Program.{Program}
-use Rattle.page_code.specs.Cycles.{cycles_of}
+use Rattle.packed_code.specs.Program.{Program}
+use Rattle.packed_code.specs.Cycles.{cycles_of}
 use Rattle.site_meaning.specs.Playing.{Going, PlayedCycle, starting}
 use Rattle.site_meaning.specs.Part.{Part, lot_in, dies_in, order_in, stand_for}
 use Rattle.site_meaning.specs.Trials.{played, after_cycles, fails_in, Lost, reached}

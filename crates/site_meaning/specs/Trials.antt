@@ -8,8 +8,8 @@ use Rattle.tester_types.specs.declared.record.Fail.{Fail}
 use Rattle.tester_types.specs.declared.record.Verdict.{Verdict}
 use Rattle.tester_types.specs.declared.record.Verdict.TheVariants as verdict
 use Rattle.tester_types.specs.declared.record.Trial.{Trial}
-use Rattle.page_code.specs.Program.{Program}
-use Rattle.page_code.specs.Cycles.{cycles_of}
+use Rattle.packed_code.specs.Program.{Program}
+use Rattle.packed_code.specs.Cycles.{cycles_of}
 use Rattle.site_meaning.specs.Playing.{Stand, Going, PlayedMoment, PlayedCycle, starting, played_cycle, after_cycle}
 use Rattle.site_meaning.specs.Part.{Part, lot_in, order_in, stand_for}
 

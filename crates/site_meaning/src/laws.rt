@@ -6,7 +6,7 @@ ghost use Rattle.tester_types.specs.declared.cycle.Cycle.{Cycle};
 ghost use Rattle.tester_types.specs.declared.cycle.Moment.{Moment};
 ghost use Rattle.tester_types.specs.declared.record.Record.{Record};
 ghost use Rattle.tester_types.specs.declared.record.Trial.{Trial};
-ghost use Rattle.page_code.specs.Conditions.{IsProgram};
+ghost use Rattle.packed_code.specs.Conditions.{IsProgram};
 ghost use Rattle.edge_gen.specs.Moments.{Rises};
 ghost use Rattle.bench_net.specs.Circuit.{IsWhole};
 ghost use Rattle.die_sim.specs.Die.{Device, State};

@@ -6,7 +6,7 @@ use Rattle.tester_types.specs.declared.outside.NoMemory.{NoMemory}
 use Rattle.tester_types.specs.declared.record.Trial.{Trial}
 use Rattle.tester_types.specs.declared.record.By.TheVariants as by
 use Rattle.tester_types.specs.declared.record.Verdict.TheVariants as verdict
-use Rattle.page_code.specs.Program.{Program}
+use Rattle.packed_code.specs.Program.{Program}
 use Rattle.die_sim.specs.Die.{Image, device_of}
 use Rattle.die_sim.specs.Socket.{Told, Calls}
 use Rattle.plan_rows.specs.Rows.{lot_of, dies_at}

@@ -5,7 +5,7 @@ use Rattle.std.specs.Option.{option_map_or}
 use Rattle.std.proofs.lemmas.Bool.{cond_both, eqb-true}
 use Rattle.tester_types.specs.declared.record.By.TheVariants as by
 use Rattle.tester_types.specs.declared.record.Verdict.TheVariants as verdict
-use Rattle.page_code.specs.Cycles.{cycles_of}
+use Rattle.packed_code.specs.Cycles.{cycles_of}
 use Rattle.site_meaning.specs.Part.{Part, order_in}
 use Rattle.site_meaning.specs.Trials.{Lost, reached}
 use Rattle.site_meaning.specs.Polls.{Running, Seat, Step, goes, ends, unloaded, ended_now, ended_at, with_exec, next_exec, onward, settled, next_played, after_batch, run_batch, is_ordered, before_batch, try_now, fresh_try, is_at_load, arrived, stepped_try}

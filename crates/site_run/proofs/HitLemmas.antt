@@ -13,10 +13,10 @@ use Rattle.tester_types.specs.declared.wave.Table.{Table}
 use Rattle.tester_types.specs.declared.record.Fail.{Fail}
 use Rattle.tester_types.specs.declared.cycle.Cycle.{Cycle}
 use Rattle.tester_types.specs.declared.cycle.Moment.{Moment}
-use Rattle.page_code.specs.Program.{Program}
-use Rattle.page_code.specs.Conditions.{IsProgram, IsRow, letters_of}
-use Rattle.page_code.specs.Cycles.{period_of}
-use Rattle.page_code.proofs.Lists.{behind_at}
+use Rattle.packed_code.specs.Program.{Program}
+use Rattle.packed_code.specs.Conditions.{IsProgram, IsRow, letters_of}
+use Rattle.packed_code.specs.Cycles.{period_of}
+use Rattle.packed_code.proofs.Lists.{behind_at}
 use Rattle.edge_gen.specs.Signals.{signals_of}
 use Rattle.edge_gen.specs.Moments.{Rises, moment_at, instants, times_of, moments_of}
 use Rattle.edge_gen.proofs.InstantLemmas.{instants_are}

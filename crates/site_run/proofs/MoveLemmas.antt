@@ -5,9 +5,9 @@ use Rattle.std.specs.Option.{option_map_or}
 use Rattle.std.proofs.lemmas.Bool.{lt-ltb, le-ltb}
 use Rattle.tester_types.specs.declared.outside.NoMemory.{NoMemory}
 use Rattle.tester_types.specs.declared.record.Verdict.TheVariants as verdict
-use Rattle.page_code.specs.Program.{Program}
-use Rattle.page_code.specs.Conditions.{IsProgram}
-use Rattle.page_code.specs.Cycles.{cycles_of}
+use Rattle.packed_code.specs.Program.{Program}
+use Rattle.packed_code.specs.Conditions.{IsProgram}
+use Rattle.packed_code.specs.Cycles.{cycles_of}
 use Rattle.pattern_mem.specs.Cursor.{cycles_to_come, IsCursorOf}
 use Rattle.die_sim.specs.Die.{Device}
 use Rattle.die_sim.specs.Socket.{Told}

@@ -1,6 +1,6 @@
 -- What the part of a plan that belongs to a site says of a try.
 use Rattle.std.proofs.Common.{◌≡◌, ℕ, ℤ, ◌<◌, List, length, ap, ◌∙◌}
-use Rattle.page_code.specs.Program.{Program}
+use Rattle.packed_code.specs.Program.{Program}
 use Rattle.bench_net.specs.Circuit.{number}
 use Rattle.die_sim.specs.Die.{Image, device_of}
 use Rattle.plan_rows.specs.declared.row.LotRow.{LotRow}

@@ -6,9 +6,9 @@ use Rattle.std.proofs.lemmas.List.{append-nil}
 use Rattle.std.proofs.lemmas.Bool.{lt-ltb, le-ltb}
 use Rattle.tester_types.specs.declared.record.Fail.{Fail}
 use Rattle.page_meaning.specs.Meaning.{Means}
-use Rattle.page_code.specs.Program.{Program}
-use Rattle.page_code.specs.Cycles.{exec_of, cycles_of}
-use Rattle.page_code.proofs.WalkLemmas.{length-cycles}
+use Rattle.packed_code.specs.Program.{Program}
+use Rattle.packed_code.specs.Cycles.{exec_of, cycles_of}
+use Rattle.packed_code.proofs.WalkLemmas.{length-cycles}
 use Rattle.strobe_check.specs.Count.{HasCounted}
 use Rattle.strobe_check.specs.History.{Held, HasSeen, all_fails}
 use Rattle.strobe_check.proofs.HistoryLemmas.{fails-none}

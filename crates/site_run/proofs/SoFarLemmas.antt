@@ -12,8 +12,8 @@ use Rattle.tester_types.specs.declared.record.By.TheVariants as by
 use Rattle.tester_types.specs.declared.record.Trial.{Trial}
 use Rattle.tester_types.specs.declared.record.Record.{Record}
 use Rattle.tester_types.specs.declared.record.Verdict.TheVariants as verdict
-use Rattle.page_code.specs.Program.{Program}
-use Rattle.page_code.specs.Cycles.{cycles_of}
+use Rattle.packed_code.specs.Program.{Program}
+use Rattle.packed_code.specs.Cycles.{cycles_of}
 use Rattle.die_sim.specs.Socket.{Calls}
 use Rattle.site_meaning.specs.Playing.{Stand, Going, starting}
 use Rattle.site_meaning.specs.Part.{Part, lot_in, dies_in, order_in, stand_for}

@@ -11,7 +11,7 @@ use Rattle.tester_types.specs.declared.record.Verdict.{Verdict}
 use Rattle.tester_types.specs.declared.record.Verdict.TheVariants as verdict
 use Rattle.page_meaning.specs.declared.instr.Instr.TheVariants.{Run, Done}
 use Rattle.page_meaning.specs.Meaning.{bodies, repeated}
-use Rattle.page_code.specs.Program.{Program}
+use Rattle.packed_code.specs.Program.{Program}
 use Rattle.edge_gen.specs.Moments.{moments_of}
 use Rattle.die_sim.specs.Socket.{Calls}
 use Rattle.die_sim.specs.Stepped.{levels_through, captured_levels}

@@ -10,8 +10,8 @@ use Rattle.tester_types.specs.declared.level.Drive.{Drive}
 use Rattle.tester_types.specs.declared.cycle.Cycle.{Cycle}
 use Rattle.tester_types.specs.declared.cycle.Moment.{Moment}
 use Rattle.tester_types.specs.declared.outside.NoMemory.{NoMemory}
-use Rattle.page_code.specs.Conditions.{IsProgram}
-use Rattle.page_code.specs.Cycles.{period_of}
+use Rattle.packed_code.specs.Conditions.{IsProgram}
+use Rattle.packed_code.specs.Cycles.{period_of}
 use Rattle.die_sim.specs.Die.{Device}
 use Rattle.die_sim.specs.Socket.{Calls}
 use Rattle.site_meaning.specs.Playing.{Stand, Going, Along, along_of, driven, after_moment, after_moments, moments_in, after_cycle}

@@ -4,8 +4,8 @@ use Rattle.tester_types.specs.declared.record.Verdict.{Verdict}
 use Rattle.tester_types.specs.declared.record.Verdict.TheVariants as verdict
 use Rattle.tester_types.specs.declared.record.Fail.{Fail}
 use Rattle.tester_types.specs.declared.record.Trial.{Trial}
-use Rattle.page_code.specs.Program.{Program}
-use Rattle.page_code.specs.Cycles.{cycles_of}
+use Rattle.packed_code.specs.Program.{Program}
+use Rattle.packed_code.specs.Cycles.{cycles_of}
 use Rattle.pattern_mem.specs.Cursor.{cycles_to_come, IsCursorOf}
 use Rattle.die_sim.specs.Die.{Device}
 use Rattle.die_sim.specs.Socket.{Told}

@@ -1,7 +1,7 @@
 -- A site as a poll sees it, and what is so of it between two calls.
 use Rattle.std.specs.Prelude.{◌≡◌, ℕ, ◌+◌, ◌<◌, ◌≤◌, ◌==◌, if◌then◌else◌, Option, Some, None, IfSome, length, nat_lt, false}
 use Rattle.std.specs.Option.{option_map}
-use Rattle.page_code.specs.Cycles.{cycles_of}
+use Rattle.packed_code.specs.Cycles.{cycles_of}
 use Rattle.pattern_mem.specs.Memory.{Memory}
 use Rattle.die_sim.specs.Die.{device_of}
 use Rattle.die_sim.specs.Socket.{Told}

@@ -1,7 +1,7 @@
 //! Cycles of an executive, one after another.
 
 ghost use Rattle.std.specs.Prelude.{◌≡◌, ◌+◌, ◌*◌, ◌≤◌, ◌<◌, ◌^◌, ◌∷◌, length, take, drop, IfOk, OnOk, IfErr};
-ghost use Rattle.page_code.specs.Walk.{IsOf};
+ghost use Rattle.packed_code.specs.Walk.{IsOf};
 ghost use Rattle.bench_net.specs.Circuit.{IsWhole};
 ghost use Rattle.die_sim.specs.Die.{device_of};
 ghost use Rattle.pattern_mem.specs.Cursor.{cycles_to_come, IsCursorOf};

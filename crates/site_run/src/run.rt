@@ -2,8 +2,8 @@
 
 ghost use Rattle.std.specs.Prelude.{◌≡◌, ◌+◌, ◌≤◌, ◌<◌, ℕ, None, length, IfOk, IfSome};
 ghost use Rattle.tester_types.specs.Outside.{HasRisen};
-ghost use Rattle.page_code.specs.Conditions.{IsProgram};
-ghost use Rattle.page_code.specs.Cycles.{cycles_of};
+ghost use Rattle.packed_code.specs.Conditions.{IsProgram};
+ghost use Rattle.packed_code.specs.Cycles.{cycles_of};
 ghost use Rattle.bench_net.specs.Circuit.{IsWhole};
 ghost use Rattle.die_sim.specs.Die.{Device, device_of};
 ghost use Rattle.die_sim.specs.Socket.{Told};
@@ -18,7 +18,7 @@ use crate::batch::{Underway, make_cycles};
 use cycle_run::Stop;
 use die_sim::{DieImage, Socket};
 use edge_gen::Schedules;
-use page_code::Code;
+use packed_code::Code;
 use pattern_mem::{PatternMem, PoolPass, at};
 use std::alloc::Global;
 use std::sync::Wait;

@@ -6,7 +6,7 @@ ghost use Rattle.die_sim.specs.Socket.{Told};
 ghost use Rattle.plan_rows.specs.Rows.{sites_of, lot_of, dies_at};
 ghost use Rattle.site_meaning.specs.Part.{Part, part_of};
 ghost use Rattle.site_meaning.specs.Polls.{Seat, first_seat, with_word, with_trial, before_batch, poll};
-ghost use Rattle.page_code.specs.Cycles.{cycles_of};
+ghost use Rattle.packed_code.specs.Cycles.{cycles_of};
 ghost use Rattle.die_sim.specs.Die.{device_of};
 ghost use Rattle.lot_plan.specs.Bound.{image_of};
 ghost use Rattle.lot_plan.specs.Skews.{site_skews};

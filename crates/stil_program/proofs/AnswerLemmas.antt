@@ -8,7 +8,7 @@ use Rattle.stil_ast.specs.declared.fault.StilFault.{StilFault}
 use Rattle.stil_ast.specs.declared.fault.StilRefusal.{StilRefusal}
 use Rattle.stil_ast.specs.declared.fault.StilRefusal.TheVariants as refusal
 use Rattle.stil_ast.proofs.FoundLemmas.{not_both, one_fault}
-use Rattle.page_code.specs.Program.{Program}
+use Rattle.packed_code.specs.Program.{Program}
 use Rattle.text_front.specs.Front.{IsFront, IsRefusedFor}
 use Rattle.burst_exec.specs.Finding.{Finds}
 use Rattle.stil_program.specs.Program.{IsTextFault, IsTextOf, IsBlocksCode, IsProgramOf, IsCompiledText, IsRefusal}

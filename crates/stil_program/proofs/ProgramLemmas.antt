@@ -17,15 +17,15 @@ use Rattle.stil_ast.specs.Meaning.State.{Vector}
 use Rattle.stil_ast.specs.declared.blocks.Blocks.{Blocks}
 use Rattle.stil_ast.specs.declared.executive.ExecDecl.{ExecDecl}
 use Rattle.page_meaning.specs.Meaning.{Means}
-use Rattle.page_code.specs.Program.{Program}
-use Rattle.page_code.specs.Cycles.{exec_of, cycles_of}
+use Rattle.packed_code.specs.Program.{Program}
+use Rattle.packed_code.specs.Cycles.{exec_of, cycles_of}
 use Rattle.time_expr.specs.TimesOf.{times_of}
 use Rattle.burst_exec.specs.Executives.{AreExecutives}
 use Rattle.burst_exec.proofs.ListLemmas.{drop_next}
 use Rattle.cycle_comp.specs.Compiled.{chain_of, least_of, read_cycle, read_cycles, IsExecOf}
 use Rattle.stil_program.specs.Program.{IsBlocksCode}
 use Rattle.stil_program.proofs.ExecLemmas.{as_many, tables_are as tables_of_all, cut_of, least_same}
-use Rattle.page_code.proofs.WalkLemmas.{length-timed}
+use Rattle.packed_code.proofs.WalkLemmas.{length-timed}
 
 -- what an executive of the code has, where the tables of the code from number `first` on are its own
 pub record HasExec (blocks : Blocks) (code : Program) (first number : ℕ) (d : ExecDecl) : Type 0 where

@@ -14,7 +14,7 @@ ghost use Rattle.stil_program.specs.declared.text.CompiledText.{CompiledText};
 use crate::text::CompiledText;
 use burst_exec::executives;
 use cycle_comp::compile;
-use page_code::Code;
+use packed_code::Code;
 use std::alloc::{AllocError, Global};
 use stil_ast::{Blocks, ExecDecl, StilRefusal};
 use text_front::read_text;

@@ -1,6 +1,6 @@
 //! A text that was compiled.
 
-use page_code::Code;
+use packed_code::Code;
 
 /// The code of a text, with the line of each of its executives.
 #[derive(Drop)]

@@ -2,7 +2,7 @@
 use Rattle.std.proofs.Common.{◌≡◌, ◌⊎◌, ◌↔◌, IsTrue, ℕ, zero, suc, ◌<◌, ◌≤◌, Bool, false, List, [], ◌∷◌, length, Option, Some, refl, sym, ap, ◌∙◌, subst, arith, inl, inr}
 use Rattle.std.proofs.lemmas.Bool.{false≢true}
 use Rattle.tester_types.specs.Outside.{HasRisen, Files, gained, GainsFront}
-use Rattle.page_code.specs.Program.{Program}
+use Rattle.packed_code.specs.Program.{Program}
 use Rattle.plan_rows.specs.declared.row.Row.{Row}
 use Rattle.plan_rows.specs.Rows.{dies_at}
 use Rattle.lot_plan.specs.Bound.{Bound}

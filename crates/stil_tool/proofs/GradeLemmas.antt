@@ -2,7 +2,7 @@
 use Rattle.std.proofs.Common.{◌≡◌, ◌⊎◌, ℕ, ◌<◌, List, length, Option, None, refl, sym, ap, ◌∙◌, subst, arith, inl, inr}
 use Rattle.tester_types.specs.Outside.{HasRisen, Files, gained, GainsFront}
 use Rattle.die_sim.specs.Socket.{Told}
-use Rattle.page_code.specs.Program.{Program}
+use Rattle.packed_code.specs.Program.{Program}
 use Rattle.plan_rows.specs.Rows.{sites_of}
 use Rattle.lot_plan.specs.Bound.{Bound}
 use Rattle.bench_net.specs.Circuit.{Circuit}

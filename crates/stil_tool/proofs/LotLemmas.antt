@@ -1,7 +1,7 @@
 -- Why a lot is refused stays so over a whole call, and what a run wants is wanted of the lot.
 use Rattle.std.proofs.Common.{◌≡◌, ℕ, ◌<◌, ◌≤◌, List, length, Option, refl, ap, ◌∙◌, subst, arith}
 use Rattle.tester_types.specs.Outside.{Files}
-use Rattle.page_code.specs.Program.{Program}
+use Rattle.packed_code.specs.Program.{Program}
 use Rattle.plan_rows.specs.Rows.{sites_of}
 use Rattle.die_sim.specs.Socket.{Told}
 use Rattle.lot_plan.specs.Bound.{Bound}

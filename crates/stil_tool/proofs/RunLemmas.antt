@@ -1,7 +1,7 @@
 -- What the run of a lot gives is sound, and its text is that of the lot.
 use Rattle.std.proofs.Common.{◌≡◌, ◌<◌, ◌≤◌, List, [], ◌∷◌, length, sym, ap, ◌∙◌, subst, arith}
 use Rattle.tester_types.specs.Records.{SiteRecords, records_of}
-use Rattle.page_code.specs.Program.{Program}
+use Rattle.packed_code.specs.Program.{Program}
 use Rattle.plan_rows.specs.Rows.{sites_of}
 use Rattle.die_sim.specs.Socket.{Told}
 use Rattle.lot_plan.specs.Bound.{Bound}

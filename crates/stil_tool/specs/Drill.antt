@@ -17,7 +17,7 @@ use Rattle.die_sim.specs.Socket.{Told}
 use Rattle.datalog.specs.DatalogText.{bins_of, totals_text}
 use Rattle.datalog.specs.Summary.{fails_among}
 use Rattle.drill_texts.specs.Texts.{vectors, stil_text, net_text, plan_text}
-use Rattle.page_code.specs.Program.{Program}
+use Rattle.packed_code.specs.Program.{Program}
 use Rattle.stil_ast.specs.declared.fault.StilFault.{StilFault}
 use Rattle.stil_program.specs.Program.{IsTextFault, IsProgramOf}
 use Rattle.tool_inputs.specs.declared.status.Status.{Status}

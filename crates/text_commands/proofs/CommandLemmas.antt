@@ -7,8 +7,8 @@ use Rattle.stil_ast.specs.Meaning.Signals.{Signal, names_of as text_names}
 use Rattle.stil_ast.specs.declared.executive.ExecDecl.{ExecDecl}
 use Rattle.stil_ast.specs.declared.fault.StilRefusal.{StilRefusal}
 use Rattle.stil_ast.specs.declared.fault.StilRefusal.TheVariants.{NoMemory, Fault}
-use Rattle.page_code.specs.Program.{Program}
-use Rattle.page_code.specs.declared.parts.CodeSignal.{CodeSignal}
+use Rattle.packed_code.specs.Program.{Program}
+use Rattle.packed_code.specs.declared.parts.CodeSignal.{CodeSignal}
 use Rattle.cycle_comp.specs.Compiled.{signal_of}
 use Rattle.code_listing.specs.Lines.{AreFirstLines, GainsLines}
 use Rattle.code_listing.specs.Listing.{listing_of}

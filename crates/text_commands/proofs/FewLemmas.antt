@@ -14,8 +14,8 @@ use Rattle.stil_ast.specs.declared.executive.ExecDecl.{ExecDecl}
 use Rattle.stil_ast.specs.declared.fault.StilFault.{StilFault}
 use Rattle.stil_ast.specs.declared.fault.StilKind.TheVariants.{TooManyCycles}
 use Rattle.page_meaning.specs.Meaning.{Means}
-use Rattle.page_code.specs.Program.{Program}
-use Rattle.page_code.specs.Cycles.{exec_of}
+use Rattle.packed_code.specs.Program.{Program}
+use Rattle.packed_code.specs.Cycles.{exec_of}
 use Rattle.code_listing.specs.Text.{cycles_among}
 use Rattle.code_listing.proofs.ListingLemmas.{cycles-more}
 use Rattle.stil_program.specs.Program.{IsBlocksCode}

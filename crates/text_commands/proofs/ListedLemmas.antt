@@ -14,9 +14,9 @@ use Rattle.stil_ast.specs.Meaning.ExecutiveData.{table_at}
 use Rattle.stil_ast.specs.declared.blocks.Blocks.{Blocks}
 use Rattle.stil_ast.specs.declared.executive.ExecDecl.{ExecDecl}
 use Rattle.time_expr.specs.TimesOf.{times_of}
-use Rattle.page_code.specs.Program.{Program}
-use Rattle.page_code.specs.Conditions.{letters_of}
-use Rattle.page_code.specs.Cycles.{cycles_of, exec_of}
+use Rattle.packed_code.specs.Program.{Program}
+use Rattle.packed_code.specs.Conditions.{letters_of}
+use Rattle.packed_code.specs.Cycles.{cycles_of, exec_of}
 use Rattle.cycle_comp.specs.Compiled.{letter_of, table_in, read_cycle, read_cycles}
 use Rattle.code_listing.specs.Listing.{Listed, ListedExec, no_table, listed, listed_exec, listing_of}
 use Rattle.stil_program.specs.Program.{IsBlocksCode}

@@ -6,8 +6,8 @@ use Rattle.stil_ast.specs.declared.blocks.Blocks.{Blocks}
 use Rattle.stil_ast.specs.declared.fault.StilKind.TheVariants.{TooManyCycles}
 use Rattle.stil_ast.specs.declared.fault.StilRefusal.{StilRefusal}
 use Rattle.stil_ast.specs.declared.fault.StilRefusal.TheVariants.{NoMemory, Fault}
-use Rattle.page_code.specs.Program.{Program}
-use Rattle.page_code.specs.Cycles.{exec_of}
+use Rattle.packed_code.specs.Program.{Program}
+use Rattle.packed_code.specs.Cycles.{exec_of}
 use Rattle.code_listing.specs.Listing.{listing_of, cycles_in}
 use Rattle.code_listing.specs.Text.{names_of, cycles_among}
 use Rattle.stil_program.specs.Program.{IsTextFault}

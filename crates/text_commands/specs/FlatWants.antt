@@ -1,6 +1,6 @@
 -- What is answered of a code that is to be written flat; no public clause cites it.
 use Rattle.std.specs.Prelude.{◌≡◌, ℕ, List}
-use Rattle.page_code.specs.Program.{Program}
+use Rattle.packed_code.specs.Program.{Program}
 use Rattle.flat_stil.specs.FlatFault.{IsFlat, IsTooLong, IsTooFlat}
 use Rattle.flat_stil.specs.declared.fault.FlatFault.{FlatFault}
 use Rattle.flat_stil.specs.declared.fault.FlatFault.TheVariants as fault

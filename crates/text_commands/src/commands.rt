@@ -2,7 +2,7 @@
 
 ghost use Rattle.std.specs.Prelude.{◌≡◌, ◌≤◌, ℕ, List, length};
 ghost use Rattle.text_bytes.specs.Limits.{most_bytes};
-ghost use Rattle.page_code.specs.Conditions.{IsProgram};
+ghost use Rattle.packed_code.specs.Conditions.{IsProgram};
 ghost use Rattle.text_commands.specs.Commands.{saved_form, FileWants, BytesWant};
 ghost use Rattle.text_commands.specs.FlatWants.{FlatWant, flat_status, flat_line};
 ghost use Rattle.tool_inputs.specs.Endings.{Answers, Ends, IsDone};

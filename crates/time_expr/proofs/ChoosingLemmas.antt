@@ -12,9 +12,9 @@ use Rattle.stil_ast.specs.declared.fault.StilFault.{StilFault}
 use Rattle.stil_ast.specs.declared.fault.StilRefusal.{StilRefusal}
 use Rattle.stil_ast.specs.declared.fault.StilRefusal.TheVariants as refusal
 use Rattle.stil_ast.specs.declared.fault.StilKind.TheVariants.{UnknownName}
-use Rattle.time_expr.specs.Ratio.{Ratio}
-use Rattle.time_expr.specs.Vars.{value_of_name, with_value}
-use Rattle.time_expr.specs.Value.{named_of}
+use Rattle.expr_text.specs.Ratio.{Ratio}
+use Rattle.expr_text.specs.Vars.{value_of_name, with_value}
+use Rattle.expr_text.specs.Value.{named_of}
 use Rattle.time_expr.specs.NamedValue.{met_of}
 use Rattle.time_expr.specs.TimesOf.{times_of}
 use Rattle.time_expr.specs.Picked.{variable_of, variables_of}

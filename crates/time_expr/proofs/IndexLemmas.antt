@@ -22,7 +22,7 @@ use Rattle.stil_ast.specs.declared.fault.StilKind.TheVariants.{OutOfRange, Twice
 use Rattle.time_expr.specs.Picked.{variable_of, variables_of}
 use Rattle.time_expr.specs.Choosing.{variable_named, variable_at, variable_in, next_fault, Keeps}
 use Rattle.time_expr.specs.declared.picked.Picked.{Picked}
-use Rattle.time_expr.proofs.VarsLemmas.{same-comm}
+use Rattle.expr_text.proofs.VarsLemmas.{same-comm}
 
 -- whether one passes, and which is the first
 any-find : {X : Type 0} (p : X → Bool) (xs : List X) → list_any p xs ≡ is_some (find p xs)

@@ -8,14 +8,14 @@ use Rattle.std.specs.Str.{bytes_eq}
 use Rattle.std.proofs.lemmas.Option.{same_Some}
 use Rattle.std.proofs.lemmas.Slice.Eq.{bytes_eq-Decides}
 use Rattle.indexmap.specs.IndexMap.{IndexMap}
-use Rattle.time_expr.specs.Tree.{tree_of}
-use Rattle.time_expr.specs.Spelling.{Spells}
-use Rattle.time_expr.specs.Ratio.{Ratio}
-use Rattle.time_expr.specs.Value.{Outcome, value_of}
+use Rattle.expr_text.specs.Tree.{tree_of}
+use Rattle.expr_text.specs.Spelling.{Spells}
+use Rattle.expr_text.specs.Ratio.{Ratio}
+use Rattle.expr_text.specs.Value.{Outcome, value_of}
 use Rattle.time_expr.specs.NamedValue.{met_of}
 use Rattle.time_expr.specs.TimeIn.{IsValueIn}
 use Rattle.time_expr.specs.Kept.{expr_for, AreSpelled}
-use Rattle.time_expr.specs.declared.expr.Expr.{Expr}
+use Rattle.expr_text.specs.declared.expr.Expr.{Expr}
 use Rattle.time_expr.proofs.TimesLemmas.{times_of_is}
 use Rattle.time_expr.proofs.NamedLemmas.{value_by-value_of}
 

@@ -8,8 +8,8 @@ use Rattle.stil_ast.proofs.TextLemmas.{same-refl}
 use Rattle.text_bytes.proofs.OptionLemmas.{or_none}
 use Rattle.stil_ast.specs.Meaning.Variables.{Variable, value_within, value_of_found, value_of}
 use Rattle.stil_ast.specs.Data.Texts.{same, has_name}
-use Rattle.time_expr.specs.Ratio.{Ratio}
-use Rattle.time_expr.specs.Vars.{value_of_name, unless_named, with_value}
+use Rattle.expr_text.specs.Ratio.{Ratio}
+use Rattle.expr_text.specs.Vars.{value_of_name, unless_named, with_value}
 use Rattle.time_expr.specs.TimesOf.{times_of}
 use Rattle.time_expr.specs.Choosing.{variable_named, IsNext, AreApartFrom, AreKnown, has_no_value}
 use Rattle.time_expr.proofs.ReachLemmas.{none-is_none}

@@ -1,18 +1,5 @@
-pub mod DivisorLemmas
-pub mod LowestLemmas
-pub mod NumberLemmas
-pub mod TreeLemmas
-pub mod GrammarLemmas
-pub mod RunLemmas
-pub mod FrontLemmas
-pub mod FoundLemmas
-pub mod LexedLemmas
-pub mod ReadLemmas
-pub mod RationalLemmas
-pub mod ValueLemmas
 pub mod TimesLemmas
 pub mod KeptLemmas
-pub mod VarsLemmas
 pub mod SelectedLemmas
 pub mod PickedLemmas
 pub mod NamedLemmas
@@ -25,4 +12,3 @@ pub mod PathLemmas
 pub mod ChoosingLemmas
 pub mod TimesFacts
 pub mod TextFacts
-pub mod StandardFacts

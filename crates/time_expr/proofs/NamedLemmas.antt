@@ -1,16 +1,16 @@
 -- Where names have the values of variables, an expression has the value that it has under the variables.
 use Rattle.std.proofs.Common.{◌≡◌, ◌⊎◌, ℕ, List, Option, Some, None, Result, Ok, Err, refl, sym, ap, ◌∙◌, inl, inr}
 use Rattle.stil_ast.specs.Meaning.Times.{Met}
-use Rattle.time_expr.specs.Ratio.{Ratio, given}
-use Rattle.time_expr.specs.Tree.{Tree, number, name, chain, linked, extreme, also, tree_of}
-use Rattle.time_expr.specs.Value.{Outcome, applied_of, named_of, value_of}
-use Rattle.time_expr.specs.Vars.{value_of_name}
+use Rattle.expr_text.specs.Ratio.{Ratio, given}
+use Rattle.expr_text.specs.Tree.{Tree, number, name, chain, linked, extreme, also, tree_of}
+use Rattle.expr_text.specs.Value.{Outcome, applied_of, named_of, value_of}
+use Rattle.expr_text.specs.Vars.{value_of_name}
 use Rattle.time_expr.specs.NamedValue.{met_of, unless_met, Known, plain, several, settled, begun, with_operand, known_by, value_by}
-use Rattle.time_expr.specs.declared.expr.Bound.{Bound}
-use Rattle.time_expr.specs.declared.expr.Expr.{Expr}
-use Rattle.time_expr.specs.declared.fault.ExprFault.TheVariants.{UnknownName}
-use Rattle.time_expr.proofs.ValueLemmas as plainly
-use Rattle.time_expr.proofs.ValueLemmas.{closed, gathered, more, known_of, tree_value, value_is_tree_value}
+use Rattle.expr_text.specs.declared.expr.Bound.{Bound}
+use Rattle.expr_text.specs.declared.expr.Expr.{Expr}
+use Rattle.expr_text.specs.declared.fault.ExprFault.TheVariants.{UnknownName}
+use Rattle.expr_text.proofs.ValueLemmas as plainly
+use Rattle.expr_text.proofs.ValueLemmas.{closed, gathered, more, known_of, tree_value, value_is_tree_value}
 
 -- an outcome under variables and one under names are alike; where `Open`, a name may also be no variable
 abbrev pub Agree : Type 0 → Outcome → Result Ratio Met → Type 0

@@ -9,7 +9,7 @@ use Rattle.indexmap.specs.IndexSet.{IndexSet, keys}
 use Rattle.stil_ast.specs.Data.Places.{Place}
 use Rattle.stil_ast.specs.Meaning.Variables.{Variable, value_of, value_fault}
 use Rattle.stil_ast.specs.declared.fault.StilRefusal.{StilRefusal}
-use Rattle.time_expr.specs.Ratio.{Ratio}
+use Rattle.expr_text.specs.Ratio.{Ratio}
 use Rattle.time_expr.specs.TimesOf.{times_of}
 use Rattle.text_bytes.specs.Texts.{is_among}
 use Rattle.time_expr.specs.Picked.{variable_of, place_of}

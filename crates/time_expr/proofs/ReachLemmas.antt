@@ -9,10 +9,10 @@ use Rattle.stil_ast.specs.declared.fault.StilFault.{StilFault}
 use Rattle.stil_ast.specs.Data.Texts.{same}
 use Rattle.stil_ast.specs.declared.fault.StilKind.{StilKind}
 use Rattle.stil_ast.specs.declared.fault.StilKind.TheVariants as stil
-use Rattle.time_expr.specs.Ratio.{Ratio}
-use Rattle.time_expr.specs.Tree.{tree_of}
-use Rattle.time_expr.specs.Vars.{value_of_name}
-use Rattle.time_expr.specs.Value.{named_of, value_of}
+use Rattle.expr_text.specs.Ratio.{Ratio}
+use Rattle.expr_text.specs.Tree.{tree_of}
+use Rattle.expr_text.specs.Vars.{value_of_name}
+use Rattle.expr_text.specs.Value.{named_of, value_of}
 use Rattle.time_expr.specs.NamedValue.{kind_of, met_of, value_by}
 use Rattle.time_expr.specs.Names.{names_of, first_missing}
 use Rattle.std.specs.Borrow.{Bor}
@@ -23,13 +23,13 @@ use Rattle.time_expr.specs.declared.picked.Spot.{Spot}
 use Rattle.time_expr.specs.declared.walk.Step.{Step}
 use Rattle.time_expr.specs.declared.walk.Step.TheVariants as step
 use Rattle.time_expr.specs.Choosing.{variable_named, GoesBy, StopsAt, IsStopBy, Reaches, Steps, GoesUnless, evaluated}
-use Rattle.time_expr.specs.declared.fault.ExprFault.{ExprFault}
-use Rattle.time_expr.specs.declared.fault.ExprFault.TheVariants.{UnknownName}
-use Rattle.time_expr.specs.declared.fault.ExprFault.TheVariants as fault
-use Rattle.time_expr.specs.Spelling.{Spells, IsFault}
+use Rattle.expr_text.specs.declared.fault.ExprFault.{ExprFault}
+use Rattle.expr_text.specs.declared.fault.ExprFault.TheVariants.{UnknownName}
+use Rattle.expr_text.specs.declared.fault.ExprFault.TheVariants as fault
+use Rattle.expr_text.specs.Spelling.{Spells, IsFault}
 use Rattle.time_expr.specs.TimesOf.{times_of}
 use Rattle.time_expr.proofs.TimesLemmas.{times_of_is}
-use Rattle.time_expr.specs.declared.expr.Expr.{Expr}
+use Rattle.expr_text.specs.declared.expr.Expr.{Expr}
 use Rattle.time_expr.specs.declared.stop.Stop.{Stop}
 use Rattle.time_expr.specs.declared.stop.Stop.TheVariants as stop
 use Rattle.time_expr.proofs.StopLemmas.{expr_alike, at_value, at_fault_of, at_name, at_no_name}

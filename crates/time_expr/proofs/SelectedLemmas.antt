@@ -11,7 +11,7 @@ use Rattle.stil_ast.specs.Meaning.Variables.{selected_choice, choice_in}
 use Rattle.stil_ast.specs.declared.variable.Selection.{Selection}
 use Rattle.stil_ast.specs.declared.variable.Selector.{Selector}
 use Rattle.time_expr.specs.Selected.{kept_choice, choice_of}
-use Rattle.time_expr.proofs.VarsLemmas.{same-comm}
+use Rattle.expr_text.proofs.VarsLemmas.{same-comm}
 
 -- a name for which nothing was kept has this choice
 pub choice-added : {S : Type 0} (old new : IndexMap (Bor (List ℕ)) Choice S) (key : Bor (List ℕ)) (choice : Choice) (other : List ℕ)

@@ -8,25 +8,25 @@ use Rattle.std.proofs.lemmas.List.Concat.{flat_map-cons}
 use Rattle.std.specs.Option.{option_or}
 use Rattle.std.proofs.lemmas.List.Folds.{find-append}
 use Rattle.stil_ast.specs.Meaning.Times.{Met, in_text}
-use Rattle.time_expr.specs.Range.{within}
-use Rattle.time_expr.specs.Ratio.{Ratio, whole, given, cross_of, lowest, lowest_signed, sum_of, difference_of, product_of, quotient_of, nonzero_quotient_of, is_above}
-use Rattle.time_expr.specs.Unit.{femtoseconds_of}
-use Rattle.time_expr.specs.Tree.{Tree, chain, linked, extreme, also, with_links, with_others, part_tree, tree_of}
-use Rattle.time_expr.specs.Value.{Outcome, applied_of, best_of, better_of, best_of_all, named_of, value_of}
-use Rattle.time_expr.specs.Vars.{value_of_name}
+use Rattle.expr_text.specs.Range.{within}
+use Rattle.expr_text.specs.Ratio.{Ratio, whole, given, cross_of, lowest, lowest_signed, sum_of, difference_of, product_of, quotient_of, nonzero_quotient_of, is_above}
+use Rattle.expr_text.specs.Unit.{femtoseconds_of}
+use Rattle.expr_text.specs.Tree.{Tree, chain, linked, extreme, also, with_links, with_others, part_tree, tree_of}
+use Rattle.expr_text.specs.Value.{Outcome, applied_of, best_of, better_of, best_of_all, named_of, value_of}
+use Rattle.expr_text.specs.Vars.{value_of_name}
 use Rattle.time_expr.specs.NamedValue.{kind_of, met_of, unless_met, Known, plain, several, settled, begun, with_operand, known_by, value_by}
 use Rattle.time_expr.specs.Names.{joined, joined_links, part_names, names_of, first_missing}
-use Rattle.time_expr.specs.declared.fault.ExprFault.{ExprFault}
-use Rattle.time_expr.specs.declared.fault.ExprFault.TheVariants.{OutOfRange, UnknownName, ZeroDivisor}
-use Rattle.time_expr.specs.declared.expr.Operator.{Operator}
-use Rattle.time_expr.specs.declared.expr.Operator.TheVariants.{Plus, Minus, Times, Over}
-use Rattle.time_expr.specs.declared.expr.Bound.{Bound}
-use Rattle.time_expr.specs.declared.expr.Bound.TheVariants.{Least, Greatest}
-use Rattle.time_expr.specs.declared.expr.Expr.{Expr}
-use Rattle.time_expr.specs.declared.expr.Expr.TheOpen.{Expr-F}
-use Rattle.time_expr.specs.declared.expr.Expr.TheFolds.{map-Expr, fold-roll-Expr, ind-Expr}
-use Rattle.time_expr.proofs.ValueLemmas as plainly
-use Rattle.time_expr.proofs.ValueLemmas.{closed, gathered, more, known_of, tree_value, value_is_tree_value}
+use Rattle.expr_text.specs.declared.fault.ExprFault.{ExprFault}
+use Rattle.expr_text.specs.declared.fault.ExprFault.TheVariants.{OutOfRange, UnknownName, ZeroDivisor}
+use Rattle.expr_text.specs.declared.expr.Operator.{Operator}
+use Rattle.expr_text.specs.declared.expr.Operator.TheVariants.{Plus, Minus, Times, Over}
+use Rattle.expr_text.specs.declared.expr.Bound.{Bound}
+use Rattle.expr_text.specs.declared.expr.Bound.TheVariants.{Least, Greatest}
+use Rattle.expr_text.specs.declared.expr.Expr.{Expr}
+use Rattle.expr_text.specs.declared.expr.Expr.TheOpen.{Expr-F}
+use Rattle.expr_text.specs.declared.expr.Expr.TheFolds.{map-Expr, fold-roll-Expr, ind-Expr}
+use Rattle.expr_text.proofs.ValueLemmas as plainly
+use Rattle.expr_text.proofs.ValueLemmas.{closed, gathered, more, known_of, tree_value, value_is_tree_value}
 
 -- arithmetic meets no name
 abbrev pub IsPlain : {A : Type 0} → Result A ExprFault → Type 0

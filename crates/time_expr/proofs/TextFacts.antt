@@ -11,10 +11,10 @@ use Rattle.stil_ast.specs.declared.fault.StilKind.TheVariants.{BadExpr, NotWhole
 use Rattle.stil_ast.proofs.StandardFacts.Texts.{signal, by_name, table, text_of}
 use Rattle.tester_types.specs.declared.wave.Act.TheVariants.{Look}
 use Rattle.tester_types.specs.declared.wave.Look.TheVariants.{Low}
-use Rattle.time_expr.specs.Range.{divisor_of, remainders}
-use Rattle.time_expr.specs.Ratio.{lowest, lowest_signed}
+use Rattle.expr_text.specs.Range.{divisor_of, remainders}
+use Rattle.expr_text.specs.Ratio.{lowest, lowest_signed}
 use Rattle.text_bytes.specs.Bytes.{is_blank, is_digit, begins_name, is_word}
-use Rattle.time_expr.specs.Front.{unit_front, number_front, paren_len, short_name, word_front, sign_front, front_of, lexed}
+use Rattle.expr_text.specs.Front.{unit_front, number_front, paren_len, short_name, word_front, sign_front, front_of, lexed}
 use Rattle.time_expr.specs.TimesOf.{times_of}
 
 -- `y { L { 'time' L; } }`

@@ -7,10 +7,10 @@ use Rattle.stil_ast.specs.Meaning.Variables.{Variable, value_of}
 use Rattle.stil_ast.specs.declared.fault.StilFault.{StilFault}
 use Rattle.stil_ast.specs.declared.fault.StilKind.{StilKind}
 use Rattle.stil_ast.specs.declared.fault.StilKind.TheVariants.{BadExpr, OutOfRange, UnknownName, ZeroDivisor, NotWhole, Cyclic}
-use Rattle.time_expr.specs.Range.{divisor_of, remainders}
-use Rattle.time_expr.specs.Ratio.{Ratio, whole, lowest, lowest_signed}
+use Rattle.expr_text.specs.Range.{divisor_of, remainders}
+use Rattle.expr_text.specs.Ratio.{Ratio, whole, lowest, lowest_signed}
 use Rattle.text_bytes.specs.Bytes.{is_blank, is_digit, begins_name, is_word}
-use Rattle.time_expr.specs.Front.{unit_front, number_front, paren_len, short_name, word_front, sign_front, front_of, lexed}
+use Rattle.expr_text.specs.Front.{unit_front, number_front, paren_len, short_name, word_front, sign_front, front_of, lexed}
 use Rattle.time_expr.specs.TimesOf.{times_of}
 
 -- names that stand for nothing

@@ -1,15 +1,15 @@
 -- The evaluation that is computed from texts is that of the language, and there is no other.
 use Rattle.std.proofs.Common.{◌≡◌, ℕ, Bool, true, false, List, Option, Some, None, Result, Err, refl, sym, ap, ◌∙◌}
 use Rattle.stil_ast.specs.Meaning.Times.{Met, in_text, Times}
-use Rattle.time_expr.specs.Ratio.{Ratio}
-use Rattle.time_expr.specs.Tree.{Tree}
-use Rattle.time_expr.specs.Spelling.{IsFault}
-use Rattle.time_expr.specs.Machine.{read_of}
+use Rattle.expr_text.specs.Ratio.{Ratio}
+use Rattle.expr_text.specs.Tree.{Tree}
+use Rattle.expr_text.specs.Spelling.{IsFault}
+use Rattle.expr_text.specs.Machine.{read_of}
 use Rattle.time_expr.specs.NamedValue.{kind_of}
 use Rattle.time_expr.specs.TimesOf.{AreOfLanguage, value_read, times_of}
-use Rattle.time_expr.specs.declared.fault.ExprFault.{ExprFault}
-use Rattle.time_expr.specs.declared.fault.ExprFault.TheVariants.{NoMemory, BadExpr, OutOfRange, UnknownName, ZeroDivisor}
-use Rattle.time_expr.proofs.ReadLemmas.{read_is_so, so_is_read, none_spelled}
+use Rattle.expr_text.specs.declared.fault.ExprFault.{ExprFault}
+use Rattle.expr_text.specs.declared.fault.ExprFault.TheVariants.{NoMemory, BadExpr, OutOfRange, UnknownName, ZeroDivisor}
+use Rattle.expr_text.proofs.ReadLemmas.{read_is_so, so_is_read, none_spelled}
 
 -- the answer at a fault, by what is read
 at_fault : (names : List ℕ → Result Ratio Met) (text : List ℕ) (fault : ExprFault) → IsFault text fault

@@ -12,8 +12,8 @@ use Rattle.stil_ast.specs.declared.fault.StilFault.{StilFault}
 use Rattle.stil_ast.specs.declared.fault.StilRefusal.{StilRefusal}
 use Rattle.stil_ast.specs.declared.fault.StilRefusal.TheVariants as refusal
 use Rattle.stil_ast.specs.declared.fault.StilKind.TheVariants.{UnknownName}
-use Rattle.time_expr.specs.Ratio.{Ratio}
-use Rattle.time_expr.specs.Vars.{value_of_name}
+use Rattle.expr_text.specs.Ratio.{Ratio}
+use Rattle.expr_text.specs.Vars.{value_of_name}
 use Rattle.time_expr.specs.TimesOf.{times_of}
 use Rattle.time_expr.specs.Choosing.{variable_named, IsOpen, HasValues, GoesUnless, IsNext, evaluated, AreKnown, has_no_value, is_free, IsWalk}
 use Rattle.time_expr.proofs.KnownLemmas.{count-le, count-less, apart-more, none-is}

@@ -14,12 +14,12 @@ use Rattle.stil_ast.specs.declared.fault.StilFault.{StilFault}
 use Rattle.stil_ast.specs.declared.fault.StilKind.TheVariants.{UnknownName, OutOfRange, Twice}
 use Rattle.stil_ast.specs.declared.fault.StilRefusal.{StilRefusal}
 use Rattle.stil_ast.specs.declared.fault.StilRefusal.TheVariants as refusal
-use Rattle.time_expr.specs.Ratio.{Ratio}
-use Rattle.time_expr.specs.Vars.{value_of_name}
+use Rattle.expr_text.specs.Ratio.{Ratio}
+use Rattle.expr_text.specs.Vars.{value_of_name}
 use Rattle.time_expr.specs.TimesOf.{times_of}
 use Rattle.time_expr.specs.NamedValue.{kind_of}
-use Rattle.time_expr.specs.declared.fault.ExprFault.{ExprFault}
-use Rattle.time_expr.specs.declared.fault.ExprFault.TheVariants as fault
+use Rattle.expr_text.specs.declared.fault.ExprFault.{ExprFault}
+use Rattle.expr_text.specs.declared.fault.ExprFault.TheVariants as fault
 use Rattle.time_expr.specs.TimeIn.{AreNames}
 use Rattle.time_expr.specs.Picked.{variable_of, place_of}
 use Rattle.time_expr.specs.declared.picked.Picked.{Picked}

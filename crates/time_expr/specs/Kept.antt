@@ -3,9 +3,9 @@ use Rattle.std.specs.Prelude.{◌≡◌, ℕ, true, List, Option, Some}
 use Rattle.std.specs.Borrow.{Bor}
 use Rattle.std.specs.Str.{bytes_eq}
 use Rattle.indexmap.specs.IndexMap.{IndexMap, get_by}
-use Rattle.time_expr.specs.Tree.{tree_of}
-use Rattle.time_expr.specs.Spelling.{Spells}
-use Rattle.time_expr.specs.declared.expr.Expr.{Expr}
+use Rattle.expr_text.specs.Tree.{tree_of}
+use Rattle.expr_text.specs.Spelling.{Spells}
+use Rattle.expr_text.specs.declared.expr.Expr.{Expr}
 
 -- the expression that is kept for a text
 abbrev pub expr_for : {S : Type 0} → IndexMap (Bor (List ℕ)) Expr S → List ℕ → Option Expr

@@ -3,13 +3,13 @@ use Rattle.std.specs.Prelude.{ℕ, List, [], ◌∷◌, ◌++◌, Result, Ok, Er
 use Rattle.stil_ast.specs.Meaning.Times.{Met, in_text}
 use Rattle.stil_ast.specs.declared.fault.StilKind.{StilKind}
 use Rattle.stil_ast.specs.declared.fault.StilKind.TheVariants as stil
-use Rattle.time_expr.specs.Ratio.{Ratio, whole, product_of}
-use Rattle.time_expr.specs.Unit.{femtoseconds_of}
-use Rattle.time_expr.specs.Tree.{Tree, number, name, chain, linked, extreme, also}
-use Rattle.time_expr.specs.Value.{applied_of, best_of_all}
-use Rattle.time_expr.specs.declared.expr.Bound.{Bound}
-use Rattle.time_expr.specs.declared.fault.ExprFault.{ExprFault}
-use Rattle.time_expr.specs.declared.fault.ExprFault.TheVariants.{NoMemory, BadExpr, OutOfRange, UnknownName, ZeroDivisor}
+use Rattle.expr_text.specs.Ratio.{Ratio, whole, product_of}
+use Rattle.expr_text.specs.Unit.{femtoseconds_of}
+use Rattle.expr_text.specs.Tree.{Tree, number, name, chain, linked, extreme, also}
+use Rattle.expr_text.specs.Value.{applied_of, best_of_all}
+use Rattle.expr_text.specs.declared.expr.Bound.{Bound}
+use Rattle.expr_text.specs.declared.fault.ExprFault.{ExprFault}
+use Rattle.expr_text.specs.declared.fault.ExprFault.TheVariants.{NoMemory, BadExpr, OutOfRange, UnknownName, ZeroDivisor}
 
 -- the kind of a fault of an expression; want of memory is no fault of a text
 abbrev pub kind_of : ExprFault → StilKind

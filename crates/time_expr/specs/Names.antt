@@ -1,11 +1,11 @@
 -- The names in an expression, from the left, and the first that has no value. No public clause cites this file.
 use Rattle.std.specs.Prelude.{ℕ, List, [], ◌∷◌, ◌++◌, Option, map, find, flat_map, is_none}
-use Rattle.time_expr.specs.Ratio.{Ratio}
-use Rattle.time_expr.specs.Vars.{value_of_name}
-use Rattle.time_expr.specs.declared.expr.Operator.{Operator}
-use Rattle.time_expr.specs.declared.expr.Expr.{Expr}
-use Rattle.time_expr.specs.declared.expr.Expr.TheOpen.{Expr-F}
-use Rattle.time_expr.specs.declared.expr.Expr.TheFolds.{fold-Expr}
+use Rattle.expr_text.specs.Ratio.{Ratio}
+use Rattle.expr_text.specs.Vars.{value_of_name}
+use Rattle.expr_text.specs.declared.expr.Operator.{Operator}
+use Rattle.expr_text.specs.declared.expr.Expr.{Expr}
+use Rattle.expr_text.specs.declared.expr.Expr.TheOpen.{Expr-F}
+use Rattle.expr_text.specs.declared.expr.Expr.TheFolds.{fold-Expr}
 
 -- those of several operands
 abbrev pub joined : List (List (List ℕ)) → List (List ℕ)

@@ -6,12 +6,12 @@ use Rattle.stil_ast.specs.Faults.Found.{fault_at, on_line}
 use Rattle.stil_ast.specs.declared.fault.StilFault.{StilFault}
 use Rattle.stil_ast.specs.declared.fault.StilKind.{StilKind}
 use Rattle.stil_ast.specs.declared.name.Quoted.{Quoted}
-use Rattle.time_expr.specs.Ratio.{Ratio}
-use Rattle.time_expr.specs.Vars.{value_of_name}
-use Rattle.time_expr.specs.Value.{Outcome, named_of}
+use Rattle.expr_text.specs.Ratio.{Ratio}
+use Rattle.expr_text.specs.Vars.{value_of_name}
+use Rattle.expr_text.specs.Value.{Outcome, named_of}
 use Rattle.time_expr.specs.NamedValue.{met_of}
 use Rattle.time_expr.specs.TimesOf.{times_of}
-use Rattle.time_expr.specs.declared.fault.ExprFault.TheVariants.{NoMemory}
+use Rattle.expr_text.specs.declared.fault.ExprFault.TheVariants.{NoMemory}
 
 -- names that have these values, and no other name is known
 abbrev pub AreNames : (List ℕ → Result Ratio Met) → List (List ℕ × Ratio) → Type 0

@@ -3,13 +3,13 @@
 use Rattle.std.specs.Prelude.{◌≡◌, ℕ, ℤ, pos, Bool, true, false, List, Option, Some, None, Result, Err, if◌then◌else◌}
 use Rattle.std.specs.Ordering.{int_eq}
 use Rattle.stil_ast.specs.Meaning.Times.{Met, in_text, Times}
-use Rattle.time_expr.specs.Ratio.{Ratio}
-use Rattle.time_expr.specs.Tree.{Tree}
-use Rattle.time_expr.specs.Spelling.{Spells, IsFault}
-use Rattle.time_expr.specs.Machine.{read_of}
+use Rattle.expr_text.specs.Ratio.{Ratio}
+use Rattle.expr_text.specs.Tree.{Tree}
+use Rattle.expr_text.specs.Spelling.{Spells, IsFault}
+use Rattle.expr_text.specs.Machine.{read_of}
 use Rattle.time_expr.specs.NamedValue.{kind_of, value_by}
-use Rattle.time_expr.specs.declared.fault.ExprFault.{ExprFault}
-use Rattle.time_expr.specs.declared.fault.ExprFault.TheVariants.{BadExpr, OutOfRange}
+use Rattle.expr_text.specs.declared.fault.ExprFault.{ExprFault}
+use Rattle.expr_text.specs.declared.fault.ExprFault.TheVariants.{BadExpr, OutOfRange}
 
 -- the whole number that a fraction in lowest terms is, if it is one
 abbrev pub whole_of : Ratio → Option ℤ

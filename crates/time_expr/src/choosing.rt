@@ -9,17 +9,16 @@ ghost use Rattle.stil_ast.specs.declared.fault.StilFault.{StilFault};
 ghost use Rattle.stil_ast.specs.declared.fault.StilRefusal.TheVariants as refusal;
 ghost use Rattle.time_expr.specs.TimesOf.{times_of};
 ghost use Rattle.time_expr.specs.TimeIn.{AreNames};
-ghost use Rattle.time_expr.specs.Vars.{value_of_name};
+ghost use Rattle.expr_text.specs.Vars.{value_of_name};
 ghost use Rattle.time_expr.specs.Picked.{place_of, variables_of};
 ghost use Rattle.time_expr.specs.Choosing.{AreKnown, KeepsValues, IsWalked, AreValues, Chooses};
 
-use crate::fraction::Fraction;
 use crate::order::ordered_values;
 use crate::picked::{Picked, Spot, picked_of};
 use crate::stop::{Variables, refused, spot_of};
 use crate::texts::TimeTexts;
-use crate::vars::Vars;
 use crate::walk::walk;
+use expr_text::{Fraction, Vars};
 use std::alloc::Global;
 use stil_ast::{Blocks, ExecDecl, StilKind, StilRefusal};
 

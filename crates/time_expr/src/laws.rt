@@ -1,25 +1,14 @@
 //! Laws of the definitions.
 
-ghost use Rattle.std.specs.Prelude.{◌≡◌, ◌<◌, ◌^◌, ℕ, ℤ, ◌*ℤ◌, unsigned_abs, Bool, List, Result, Ok};
+ghost use Rattle.std.specs.Prelude.{◌≡◌, ℕ, List, Result};
 ghost use Rattle.stil_ast.specs.Meaning.Times.{Met, Times};
-ghost use Rattle.time_expr.specs.Ratio.{Ratio, whole, sum_of, difference_of, product_of, quotient_of, least_of, greatest_of};
-ghost use Rattle.time_expr.specs.Rational.{IsFraction, IsSum, IsDifference, IsProduct, IsRatio, IsLeast, IsGreatest};
-ghost use Rattle.time_expr.specs.Unit.{femtoseconds_of};
-ghost use Rattle.time_expr.specs.Tree.{Tree, number, tree_of};
-ghost use Rattle.time_expr.specs.Value.{named_of, value_of};
-ghost use Rattle.time_expr.specs.Vars.{value_of_name};
+ghost use Rattle.expr_text.specs.Ratio.{Ratio};
+ghost use Rattle.expr_text.specs.Tree.{tree_of};
+ghost use Rattle.expr_text.specs.Value.{named_of, value_of};
+ghost use Rattle.expr_text.specs.Vars.{value_of_name};
 ghost use Rattle.time_expr.specs.NamedValue.{met_of, value_by};
 ghost use Rattle.time_expr.specs.TimesOf.{AreOfLanguage, times_of};
-ghost use Rattle.time_expr.specs.Spelling.{Spells};
-ghost use Rattle.time_expr.specs.declared.unit.Unit.{Unit};
-ghost use Rattle.time_expr.specs.declared.expr.Expr.{Expr};
-
-/// A text spells one expression at most.
-pub fn one_spelling_each()
-    ensures { (text : List ℕ) (tree other : Tree) (in_range also_in_range : Bool)
-        → Spells text tree in_range → Spells text other also_in_range
-        → (tree ≡ other) × (in_range ≡ also_in_range) }
-{}
+ghost use Rattle.expr_text.specs.declared.expr.Expr.{Expr};
 
 /// The evaluation that is computed from texts is that of the language.
 pub fn times_are_of_language()
@@ -36,47 +25,4 @@ pub fn names_are_variables()
     ensures { (names : List ℕ → Result Ratio Met) (vars : List (List ℕ × Ratio)) (expr : Expr)
         → ((name : List ℕ) → names name ≡ met_of (named_of (value_of_name name vars)))
         → value_by names (tree_of expr) ≡ met_of (value_of vars expr) }
-{}
-
-/// Expressions with one tree have one value, wherever they lie in memory.
-pub fn one_value_each()
-    ensures { (vars : List (List ℕ × Ratio)) (expr other : Expr)
-        → tree_of expr ≡ tree_of other → value_of vars expr ≡ value_of vars other }
-{}
-
-/// A whole number in a unit is that many times the unit's femtoseconds, where that is in range.
-pub fn whole_numbers_in_units()
-    ensures { (vars : List (List ℕ × Ratio)) (expr : Expr) (n : ℤ) (unit : Unit) → tree_of expr ≡ number (whole n) unit
-        → unsigned_abs (n *ℤ femtoseconds_of unit) < 2 ^ 127
-        → value_of vars expr ≡ Ok (whole (n *ℤ femtoseconds_of unit)) }
-{}
-
-/// A sum that is in range is that of rational numbers.
-pub fn sums_are_rational()
-    ensures { (r s t : Ratio) → IsFraction r → IsFraction s → sum_of r s ≡ Ok t → IsSum t r s }
-{}
-
-/// A difference that is in range is that of rational numbers.
-pub fn differences_are_rational()
-    ensures { (r s t : Ratio) → IsFraction r → IsFraction s → difference_of r s ≡ Ok t → IsDifference t r s }
-{}
-
-/// A product that is in range is that of rational numbers.
-pub fn products_are_rational()
-    ensures { (r s t : Ratio) → IsFraction r → IsFraction s → product_of r s ≡ Ok t → IsProduct t r s }
-{}
-
-/// A quotient that is in range is that of rational numbers.
-pub fn quotients_are_rational()
-    ensures { (r s t : Ratio) → IsFraction r → IsFraction s → quotient_of r s ≡ Ok t → IsRatio t r s }
-{}
-
-/// The lesser of two, where they can be compared.
-pub fn lesser_is_least()
-    ensures { (r s t : Ratio) → IsFraction r → IsFraction s → least_of r s ≡ Ok t → IsLeast t r s }
-{}
-
-/// The greater of two, where they can be compared.
-pub fn greater_is_greatest()
-    ensures { (r s t : Ratio) → IsFraction r → IsFraction s → greatest_of r s ≡ Ok t → IsGreatest t r s }
 {}

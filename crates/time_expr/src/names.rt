@@ -5,8 +5,7 @@ ghost use Rattle.std.specs.Option.{option_copied};
 ghost use Rattle.text_bytes.specs.Texts.{behind};
 ghost use Rattle.time_expr.specs.Names.{names_of, link_names, operand_names, first_missing};
 
-use crate::expr::{Expr, Operator};
-use crate::vars::Vars;
+use expr_text::{Expr, Operator, Vars};
 use std::alloc::{AllocError, Global};
 
 /// Adds the names in an expression, from the left.

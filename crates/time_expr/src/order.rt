@@ -5,14 +5,11 @@ ghost use Rattle.std.specs.Prelude.{IfOk, IfSome, OnOk};
 ghost use Rattle.time_expr.specs.Picked.{variable_of};
 ghost use Rattle.time_expr.specs.Choosing.{AreKnown, HasOwnValue, IsNext};
 
-use crate::expr::Expr;
-use crate::fraction::Fraction;
 use crate::names::names_of;
 use crate::picked::Picked;
-use crate::read::read_expr;
 use crate::stop::{Variables, spot_of};
-use crate::vars::Vars;
 use crate::walk::own_step;
+use expr_text::{Expr, Fraction, Vars, read_expr};
 use std::alloc::{AllocError, Global};
 
 /// How many names each variable waits for, and which variables wait for each.

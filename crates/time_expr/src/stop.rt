@@ -2,24 +2,20 @@
 
 ghost use Rattle.std.specs.Prelude.{◌≡◌, ℕ, List, Err, true, IfOk, IfSome};
 ghost use Rattle.stil_ast.specs.Faults.Found.{fault_at};
-ghost use Rattle.time_expr.specs.Tree.{tree_of};
-ghost use Rattle.time_expr.specs.Spelling.{Spells};
+ghost use Rattle.expr_text.specs.Tree.{tree_of};
+ghost use Rattle.expr_text.specs.Spelling.{Spells};
 ghost use Rattle.time_expr.specs.TimesOf.{times_of};
 ghost use Rattle.time_expr.specs.NamedValue.{value_by};
 ghost use Rattle.time_expr.specs.Picked.{place_of, variable_of, variables_of};
 ghost use Rattle.time_expr.specs.Choosing.{variable_named, variable_at, variable_in, TellsOf, Follows, Keeps, AreApart, StopsAt, IsStopBy, Reaches};
-ghost use Rattle.time_expr.specs.Value.{value_of};
+ghost use Rattle.expr_text.specs.Value.{value_of};
 ghost use Rattle.time_expr.specs.Names.{names_of, first_missing};
 
-use crate::expr::{Expr, value};
-use crate::fault::ExprFault;
-use crate::fraction::Fraction;
 use crate::names::first_missing;
 use crate::picked::{Picked, Spot};
-use crate::read::read_expr;
 use crate::texts::TimeTexts;
 use crate::time::kind_of;
-use crate::vars::Vars;
+use expr_text::{Expr, ExprFault, Fraction, Vars, read_expr, value};
 use indexmap::IndexMap;
 use std::alloc::{AllocError, Global};
 use std::marker::Model;

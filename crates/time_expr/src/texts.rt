@@ -1,13 +1,11 @@
 //! The expressions that texts spell, so that a text is read once and not once for each executive.
 
 ghost use Rattle.std.specs.Prelude.{◌≡◌, true, IfSome};
-ghost use Rattle.time_expr.specs.Tree.{tree_of};
-ghost use Rattle.time_expr.specs.Spelling.{Spells};
+ghost use Rattle.expr_text.specs.Tree.{tree_of};
+ghost use Rattle.expr_text.specs.Spelling.{Spells};
 ghost use Rattle.time_expr.specs.Kept.{AreSpelled};
 
-use crate::expr::Expr;
-use crate::fault::ExprFault;
-use crate::read::read_expr;
+use expr_text::{Expr, ExprFault, read_expr};
 use indexmap::IndexMap;
 use std::alloc::{AllocError, Global};
 use std::marker::Model;

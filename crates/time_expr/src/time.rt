@@ -6,12 +6,8 @@ ghost use Rattle.time_expr.specs.NamedValue.{kind_of};
 ghost use Rattle.time_expr.specs.TimeIn.{HasTime, IsValueIn};
 ghost use Rattle.time_expr.specs.declared.time.TimeFault.TheVariants as time;
 
-use crate::expr::value;
-use crate::fault::ExprFault;
-use crate::fraction::{Fraction, whole_fs};
-use crate::read::read_expr;
 use crate::texts::TimeTexts;
-use crate::vars::Vars;
+use expr_text::{ExprFault, Fraction, Vars, read_expr, value, whole_fs};
 use std::alloc::Global;
 use stil_ast::{Quoted, StilKind};
 

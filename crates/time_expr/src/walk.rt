@@ -10,11 +10,10 @@ ghost use Rattle.time_expr.specs.Picked.{place_of, variable_of};
 ghost use Rattle.time_expr.specs.Path.{last_of};
 ghost use Rattle.time_expr.specs.Choosing.{IsOpen, GoesBy, GoesUnless, Steps, IsFresh, evaluated, AreKnown, IsWalked};
 
-use crate::fraction::Fraction;
 use crate::picked::{Picked, Spot};
 use crate::selected::{add_name, is_kept};
 use crate::stop::{Stop, Variables, refused, text_value};
-use crate::vars::Vars;
+use expr_text::{Fraction, Vars};
 use indexmap::IndexSet;
 use std::alloc::Global;
 use stil_ast::{StilKind, StilRefusal};

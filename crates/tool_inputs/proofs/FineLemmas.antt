@@ -4,7 +4,7 @@ use Rattle.std.specs.List.{AllByRecursion}
 use Rattle.stil_program.proofs.AnswerLemmas.{no_fault}
 use Rattle.tester_types.specs.Outside.{HasRisen, Files}
 use Rattle.bench_net.proofs.ReadLemmas.{no_fault_where_net}
-use Rattle.page_code.specs.Program.{Program}
+use Rattle.packed_code.specs.Program.{Program}
 use Rattle.page_code.specs.Reading.{load_of}
 use Rattle.page_code.specs.declared.fault.SavedFault.{SavedFault}
 use Rattle.page_code.specs.declared.fault.SavedFault.TheVariants as saved

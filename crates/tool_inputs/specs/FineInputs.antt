@@ -4,7 +4,7 @@ use Rattle.std.specs.List.{AllByRecursion}
 use Rattle.tester_types.specs.Outside.{HasRisen, Files}
 use Rattle.bench_net.specs.Circuit.{Net}
 use Rattle.bench_net.specs.Net.{IsNet}
-use Rattle.page_code.specs.Program.{Program}
+use Rattle.packed_code.specs.Program.{Program}
 use Rattle.plan_rows.specs.declared.row.Row.{Row}
 use Rattle.plan_rows.specs.Rows.{files_of}
 use Rattle.plan_rows.specs.Plan as plans

@@ -12,7 +12,7 @@ use Rattle.plan_rows.specs.Plan as plans
 use Rattle.plan_rows.specs.declared.fault.PlanFault.{PlanFault}
 use Rattle.lot_plan.specs.Bound.{Bound}
 use Rattle.lot_plan.specs.Refusal.{refusal}
-use Rattle.page_code.specs.Program.{Program}
+use Rattle.packed_code.specs.Program.{Program}
 use Rattle.page_code.specs.Saved.{Saved}
 use Rattle.page_code.specs.Reading.{load_of}
 use Rattle.page_code.specs.declared.fault.SavedFault.{SavedFault}

@@ -5,8 +5,8 @@ use Rattle.std.proofs.lemmas.List.{drop_all}
 use Rattle.std.proofs.lemmas.List.FromFn.{length-map-range_with_len, get_or-map-range_with_len}
 use Rattle.text_bytes.proofs.ListLemmas.{drop-item}
 use Rattle.tester_types.specs.declared.cycle.Cycle.{Cycle}
-use Rattle.page_code.specs.Program.{Program}
-use Rattle.page_code.specs.Cycles.{cycles_of}
+use Rattle.packed_code.specs.Program.{Program}
+use Rattle.packed_code.specs.Cycles.{cycles_of}
 use Rattle.die_sim.specs.Socket.{Calls}
 use Rattle.site_meaning.specs.Playing.{Stand, Going}
 use Rattle.site_meaning.specs.Trials.{execs_of, after_cycles}

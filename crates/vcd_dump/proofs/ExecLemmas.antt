@@ -6,7 +6,7 @@ use Rattle.std.proofs.lemmas.Bool.{lt-ltb}
 use Rattle.std.proofs.lemmas.List.{take_all}
 use Rattle.tester_types.specs.declared.cycle.Cycle.{Cycle}
 use Rattle.tester_types.specs.declared.record.Fail.{Fail}
-use Rattle.page_code.specs.Program.{Program}
+use Rattle.packed_code.specs.Program.{Program}
 use Rattle.die_sim.specs.Die.{Image, device_of}
 use Rattle.die_sim.specs.Socket.{Calls}
 use Rattle.strobe_check.specs.History.{HasSeen, Answers, total_of}

@@ -10,11 +10,11 @@ use Rattle.tester_types.specs.declared.wave.Table.{Table}
 use Rattle.tester_types.specs.declared.level.Drive.{Drive}
 use Rattle.tester_types.specs.declared.cycle.Cycle.{Cycle}
 use Rattle.tester_types.specs.declared.cycle.Moment.{Moment}
-use Rattle.page_code.specs.Program.{Program}
-use Rattle.page_code.specs.Conditions.{IsProgram}
-use Rattle.page_code.specs.Cycles.{period_of}
-use Rattle.page_code.specs.Walk.{IsOf}
-use Rattle.page_code.proofs.WalkLemmas.{period_fits}
+use Rattle.packed_code.specs.Program.{Program}
+use Rattle.packed_code.specs.Conditions.{IsProgram}
+use Rattle.packed_code.specs.Cycles.{period_of}
+use Rattle.packed_code.specs.Walk.{IsOf}
+use Rattle.packed_code.proofs.WalkLemmas.{period_fits}
 use Rattle.edge_gen.specs.Moments as edge
 use Rattle.die_sim.specs.Die.{Device}
 use Rattle.die_sim.specs.Socket.{Calls}

@@ -13,10 +13,10 @@ use Rattle.text_bytes.specs.Bytes.{begins_name, is_word}
 use Rattle.text_bytes.specs.Limits.{longest_name, most_signals}
 use Rattle.tester_types.specs.declared.wave.Push.{Push}
 use Rattle.tester_types.specs.declared.level.Drive.{Drive}
-use Rattle.page_code.specs.declared.parts.CodeSignal.{CodeSignal}
-use Rattle.page_code.specs.Program.{Program}
-use Rattle.page_code.specs.Conditions.{IsProgram, IsSignal}
-use Rattle.page_code.proofs.Lists.{behind_at}
+use Rattle.packed_code.specs.declared.parts.CodeSignal.{CodeSignal}
+use Rattle.packed_code.specs.Program.{Program}
+use Rattle.packed_code.specs.Conditions.{IsProgram, IsSignal}
+use Rattle.packed_code.proofs.Lists.{behind_at}
 use Rattle.die_sim.specs.Die.{Device}
 use Rattle.site_meaning.specs.Playing.{is_driven, handed}
 use Rattle.cycle_run.specs.Step as step

@@ -6,11 +6,11 @@ use Rattle.page_meaning.specs.declared.instr.Entry.{Entry}
 use Rattle.page_meaning.specs.declared.course.Course.{Course}
 use Rattle.page_meaning.specs.Meaning.{Means}
 use Rattle.page_meaning.proofs.CourseLemmas.{starts_on, starts_with}
-use Rattle.page_code.specs.Program.{Program}
-use Rattle.page_code.specs.Conditions.{IsProgram}
-use Rattle.page_code.specs.Cycles.{timed, period_of, exec_of, cycles_of}
-use Rattle.page_code.specs.Walk.{IsOf}
-use Rattle.page_code.proofs.WalkLemmas.{exec_is, begins_over}
+use Rattle.packed_code.specs.Program.{Program}
+use Rattle.packed_code.specs.Conditions.{IsProgram}
+use Rattle.packed_code.specs.Cycles.{timed, period_of, exec_of, cycles_of}
+use Rattle.packed_code.specs.Walk.{IsOf}
+use Rattle.packed_code.proofs.WalkLemmas.{exec_is, begins_over}
 use Rattle.die_sim.specs.Die.{device_of}
 use Rattle.plan_rows.specs.Rows.{dies_at}
 use Rattle.lot_plan.specs.Bound.{Bound, image_of}

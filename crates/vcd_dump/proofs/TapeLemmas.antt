@@ -9,9 +9,9 @@ use Rattle.tester_types.specs.declared.level.Drive.{Drive}
 use Rattle.tester_types.specs.declared.record.By.TheVariants as by
 use Rattle.tester_types.specs.declared.record.Verdict.TheVariants as verdict
 use Rattle.tester_types.specs.declared.cycle.Cycle.{Cycle}
-use Rattle.page_code.specs.Program.{Program}
-use Rattle.page_code.specs.Conditions.{IsProgram}
-use Rattle.page_code.specs.Cycles.{cycles_of}
+use Rattle.packed_code.specs.Program.{Program}
+use Rattle.packed_code.specs.Conditions.{IsProgram}
+use Rattle.packed_code.specs.Cycles.{cycles_of}
 use Rattle.die_sim.specs.Die.{device_of}
 use Rattle.die_sim.specs.Socket.{Calls}
 use Rattle.plan_rows.specs.declared.row.LotRow.{LotRow}

@@ -9,7 +9,7 @@ use Rattle.std.proofs.lemmas.List.Elements.{All-from_recursion}
 use Rattle.text_bytes.specs.Limits.{most_signals}
 use Rattle.strobe_check.proofs.ListLemmas.{range-push}
 use Rattle.tester_types.specs.declared.level.Drive.{Drive}
-use Rattle.page_code.specs.Program.{Program}
+use Rattle.packed_code.specs.Program.{Program}
 use Rattle.die_sim.specs.Die.{Device, device_of}
 use Rattle.die_sim.specs.Socket.{Calls}
 use Rattle.lot_plan.specs.Bound.{Bound, image_of}

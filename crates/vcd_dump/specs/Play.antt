@@ -1,7 +1,7 @@
 -- Cycles of an executive that are played while there aren't too many drives; no public clause cites it.
 use Rattle.std.specs.Prelude.{◌≡◌, ℕ, ◌+◌, ◌-◌, ◌*◌, ◌/◌, ◌≤◌, ℤ, min, nat_le, not, ◌&&◌, Bool, true, false, Option, Some, None, List, [], ◌∷◌, ◌++◌, take, length, if◌then◌else◌}
 use Rattle.tester_types.specs.declared.cycle.Cycle.{Cycle}
-use Rattle.page_code.specs.Program.{Program}
+use Rattle.packed_code.specs.Program.{Program}
 use Rattle.die_sim.specs.Die.{Image, device_of}
 use Rattle.die_sim.specs.Socket.{Calls}
 use Rattle.strobe_check.specs.History.{HasSeen}

@@ -3,8 +3,8 @@ use Rattle.std.specs.Prelude.{◌≡◌, ℕ, false, Option, List, [], ◌∷◌
 use Rattle.std.specs.List.{flat_map, range_with_len}
 use Rattle.std.specs.Option.{option_map_or}
 use Rattle.tester_types.specs.declared.level.Drive.{Drive}
-use Rattle.page_code.specs.declared.parts.CodeSignal.{CodeSignal}
-use Rattle.page_code.specs.Program.{Program}
+use Rattle.packed_code.specs.declared.parts.CodeSignal.{CodeSignal}
+use Rattle.packed_code.specs.Program.{Program}
 use Rattle.die_sim.specs.Die.{Device, device_of}
 use Rattle.die_sim.specs.Socket.{Calls}
 use Rattle.lot_plan.specs.Bound.{Bound, image_of}

@@ -1,7 +1,7 @@
 //! The executives of a try, one after another, up to the first with a fail or the order of the plan.
 
 ghost use Rattle.std.specs.Prelude.{◌≡◌, ◌+◌, ◌*◌, ◌≤◌, ◌<◌, ◌^◌, length, IfOk};
-ghost use Rattle.page_code.specs.Cycles.{cycles_of};
+ghost use Rattle.packed_code.specs.Cycles.{cycles_of};
 ghost use Rattle.bench_net.specs.Circuit.{IsWhole};
 ghost use Rattle.die_sim.specs.Die.{device_of};
 ghost use Rattle.site_meaning.specs.Trials.{execs_of};
@@ -11,7 +11,7 @@ ghost use Rattle.vcd_dump.specs.Play.{allowed, order_behind, calls_from, going_o
 
 use crate::play::{Way, play_cycles};
 use die_sim::DieImage;
-use page_code::{Code, walk};
+use packed_code::{Code, walk};
 use tester_types::NoMemory;
 
 /// What comes behind an executive.

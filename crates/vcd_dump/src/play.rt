@@ -1,8 +1,8 @@
 //! Cycles of an executive, played one after another with no walk stored.
 
 ghost use Rattle.std.specs.Prelude.{◌≡◌, ◌+◌, ◌*◌, ◌≤◌, ◌<◌, ◌^◌, ◌∷◌, Some, None, false, length, take, drop, IfOk, OnOk, IfSome, IfNone};
-ghost use Rattle.page_code.specs.Conditions.{IsProgram};
-ghost use Rattle.page_code.specs.Walk.{IsOf, IsOver, cycles_left};
+ghost use Rattle.packed_code.specs.Conditions.{IsProgram};
+ghost use Rattle.packed_code.specs.Walk.{IsOf, IsOver, cycles_left};
 ghost use Rattle.bench_net.specs.Circuit.{IsWhole};
 ghost use Rattle.die_sim.specs.Die.{device_of};
 ghost use Rattle.cycle_run.specs.Cycle.{point_at, stand_of, IsBetween};
@@ -15,7 +15,7 @@ use crate::recorder::Recorder;
 use cycle_run::{Bench, Place, make_cycle};
 use die_sim::DieImage;
 use edge_gen::Schedules;
-use page_code::{Code, Walk};
+use packed_code::{Code, Walk};
 use tester_types::NoMemory;
 
 /// A try that is under way, between two cycles.

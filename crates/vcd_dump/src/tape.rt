@@ -20,7 +20,7 @@ use cycle_run::Bench;
 use die_sim::{DieImage, Socket, Tape};
 use edge_gen::Schedules;
 use lot_plan::BoundPlan;
-use page_code::Code;
+use packed_code::Code;
 use std::alloc::Global;
 use tester_types::NoMemory;
 

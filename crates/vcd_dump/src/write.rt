@@ -14,7 +14,7 @@ ghost use Rattle.vcd_dump.specs.Written.{var_text, front_text, back_text};
 
 use die_sim::{DieImage, Tape};
 use lot_plan::BoundPlan;
-use page_code::Code;
+use packed_code::Code;
 use tester_types::{Sink, SinkFault};
 use vcd_text::{is_plain, put_calls, put_definitions, put_numbered_var, put_start, put_var};
 

@@ -3,7 +3,7 @@ use Rattle.std.proofs.Common.{◌≡◌, ◌≢◌, ◌⊎◌, ℕ, ◌+◌, ◌
 use Rattle.std.proofs.lemmas.List.{get_or-take, get_or_past, get_or_default, length-take}
 use Rattle.std.proofs.lemmas.Bool.{cases_lt, cases_eq, cases_Bool, or_parts, true≢false}
 use Rattle.stil_ast.specs.Faults.TableFaults.{Timed}
-use Rattle.time_expr.specs.Ratio.{Ratio}
+use Rattle.expr_text.specs.Ratio.{Ratio}
 use Rattle.wave_tables.specs.declared.lineage.Whole.{Whole}
 use Rattle.wave_tables.specs.Lineage.{is_there, IsMade, AreMadeAt, IsAdded, AddsAt, Adds}
 

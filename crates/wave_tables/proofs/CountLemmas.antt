@@ -12,7 +12,7 @@ use Rattle.stil_ast.specs.Meaning.Tables.{Waveform, waveforms, waveform_of, wave
 use Rattle.stil_ast.specs.declared.timing.TableDecl.{TableDecl}
 use Rattle.tester_types.specs.declared.wave.Wave.{Wave}
 use Rattle.tester_types.specs.declared.wave.Table.{Table}
-use Rattle.time_expr.specs.Ratio.{Ratio}
+use Rattle.expr_text.specs.Ratio.{Ratio}
 use Rattle.time_expr.specs.TimesOf.{times_of}
 use Rattle.wave_tables.specs.Laws.{WavesAreCounted}
 use Rattle.wave_tables.proofs.RowLemmas.{sum_agree}

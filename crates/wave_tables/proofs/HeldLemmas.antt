@@ -17,7 +17,7 @@ use Rattle.stil_ast.specs.declared.timing.SignalWaves.{SignalWaves}
 use Rattle.stil_ast.specs.declared.timing.TableDecl.{TableDecl}
 use Rattle.tester_types.specs.declared.wave.Act.{Act}
 use Rattle.tester_types.specs.declared.wave.Event.{Event}
-use Rattle.time_expr.specs.Ratio.{Ratio}
+use Rattle.expr_text.specs.Ratio.{Ratio}
 use Rattle.wave_tables.specs.declared.times.ReadWave.{ReadWave}
 use Rattle.wave_tables.specs.Own.{waves_for, own_for, numbered_from}
 use Rattle.wave_tables.specs.ReadWaves.{kind_met, read_event, read_wave, read_waves}

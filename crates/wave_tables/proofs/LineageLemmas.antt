@@ -10,7 +10,7 @@ use Rattle.stil_ast.specs.Meaning.Tables.{Waveform, own_of, own_waveforms, own_p
 use Rattle.stil_ast.specs.Faults.TableFaults.{Timed}
 use Rattle.stil_ast.specs.declared.name.Quoted.{Quoted}
 use Rattle.stil_ast.specs.declared.timing.TableDecl.{TableDecl}
-use Rattle.time_expr.specs.Ratio.{Ratio}
+use Rattle.expr_text.specs.Ratio.{Ratio}
 use Rattle.wave_tables.specs.declared.times.ReadTime.{ReadTime}
 use Rattle.wave_tables.specs.declared.lineage.Whole.{Whole}
 use Rattle.wave_tables.specs.Sources.{Maps}

@@ -8,7 +8,7 @@ use Rattle.stil_ast.proofs.InheritLemmas.{lineage_follows}
 use Rattle.stil_ast.specs.Meaning.Tables.{inherited_by, inherited, lineage, goes_on, leads_into_cycle}
 use Rattle.stil_ast.specs.Faults.TableFaults.{Timed}
 use Rattle.stil_ast.specs.declared.timing.TableDecl.{TableDecl}
-use Rattle.time_expr.specs.Ratio.{Ratio}
+use Rattle.expr_text.specs.Ratio.{Ratio}
 use Rattle.wave_tables.specs.declared.lineage.Whole.{Whole}
 use Rattle.wave_tables.specs.Lineage.{is_there, HasOf, AreMadeAt, Adds, HaveAll, IsLevel, AreWhole}
 use Rattle.wave_tables.proofs.TakenLemmas.{item_passes}

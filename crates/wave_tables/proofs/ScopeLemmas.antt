@@ -7,7 +7,7 @@ use Rattle.stil_ast.specs.Meaning.Members.{members, followed, none_where, refere
 use Rattle.stil_ast.specs.declared.name.Quoted.{Quoted}
 use Rattle.stil_ast.specs.declared.name.SigRef.{SigRef}
 use Rattle.stil_ast.specs.declared.fault.StilKind.{StilKind}
-use Rattle.time_expr.specs.Ratio.{Ratio}
+use Rattle.expr_text.specs.Ratio.{Ratio}
 use Rattle.time_expr.specs.TimesOf.{times_of}
 use Rattle.time_expr.specs.TimeIn.{AreNames, HasTime, in_line}
 use Rattle.time_expr.specs.declared.time.TimeFault.TheVariants.{NoMemory, Refused}

@@ -19,7 +19,7 @@ use Rattle.stil_ast.specs.declared.name.SigRef.{SigRef}
 use Rattle.stil_ast.specs.declared.timing.EventDecl.{EventDecl}
 use Rattle.stil_ast.specs.declared.timing.WaveDecl.{WaveDecl}
 use Rattle.stil_ast.specs.declared.timing.SignalWaves.{SignalWaves}
-use Rattle.time_expr.specs.Ratio.{Ratio}
+use Rattle.expr_text.specs.Ratio.{Ratio}
 use Rattle.wave_tables.specs.declared.source.Source.{Source}
 use Rattle.wave_tables.specs.declared.times.ReadWave.{ReadWave}
 use Rattle.wave_tables.specs.Letters.{has_letters}

@@ -13,7 +13,7 @@ use Rattle.stil_ast.specs.declared.fault.StilFault.{StilFault}
 use Rattle.stil_ast.specs.declared.fault.StilKind.TheVariants.{TooLarge}
 use Rattle.stil_ast.specs.declared.name.Named.{Named}
 use Rattle.stil_ast.specs.declared.timing.TableDecl.{TableDecl}
-use Rattle.time_expr.specs.Ratio.{Ratio}
+use Rattle.expr_text.specs.Ratio.{Ratio}
 use Rattle.wave_tables.specs.declared.lineage.Whole.{Whole}
 use Rattle.wave_tables.specs.Lineage.{AreWhole}
 use Rattle.wave_tables.specs.Check.{count_fault, behind_names}

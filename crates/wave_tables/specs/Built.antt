@@ -6,7 +6,7 @@ use Rattle.stil_ast.specs.Faults.TableFaults.{Timed, tables_fault}
 use Rattle.stil_ast.specs.declared.fault.StilFault.{StilFault}
 use Rattle.stil_ast.specs.declared.fault.StilRefusal.{StilRefusal}
 use Rattle.tester_types.specs.declared.wave.Table.{Table}
-use Rattle.time_expr.specs.Ratio.{Ratio}
+use Rattle.expr_text.specs.Ratio.{Ratio}
 use Rattle.wave_tables.specs.declared.trouble.Trouble.{Trouble}
 use Rattle.wave_tables.specs.Check.{IsAt}
 

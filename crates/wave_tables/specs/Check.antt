@@ -11,7 +11,7 @@ use Rattle.stil_ast.specs.declared.fault.StilKind.TheVariants.{EventOutside, Too
 use Rattle.stil_ast.specs.declared.timing.SignalWaves.{SignalWaves}
 use Rattle.wave_tables.specs.declared.times.ReadEvent.{ReadEvent}
 use Rattle.stil_ast.specs.declared.timing.WaveDecl.{WaveDecl}
-use Rattle.time_expr.specs.Ratio.{Ratio}
+use Rattle.expr_text.specs.Ratio.{Ratio}
 use Rattle.stil_ast.specs.Data.Places.{Place}
 use Rattle.stil_ast.specs.Faults.Found.{fault_at, on_line, unless, or_else, first_in}
 use Rattle.stil_ast.specs.declared.fault.StilFault.{StilFault}

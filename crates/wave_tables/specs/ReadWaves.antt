@@ -9,7 +9,7 @@ use Rattle.stil_ast.specs.declared.timing.SignalWaves.{SignalWaves}
 use Rattle.stil_ast.specs.declared.timing.TableDecl.{TableDecl}
 use Rattle.stil_ast.specs.declared.fault.StilFault.{StilFault}
 use Rattle.stil_ast.specs.declared.fault.StilKind.{StilKind}
-use Rattle.time_expr.specs.Ratio.{Ratio}
+use Rattle.expr_text.specs.Ratio.{Ratio}
 use Rattle.wave_tables.specs.declared.times.ReadTime.{ReadTime}
 use Rattle.wave_tables.specs.declared.times.ReadEvent.{ReadEvent}
 use Rattle.wave_tables.specs.declared.times.ReadWave.{ReadWave}

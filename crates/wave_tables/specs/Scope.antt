@@ -4,7 +4,7 @@ use Rattle.stil_ast.specs.Meaning.Times.{time_at}
 use Rattle.stil_ast.specs.Faults.TableFaults.{Timed}
 use Rattle.stil_ast.specs.Faults.ExecutiveFaults.{timed_of}
 use Rattle.stil_ast.specs.declared.name.Quoted.{Quoted}
-use Rattle.time_expr.specs.Ratio.{Ratio}
+use Rattle.expr_text.specs.Ratio.{Ratio}
 use Rattle.time_expr.specs.TimesOf.{times_of}
 use Rattle.time_expr.specs.TimeIn.{in_line}
 use Rattle.wave_tables.specs.declared.scope.Scope.{Scope}

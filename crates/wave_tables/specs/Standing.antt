@@ -8,7 +8,7 @@ use Rattle.stil_ast.specs.Meaning.Tables.{Waveform, waveforms}
 use Rattle.stil_ast.specs.Faults.TableFaults.{Timed}
 use Rattle.stil_ast.specs.declared.name.SigRef.{SigRef}
 use Rattle.stil_ast.specs.declared.timing.WaveDecl.{WaveDecl}
-use Rattle.time_expr.specs.Ratio.{Ratio}
+use Rattle.expr_text.specs.Ratio.{Ratio}
 use Rattle.wave_tables.specs.declared.source.Source.{Source}
 use Rattle.wave_tables.specs.declared.times.ReadWave.{ReadWave}
 use Rattle.wave_tables.specs.ReadWaves.{read_wave}

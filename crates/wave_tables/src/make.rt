@@ -4,7 +4,7 @@ ghost use Rattle.std.specs.Prelude.{◌≡◌, ◌<◌, ℕ, Some, false, length
 ghost use Rattle.stil_ast.specs.Faults.TableFaults.{Timed};
 ghost use Rattle.stil_ast.specs.Meaning.Tables.{lineage, leads_into_cycle, period_of, made_table, made_tables};
 ghost use Rattle.stil_ast.specs.declared.name.Quoted.{Quoted};
-ghost use Rattle.time_expr.specs.Ratio.{Ratio};
+ghost use Rattle.expr_text.specs.Ratio.{Ratio};
 ghost use Rattle.wave_tables.specs.Scope.{timed};
 ghost use Rattle.wave_tables.specs.Lineage.{IsPeriod, HasOf, AreWhole};
 ghost use Rattle.wave_tables.specs.ReadWaves.{read_waves};

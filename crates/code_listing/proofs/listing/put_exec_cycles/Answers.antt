@@ -6,11 +6,11 @@ use Rattle.tester_types.specs.declared.cycle.Cycle.{Cycle}
 use Rattle.tester_types.specs.declared.wave.Table.{Table}
 use Rattle.tester_types.specs.Outside.{gained}
 use Rattle.tester_types.proofs.OutsideLemmas.{gained-none, gained_both}
-use Rattle.page_code.specs.Walk.{cycles_left}
+use Rattle.packed_code.specs.Walk.{cycles_left}
 use Rattle.code_listing.specs.Listing.{no_table, listed, listed_exec, time_of}
 use Rattle.code_listing.specs.Room.{text_of}
 use Rattle.code_listing.proofs.LineLemmas.{lines_both, lists_stops}
-use Rattle.page_code.proofs.WalkLemmas.{length-cycles}
+use Rattle.packed_code.proofs.WalkLemmas.{length-cycles}
 use Rattle.code_listing.proofs.ListingLemmas.{listed_from, text_lines, whole-next, time-next, length-next, none-left, all-put, all-timed}
 use Rattle.code_listing.proofs.listing.put_exec_cycles.Goals as goal
 

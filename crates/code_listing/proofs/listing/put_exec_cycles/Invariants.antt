@@ -1,8 +1,8 @@
 use Rattle.std.proofs.Common.{◌≡◌, ◌≤◌, ◌+◌, ◌++◌, List, ℕ, length}
 use Rattle.std.specs.List.{flat_map}
 use Rattle.tester_types.specs.Outside.{gained}
-use Rattle.page_code.specs.Cycles.{cycles_of}
-use Rattle.page_code.specs.Walk.{IsOver, cycles_left}
+use Rattle.packed_code.specs.Cycles.{cycles_of}
+use Rattle.packed_code.specs.Walk.{IsOver, cycles_left}
 use Rattle.code_listing.specs.Listing.{listed_exec, time_of}
 use Rattle.code_listing.specs.Lines.{AreLines}
 use Rattle.code_listing.specs.Room.{Fits, text_of}

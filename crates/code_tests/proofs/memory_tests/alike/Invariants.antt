@@ -1,5 +1,5 @@
 use Rattle.std.proofs.Common.{◌≡◌}
-use Rattle.page_code.specs.Walk.{IsOver}
+use Rattle.packed_code.specs.Walk.{IsOver}
 use Rattle.pattern_mem.specs.Cursor.{IsCursorOf}
 use Rattle.code_tests.proofs.memory_tests.alike.Given as goal
 

@@ -1,5 +1,5 @@
 use Rattle.std.proofs.Common.{◌≡◌, length}
-use Rattle.page_code.specs.Cycles.{pages_of}
+use Rattle.packed_code.specs.Cycles.{pages_of}
 use Rattle.code_tests.proofs.memory_tests.two_frames_hold_the_pages_that_were_asked_for_last.Given as goal
 
 abbrev pub invariant-loop-page : goal.invariant-loop-page

@@ -4,8 +4,8 @@ use Rattle.tester_types.specs.declared.wave.Table.{Table}
 use Rattle.stil_ast.specs.Faults.CodeFaults.{compile_faults}
 use Rattle.stil_ast.specs.Meaning.ExecutiveData.{Executive, tables_of}
 use Rattle.stil_ast.specs.Meaning.Signals.{names_of}
-use Rattle.page_code.specs.Conditions.{IsProgram}
-use Rattle.page_code.specs.Program.{Exec, Program, code_of}
+use Rattle.packed_code.specs.Conditions.{IsProgram}
+use Rattle.packed_code.specs.Program.{Exec, Program, code_of}
 use Rattle.cycle_comp.specs.Compiled.{IsCodeOf}
 use Rattle.cycle_comp.specs.Working.{IsFit}
 use Rattle.cycle_comp.proofs.CodeLemmas.{few_tables, fits, count_is, built_here, program_is, code_is}

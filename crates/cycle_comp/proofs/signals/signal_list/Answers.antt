@@ -1,7 +1,7 @@
 use Rattle.std.proofs.Common.{◌≡◌, ◌∙◌, ◌++◌, ◌∷◌, [], map, sym, ap, List, ℕ, Some}
 use Rattle.std.specs.Prelude.{slice_get}
 use Rattle.signal_groups.specs.Table.{Table}
-use Rattle.page_code.specs.declared.parts.CodeSignal.{CodeSignal}
+use Rattle.packed_code.specs.declared.parts.CodeSignal.{CodeSignal}
 use Rattle.cycle_comp.proofs.StepLemmas.{signal-next}
 use Rattle.cycle_comp.proofs.signals.signal_list.Goals as goal
 

@@ -1,6 +1,6 @@
 use Rattle.std.proofs.Common.{List, subst, sym}
 use Rattle.tester_types.specs.Records.{SiteRecords, records_of}
-use Rattle.page_code.specs.Program.{Program}
+use Rattle.packed_code.specs.Program.{Program}
 use Rattle.datalog.specs.Printable.{ArePrintable}
 use Rattle.datalog.proofs.PrintableLemmas.{printable_book}
 use Rattle.datalog.proofs.lot.print_lot.Goals as goal

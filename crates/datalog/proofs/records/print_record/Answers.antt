@@ -1,5 +1,5 @@
 use Rattle.std.proofs.Common.{subst}
-use Rattle.page_code.specs.Program.{Program}
+use Rattle.packed_code.specs.Program.{Program}
 use Rattle.datalog.specs.Printable.{IsPrintable}
 use Rattle.datalog.proofs.PrintableLemmas.{printable_alone}
 use Rattle.datalog.proofs.records.print_record.Goals as goal

@@ -1,9 +1,9 @@
 use Rattle.std.proofs.Common.{◌≡◌, ◌+◌, ◌∙◌, List, length, drop, ap, arith, refl, sym, subst}
 use Rattle.std.proofs.lemmas.List.{length-drop}
 use Rattle.tester_types.specs.declared.cycle.Cycle.{Cycle}
-use Rattle.page_code.specs.Cycles.{cycles_of}
-use Rattle.page_code.specs.Walk.{cycles_left}
-use Rattle.page_code.proofs.WalkLemmas.{length-cycles}
+use Rattle.packed_code.specs.Cycles.{cycles_of}
+use Rattle.packed_code.specs.Walk.{cycles_left}
+use Rattle.packed_code.proofs.WalkLemmas.{length-cycles}
 use Rattle.die_sim.specs.Die.{device_of}
 use Rattle.cycle_run.specs.Cycle.{point_at, stand_of}
 use Rattle.cycle_run.specs.Batch.{between_at, PlaysCycles}

@@ -1,6 +1,6 @@
 use Rattle.std.proofs.Common.{◌≡◌, ◌≤◌, ◌+◌, ◌*◌, length, take, drop}
-use Rattle.page_code.specs.Walk.{IsOver, cycles_left}
-use Rattle.page_code.specs.Cycles.{cycles_of}
+use Rattle.packed_code.specs.Walk.{IsOver, cycles_left}
+use Rattle.packed_code.specs.Cycles.{cycles_of}
 use Rattle.die_sim.specs.Die.{device_of}
 use Rattle.cycle_run.specs.Cycle.{point_at, stand_of}
 use Rattle.cycle_run.specs.Batch.{between_at, PlaysCycles}

@@ -1,6 +1,6 @@
 use Rattle.std.proofs.Common.{◌≡◌, ◌<◌, ◌∙◌, ℕ, ℤ, Option, IfOk, IfSome, List, length, ap, sym, subst}
 use Rattle.std.specs.Prelude.{option_to_list}
-use Rattle.page_code.specs.Program.{Program}
+use Rattle.packed_code.specs.Program.{Program}
 use Rattle.die_sim.specs.Die.{Image}
 use Rattle.lot_plan.specs.Bound.{image_of}
 use Rattle.lot_plan.specs.Skews.{site_skews}

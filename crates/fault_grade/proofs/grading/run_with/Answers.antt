@@ -1,5 +1,5 @@
 use Rattle.std.proofs.Common.{◌≡◌, ◌∙◌, ℤ, IfOk, List, length, ap, arith, sym, subst}
-use Rattle.page_code.specs.Program.{Program}
+use Rattle.packed_code.specs.Program.{Program}
 use Rattle.die_sim.specs.Die.{Image}
 use Rattle.lot_plan.specs.Bound.{image_of}
 use Rattle.lot_plan.specs.Skews.{site_skews}

@@ -2,10 +2,10 @@ use Rattle.std.proofs.Common.{◌∙◌, subst}
 use Rattle.std.proofs.lemmas.Option.{get_or_from_slice_get}
 use Rattle.page_meaning.specs.declared.instr.Instr.{Instr}
 use Rattle.page_meaning.specs.declared.instr.Instr.TheVariants.{Done}
-use Rattle.page_code.specs.Conditions.{IsInstr}
-use Rattle.page_code.specs.Cycles.{exec_of}
-use Rattle.page_code.proofs.Lists.{each_at}
-use Rattle.page_code.proofs.WalkLemmas.{exec_is}
+use Rattle.packed_code.specs.Conditions.{IsInstr}
+use Rattle.packed_code.specs.Cycles.{exec_of}
+use Rattle.packed_code.proofs.Lists.{each_at}
+use Rattle.packed_code.proofs.WalkLemmas.{exec_is}
 use Rattle.fault_grade.proofs.lent.run_at.Goals as goal
 
 pub returns-in-Run : goal.returns-in-Run

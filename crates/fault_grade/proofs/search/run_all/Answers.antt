@@ -1,5 +1,5 @@
 use Rattle.std.proofs.Common.{◌∙◌, Bool, ap, arith, refl, subst}
-use Rattle.page_code.specs.Cycles.{cycles_of}
+use Rattle.packed_code.specs.Cycles.{cycles_of}
 use Rattle.die_sim.specs.Die.{device_of}
 use Rattle.site_meaning.specs.Playing.{Going}
 use Rattle.cycle_run.specs.Cycle.{point_at, going_at, stand_of}

@@ -1,7 +1,7 @@
 use Rattle.std.proofs.Common.{◌∙◌, List, ap, map, subst}
 use Rattle.std.specs.Arc.{arc_value}
 use Rattle.std.proofs.lemmas.List.{length-map}
-use Rattle.page_code.specs.declared.parts.CodeSignal.{CodeSignal}
+use Rattle.packed_code.specs.declared.parts.CodeSignal.{CodeSignal}
 use Rattle.lot_plan.specs.Needs.{needs_of, clock_of}
 use Rattle.lot_plan.specs.Refusal.{AreBindings}
 use Rattle.lot_plan.specs.Bound.{Bound}

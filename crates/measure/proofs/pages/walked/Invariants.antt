@@ -1,4 +1,4 @@
-use Rattle.page_code.specs.Walk.{IsOver}
+use Rattle.packed_code.specs.Walk.{IsOver}
 use Rattle.measure.proofs.pages.walked.Given as goal
 
 abbrev pub invariant-loop : goal.invariant-loop

@@ -2,7 +2,7 @@ use Rattle.std.proofs.Common.{List, subst, sym, arith}
 use Rattle.std.specs.List.{AllByRecursion}
 use Rattle.std.proofs.lemmas.Result.{err_from_is_err_and}
 use Rattle.tester_types.specs.declared.wave.Table.{Table}
-use Rattle.page_code.specs.Conditions.{IsRising}
+use Rattle.packed_code.specs.Conditions.{IsRising}
 use Rattle.page_code.proofs.LoadLemmas.{reads_earlier, program_made, program_stops, tables_rising}
 use Rattle.page_code.proofs.loading.read_parts.Goals as goal
 

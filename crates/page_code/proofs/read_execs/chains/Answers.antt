@@ -2,7 +2,7 @@ use Rattle.std.proofs.Common.{[], List, Ok, ap, sym, ◌∙◌}
 use Rattle.std.proofs.lemmas.Result.{err_from_is_err_and}
 use Rattle.page_code.specs.Fields.{items_at}
 use Rattle.page_code.specs.Reading.{chain_at}
-use Rattle.page_code.specs.declared.parts.CodeChain.{CodeChain}
+use Rattle.packed_code.specs.declared.parts.CodeChain.{CodeChain}
 use Rattle.page_code.proofs.ItemsLemmas.{goes_on, stops, is_done}
 use Rattle.page_code.proofs.read_execs.chains.Goals as goal
 

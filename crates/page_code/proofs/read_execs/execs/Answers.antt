@@ -2,7 +2,7 @@ use Rattle.std.proofs.Common.{[], List, Ok, ap, sym, ◌∙◌, rules}
 use Rattle.std.proofs.lemmas.Result.{err_from_is_err_and}
 use Rattle.page_code.specs.Fields.{items_at}
 use Rattle.page_code.specs.Reading.{exec_at}
-use Rattle.page_code.specs.Program.{Exec}
+use Rattle.packed_code.specs.Program.{Exec}
 use Rattle.page_code.proofs.AcceptedLemmas.{none_accepted}
 use Rattle.page_code.proofs.ItemsLemmas.{goes_on, stops, is_done}
 use Rattle.page_code.proofs.read_execs.execs.Goals as goal

@@ -4,7 +4,7 @@ use Rattle.std.proofs.lemmas.List.{length-set}
 use Rattle.page_code.specs.Fields.{Fails, items_at}
 use Rattle.page_code.specs.Reading.{change_from, change_at}
 use Rattle.page_code.proofs.ItemsLemmas.{goes_on, is_done, changed_stops}
-use Rattle.page_code.proofs.ChangesLemmas.{less_none, least_push, with_more}
+use Rattle.packed_code.proofs.ChangesLemmas.{less_none, least_push, with_more}
 use Rattle.page_code.proofs.read_rows.changed.Goals as goal
 
 pub loop-init : goal.loop-init

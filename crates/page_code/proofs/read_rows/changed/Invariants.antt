@@ -1,7 +1,7 @@
 use Rattle.std.proofs.Common.{◌≡◌, ◌-◌, ℕ, List, [], length}
-use Rattle.page_code.specs.Changes.{with_changes}
+use Rattle.packed_code.specs.Changes.{with_changes, least_behind}
 use Rattle.page_code.specs.Fields.{items_at}
-use Rattle.page_code.specs.Reading.{least_behind, change_at}
+use Rattle.page_code.specs.Reading.{change_at}
 use Rattle.page_code.proofs.read_rows.changed.Given as goal
 
 abbrev pub invariant-loop : goal.invariant-loop

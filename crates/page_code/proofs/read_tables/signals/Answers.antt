@@ -2,7 +2,7 @@ use Rattle.std.proofs.Common.{◌≡◌, [], List, Ok, ap, subst, sym, ◌∙◌
 use Rattle.std.proofs.lemmas.Result.{err_from_is_err_and}
 use Rattle.page_code.specs.Fields.{Fails, items_at}
 use Rattle.page_code.specs.Reading.{signal_at}
-use Rattle.page_code.specs.declared.parts.CodeSignal.{CodeSignal}
+use Rattle.packed_code.specs.declared.parts.CodeSignal.{CodeSignal}
 use Rattle.page_code.proofs.ItemsLemmas.{goes_on, stops, is_done}
 use Rattle.page_code.proofs.read_tables.signals.Goals as goal
 

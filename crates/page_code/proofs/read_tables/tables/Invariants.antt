@@ -1,7 +1,7 @@
 use Rattle.std.proofs.Common.{◌≡◌, ◌-◌, ◌^◌, []}
 use Rattle.page_code.specs.Fields.{items_at}
 use Rattle.page_code.specs.Reading.{table_at}
-use Rattle.page_code.specs.Conditions.{wave_count}
+use Rattle.packed_code.specs.Conditions.{wave_count}
 use Rattle.page_code.proofs.read_tables.tables.Given as goal
 
 abbrev pub invariant-loop : goal.invariant-loop

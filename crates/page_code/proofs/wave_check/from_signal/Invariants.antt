@@ -1,5 +1,5 @@
 use Rattle.std.proofs.Common.{◌≡◌, ◌≤◌, ℕ, length}
-use Rattle.page_code.specs.Conditions.{IsRising, has_wave}
+use Rattle.packed_code.specs.Conditions.{IsRising, has_wave}
 use Rattle.page_code.proofs.wave_check.from_signal.Given as goal
 
 abbrev pub invariant-loop-rest : goal.invariant-loop-rest

@@ -1,5 +1,5 @@
 use Rattle.std.proofs.Common.{◌≡◌, ◌≤◌, ℕ, drop}
-use Rattle.page_code.specs.Conditions.{IsRising, has_wave, has_waves}
+use Rattle.packed_code.specs.Conditions.{IsRising, has_wave, has_waves}
 use Rattle.page_code.proofs.wave_check.has_each_wave.Given as goal
 
 abbrev pub invariant-loop-signal : goal.invariant-loop-signal

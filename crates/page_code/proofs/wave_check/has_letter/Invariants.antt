@@ -1,5 +1,5 @@
 use Rattle.std.proofs.Common.{◌≡◌, drop}
-use Rattle.page_code.specs.Conditions.{IsRising, has_wave}
+use Rattle.packed_code.specs.Conditions.{IsRising, has_wave}
 use Rattle.page_code.proofs.wave_check.has_letter.Given as goal
 
 abbrev pub invariant-loop-wave : goal.invariant-loop-wave

@@ -1,7 +1,7 @@
 use Rattle.std.proofs.Common.{◌≡◌, ◌<◌, sym, subst, length}
-use Rattle.page_code.specs.Program.{Program}
-use Rattle.page_code.specs.Cycles.{page_of}
-use Rattle.page_code.specs.Conditions.{IsProgram}
+use Rattle.packed_code.specs.Program.{Program}
+use Rattle.packed_code.specs.Cycles.{page_of}
+use Rattle.packed_code.specs.Conditions.{IsProgram}
 use Rattle.pattern_mem.proofs.CursorLemmas.{begins, some_instr}
 use Rattle.pattern_mem.proofs.cursor.at.Goals as goal
 

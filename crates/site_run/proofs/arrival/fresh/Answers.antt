@@ -1,5 +1,5 @@
 use Rattle.std.proofs.Common.{◌∙◌, length, ap, sym}
-use Rattle.page_code.specs.Program.{Program}
+use Rattle.packed_code.specs.Program.{Program}
 use Rattle.die_sim.specs.Die.{device_of}
 use Rattle.std.proofs.Common.{[]}
 use Rattle.site_run.proofs.RunLemmas.{counted}

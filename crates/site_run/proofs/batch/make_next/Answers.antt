@@ -1,7 +1,7 @@
 use Rattle.std.proofs.Common.{◌+◌, ◌∙◌, List, ap, refl, sym, subst}
 use Rattle.tester_types.specs.declared.cycle.Cycle.{Cycle}
-use Rattle.page_code.specs.Program.{Program}
-use Rattle.page_code.specs.Cycles.{period_of}
+use Rattle.packed_code.specs.Program.{Program}
+use Rattle.packed_code.specs.Cycles.{period_of}
 use Rattle.die_sim.specs.Die.{device_of}
 use Rattle.cycle_run.specs.Cycle.{point_at, going_at, stand_of, PlaysCycle}
 use Rattle.cycle_run.specs.Batch.{between_at, PlaysCycles, StopsAmong}

@@ -1,5 +1,5 @@
 use Rattle.std.proofs.Common.{sym, ◌∙◌, arith}
-use Rattle.page_code.proofs.WalkLemmas.{length-cycles}
+use Rattle.packed_code.proofs.WalkLemmas.{length-cycles}
 use Rattle.site_run.proofs.RunLemmas.{next_is, first_here, first_later, first_none}
 use Rattle.site_run.proofs.run.next_exec.Goals as goal
 

@@ -1,6 +1,6 @@
 use Rattle.std.proofs.Common.{◌<◌, ◌∙◌, length, ap, refl, sym, subst}
-use Rattle.page_code.specs.Program.{Program}
-use Rattle.page_code.specs.Cycles.{cycles_of}
+use Rattle.packed_code.specs.Program.{Program}
+use Rattle.packed_code.specs.Cycles.{cycles_of}
 use Rattle.site_meaning.specs.Polls.{next_exec}
 use Rattle.site_run.specs.Seat.{running_of}
 use Rattle.site_run.proofs.MoveLemmas.{onward_some, onward_none, runs_on}

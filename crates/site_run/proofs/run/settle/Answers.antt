@@ -1,9 +1,9 @@
 use Rattle.std.proofs.Common.{◌≤◌, ◌+◌, length, arith, ap, subst}
-use Rattle.page_code.specs.Program.{Program}
-use Rattle.page_code.specs.Conditions.{IsProgram}
-use Rattle.page_code.specs.Cycles.{cycles_of}
+use Rattle.packed_code.specs.Program.{Program}
+use Rattle.packed_code.specs.Conditions.{IsProgram}
+use Rattle.packed_code.specs.Cycles.{cycles_of}
 use Rattle.site_run.specs.Seat.{running_of}
-use Rattle.page_code.proofs.WalkLemmas.{length-cycles}
+use Rattle.packed_code.proofs.WalkLemmas.{length-cycles}
 use Rattle.site_run.proofs.MoveLemmas.{total_is, settled_more, settled_fail, settled_on, comes_before, moves_on, fits_on}
 use Rattle.site_run.proofs.run.settle.Goals as goal
 

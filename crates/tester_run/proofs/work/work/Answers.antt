@@ -1,5 +1,5 @@
 use Rattle.std.proofs.Common.{◌∙◌, arith, refl, sym, ap, subst}
-use Rattle.page_code.specs.Conditions.{IsProgram}
+use Rattle.packed_code.specs.Conditions.{IsProgram}
 use Rattle.site_meaning.specs.Part.{part_of}
 use Rattle.site_meaning.proofs.SkewLemmas.{accepted_part}
 use Rattle.lot_book.specs.Shares.{ShareFacts}

@@ -1,6 +1,6 @@
 use Rattle.std.proofs.Common.{◌≡◌, ℕ, List, None, drop}
 use Rattle.stil_ast.specs.Faults.Found.{first_in}
-use Rattle.time_expr.specs.Vars.{value_of_name}
+use Rattle.expr_text.specs.Vars.{value_of_name}
 use Rattle.time_expr.specs.Picked.{variables_of}
 use Rattle.time_expr.specs.Choosing.{AreKnown, variable_named, own_fault}
 use Rattle.time_expr.proofs.choosing.values_of.Given as goal

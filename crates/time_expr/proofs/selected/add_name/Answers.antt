@@ -3,7 +3,7 @@ use Rattle.std.specs.Str.{bytes_eq}
 use Rattle.text_bytes.proofs.BoolLemmas.{new_or_there}
 use Rattle.text_bytes.specs.Texts.{is_among}
 use Rattle.indexmap.specs.IndexSet.{keys}
-use Rattle.time_expr.proofs.VarsLemmas.{same-comm}
+use Rattle.expr_text.proofs.VarsLemmas.{same-comm}
 use Rattle.time_expr.proofs.selected.add_name.Goals as goal
 
 pub returns : goal.returns

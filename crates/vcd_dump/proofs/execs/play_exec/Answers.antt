@@ -1,6 +1,6 @@
 use Rattle.std.proofs.Common.{◌∙◌, true, false, length, refl, ap, arith}
-use Rattle.page_code.specs.Cycles.{cycles_of}
-use Rattle.page_code.specs.Walk.{cycles_left}
+use Rattle.packed_code.specs.Cycles.{cycles_of}
+use Rattle.packed_code.specs.Walk.{cycles_left}
 use Rattle.die_sim.specs.Die.{device_of}
 use Rattle.cycle_run.specs.Cycle.{stand_of}
 use Rattle.site_run.proofs.RunLemmas.{cycles_told}

@@ -1,5 +1,5 @@
 use Rattle.std.proofs.Common.{◌∙◌, ◌+◌, ◌<◌, ◌≤◌, ◌++◌, ℕ, Option, length, drop, ap, arith}
-use Rattle.page_code.specs.Cycles.{cycles_of}
+use Rattle.packed_code.specs.Cycles.{cycles_of}
 use Rattle.die_sim.specs.Die.{device_of}
 use Rattle.site_meaning.specs.Playing.{Going}
 use Rattle.site_meaning.specs.Trials.{execs_of, after_cycles}

@@ -1,5 +1,5 @@
 use Rattle.std.proofs.Common.{◌≡◌, ◌≤◌, ◌+◌, ◌*◌, length, take, drop}
-use Rattle.page_code.specs.Walk.{IsOver, cycles_left}
+use Rattle.packed_code.specs.Walk.{IsOver, cycles_left}
 use Rattle.die_sim.specs.Die.{device_of}
 use Rattle.cycle_run.specs.Cycle.{point_at, stand_of, IsBetween}
 use Rattle.cycle_run.specs.Batch.{between_at, PlaysCycles}

@@ -13,8 +13,8 @@ use Rattle.vcd_dump.specs.Play.{calls_from, going_of}
 use Rattle.vcd_dump.proofs.TapeLemmas.{some_batch}
 use Rattle.vcd_dump.proofs.FinishLemmas.{finish_calls, finish_sound, finish_few, finish_long, all_is}
 use Rattle.lot_plan.specs.Skews.{site_skews}
-use Rattle.page_code.specs.Program.{Program}
-use Rattle.page_code.specs.Conditions.{IsProgram}
+use Rattle.packed_code.specs.Program.{Program}
+use Rattle.packed_code.specs.Conditions.{IsProgram}
 use Rattle.cycle_run.specs.Step.{FitCode}
 use Rattle.site_meaning.proofs.ImageLemmas.{image-whole, image-long}
 use Rattle.cycle_run.proofs.FitLemmas.{skews_fit}

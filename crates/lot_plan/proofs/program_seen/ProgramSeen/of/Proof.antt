@@ -32,7 +32,7 @@ use Rattle.lot_plan.specs.contracts.program_seen.ProgramSeen.of as f
 use Rattle.lot_plan.proofs.program_seen.ProgramSeen.of.Statement as stated
 use Rattle.lot_plan.proofs.program_seen.ProgramSeen.of.Code as code
 use Rattle.lot_plan.specs.contracts.program_seen.ProgramSeen as seen
-use Rattle.page_code.specs.contracts.code.Code as program
+use Rattle.packed_code.specs.contracts.code.Code as program
 
 abbrev stayed : Stays (f.ended).signature.params (f.ended).kept
 stayed = (stay_none_ref (0 ∷ []) tt (plain (λ _. program.the_row)) yes, tt)

@@ -1,7 +1,7 @@
 use Rattle.std.proofs.Common.{◌∙◌, ℤ, None, List, length, ap, sym, subst}
 use Rattle.std.proofs.lemmas.Bool.{lt-ltb}
-use Rattle.page_code.specs.Program.{Program}
-use Rattle.page_code.specs.Conditions.{IsProgram}
+use Rattle.packed_code.specs.Program.{Program}
+use Rattle.packed_code.specs.Conditions.{IsProgram}
 use Rattle.bench_net.specs.Circuit.{IsWhole}
 use Rattle.die_sim.specs.Die.{Image}
 use Rattle.lot_plan.specs.Bound.{image_of, stop_of}

@@ -1,5 +1,5 @@
 use Rattle.std.proofs.Common.{◌≡◌, ◌∙◌, ℕ, length, ap, refl, sym, subst}
-use Rattle.page_code.specs.Program.{Program}
+use Rattle.packed_code.specs.Program.{Program}
 use Rattle.bench_net.specs.Circuit.{IsWhole}
 use Rattle.die_sim.specs.Die.{Image, device_of}
 use Rattle.lot_plan.specs.Bound.{image_of}

@@ -1,0 +1,14 @@
+pub mod DivisorLemmas
+pub mod LowestLemmas
+pub mod NumberLemmas
+pub mod TreeLemmas
+pub mod GrammarLemmas
+pub mod RunLemmas
+pub mod FrontLemmas
+pub mod FoundLemmas
+pub mod LexedLemmas
+pub mod ReadLemmas
+pub mod RationalLemmas
+pub mod ValueLemmas
+pub mod VarsLemmas
+pub mod StandardFacts

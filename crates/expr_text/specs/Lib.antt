@@ -1,0 +1,15 @@
+pub mod Range
+pub mod Ratio
+pub mod Rational
+pub mod Unit
+pub mod Vars
+pub mod Value
+pub mod Bytes
+pub mod FaultText
+pub mod Tree
+pub mod Lexeme
+pub mod Grammar
+pub mod Spelling
+pub mod Front
+pub mod Machine
+pub mod Memory

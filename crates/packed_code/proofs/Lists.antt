@@ -1,0 +1,43 @@
+-- Lists whose items are each as they should be.
+use Rattle.std.proofs.Common.{◌≡◌, ℕ, zero, suc, ◌+◌, ◌-◌, ◌<◌, List, [], ◌∷◌, ◌++◌, length, get_or, take, replicate, append_assoc, Some, refl, ap, ◌∙◌, sym, subst, arith}
+use Rattle.std.proofs.lemmas.List.{append-nil, get_or_push, length-append}
+use Rattle.std.proofs.lemmas.Option.{slice_get-get_or}
+use Rattle.std.specs.List.{AllByRecursion}
+use Rattle.packed_code.specs.Conditions.{EachBehind, Each, last_of}
+
+-- an item is as it should be behind those before it
+pub behind_at : {A : Type 0} (Fits : List A → A → Type 0) (before items : List A) (i : ℕ) (d : A) → EachBehind Fits before items → i < length items
+    → Fits (before ++ take i items) (get_or items i d)
+behind_at Fits before [] i d each lt = absurd (omega arith)
+behind_at {A} Fits before (x ∷ xs) zero d each lt = subst (λ (b : List A). Fits b x) (sym (append-nil before)) each.0
+behind_at {A} Fits before (x ∷ xs) (suc i) d each lt =
+    subst (λ (b : List A). Fits b (get_or xs i d)) (append_assoc before (x ∷ []) (take i xs)) (behind_at Fits (before ++ x ∷ []) xs i d each.1 (omega arith))
+
+-- what holds behind the items before holds of each
+pub each_all : {A : Type 0} (Fits : A → Type 0) (before items : List A) → EachBehind (λ before item. Fits item) before items → AllByRecursion Fits items
+each_all Fits before [] each = tt
+each_all Fits before (x ∷ xs) each = (each.0, each_all Fits (before ++ x ∷ []) xs each.1)
+
+pub all_each : {A : Type 0} (Fits : A → Type 0) (before items : List A) → AllByRecursion Fits items → EachBehind (λ before item. Fits item) before items
+all_each Fits before [] each = tt
+all_each Fits before (x ∷ xs) each = (each.0, all_each Fits (before ++ x ∷ []) xs each.1)
+
+pub all_at : {A : Type 0} (Fits : A → Type 0) (items : List A) (i : ℕ) (d : A) → AllByRecursion Fits items → i < length items → Fits (get_or items i d)
+all_at Fits [] i d each lt = absurd (omega arith)
+all_at Fits (x ∷ xs) zero d each lt = each.0
+all_at Fits (x ∷ xs) (suc i) d each lt = all_at Fits xs i d each.1 (omega arith)
+
+pub each_at : {A : Type 0} (Fits : A → Type 0) (items : List A) (i : ℕ) (d : A) → Each Fits items → i < length items → Fits (get_or items i d)
+each_at Fits items i d each lt = all_at Fits items i d (each_all Fits [] items each) lt
+
+pub all_replicate : {A : Type 0} (Fits : A → Type 0) (n : ℕ) (x : A) → Fits x → AllByRecursion Fits (replicate n x)
+all_replicate Fits zero x h = tt
+all_replicate Fits (suc n) x h = (h, all_replicate Fits n x h)
+
+-- the last of items that were put one behind another
+pub last_of_push : {A : Type 0} (before : List A) (x : A) → last_of (before ++ x ∷ []) ≡ Some x
+last_of_push before x =
+    let size : length (before ++ x ∷ []) ≡ length before + 1 = length-append before (x ∷ []) in
+    let place : length (before ++ x ∷ []) - 1 ≡ length before = omega arith in
+    slice_get-get_or (before ++ x ∷ []) (length (before ++ x ∷ []) - 1) x (omega arith)
+    ∙ ap Some (ap (λ (i : ℕ). get_or (before ++ x ∷ []) i x) place ∙ get_or_push before x x (length before) refl)

@@ -1,0 +1,9 @@
+pub mod Rows
+pub mod Program
+pub mod Letters
+pub mod Conditions
+pub mod Changes
+pub mod Spelling
+pub mod Cycles
+pub mod Packed
+pub mod Walk

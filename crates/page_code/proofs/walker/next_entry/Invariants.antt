@@ -1,8 +1,0 @@
-use Rattle.page_meaning.proofs.CourseLemmas.{IsWalked, still}
-use Rattle.page_code.proofs.walker.next_entry.Given as goal
-
-abbrev pub invariant-loop-step : goal.invariant-loop-step
-invariant-loop-step l = IsWalked l.code l.fn.course l.step l.course
-
-abbrev pub decreases-loop-step : goal.decreases-loop-step
-decreases-loop-step l = still l.code l.step l.course

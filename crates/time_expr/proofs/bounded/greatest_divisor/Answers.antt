@@ -1,9 +1,0 @@
-use Rattle.std.proofs.Common.{sym, ◌∙◌, arith}
-use Rattle.time_expr.proofs.DivisorLemmas.{divisor_of-mod, divisor_of-zero}
-use Rattle.time_expr.proofs.bounded.greatest_divisor.Goals as goal
-
-pub loop-y-preserved : goal.loop-y-preserved
-loop-y-preserved c = divisor_of-mod _ _ (omega arith) ∙ c.loop-y.invariant
-
-pub returns : goal.returns
-returns c = sym (divisor_of-zero _ _ (omega arith)) ∙ c.loop-y.invariant
