@@ -1,17 +1,12 @@
 -- The statements of a drill's text are its blocks.
-use Rattle.std.proofs.Common.{◌≡◌, ℕ, ◌+◌, Bool, true, false, List, [], ◌∷◌, ◌++◌, length, take, drop, map, Option, Some, None, Result, Ok, Err, refl, sym, ap, subst, ◌∙◌, append_assoc, append-nil, arith, cond}
-use Rattle.std.specs.Prelude.{codes, not}
+use Rattle.std.proofs.Common.{◌≡◌, ℕ, ◌+◌, Bool, true, false, List, [], ◌∷◌, ◌++◌, take, drop, Some, None, Ok, refl, sym, ap, ◌∙◌, arith}
+use Rattle.std.specs.Prelude.{codes}
 use Rattle.std.proofs.lemmas.List.{drop_at, drop-drop}
 use Rattle.text_bytes.specs.Bytes.{begins_name, is_printable, is_character}
-use Rattle.stil_lex.specs.Pieces.{Piece, gap, token}
 use Rattle.stil_lex.specs.Tokens.{spelled, tokens_of}
 use Rattle.stil_lex.specs.declared.token.Token.{Token}
-use Rattle.stil_lex.proofs.Loop.{tokens_of-append}
-use Rattle.stil_tree.specs.Trees.{Trees, Entry, entries, end, plain, block}
-use Rattle.stil_form.specs.declared.fault.FormFault.{FormFault}
-use Rattle.stil_form.specs.declared.part.SignKind.TheVariants.{Other}
-use Rattle.stil_form.specs.Lexeme.{Lexeme, word, name, text, sign, lexemes_of}
-use Rattle.stil_form.specs.Reading.{is_skipped}
+use Rattle.stil_tree.specs.Trees.{Trees, Entry, entries, plain}
+use Rattle.stil_form.specs.Lexeme.{Lexeme, word, lexemes_of}
 use Rattle.stil_form.specs.Setting.{setting, line_at, lexemes_at, at_statement, unskipped}
 use Rattle.first_fault.specs.Reading.{and_then, stepping}
 use Rattle.stil_ast.specs.Data.Bodies.{written_of}
@@ -32,25 +27,15 @@ use Rattle.block_forms.specs.Named.{named_on}
 use Rattle.pattern_blocks.specs.Bursts.{burst_words, item_on, left_out, entry_step, by_word, burst_step, items_in}
 use Rattle.pattern_blocks.specs.Executives.{exec_said, with_named, exec_step, no_parts, exec_by, exec_in}
 use Rattle.stil_read.specs.Top.{Top, top_step, start, finished, is_stil_1_0, behind_header, blocks_of, more_signals, more_timings, more_patterns, more_bursts, more_executives}
-use Rattle.line_texts.specs.Said.{Said, no_more, statement, pieces_of, count_of, trees_at}
+use Rattle.line_texts.specs.Said.{Said, no_more, statement, pieces_of, count_of, trees_at, spaced}
 use Rattle.line_texts.specs.Lexemes.{lexemes_in}
-use Rattle.line_texts.proofs.LexemeLemmas.{lexemes_of-pieces, lexemes_in-append}
-use Rattle.drill_fine.specs.Said.{signals_said, tables_said, body_said, burst_said, text_said, spaced}
+use Rattle.line_texts.proofs.LexemeLemmas.{lexemes_in-append}
+use Rattle.line_texts.proofs.SettingLemmas.{stepping-more, and_then-assoc, head_behind, unskipped_all, length-lexemes_in}
+use Rattle.drill_fine.specs.Said.{signals_said, tables_said, body_said, burst_said, text_said}
 use Rattle.drill_fine.specs.Said as said
+use Rattle.line_texts.specs.Said as spoken
 use Rattle.drill_fine.specs.Blocks.{drill_signals, drill_timings, drill_pattern, drill_burst, drill_exec, blocks_with, drill_blocks}
 use Rattle.drill_fine.proofs.SaidLemmas.{head_pieces, tail_pieces}
-use Rattle.drill_fine.proofs.ReadLemmas.{head_behind}
-
--- one step more
-pub stepping-more : {S E F : Type 0} (step : S → E → Result S F) (s t : S) (e : E) (es : List E) → step s e ≡ Ok t
-    → stepping step s (e ∷ es) ≡ stepping step t es
-stepping-more step s t e es h = ap (λ r. and_then r (λ next. stepping step next es)) h
-
--- a last step that changes nothing
-and_then-assoc : {X Y F : Type 0} (r : Result X F) (next : X → Result Y F)
-    → and_then (and_then r (λ x. Ok x)) next ≡ and_then r next
-and_then-assoc (Ok x) next = refl
-and_then-assoc (Err e) next = refl
 
 -- what stands so far
 abbrev pub top_with : Blocks → Top
@@ -105,29 +90,13 @@ pattern_read : (rest : List ℕ) (more : List Token) (vectors : Trees) (read : L
 unfolding more_patterns begins_name is_printable
 pattern_read rest more vectors read h = rw h refl
 
--- where no word is skipped, none is
-not_skipped : (ls : List Lexeme) → is_skipped [] ls ≡ false
-not_skipped [] = refl
-not_skipped (word bytes ∷ rest) = refl
-not_skipped (name bytes ∷ rest) = refl
-not_skipped (text bytes ∷ rest) = refl
-not_skipped (sign kind ∷ rest) = refl
-
--- and all statements are read
-pub unskipped_all : (bytes : List ℕ) (tokens : List Token) (es : List Entry) → unskipped (setting bytes tokens []) es ≡ es
-unskipped_all bytes tokens [] = refl
-unskipped_all bytes tokens (e ∷ es) =
-    ap (λ (b : Bool). cond (not b) (e ∷ unskipped (setting bytes tokens []) es) (unskipped (setting bytes tokens []) es))
-    (not_skipped (lexemes_at (setting bytes tokens []) e))
-    ∙ ap (λ (rest : List Entry). e ∷ rest) (unskipped_all bytes tokens es)
-
 -- the burst, wherever it stands
 abbrev pub burst_entry : ℕ → Entry
 burst_entry f = record { first = f; count = 2; body = Some (trees_at (f + 2 + 1) burst_said) }
 
 -- its list
 abbrev pub list_entry : ℕ → Entry
-list_entry f = record { first = f; count = 1; body = Some (trees_at (f + 1 + 1) (spaced (statement (said.word (codes "p") ∷ []) (spaced no_more)))) }
+list_entry f = record { first = f; count = 1; body = Some (trees_at (f + 1 + 1) (spaced (statement (spoken.word (codes "p") ∷ []) (spaced no_more)))) }
 
 -- and the list's entry
 abbrev pub name_entry : ℕ → Entry
@@ -229,12 +198,6 @@ exec_read : (bytes : List ℕ) (tokens : List Token) (blocks : List SignalDecl) 
 unfolding more_executives
 exec_read bytes tokens blocks timings patterns bursts f h0 h1 =
     rw (h0, exec_titled bytes tokens f h0, exec_inside bytes tokens f h1) refl
-
--- as many lexemes as tokens
-pub length-lexemes_in : (ps : List Piece) → length (lexemes_in ps) ≡ count_of ps
-length-lexemes_in [] = refl
-length-lexemes_in (gap bytes ∷ ps) = length-lexemes_in ps
-length-lexemes_in (token kind bytes ∷ ps) = omega (arith, length-lexemes_in ps)
 
 -- the lexemes behind the head of the text
 abbrev pub tail_lexemes : List Lexeme

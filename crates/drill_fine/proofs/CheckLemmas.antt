@@ -17,7 +17,8 @@ use Rattle.stil_ast.specs.Faults.PatternFaults.{on_top, counted, check_step, che
 use Rattle.drill_texts.specs.Texts.{driven_bit}
 use Rattle.drill_fine.specs.Said.{bit_byte, look_byte}
 use Rattle.drill_fine.specs.Blocks.{drill_signals, blocks_with}
-use Rattle.drill_fine.proofs.ReadLemmas.{gives, vector_stmt, stmts_from}
+use Rattle.line_texts.proofs.AssignmentLemmas.{gives}
+use Rattle.drill_fine.proofs.ReadLemmas.{vector_stmt, stmts_from}
 use Rattle.drill_fine.proofs.BlockLemmas.{wave_stmt}
 
 -- what the names in the pattern mean

@@ -18,7 +18,8 @@ use Rattle.bench_net.specs.Net.{Reads}
 use Rattle.bench_net.proofs.TextLemmas.{lines_first}
 use Rattle.drill_texts.specs.Texts.{register_line, net_head, net_text}
 use Rattle.drill_fine.specs.Nets.{net_at, register_with, register_form, drill_forms}
-use Rattle.drill_fine.proofs.NameLemmas.{digit_cases, net_all, net_length}
+use Rattle.line_texts.proofs.DigitLemmas.{digit_cases}
+use Rattle.drill_fine.proofs.NameLemmas.{net_all, net_length}
 
 -- the bytes of names are bytes of names
 name_bytes : (k : ℕ) → k ≤ 1000 → AllPass is_name_byte (net_at k)

@@ -1,46 +1,20 @@
 -- The names of a drill's nets: of digits, not too long, and each its own.
-use Rattle.std.proofs.Common.{◌≡◌, ℕ, zero, suc, ◌+◌, ◌-◌, ◌^◌, ◌/◌, ◌%◌, ◌≤◌, ◌<◌, Bool, true, false, List, [], ◌∷◌, ◌++◌, length, refl, sym, ap, subst, ◌∙◌, arith, inl, inr}
-use Rattle.std.specs.Prelude.{codes, decimal, nat_le}
+use Rattle.std.proofs.Common.{◌≡◌, ℕ, zero, suc, ◌+◌, ◌≤◌, ◌<◌, Bool, true, false, List, [], ◌∷◌, length, refl, arith, inl, inr}
+use Rattle.std.specs.Prelude.{decimal}
 use Rattle.std.specs.List.{list_all}
 use Rattle.std.specs.Str.{bytes_eq}
-use Rattle.std.proofs.lemmas.Bool.{le-leb, cases_Bool, false≢true, and_from}
-use Rattle.std.proofs.lemmas.Fmt.{decimal_by_steps, decimal_injective, decimal_nonempty, length-decimal-le}
-use Rattle.std.proofs.lemmas.List.Folds.{list_all-append}
+use Rattle.std.proofs.lemmas.Bool.{cases_Bool, and_from}
+use Rattle.std.proofs.lemmas.Fmt.{decimal_injective, length-decimal-le}
 use Rattle.std.proofs.lemmas.Slice.Eq.{bytes_eq-Decides}
-use Rattle.text_bytes.specs.Limits.{longest_name}
+use Rattle.line_texts.proofs.DigitLemmas.{decimal_all}
 use Rattle.drill_fine.specs.Nets.{net_at}
-
--- a digit is one of ten bytes
-pub digit_cases : (P : ℕ → Type 0) → P 48 → P 49 → P 50 → P 51 → P 52 → P 53 → P 54 → P 55 → P 56 → P 57 → (d : ℕ)
-    → d < 10 → P (48 + d)
-digit_cases P a b c d e f g h i j zero l = a
-digit_cases P a b c d e f g h i j (suc zero) l = b
-digit_cases P a b c d e f g h i j (suc (suc zero)) l = c
-digit_cases P a b c d e f g h i j (suc (suc (suc zero))) l = d
-digit_cases P a b c d e f g h i j (suc (suc (suc (suc zero)))) l = e
-digit_cases P a b c d e f g h i j (suc (suc (suc (suc (suc zero))))) l = f
-digit_cases P a b c d e f g h i j (suc (suc (suc (suc (suc (suc zero)))))) l = g
-digit_cases P a b c d e f g h i j (suc (suc (suc (suc (suc (suc (suc zero))))))) l = h
-digit_cases P a b c d e f g h i j (suc (suc (suc (suc (suc (suc (suc (suc zero)))))))) l = i
-digit_cases P a b c d e f g h i j (suc (suc (suc (suc (suc (suc (suc (suc (suc zero))))))))) l = j
-digit_cases P a b c d e f g h i j (suc (suc (suc (suc (suc (suc (suc (suc (suc (suc n)))))))))) l = absurd (omega (arith, l))
-
--- what holds of each digit holds of a number's
-pub decimal_all : (test : ℕ → Bool) → ((d : ℕ) → d < 10 → test (48 + d) ≡ true) → (n : ℕ) → n < 2 ^ 64
-    → list_all test (decimal n) ≡ true
-decimal_all test each n small =
-    decimal_by_steps (λ m ds. list_all test ds ≡ true)
-    (λ m l. and_from (test (48 + m)) true (each m l) refl)
-    (λ m ds l h. list_all-append test ds ((48 + m % 10) ∷ [])
-    ∙ and_from (list_all test ds) (list_all test ((48 + m % 10) ∷ [])) h (and_from (test (48 + m % 10)) true (each (m % 10) (omega arith)) refl))
-    n small
 
 -- what holds of `d`, `f` and each digit holds of the bytes of a net's name
 pub net_all : (test : ℕ → Bool) → test 100 ≡ true → test 102 ≡ true → ((d : ℕ) → d < 10 → test (48 + d) ≡ true) → (k : ℕ)
     → k ≤ 1000 → list_all test (net_at k) ≡ true
 net_all test d f each zero few = and_from (test 100) true d refl
 net_all test d f each (suc k) few =
-    and_from (test 102) (list_all test (decimal (suc k))) f (decimal_all test each (suc k) (omega (arith, few)))
+    and_from (test 102) (list_all test (decimal (suc k))) f (decimal_all test each (suc k))
 
 -- a name is there, and not too long
 pub net_length : (k : ℕ) → k ≤ 1000 → (0 < length (net_at k)) × (length (net_at k) ≤ 21)

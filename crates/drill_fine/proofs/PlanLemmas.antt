@@ -20,14 +20,14 @@ use Rattle.plan_rows.specs.Plan.{HasRecords, IsPlan}
 use Rattle.plan_rows.specs.Rows.{sites_of}
 use Rattle.drill_texts.specs.Texts.{die_rows, plan_text}
 use Rattle.drill_fine.specs.Rows.{last_net, die_record, drill_records, drill_rows}
-use Rattle.drill_fine.proofs.NameLemmas.{digit_cases, decimal_all}
+use Rattle.line_texts.proofs.DigitLemmas.{decimal_all, digit_cases}
 
 -- a number needs no quotes
 digits_plain : (n : ℕ) → n ≤ 1000 → list_any (needs_byte default_writer) (decimal n) ≡ false
 digits_plain n few =
     list_any-not (needs_byte default_writer) (decimal n)
     (decimal_all (λ b. not (needs_byte default_writer b))
-    (digit_cases (λ b. not (needs_byte default_writer b) ≡ true) refl refl refl refl refl refl refl refl refl refl) n (omega (arith, few)))
+    (digit_cases (λ b. not (needs_byte default_writer b) ≡ true) refl refl refl refl refl refl refl refl refl refl) n)
 
 -- the line that binds the output, in front of others
 bind_line : (n : ℕ) (rest : List ℕ) → n ≤ 1000
@@ -127,7 +127,7 @@ net_is n few =
     let long = length-decimal-le 20 n (omega arith) (omega (arith, few)) (omega (arith, few)) in
     let fits : nat_le (length (last_net n)) longest_name ≡ true = le-leb (length (last_net n)) longest_name (omega (arith, long)) in
     let each : list_all is_printable (last_net n) ≡ true =
-    decimal_all is_printable (digit_cases (λ b. is_printable b ≡ true) refl refl refl refl refl refl refl refl refl refl) n (omega (arith, few)) in
+    decimal_all is_printable (digit_cases (λ b. is_printable b ≡ true) refl refl refl refl refl refl refl refl refl refl) n in
     let some : nat_lt 0 (length (last_net n)) ≡ true = lt-ltb 0 (length (last_net n)) (omega arith) in
     rw (some, fits, each) refl
 

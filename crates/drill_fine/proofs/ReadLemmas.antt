@@ -1,74 +1,25 @@
 -- Vectors are read, one after another.
-use Rattle.std.proofs.Common.{◌≡◌, ℕ, ◌+◌, Bool, true, false, List, [], ◌∷◌, ◌++◌, length, take, drop, map, Option, Some, None, Result, Ok, Err, refl, sym, ap, subst, ◌∙◌, append_assoc, append-nil, arith, cond, zero, suc}
+use Rattle.std.proofs.Common.{◌≡◌, ℕ, ◌+◌, Bool, true, false, List, [], ◌∷◌, ◌++◌, take, drop, Some, Result, Ok, refl, sym, ap, ◌∙◌, append_assoc, append-nil, arith}
 use Rattle.std.specs.Prelude.{◌-◌, nat_lt, codes}
-use Rattle.std.proofs.lemmas.List.{take-map, drop-map, drop-drop}
+use Rattle.std.proofs.lemmas.List.{drop-drop}
 use Rattle.text_bytes.specs.Bytes.{begins_name, is_printable}
 use Rattle.stil_lex.specs.declared.token.Token.{Token}
-use Rattle.stil_tree.specs.Trees.{Trees, Entry, end, plain, block}
+use Rattle.stil_tree.specs.Trees.{Entry, end, plain}
 use Rattle.stil_form.specs.declared.fault.FormFault.{FormFault}
-use Rattle.stil_form.specs.declared.fault.FormKind.{FormKind}
-use Rattle.stil_form.specs.declared.part.SignKind.{SignKind}
 use Rattle.stil_form.specs.declared.part.SignKind.TheVariants.{Equals, Other}
-use Rattle.stil_form.specs.Lexeme.{Lexeme, word, sign, lexeme_at, lexemes_of}
-use Rattle.stil_form.specs.Words.{named_by}
-use Rattle.stil_form.specs.Fronts.{Ref, named, reference_front, behind_name}
-use Rattle.stil_form.specs.Setting.{Setting, setting, tokens_at, lexemes_at, line_at, at_statement, inner_of}
-use Rattle.std.specs.Option.{option_and_then}
-use Rattle.first_fault.specs.Reading.{and_then}
-use Rattle.stil_ast.specs.declared.body.Assignment.{Assignment}
+use Rattle.stil_form.specs.Lexeme.{Lexeme, word, sign, lexemes_of}
+use Rattle.stil_form.specs.Setting.{setting, line_at}
 use Rattle.stil_ast.specs.declared.body.Step.TheVariants as step
 use Rattle.stil_ast.specs.declared.body.PatAction.TheVariants as action
 use Rattle.stil_ast.specs.declared.body.PatStmt.{PatStmt}
-use Rattle.stil_ast.specs.Meaning.Statements.{Item, letter}
-use Rattle.pat_read.specs.Data.{has_underscore, data_of}
-use Rattle.pat_read.specs.References.{last_of, named_ref, assigned, assignment_by, assignment_of}
-use Rattle.pat_read.specs.Body.{assignment_at, on_line, judge_statement, assignments_of, one_more, body_from}
+use Rattle.pat_read.specs.Data.{has_underscore}
+use Rattle.pat_read.specs.Body.{on_line, one_more, body_from}
 use Rattle.line_texts.specs.Said.{Said, no_more, pieces_of, trees_at, each_said}
 use Rattle.line_texts.specs.Lexemes.{lexemes_in}
-use Rattle.drill_fine.specs.Said.{bit_byte, look_byte, vector_of, vector_said}
+use Rattle.line_texts.proofs.AssignmentLemmas.{gives, assignment_said}
+use Rattle.line_texts.proofs.SettingLemmas.{head_behind}
+use Rattle.drill_fine.specs.Said.{bit_byte, look_byte, vector_said}
 use Rattle.drill_texts.specs.Texts.{driven_bit}
-
--- a head at a place behind one from which on the lexemes are known
-pub head_behind : {X : Type 0} (all rest : List X) (at k n f : ℕ) → drop at all ≡ rest → f ≡ at + k
-    → take n (drop f all) ≡ take n (drop k rest)
-head_behind all rest at k n f is place =
-    ap (λ i. take n (drop i all)) place ∙ ap (take n) (sym (drop-drop k at all) ∙ ap (drop k) is)
-
--- the lexemes of a head are those of its tokens
-pub lexemes_of-tokens_at : (bytes : List ℕ) (tokens : List Token) (f n : ℕ)
-    → lexemes_of bytes (take n (drop f tokens)) ≡ take n (drop f (lexemes_of bytes tokens))
-lexemes_of-tokens_at bytes tokens f n =
-    sym (ap (take n) (drop-map (lexeme_at bytes) f tokens) ∙ take-map (lexeme_at bytes) n (drop f tokens))
-
--- data that are one character, behind a name and a sign
-pub data_last : (bytes : List ℕ) (ts : List Token) (a b : Lexeme) (byte : ℕ)
-    → lexemes_of bytes ts ≡ a ∷ b ∷ word (byte ∷ []) ∷ [] → has_underscore (byte ∷ []) ≡ false
-    → data_of bytes (last_of 1 ts) ≡ Ok (letter byte ∷ [])
-data_last bytes [] a b byte are fits = absurd (omega (arith, ap length are))
-data_last bytes (t ∷ []) a b byte are fits = absurd (omega (arith, ap length are))
-data_last bytes (t ∷ u ∷ []) a b byte are fits = absurd (omega (arith, ap length are))
-data_last bytes (t ∷ u ∷ v ∷ []) a b byte are fits =
-    let same : lexeme_at bytes v ≡ word (byte ∷ []) = cc in
-    rw same (rw fits refl)
-data_last bytes (t ∷ u ∷ v ∷ x ∷ ts) a b byte are fits = absurd (omega (arith, ap length are))
-
--- an assignment of one character to a name
-abbrev pub gives : List ℕ → ℕ → ℕ → Assignment
-gives called byte line = record { reference = named_ref called None; items = letter byte ∷ []; line = line }
-
--- `name = character;` is read
-pub assignment_said : (bytes : List ℕ) (tokens : List Token) (words : List (List ℕ)) (f : ℕ) (called : List ℕ) (byte : ℕ)
-    → take 3 (drop f (lexemes_of bytes tokens)) ≡ word called ∷ sign Equals ∷ word (byte ∷ []) ∷ []
-    → named_by (word called) ≡ Some called → has_underscore (byte ∷ []) ≡ false
-    → assignment_at (setting bytes tokens words) (record { first = f; count = 3; body = None }) ≡ Ok (gives called byte (line_at tokens f))
-assignment_said bytes tokens words f called byte head is_named fits =
-    let ts = take 3 (drop f tokens) in
-    let line = line_at tokens f in
-    let found : data_of bytes (last_of 1 ts) ≡ Ok (letter byte ∷ []) =
-    data_last bytes ts (word called) (sign Equals) byte (lexemes_of-tokens_at bytes tokens f 3 ∙ head) fits in
-    ap (λ (ls : List Lexeme). assignment_of bytes ts line false ls) head
-    ∙ ap (λ (o : Option (List ℕ)). assignment_by bytes ts line false (option_and_then (behind_name (sign Equals ∷ word (byte ∷ []) ∷ [])) o)) is_named
-    ∙ ap (λ (d : Result (List Item) FormKind). and_then d (λ items. assigned line false (Rattle.stil_form.specs.Fronts.named called None) items)) found
 
 -- the statement of a vector
 abbrev pub vector_stmt : List Token → ℕ → ℕ → ℕ → ℕ → ℕ → ℕ → PatStmt
@@ -92,9 +43,9 @@ pub vector_read : (bytes : List ℕ) (tokens : List Token) (before : List PatStm
     ≡ rest (before ++ vector_stmt tokens at f1 f2 f3 bit look ∷ [])
 unfolding begins_name is_printable
 vector_read bytes tokens before at f1 f2 f3 bit look inner rest h0 h1 h2 h3 fits1 fits3 =
-    let a1 = assignment_said bytes tokens [] f1 (codes "d") bit h1 refl fits1 in
-    let a2 = assignment_said bytes tokens [] f2 (codes "ck") 80 h2 refl refl in
-    let a3 = assignment_said bytes tokens [] f3 (codes "q") look h3 refl fits3 in
+    let a1 = assignment_said bytes tokens [] f1 (word (codes "d")) (codes "d") bit h1 refl fits1 in
+    let a2 = assignment_said bytes tokens [] f2 (word (codes "ck")) (codes "ck") 80 h2 refl refl in
+    let a3 = assignment_said bytes tokens [] f3 (word (codes "q")) (codes "q") look h3 refl fits3 in
     rw (h0, h1, h2, h3) (rw (a1, a2, a3) refl)
 
 -- the statements of vectors of which the first has the index `at`

@@ -1,26 +1,10 @@
 -- The text of a drill's pattern as statements.
 use Rattle.std.specs.Prelude.{ℕ, ◌-◌, Bool, nat_lt, List, [], ◌∷◌, codes, if◌then◌else◌}
 use Rattle.std.specs.List.{range_with_len}
-use Rattle.stil_lex.specs.Pieces.{Piece, gap, token}
-use Rattle.stil_lex.specs.declared.token.TokenKind.TheVariants.{Word, Text, Sign}
+use Rattle.stil_lex.specs.Pieces.{Piece, token}
+use Rattle.stil_lex.specs.declared.token.TokenKind.TheVariants.{Text}
 use Rattle.drill_texts.specs.Texts.{vectors, driven_bit}
-use Rattle.line_texts.specs.Said.{Said, no_more, space, statement, braced, a_sign, each_said}
-
--- a word
-abbrev pub word : List ℕ → Piece
-word text = token Word text
-
--- one space between words
-abbrev pub blank : Piece
-blank = gap (32 ∷ [])
-
--- one space in front of statements
-abbrev pub spaced : Said → Said
-spaced more = space (32 ∷ []) more
-
--- a line's end in front of statements
-abbrev pub next_line : Said → Said
-next_line more = space (10 ∷ []) more
+use Rattle.line_texts.specs.Said.{Said, no_more, statement, braced, a_sign, word, blank, spaced, next_line, each_said}
 
 -- a time
 abbrev pub time : List ℕ → Piece

@@ -1,14 +1,16 @@
 -- What is answered of a code, and that it has one answer but for want of memory.
 use Rattle.std.proofs.Common.{◌≡◌, ◌⊎◌, ℕ, ◌-◌, Bool, true, false, cond, List, [], ◌∷◌, ◌++◌, length, Option, Some, None, Result, Ok, Err, MatchResult, refl, sym, ap, subst, ◌∙◌, arith, inl, inr}
-use Rattle.std.specs.Prelude.{IfErr, option_map, nat_le}
+use Rattle.std.specs.Prelude.{IfOk, IfErr, option_map, nat_le}
 use Rattle.std.proofs.lemmas.Bool.{leb-true, leb-false}
 use Rattle.text_bytes.specs.Limits.{most_bytes}
 use Rattle.packed_code.specs.Program.{Program}
+use Rattle.packed_code.specs.Conditions.{IsProgram}
 use Rattle.stil_program.specs.Program.{IsTextFault}
 use Rattle.stil_program.proofs.FaultLemmas.{one_text_fault}
 use Rattle.stil_ast.specs.declared.fault.StilFault.{StilFault}
-use Rattle.flat_stil.specs.FlatText.{flat_lines, flat_text}
-use Rattle.flat_stil.specs.FlatFault.{IsFlat, IsTooLong, IsTooFlat}
+use Rattle.flat_parts.specs.FlatText.{flat_lines, flat_text, has_plain_names}
+use Rattle.flat_laws.proofs.LawLemmas.{cycles_are_same}
+use Rattle.flat_stil.specs.FlatFault.{IsFlat, MeansSame, IsTooLong, IsTooFlat}
 use Rattle.flat_stil.specs.Working.{Written, wrote, prints, IsWritten, Answers}
 use Rattle.flat_stil.specs.declared.fault.FlatFault.{FlatFault}
 use Rattle.flat_stil.specs.declared.fault.FlatFault.TheVariants as fault
@@ -71,3 +73,11 @@ only_fine code (Ok text) is flat = tt
 only_fine code (Err fault.NoMemory) is flat = refl
 only_fine code (Err fault.TooLong) is flat = let short = flat.short in absurd (omega (arith, is, short))
 only_fine code (Err fault.TooFlat) is flat = absurd (no_two (flat_text code) is.fault is.first flat.fine)
+
+-- ---- what the text means
+
+pub means_same : (code : Program) (r : Result (List ℕ) FlatFault) → IsProgram code → has_plain_names code ≡ true
+    → Answers code r → IfOk r (MeansSame code)
+means_same code (Ok text) whole plain is =
+    subst (MeansSame code) (sym is.is) (λ blocks of. cycles_are_same code blocks whole plain of)
+means_same code (Err e) whole plain is = tt

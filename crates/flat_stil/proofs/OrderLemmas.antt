@@ -6,7 +6,7 @@ use Rattle.std.proofs.lemmas.Bool.{eqb-true, eqb-false, eq-eqb, ne_eqb, cases_eq
 use Rattle.std.proofs.lemmas.List.{get_or-set_same, get_or-set_other, get_or_past}
 use Rattle.std.proofs.lemmas.List.Folds.{list_any-append}
 use Rattle.std.proofs.lemmas.List.Elements.{filter-append}
-use Rattle.flat_stil.specs.Order.{is_in, firsts, number_in}
+use Rattle.flat_parts.specs.Order.{is_in, firsts, number_in}
 use Rattle.flat_stil.specs.Working.{IsPlace}
 
 -- ---- each number once

@@ -6,7 +6,7 @@ use Rattle.std.proofs.lemmas.List.{take_more, map-append}
 use Rattle.std.proofs.lemmas.Grind.{flat_map-append}
 use Rattle.std.proofs.lemmas.Bool.{le-leb}
 use Rattle.std.proofs.lemmas.Bool.Decides.{nat_tests}
-use Rattle.flat_stil.specs.FlatText.{with_feed, text_of, block}
+use Rattle.flat_parts.specs.FlatText.{with_feed, text_of, block}
 use Rattle.flat_stil.specs.Working.{Written, wrote, prints}
 
 -- ---- texts

@@ -1,28 +1,27 @@
 -- Which codes have a flat text that is accepted, and why another has none.
-use Rattle.std.specs.Prelude.{◌≡◌, ℕ, Bool, not, ◌==◌, ◌&&◌, ◌<◌, ◌≤◌, List, codes, length, Some, None}
-use Rattle.std.specs.List.{list_all}
+use Rattle.std.specs.Prelude.{◌≡◌, ℕ, ◌<◌, ◌≤◌, List, codes, length, Some, None}
 use Rattle.text_bytes.specs.Limits.{most_bytes}
 use Rattle.stil_ast.specs.declared.fault.StilFault.{StilFault}
 use Rattle.packed_code.specs.Program.{Program}
-use Rattle.stil_program.specs.Program.{IsTextFault}
-use Rattle.flat_stil.specs.FlatText.{flat_text}
+use Rattle.stil_ast.specs.declared.blocks.Blocks.{Blocks}
+use Rattle.time_expr.specs.TimesOf.{times_of}
+use Rattle.stil_program.specs.Program.{IsTextFault, IsTextOf}
+use Rattle.flat_parts.specs.FlatText.{flat_text}
+use Rattle.flat_parts.specs.SameCycles.{HasSameCycles}
+use Rattle.flat_laws.specs.Laws.{IsLimit}
 use Rattle.flat_stil.specs.declared.fault.FlatFault.{FlatFault}
 use Rattle.flat_stil.specs.declared.fault.FlatFault.TheVariants as fault
-
--- whether a name can stand in double quotes: no byte of it is one
-abbrev pub is_plain : List ℕ → Bool
-is_plain name = list_all (λ byte. not (byte == 34)) name
-
--- whether the names of a code's signals and executives can
-abbrev pub has_plain_names : Program → Bool
-has_plain_names code =
-    list_all (λ signal. is_plain signal.name) code.signals && list_all (λ exec. is_plain exec.name) code.execs
 
 -- the text is the code's flat text, is no longer than a text may be, and has no fault
 pub record IsFlat (code : Program) (text : List ℕ) : Type 0 where
   pub is : text ≡ flat_text code
   pub short : length text ≤ most_bytes
   pub fine : IsTextFault text None
+
+-- where this text is read, its cycles are those of the code: they start when these do and have their characters, and
+-- tables of the same period and waves
+abbrev pub MeansSame : Program → List ℕ → Type 0
+MeansSame code text = (blocks : Blocks) → IsTextOf text blocks → HasSameCycles times_of code blocks
 
 -- the flat text is longer
 abbrev pub IsTooLong : Program → Type 0
@@ -33,6 +32,10 @@ pub record IsTooFlat (code : Program) : Type 0 where
   pub short : length (flat_text code) ≤ most_bytes
   pub fault : StilFault
   pub first : IsTextFault (flat_text code) (Some fault)
+
+-- what fault it may have: that it is beyond a limit
+abbrev pub IsBeyondLimits : Program → Type 0
+IsBeyondLimits code = (fault : StilFault) → IsTextFault (flat_text code) (Some fault) → IsLimit fault.kind
 
 -- what must be so for a fault; memory may be wanting at any time
 abbrev pub IsCause : Program → FlatFault → Type 0

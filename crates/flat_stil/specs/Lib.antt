@@ -1,6 +1,4 @@
--- Read FlatText first (what is written), then FlatFault (why nothing is). Working has what the code computes on its
--- way.
-pub mod Order
-pub mod FlatText
+-- Read FlatFault first: why nothing is written. What is written stands in flat_parts. Working has what the code
+-- computes on its way.
 pub mod FlatFault
 pub mod Working

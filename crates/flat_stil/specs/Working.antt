@@ -7,8 +7,8 @@ use Rattle.text_bytes.specs.Limits.{most_bytes}
 use Rattle.stil_ast.specs.declared.fault.StilFault.{StilFault}
 use Rattle.packed_code.specs.Program.{Program}
 use Rattle.stil_program.specs.Program.{IsTextFault}
-use Rattle.flat_stil.specs.FlatText.{text_of, flat_text}
-use Rattle.flat_stil.specs.Order.{is_in, number_in}
+use Rattle.flat_parts.specs.FlatText.{text_of, flat_text}
+use Rattle.flat_parts.specs.Order.{is_in, number_in}
 use Rattle.flat_stil.specs.FlatFault.{IsTooLong, IsFlat, IsCause}
 use Rattle.flat_stil.specs.declared.fault.FlatFault.{FlatFault}
 use Rattle.flat_stil.specs.declared.fault.FlatFault.TheVariants as fault

@@ -2,9 +2,10 @@
 
 ghost use Rattle.std.specs.Prelude.{◌≡◌, ◌≤◌, ◌⊎◌, true, IfOk, IfErr, OnOk, MatchResult, length};
 ghost use Rattle.text_bytes.specs.Limits.{most_bytes};
-ghost use Rattle.flat_stil.specs.Order.{table_order, row_order};
-ghost use Rattle.flat_stil.specs.FlatText.{flat_lines, flat_text};
-ghost use Rattle.flat_stil.specs.FlatFault.{has_plain_names, IsFlat, IsTooLong, IsTooFlat, IsCause};
+ghost use Rattle.flat_parts.specs.Order.{table_order, row_order};
+ghost use Rattle.packed_code.specs.Conditions.{IsProgram};
+ghost use Rattle.flat_parts.specs.FlatText.{flat_lines, flat_text, has_plain_names};
+ghost use Rattle.flat_stil.specs.FlatFault.{IsFlat, MeansSame, IsTooLong, IsTooFlat, IsBeyondLimits, IsCause};
 ghost use Rattle.flat_stil.specs.Working.{prints, IsWritten, IsJudged, Judges, Answers};
 ghost use Rattle.flat_stil.specs.declared.fault.FlatFault.TheVariants as fault;
 
@@ -83,8 +84,10 @@ fn judged(alloc: Global, text: FlatText) -> Result<FlatText, FlatFault>
 
 /// The flat text of a code, or why it has none.
 fn flattened(alloc: Global, code: &Code) -> Result<FlatText, FlatFault>
-    ensures { Answers code.now result }
+    ensures answers { Answers code.now result }
+    ensures program { IsProgram code.now }
 {
+    let _ = code.signals();
     match written(alloc, code) {
         Ok(Some(text)) => judged(alloc, text),
         Ok(None) => Err(FlatFault::TooLong),
@@ -98,6 +101,8 @@ fn flattened(alloc: Global, code: &Code) -> Result<FlatText, FlatFault>
 pub fn flat(alloc: Global, code: &Code) -> Result<FlatText, FlatFault>
     requires { has_plain_names code.now ≡ true }
     ensures found { IfOk result (IsFlat code.now) }
+    ensures same { IfOk result (MeansSame code.now) }
+    ensures limit { IsBeyondLimits code.now }
     ensures cause { IfErr result (IsCause code.now) }
     ensures long { IsTooLong code.now → MatchResult result (λ _. ⊥) (λ e. (e ≡ fault.NoMemory) ⊎ (e ≡ fault.TooLong)) }
     ensures flat { IsTooFlat code.now → MatchResult result (λ _. ⊥) (λ e. (e ≡ fault.NoMemory) ⊎ (e ≡ fault.TooFlat)) }

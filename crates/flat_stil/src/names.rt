@@ -2,8 +2,8 @@
 
 ghost use Rattle.std.specs.Prelude.{◌≡◌, [], slice_index_or, take, true};
 ghost use Rattle.std.specs.List.{list_all};
-ghost use Rattle.flat_stil.specs.FlatText.{name_of};
-ghost use Rattle.flat_stil.specs.FlatFault.{is_plain, has_plain_names};
+ghost use Rattle.flat_parts.specs.FlatText.{name_of};
+ghost use Rattle.flat_parts.specs.FlatText.{is_plain, has_plain_names};
 
 use packed_code::{Code, CodeSignal};
 

@@ -1,7 +1,7 @@
 //! Numbers in the order in which they first come, each with its place.
 
 ghost use Rattle.std.specs.Prelude.{◌≡◌, ◌++◌, ◌∷◌, [], IfOk, OnOk, if◌then◌else◌};
-ghost use Rattle.flat_stil.specs.Order.{is_in, number_in};
+ghost use Rattle.flat_parts.specs.Order.{is_in, number_in};
 ghost use Rattle.flat_stil.specs.Working.{IsPlace};
 
 use std::alloc::Global;

@@ -3,7 +3,7 @@
 ghost use Rattle.std.specs.Prelude.{◌≡◌, ◌++◌, ◌<◌, ℕ, List, IfOk, OnOk, length};
 ghost use Rattle.std.specs.List.{flat_map};
 ghost use Rattle.packed_code.specs.Cycles.{exec_of};
-ghost use Rattle.flat_stil.specs.Order.{run_table, run_row, tables_in, firsts, table_order, row_order};
+ghost use Rattle.flat_parts.specs.Order.{run_table, run_row, tables_in, firsts, table_order, row_order};
 
 use crate::numbers::Numbers;
 use packed_code::{Code, Instr, PackedInstr};

@@ -3,8 +3,8 @@
 ghost use Rattle.std.specs.Prelude.{◌≡◌, ◌<◌, [], ◌∷◌, map, length};
 ghost use Rattle.std.specs.List.{flat_map};
 ghost use Rattle.packed_code.specs.Cycles.{exec_of};
-ghost use Rattle.flat_stil.specs.Order.{table_order, row_order};
-ghost use Rattle.flat_stil.specs.FlatText.{one_line, many_line, run_line, instr_lines, pattern_lines, burst_line, title, exec_parts, exec_text, exec_line, executives};
+ghost use Rattle.flat_parts.specs.Order.{table_order, row_order};
+ghost use Rattle.flat_parts.specs.FlatText.{one_line, many_line, run_line, instr_lines, pattern_lines, burst_line, title, exec_parts, exec_text, exec_line, executives};
 ghost use Rattle.flat_stil.specs.Working.{wrote, prints};
 
 use crate::numbers::Numbers;

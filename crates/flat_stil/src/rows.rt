@@ -3,8 +3,8 @@
 ghost use Rattle.std.specs.Prelude.{◌≡◌, [], ◌∷◌, ◌++◌, codes, map, length, slice_index_or};
 ghost use Rattle.std.specs.List.{range_with_len};
 ghost use Rattle.packed_code.specs.Conditions.{letters_of};
-ghost use Rattle.flat_stil.specs.Order.{row_order};
-ghost use Rattle.flat_stil.specs.FlatText.{letter_item, letter_items, row_front, row_text, row_line, row_lines};
+ghost use Rattle.flat_parts.specs.Order.{row_order};
+ghost use Rattle.flat_parts.specs.FlatText.{letter_item, letter_items, row_front, row_text, row_line, row_lines};
 ghost use Rattle.flat_stil.specs.Working.{wrote, prints};
 
 use crate::names::name_at;

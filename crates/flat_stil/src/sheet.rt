@@ -3,7 +3,7 @@
 ghost use Rattle.std.specs.Prelude.{◌≡◌, [], ◌∷◌, IfOk, Some, codes, option_map};
 ghost use Rattle.std.specs.List.{flat_map};
 ghost use Rattle.tester_types.specs.Printing.{quoted};
-ghost use Rattle.flat_stil.specs.FlatText.{opening};
+ghost use Rattle.flat_parts.specs.FlatText.{opening};
 ghost use Rattle.flat_stil.specs.Working.{part_text, wrote, prints};
 
 use crate::text::FlatText;

@@ -1,7 +1,7 @@
 //! The signals of a flat text.
 
 ghost use Rattle.std.specs.Prelude.{◌≡◌, [], ◌∷◌, map};
-ghost use Rattle.flat_stil.specs.FlatText.{direction_word, signal_line, signal_lines};
+ghost use Rattle.flat_parts.specs.FlatText.{direction_word, signal_line, signal_lines};
 ghost use Rattle.flat_stil.specs.Working.{prints};
 
 use crate::sheet::{Part, Sheet};

@@ -3,9 +3,9 @@
 ghost use Rattle.std.specs.Prelude.{◌≡◌, ◌<◌, [], ◌∷◌, ◌++◌, map, length, codes, OnOk};
 ghost use Rattle.std.specs.List.{flat_map, range_with_len};
 ghost use Rattle.packed_code.specs.Cycles.{exec_of};
-ghost use Rattle.flat_stil.specs.Order.{tables_in, firsts, table_order};
-ghost use Rattle.flat_stil.specs.FlatText.{act_letter, event_item, wave_front, wave_line, waveform_lines, period_line, table_lines};
-ghost use Rattle.flat_stil.specs.FlatText.{numbered_table, table_among, own_table, timing_lines, executives};
+ghost use Rattle.flat_parts.specs.Order.{tables_in, firsts, table_order};
+ghost use Rattle.flat_parts.specs.FlatText.{act_letter, event_item, wave_front, wave_line, waveform_lines, period_line, table_lines};
+ghost use Rattle.flat_parts.specs.FlatText.{numbered_table, table_among, own_table, timing_lines, executives};
 ghost use Rattle.flat_stil.specs.Working.{wrote, prints};
 
 use crate::names::name_at;

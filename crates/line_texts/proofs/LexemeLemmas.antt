@@ -1,14 +1,16 @@
 -- The lexemes of the tokens of pieces are those of the pieces.
-use Rattle.std.proofs.Common.{◌≡◌, ℕ, ◌+◌, ◌-◌, ◌≤◌, ◌<◌, List, [], ◌∷◌, ◌++◌, length, take, drop, map, refl, sym, ap, subst, ◌∙◌, append_assoc, arith, inl, inr, length-drop}
+use Rattle.std.proofs.Common.{◌≡◌, ℕ, ◌+◌, ◌-◌, List, [], ◌∷◌, ◌++◌, length, take, drop, refl, sym, ap, ◌∙◌, append_assoc, arith, inl, inr, length-drop, length-append, take_all, take_at}
 use Rattle.std.specs.List.{flat_map}
 use Rattle.std.proofs.lemmas.Bool.{cases_lt}
 use Rattle.std.proofs.lemmas.List.{drop-append-le, take-append-le}
 use Rattle.std.proofs.lemmas.List.Concat.{flat_map-cons}
 use Rattle.std.proofs.Math.Seq.{drop-append-add}
 use Rattle.stil_lex.specs.Pieces.{Piece, gap, token}
-use Rattle.stil_lex.specs.Text.{quote_len, bytes_between, text_of}
+use Rattle.stil_lex.specs.Bytes.{double_quote, single_quote}
+use Rattle.stil_lex.specs.Text.{quote_len, text_of}
 use Rattle.stil_lex.specs.Tokens.{spelled, token_at, tokens_of}
 use Rattle.stil_lex.specs.declared.token.TokenKind.{TokenKind}
+use Rattle.stil_lex.specs.declared.token.TokenKind.TheVariants.{Word, Name, Text}
 use Rattle.stil_form.specs.Lexeme.{Lexeme, lexeme_from, lexeme_at, lexemes_of}
 use Rattle.line_texts.specs.Lexemes.{unquoted, lexemes_in}
 
@@ -69,3 +71,19 @@ lexemes_in-each of (x ∷ xs) =
     ap lexemes_in (flat_map-cons of x xs) ∙ lexemes_in-append (of x) (flat_map of xs)
     ∙ ap (λ (ls : List Lexeme). lexemes_in (of x) ++ ls) (lexemes_in-each of xs)
     ∙ sym (flat_map-cons (λ x. lexemes_in (of x)) x xs)
+
+-- a word has its whole text
+pub unquoted_word : (bytes : List ℕ) → unquoted Word bytes ≡ bytes
+unquoted_word bytes = take_all (length bytes - 0 - 0) bytes (omega arith)
+
+-- a name in quotes what stands between them
+pub unquoted_name : (bytes : List ℕ) → unquoted Name (double_quote ∷ bytes ++ double_quote ∷ []) ≡ bytes
+unquoted_name bytes =
+    take_at bytes (double_quote ∷ []) (length (double_quote ∷ bytes ++ double_quote ∷ []) - 1 - 1)
+    (omega (arith, length-append bytes (double_quote ∷ [])))
+
+-- and so has a text
+pub unquoted_text : (bytes : List ℕ) → unquoted Text (single_quote ∷ bytes ++ single_quote ∷ []) ≡ bytes
+unquoted_text bytes =
+    take_at bytes (single_quote ∷ []) (length (single_quote ∷ bytes ++ single_quote ∷ []) - 1 - 1)
+    (omega (arith, length-append bytes (single_quote ∷ [])))

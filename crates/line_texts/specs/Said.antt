@@ -1,7 +1,8 @@
 -- Statements as a text says them, with their gaps: the pieces that they are, and the trees that they make.
 use Rattle.std.specs.Prelude.{ℕ, ◌+◌, List, [], ◌∷◌, ◌++◌}
 use Rattle.stil_lex.specs.Pieces.{Piece, gap, token}
-use Rattle.stil_lex.specs.declared.token.TokenKind.TheVariants.{Sign}
+use Rattle.stil_lex.specs.Bytes.{double_quote, single_quote}
+use Rattle.stil_lex.specs.declared.token.TokenKind.TheVariants.{Word, Name, Text, Sign}
 use Rattle.stil_tree.specs.Signs.{semicolon, open_brace, close_brace}
 use Rattle.stil_tree.specs.Trees.{Trees, end, plain, block}
 
@@ -53,3 +54,29 @@ in_front_of (braced head body rest) more = braced head body (in_front_of rest mo
 abbrev pub each_said : {X : Type 0} → (X → Said → Said) → List X → Said → Said
 each_said said [] more = more
 each_said said (x ∷ xs) more = said x (each_said said xs more)
+
+-- ---- pieces and gaps
+
+-- a word
+abbrev pub word : List ℕ → Piece
+word text = token Word text
+
+-- a name in double quotes
+abbrev pub a_name : List ℕ → Piece
+a_name name = token Name (double_quote ∷ name ++ double_quote ∷ [])
+
+-- a text in single quotes
+abbrev pub a_text : List ℕ → Piece
+a_text text = token Text (single_quote ∷ text ++ single_quote ∷ [])
+
+-- one space between words
+abbrev pub blank : Piece
+blank = gap (32 ∷ [])
+
+-- one space in front of statements
+abbrev pub spaced : Said → Said
+spaced more = space (32 ∷ []) more
+
+-- a line's end in front of statements
+abbrev pub next_line : Said → Said
+next_line more = space (10 ∷ []) more

@@ -15,7 +15,7 @@ use Rattle.code_listing.specs.Listing.{listing_of}
 use Rattle.code_listing.specs.Text.{names_of, cycles_among, events_text}
 use Rattle.code_listing.proofs.ListingLemmas.{length-listing}
 use Rattle.stil_program.specs.Program.{IsRefusal, IsProgramOf, IsCompiledText}
-use Rattle.flat_stil.specs.FlatFault.{IsCause}
+use Rattle.flat_stil.specs.FlatFault.{IsBeyondLimits, IsCause}
 use Rattle.flat_stil.specs.declared.fault.FlatFault.{FlatFault}
 use Rattle.flat_stil.specs.declared.fault.FlatFault.TheVariants as fault
 use Rattle.stil_program.proofs.ProgramLemmas.{execs_are}
@@ -130,10 +130,11 @@ events_wanting file bytes code held before now faults between faults' result is 
 -- what is wanted of a code is wanted of the bytes that it is of
 want_flat : (file bytes : List ℕ) (code : Program) (status : Status) (text : List ℕ) → IsProgramOf bytes code
     → FlatWant file code status text → BytesWant Flat file bytes status text
-want_flat file bytes code Done text is want = (code, is, want)
+want_flat file bytes code Done text is want = (code, is, want.0, want.1)
 want_flat file bytes code OutOfMemory text is want = at_once want
 want_flat file bytes code TooLong text is want = (record { code = code; is = is; long = want.0 }, want.1)
-want_flat file bytes code TooFlat text is want = (record { flattens = refl; code = code; is = is; flat = want.0 }, want.1)
+want_flat file bytes code TooFlat text is want =
+    (record { flattens = refl; code = code; is = is; flat = want.0; limit = want.1 }, want.2)
 want_flat file bytes code Usage text is want = absurd want
 want_flat file bytes code ReadFault text is want = absurd want
 want_flat file bytes code WriteFault text is want = absurd want
@@ -156,7 +157,8 @@ flat_answers file bytes code held held' faults faults' result is a = record {
 }
 
 -- the status and the line of a fault are wanted
-pub want_fault : (file : List ℕ) (code : Program) (f : FlatFault) → IsCause code f → FlatWant file code (flat_status f) (flat_line file f)
-want_fault file code fault.NoMemory cause = refl
-want_fault file code fault.TooLong cause = (cause, refl)
-want_fault file code fault.TooFlat cause = (cause, refl)
+pub want_fault : (file : List ℕ) (code : Program) (f : FlatFault) → IsCause code f → IsBeyondLimits code
+    → FlatWant file code (flat_status f) (flat_line file f)
+want_fault file code fault.NoMemory cause limit = refl
+want_fault file code fault.TooLong cause limit = (cause, refl)
+want_fault file code fault.TooFlat cause limit = (cause, limit, refl)

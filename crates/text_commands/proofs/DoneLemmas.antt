@@ -7,7 +7,7 @@ use Rattle.stil_ast.specs.declared.fault.StilFault.{StilFault}
 use Rattle.stil_ast.specs.Faults.FrontFaults.{Front, refused_by, read_as, too_many_at}
 use Rattle.stil_program.specs.Program.{IsTextFault}
 use Rattle.stil_program.proofs.FaultLemmas.{one_text_fault}
-use Rattle.flat_stil.specs.FlatText.{flat_text}
+use Rattle.flat_parts.specs.FlatText.{flat_text}
 use Rattle.text_front.proofs.FrontLemmas.{one_front}
 use Rattle.text_commands.specs.declared.command.Command.{Command}
 use Rattle.text_commands.specs.declared.command.Command.TheVariants.{Check, Cycles, Events, Save, Flat}

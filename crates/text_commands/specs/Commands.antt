@@ -12,8 +12,8 @@ use Rattle.packed_code.specs.Spelling as spell
 use Rattle.code_listing.specs.Lines.{AreFirstLines}
 use Rattle.code_listing.specs.Text.{check_text, cycles_text, events_text}
 use Rattle.stil_program.specs.Program.{IsTextFault, IsTextOf, IsProgramOf}
-use Rattle.flat_stil.specs.FlatText.{flat_text}
-use Rattle.flat_stil.specs.FlatFault.{IsFlat, IsTooLong, IsTooFlat}
+use Rattle.flat_parts.specs.FlatText.{flat_text}
+use Rattle.flat_stil.specs.FlatFault.{IsFlat, MeansSame, IsTooLong, IsTooFlat, IsBeyondLimits}
 use Rattle.tool_inputs.specs.declared.status.Status.{Status}
 use Rattle.tool_inputs.specs.declared.status.Status.TheVariants.{Done, ReadFault, RefusedStil, OutOfMemory, TooLong, TooFlat}
 use Rattle.text_commands.specs.declared.command.Command.{Command}
@@ -48,7 +48,7 @@ IsOutput Events bytes text =
     (blocks : Blocks) × IsListed bytes blocks × (text ≡ events_text (signal_names blocks) (text_listing blocks))
 IsOutput Save bytes text =
     (code : Program) × IsProgramOf bytes code × IsProgram code × (text ≡ saved_form code) × (length text ≤ limit)
-IsOutput Flat bytes text = (code : Program) × IsProgramOf bytes code × IsFlat code text
+IsOutput Flat bytes text = (code : Program) × IsProgramOf bytes code × IsFlat code text × MeansSame code text
 
 -- a command prints cycle by cycle
 abbrev pub IsListing : Command → Type 0
@@ -83,12 +83,13 @@ pub record IsWrittenTooLong (command : Command) (bytes : List ℕ) : Type 0 wher
   pub is : IsProgramOf bytes code
   pub long : HasTooLong command code
 
--- the flat text of a text would be refused
+-- the flat text of a text would be refused, as it is beyond a limit
 pub record IsWrittenTooFlat (command : Command) (bytes : List ℕ) : Type 0 where
   pub flattens : command ≡ Flat
   pub code : Program
   pub is : IsProgramOf bytes code
   pub flat : IsTooFlat code
+  pub limit : IsBeyondLimits code
 
 -- want of memory, which may come at any time; of events the first lines may stand before it
 pub data Wanting (command : Command) (bytes text : List ℕ) : Type 0 where

@@ -100,11 +100,11 @@ one_forest ts forest other p q =
     cc
 
 -- a text with tokens has no fault of tokens
-no_token_fault : (bytes : List ℕ) (ts : List Token) (f : StilFault) → Reads bytes ts → IsTokenFault bytes f → ⊥
+pub no_token_fault : (bytes : List ℕ) (ts : List Token) (f : StilFault) → Reads bytes ts → IsTokenFault bytes f → ⊥
 no_token_fault bytes ts f reads p = readings.tokens_or_refusal bytes ts p.which reads p.refused.here
 
 -- one with statements has no fault of statements
-no_statement_fault : (bytes : List ℕ) (ts us : List Token) (forest : Trees) (f : StilFault)
+pub no_statement_fault : (bytes : List ℕ) (ts us : List Token) (forest : Trees) (f : StilFault)
     → Reads bytes ts → Reads bytes us → Parses ts forest → IsStatementFault bytes us f → ⊥
 no_statement_fault bytes ts us forest f reads others parses p =
     let same : us ≡ ts = readings.one_token_list bytes us ts others reads in
@@ -114,7 +114,7 @@ no_statement_fault bytes ts us forest f reads others parses p =
     cc
 
 -- what holds of one reading of a text holds of the other
-moved : (Is : List Token → Trees → Type 0) (bytes : List ℕ) (ts us : List Token) (forest other : Trees)
+pub moved : (Is : List Token → Trees → Type 0) (bytes : List ℕ) (ts us : List Token) (forest other : Trees)
     → Reads bytes ts → Reads bytes us → Parses ts forest → Parses us other → Is ts forest → Is us other
 moved Is bytes ts us forest other reads others parses parsed is =
     let same : ts ≡ us = readings.one_token_list bytes ts us reads others in

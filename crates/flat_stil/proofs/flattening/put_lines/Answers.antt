@@ -1,7 +1,7 @@
 use Rattle.std.proofs.Common.{map}
 use Rattle.std.specs.Prelude.{codes}
 use Rattle.std.specs.List.{flat_map}
-use Rattle.flat_stil.specs.FlatText.{signal_lines, timing_lines, row_lines, pattern_lines, burst_line, exec_line, executives}
+use Rattle.flat_parts.specs.FlatText.{signal_lines, timing_lines, row_lines, pattern_lines, burst_line, exec_line, executives}
 use Rattle.flat_stil.proofs.FlatLemmas.{all_lines}
 use Rattle.flat_stil.proofs.flattening.put_lines.Goals as goal
 

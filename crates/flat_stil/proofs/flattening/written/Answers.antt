@@ -1,6 +1,6 @@
 use Rattle.std.proofs.Common.{ap, ◌∙◌, Option}
 use Rattle.flat_stil.specs.Working.{Written, prints}
-use Rattle.flat_stil.specs.FlatText.{flat_lines}
+use Rattle.flat_parts.specs.FlatText.{flat_lines}
 use Rattle.flat_stil.proofs.FlatLemmas.{is_written}
 use Rattle.flat_stil.proofs.flattening.written.Goals as goal
 

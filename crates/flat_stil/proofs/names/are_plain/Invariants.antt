@@ -1,6 +1,6 @@
 use Rattle.std.proofs.Common.{◌≡◌, true, take}
 use Rattle.std.specs.List.{list_all}
-use Rattle.flat_stil.specs.FlatFault.{is_plain}
+use Rattle.flat_parts.specs.FlatText.{is_plain}
 use Rattle.flat_stil.proofs.names.are_plain.Given as goal
 
 abbrev pub invariant-loop-signal : goal.invariant-loop-signal

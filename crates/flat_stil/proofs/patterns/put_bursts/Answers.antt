@@ -1,6 +1,6 @@
 use Rattle.std.proofs.Common.{sym, ap, ◌∙◌, ℕ, [], ◌∷◌}
 use Rattle.flat_stil.specs.Working.{prints}
-use Rattle.flat_stil.specs.FlatText.{burst_line}
+use Rattle.flat_parts.specs.FlatText.{burst_line}
 use Rattle.flat_stil.proofs.SheetLemmas.{prints_nothing, line_at}
 use Rattle.flat_stil.proofs.patterns.put_bursts.Goals as goal
 

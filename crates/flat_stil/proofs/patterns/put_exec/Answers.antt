@@ -1,5 +1,5 @@
 use Rattle.std.specs.Prelude.{codes}
-use Rattle.flat_stil.specs.FlatText.{title, exec_parts}
+use Rattle.flat_parts.specs.FlatText.{title, exec_parts}
 use Rattle.flat_stil.proofs.SheetLemmas.{three_pieces}
 use Rattle.flat_stil.proofs.patterns.put_exec.Goals as goal
 

@@ -1,7 +1,7 @@
 use Rattle.std.proofs.Common.{sym, ap, ◌∙◌, ℕ, List, [], ◌∷◌}
 use Rattle.flat_stil.specs.Working.{prints}
 use Rattle.packed_code.specs.Cycles.{exec_of}
-use Rattle.flat_stil.specs.FlatText.{exec_line, exec_text}
+use Rattle.flat_parts.specs.FlatText.{exec_line, exec_text}
 use Rattle.flat_stil.proofs.SheetLemmas.{prints_nothing, line_at}
 use Rattle.flat_stil.proofs.patterns.put_execs.Goals as goal
 

@@ -1,6 +1,6 @@
 use Rattle.std.proofs.Common.{◌≡◌, map}
 use Rattle.std.specs.List.{range_with_len}
-use Rattle.flat_stil.specs.FlatText.{exec_line}
+use Rattle.flat_parts.specs.FlatText.{exec_line}
 use Rattle.flat_stil.specs.Working.{prints}
 use Rattle.flat_stil.proofs.patterns.put_execs.Given as goal
 

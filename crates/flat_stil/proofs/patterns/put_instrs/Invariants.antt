@@ -1,6 +1,6 @@
 use Rattle.std.proofs.Common.{◌≡◌, take}
 use Rattle.std.specs.List.{flat_map}
-use Rattle.flat_stil.specs.FlatText.{instr_lines}
+use Rattle.flat_parts.specs.FlatText.{instr_lines}
 use Rattle.flat_stil.specs.Working.{prints}
 use Rattle.flat_stil.proofs.patterns.put_instrs.Given as goal
 

@@ -4,7 +4,7 @@ use Rattle.std.specs.List.{flat_map}
 use Rattle.flat_stil.specs.Working.{prints}
 use Rattle.page_meaning.specs.declared.instr.Instr.{Instr}
 use Rattle.packed_code.specs.Cycles.{exec_of}
-use Rattle.flat_stil.specs.FlatText.{opening, instr_lines}
+use Rattle.flat_parts.specs.FlatText.{opening, instr_lines}
 use Rattle.flat_stil.proofs.SheetLemmas.{block_written}
 use Rattle.flat_stil.proofs.patterns.put_pattern.Goals as goal
 

@@ -1,5 +1,5 @@
 use Rattle.std.proofs.Common.{sym}
-use Rattle.flat_stil.specs.FlatText.{pattern_lines}
+use Rattle.flat_parts.specs.FlatText.{pattern_lines}
 use Rattle.flat_stil.proofs.SheetLemmas.{prints_nothing, lines_at}
 use Rattle.flat_stil.proofs.patterns.put_patterns.Goals as goal
 

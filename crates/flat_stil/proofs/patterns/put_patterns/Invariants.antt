@@ -1,6 +1,6 @@
 use Rattle.std.proofs.Common.{◌≡◌}
 use Rattle.std.specs.List.{flat_map, range_with_len}
-use Rattle.flat_stil.specs.FlatText.{pattern_lines}
+use Rattle.flat_parts.specs.FlatText.{pattern_lines}
 use Rattle.flat_stil.specs.Working.{prints}
 use Rattle.flat_stil.proofs.patterns.put_patterns.Given as goal
 

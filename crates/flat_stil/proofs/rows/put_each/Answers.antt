@@ -1,7 +1,7 @@
 use Rattle.std.proofs.Common.{sym, ap, ◌∙◌, ℕ, List, [], ◌∷◌, get_or}
 use Rattle.flat_stil.specs.Working.{prints}
 use Rattle.packed_code.specs.Conditions.{letters_of}
-use Rattle.flat_stil.specs.FlatText.{row_line, row_text}
+use Rattle.flat_parts.specs.FlatText.{row_line, row_text}
 use Rattle.flat_stil.proofs.SheetLemmas.{prints_nothing, line_at}
 use Rattle.flat_stil.proofs.rows.put_each.Goals as goal
 

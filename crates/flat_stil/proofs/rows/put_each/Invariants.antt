@@ -1,6 +1,6 @@
 use Rattle.std.proofs.Common.{◌≡◌, map}
 use Rattle.std.specs.List.{range_with_len}
-use Rattle.flat_stil.specs.FlatText.{row_line}
+use Rattle.flat_parts.specs.FlatText.{row_line}
 use Rattle.flat_stil.specs.Working.{prints}
 use Rattle.flat_stil.proofs.rows.put_each.Given as goal
 

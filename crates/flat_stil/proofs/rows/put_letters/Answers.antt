@@ -1,6 +1,6 @@
 use Rattle.std.proofs.Common.{sym, ap, ◌∙◌, ℕ, List}
 use Rattle.flat_stil.specs.Working.{wrote}
-use Rattle.flat_stil.specs.FlatText.{signal_item, letter_item, name_of}
+use Rattle.flat_parts.specs.FlatText.{signal_item, letter_item, name_of}
 use Rattle.flat_stil.proofs.SheetLemmas.{wrote_nothing, text_at}
 use Rattle.flat_stil.proofs.rows.put_letters.Goals as goal
 

@@ -1,6 +1,6 @@
 use Rattle.std.proofs.Common.{◌≡◌}
 use Rattle.std.specs.List.{flat_map, range_with_len}
-use Rattle.flat_stil.specs.FlatText.{signal_item}
+use Rattle.flat_parts.specs.FlatText.{signal_item}
 use Rattle.flat_stil.specs.Working.{wrote}
 use Rattle.flat_stil.proofs.rows.put_letters.Given as goal
 

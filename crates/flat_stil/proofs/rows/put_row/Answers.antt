@@ -1,6 +1,6 @@
 use Rattle.std.proofs.Common.{◌++◌}
 use Rattle.std.specs.Prelude.{codes}
-use Rattle.flat_stil.specs.FlatText.{row_front, letter_items}
+use Rattle.flat_parts.specs.FlatText.{row_front, letter_items}
 use Rattle.flat_stil.proofs.SheetLemmas.{three_pieces}
 use Rattle.flat_stil.proofs.rows.put_row.Goals as goal
 

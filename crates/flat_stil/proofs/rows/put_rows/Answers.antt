@@ -1,8 +1,8 @@
 use Rattle.std.proofs.Common.{map}
 use Rattle.std.specs.Prelude.{codes, length}
 use Rattle.std.specs.List.{range_with_len}
-use Rattle.flat_stil.specs.Order.{row_order}
-use Rattle.flat_stil.specs.FlatText.{row_line}
+use Rattle.flat_parts.specs.Order.{row_order}
+use Rattle.flat_parts.specs.FlatText.{row_line}
 use Rattle.flat_stil.proofs.SheetLemmas.{block_written}
 use Rattle.flat_stil.proofs.rows.put_rows.Goals as goal
 

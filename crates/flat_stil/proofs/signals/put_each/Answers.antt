@@ -1,5 +1,5 @@
 use Rattle.std.proofs.Common.{sym}
-use Rattle.flat_stil.specs.FlatText.{signal_line}
+use Rattle.flat_parts.specs.FlatText.{signal_line}
 use Rattle.flat_stil.proofs.SheetLemmas.{prints_nothing, line_step}
 use Rattle.flat_stil.proofs.signals.put_each.Goals as goal
 

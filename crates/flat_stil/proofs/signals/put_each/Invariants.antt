@@ -1,5 +1,5 @@
 use Rattle.std.proofs.Common.{◌≡◌, map, take}
-use Rattle.flat_stil.specs.FlatText.{signal_line}
+use Rattle.flat_parts.specs.FlatText.{signal_line}
 use Rattle.flat_stil.specs.Working.{prints}
 use Rattle.flat_stil.proofs.signals.put_each.Given as goal
 

@@ -2,7 +2,7 @@ use Rattle.std.proofs.Common.{ap, ◌∙◌, List, map}
 use Rattle.std.specs.Prelude.{codes}
 use Rattle.flat_stil.specs.Working.{prints}
 use Rattle.packed_code.specs.declared.parts.CodeSignal.{CodeSignal}
-use Rattle.flat_stil.specs.FlatText.{signal_line}
+use Rattle.flat_parts.specs.FlatText.{signal_line}
 use Rattle.flat_stil.proofs.SheetLemmas.{block_written}
 use Rattle.flat_stil.proofs.signals.put_signals.Goals as goal
 

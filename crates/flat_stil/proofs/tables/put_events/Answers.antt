@@ -1,5 +1,5 @@
 use Rattle.std.proofs.Common.{sym, refl}
-use Rattle.flat_stil.specs.FlatText.{event_item}
+use Rattle.flat_parts.specs.FlatText.{event_item}
 use Rattle.flat_stil.proofs.SheetLemmas.{wrote_nothing, text_step}
 use Rattle.flat_stil.proofs.tables.put_events.Goals as goal
 

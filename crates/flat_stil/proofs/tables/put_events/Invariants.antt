@@ -1,6 +1,6 @@
 use Rattle.std.proofs.Common.{◌≡◌, take}
 use Rattle.std.specs.List.{flat_map}
-use Rattle.flat_stil.specs.FlatText.{event_item}
+use Rattle.flat_parts.specs.FlatText.{event_item}
 use Rattle.flat_stil.specs.Working.{wrote}
 use Rattle.flat_stil.proofs.tables.put_events.Given as goal
 

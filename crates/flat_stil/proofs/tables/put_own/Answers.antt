@@ -1,6 +1,6 @@
 use Rattle.std.proofs.Common.{sym, ap, ◌∙◌, List, ℕ}
 use Rattle.flat_stil.specs.Working.{prints}
-use Rattle.flat_stil.specs.FlatText.{own_table}
+use Rattle.flat_parts.specs.FlatText.{own_table}
 use Rattle.flat_stil.proofs.SheetLemmas.{prints_nothing, lines_at}
 use Rattle.flat_stil.proofs.LineLemmas.{own_by}
 use Rattle.flat_stil.proofs.tables.put_own.Goals as goal

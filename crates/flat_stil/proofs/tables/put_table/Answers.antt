@@ -1,6 +1,6 @@
 use Rattle.std.proofs.Common.{◌∷◌}
 use Rattle.std.specs.Prelude.{codes}
-use Rattle.flat_stil.specs.FlatText.{opening, period_line, waveform_lines}
+use Rattle.flat_parts.specs.FlatText.{opening, period_line, waveform_lines}
 use Rattle.flat_stil.proofs.SheetLemmas.{line_then, block_written}
 use Rattle.flat_stil.proofs.tables.put_table.Goals as goal
 

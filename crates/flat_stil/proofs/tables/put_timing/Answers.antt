@@ -2,8 +2,8 @@ use Rattle.std.proofs.Common.{ap, ◌∙◌, ℕ, [], ◌∷◌}
 use Rattle.std.specs.Prelude.{codes, length}
 use Rattle.std.specs.List.{flat_map, range_with_len}
 use Rattle.flat_stil.specs.Working.{prints}
-use Rattle.flat_stil.specs.Order.{table_order}
-use Rattle.flat_stil.specs.FlatText.{opening, own_table}
+use Rattle.flat_parts.specs.Order.{table_order}
+use Rattle.flat_parts.specs.FlatText.{opening, own_table}
 use Rattle.flat_stil.proofs.SheetLemmas.{block_written}
 use Rattle.flat_stil.proofs.tables.put_timing.Goals as goal
 

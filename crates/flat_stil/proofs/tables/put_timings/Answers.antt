@@ -1,5 +1,5 @@
 use Rattle.std.proofs.Common.{sym}
-use Rattle.flat_stil.specs.FlatText.{timing_lines}
+use Rattle.flat_parts.specs.FlatText.{timing_lines}
 use Rattle.flat_stil.proofs.SheetLemmas.{prints_nothing, lines_at}
 use Rattle.flat_stil.proofs.tables.put_timings.Goals as goal
 

@@ -3,7 +3,7 @@ use Rattle.std.specs.Prelude.{codes}
 use Rattle.std.specs.List.{flat_map}
 use Rattle.flat_stil.specs.Working.{wrote}
 use Rattle.tester_types.specs.declared.wave.Event.{Event}
-use Rattle.flat_stil.specs.FlatText.{wave_front, event_item, name_of}
+use Rattle.flat_parts.specs.FlatText.{wave_front, event_item, name_of}
 use Rattle.flat_stil.proofs.SheetLemmas.{three_pieces}
 use Rattle.flat_stil.proofs.tables.put_wave.Goals as goal
 

@@ -2,7 +2,7 @@ use Rattle.std.proofs.Common.{ap, ◌∙◌, List, map}
 use Rattle.std.specs.Prelude.{codes}
 use Rattle.flat_stil.specs.Working.{prints}
 use Rattle.tester_types.specs.declared.wave.Wave.{Wave}
-use Rattle.flat_stil.specs.FlatText.{wave_line}
+use Rattle.flat_parts.specs.FlatText.{wave_line}
 use Rattle.flat_stil.proofs.SheetLemmas.{block_written}
 use Rattle.flat_stil.proofs.tables.put_waveforms.Goals as goal
 

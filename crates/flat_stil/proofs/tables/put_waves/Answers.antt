@@ -1,5 +1,5 @@
 use Rattle.std.proofs.Common.{sym}
-use Rattle.flat_stil.specs.FlatText.{wave_line}
+use Rattle.flat_parts.specs.FlatText.{wave_line}
 use Rattle.flat_stil.proofs.SheetLemmas.{prints_nothing, line_step}
 use Rattle.flat_stil.proofs.tables.put_waves.Goals as goal
 

@@ -1,5 +1,5 @@
 use Rattle.std.proofs.Common.{◌≡◌, map, take}
-use Rattle.flat_stil.specs.FlatText.{wave_line}
+use Rattle.flat_parts.specs.FlatText.{wave_line}
 use Rattle.flat_stil.specs.Working.{prints}
 use Rattle.flat_stil.proofs.tables.put_waves.Given as goal
 

@@ -1,15 +1,21 @@
-use Rattle.std.proofs.Common.{ℕ, List, refl, sym, subst, inl, inr}
-use Rattle.flat_stil.specs.FlatFault.{IsFlat}
+use Rattle.std.proofs.Common.{◌≡◌, ℕ, List, refl, sym, subst, inl, inr}
+use Rattle.packed_code.specs.Program.{Program}
+use Rattle.flat_stil.specs.FlatFault.{IsFlat, MeansSame}
 use Rattle.tool_inputs.specs.declared.status.Status.TheVariants.{Done}
 use Rattle.text_commands.specs.FlatWants.{flat_status, flat_line}
 use Rattle.text_commands.proofs.CommandLemmas.{want_fault}
 use Rattle.text_commands.proofs.commands.put_flat.Goals as goal
 
+-- what is written is flat, and means the same
+written : (code : Program) (text bytes : List ℕ) → text ≡ bytes → IsFlat code text → MeansSame code text
+    → IsFlat code bytes × MeansSame code bytes
+written code text bytes is flat same = (subst (IsFlat code) is flat, subst (MeansSame code) is same)
+
 pub returns-in-Ok-put_all-clause-answers : goal.returns-in-Ok-put_all-clause-answers
 returns-in-Ok-put_all-clause-answers g c = record {
   status = Done;
   text = c.as_slice.result.now;
-  wanted = subst (λ (t : List ℕ). IsFlat c.args.code.now t) (sym c.as_slice.ensures) c.in-Ok.ensures.found;
+  wanted = written c.args.code.now _ _ (sym c.as_slice.ensures) c.in-Ok.ensures.found c.in-Ok.ensures.same;
   ends = inl (refl, c.in-Ok-put_all.ensures.puts);
 }
 
@@ -17,7 +23,7 @@ pub returns-in-Ok-clause-answers : goal.returns-in-Ok-clause-answers
 returns-in-Ok-clause-answers g c = record {
   status = Done;
   text = c.as_slice.result.now;
-  wanted = subst (λ (t : List ℕ). IsFlat c.args.code.now t) (sym c.as_slice.ensures) c.in-Ok.ensures.found;
+  wanted = written c.args.code.now _ _ (sym c.as_slice.ensures) c.in-Ok.ensures.found c.in-Ok.ensures.same;
   ends = inr (refl, c.in-Err-put_all.ensures.puts, c.in-Err-put_all.ensures.cause);
 }
 
@@ -25,6 +31,6 @@ pub returns-clause-answers : goal.returns-clause-answers
 returns-clause-answers g c = record {
   status = flat_status c.in-Err.fault;
   text = flat_line c.args.file.now c.in-Err.fault;
-  wanted = want_fault c.args.file.now c.args.code.now c.in-Err.fault c.in-Err.ensures.cause;
+  wanted = want_fault c.args.file.now c.args.code.now c.in-Err.fault c.in-Err.ensures.cause c.in-Err.ensures.limit;
   ends = c.put_flat_fault.ensures.ends;
 }

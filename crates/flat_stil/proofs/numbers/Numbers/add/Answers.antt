@@ -1,5 +1,5 @@
 use Rattle.std.proofs.Common.{◌≡◌, ℕ, ◌<◌, false, List, length, get_or, set, Some, None, sym, ap, ◌∙◌, subst, arith}
-use Rattle.flat_stil.specs.Order.{is_in}
+use Rattle.flat_parts.specs.Order.{is_in}
 use Rattle.flat_stil.specs.Working.{IsPlace}
 use Rattle.flat_stil.proofs.OrderLemmas.{places_more}
 use Rattle.flat_stil.proofs.numbers.Numbers.add.Goals as goal

@@ -1,5 +1,5 @@
 use Rattle.std.proofs.Common.{◌≡◌, ℕ, false, List, subst, arith}
-use Rattle.flat_stil.specs.Order.{is_in}
+use Rattle.flat_parts.specs.Order.{is_in}
 use Rattle.flat_stil.proofs.OrderLemmas.{none_beyond}
 use Rattle.flat_stil.proofs.numbers.Numbers.known.Goals as goal
 

@@ -1,8 +1,8 @@
 -- A code as a flat STIL text (IEEE 1450-1999): without macros, expressions, groups and shifts, with the code's loops.
 -- Each row is a procedure of one vector (clause 24), since a procedure gives its caller's characters back: a signal
 -- to which a row gives no character has none in its vector.
-use Rattle.std.specs.Prelude.{ℕ, ◌==◌, nat_lt, List, [], ◌∷◌, ◌++◌, codes, decimal, length, map, slice_get, slice_index_or, if◌then◌else◌}
-use Rattle.std.specs.List.{flat_map, range_with_len}
+use Rattle.std.specs.Prelude.{ℕ, Bool, not, ◌&&◌, ◌==◌, nat_lt, List, [], ◌∷◌, ◌++◌, codes, decimal, length, map, slice_get, slice_index_or, if◌then◌else◌}
+use Rattle.std.specs.List.{flat_map, list_all, range_with_len}
 use Rattle.std.specs.Option.{option_map_or}
 use Rattle.tester_types.specs.Printing.{quoted}
 use Rattle.tester_types.specs.declared.signal.Direction.{Direction}
@@ -19,7 +19,7 @@ use Rattle.packed_code.specs.Program.{Program}
 use Rattle.packed_code.specs.Conditions.{letters_of}
 use Rattle.packed_code.specs.Cycles.{exec_of}
 use Rattle.code_listing.specs.Letters.{push_letter, look_letter}
-use Rattle.flat_stil.specs.Order.{is_in, tables_in, table_order, row_order, number_in}
+use Rattle.flat_parts.specs.Order.{is_in, tables_in, table_order, row_order, number_in}
 
 -- ---- words
 
@@ -41,6 +41,7 @@ name_of code signal = option_map_or (λ s. s.name) (slice_get code.signals signa
 
 -- ---- signals (clause 14)
 
+-- the word of a direction
 abbrev pub direction_word : Direction → List ℕ
 direction_word direction.In = codes "In"
 direction_word direction.Out = codes "Out"
@@ -219,3 +220,14 @@ text_of lines = flat_map with_feed lines
 -- the flat text of a code
 abbrev pub flat_text : Program → List ℕ
 flat_text code = text_of (flat_lines code)
+
+-- ---- names
+
+-- whether a name can stand in double quotes: no byte of it is one
+abbrev pub is_plain : List ℕ → Bool
+is_plain name = list_all (λ byte. not (byte == 34)) name
+
+-- whether the names of a code's signals and executives can
+abbrev pub has_plain_names : Program → Bool
+has_plain_names code =
+    list_all (λ signal. is_plain signal.name) code.signals && list_all (λ exec. is_plain exec.name) code.execs

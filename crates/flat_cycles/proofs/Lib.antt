@@ -1,0 +1,15 @@
+pub mod ListLemmas
+pub mod NumberLemmas
+pub mod RowLemmas
+pub mod RunLemmas
+pub mod FitLemmas
+pub mod PlayLemmas
+pub mod CallLemmas
+pub mod SortedLemmas
+pub mod KeyLemmas
+pub mod WaveLemmas
+pub mod TableLemmas
+pub mod SameLemmas
+pub mod EntryLemmas
+pub mod SteadyLemmas
+pub mod CompileLemmas

@@ -1,0 +1,15 @@
+pub mod TimeLemmas
+pub mod ListLemmas
+pub mod SignalLemmas
+pub mod FaultLemmas
+pub mod NameLemmas
+pub mod NumberLemmas
+pub mod ExecLemmas
+pub mod LookupLemmas
+pub mod TableLemmas
+pub mod LineageLemmas
+pub mod TimingLemmas
+pub mod RowLemmas
+pub mod PatternLemmas
+pub mod ScopeLemmas
+pub mod PassLemmas

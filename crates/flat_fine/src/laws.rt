@@ -1,0 +1,13 @@
+//! Laws of the blocks that a flat text says.
+
+ghost use Rattle.flat_fine.specs.Laws.{NamesAreFine, ExecutivesAreFine};
+
+/// The signals have no fault.
+pub fn names_are_fine()
+    ensures { NamesAreFine }
+{}
+
+/// A fault of the executives is that something is too large.
+pub fn executives_are_fine()
+    ensures { ExecutivesAreFine }
+{}

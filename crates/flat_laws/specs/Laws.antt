@@ -1,0 +1,29 @@
+-- What holds of the flat text of a code: its cycles are those of the code, and it has no fault but that it is beyond a
+-- limit of texts.
+use Rattle.std.specs.Prelude.{◌≡◌, ◌⊎◌, ℕ, true, List, Some}
+use Rattle.stil_ast.specs.declared.blocks.Blocks.{Blocks}
+use Rattle.stil_ast.specs.declared.fault.StilFault.{StilFault}
+use Rattle.stil_ast.specs.declared.fault.StilKind.{StilKind}
+use Rattle.stil_ast.specs.declared.fault.StilKind.TheVariants.{TooLarge, OutOfRange, TooDeep}
+use Rattle.packed_code.specs.Program.{Program}
+use Rattle.packed_code.specs.Conditions.{IsProgram}
+use Rattle.time_expr.specs.TimesOf.{times_of}
+use Rattle.stil_program.specs.Program.{IsTextFault, IsTextOf}
+use Rattle.flat_parts.specs.FlatText.{flat_text, has_plain_names}
+use Rattle.flat_parts.specs.SameCycles.{HasSameCycles}
+
+-- a text is beyond a limit: it walks, measures or holds too much; a Timing has too many tables; its loops nest too deep
+abbrev pub IsLimit : StilKind → Type 0
+IsLimit kind = (kind ≡ TooLarge) ⊎ (kind ≡ OutOfRange) ⊎ (kind ≡ TooDeep)
+
+-- the first fault of a flat text is such
+abbrev pub FaultsAreLimits : Type 0
+FaultsAreLimits =
+    (code : Program) (fault : StilFault) → IsProgram code → has_plain_names code ≡ true
+    → IsTextFault (flat_text code) (Some fault) → IsLimit fault.kind
+
+-- where it has none, its cycles are those of the code
+abbrev pub CyclesAreSame : Type 0
+CyclesAreSame =
+    (code : Program) (blocks : Blocks) → IsProgram code → has_plain_names code ≡ true
+    → IsTextOf (flat_text code) blocks → HasSameCycles times_of code blocks

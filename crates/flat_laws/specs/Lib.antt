@@ -1,0 +1,2 @@
+-- Laws has what holds of the flat text of a code.
+pub mod Laws

@@ -1,0 +1,2 @@
+pub mod NestLemmas
+pub mod OrderLemmas

@@ -1,0 +1,13 @@
+pub mod ReadingLemmas
+pub mod NameLemmas
+pub mod HeadLemmas
+pub mod BodyLemmas
+pub mod RowLemmas
+pub mod WaveLemmas
+pub mod TableLemmas
+pub mod SignalLemmas
+pub mod BurstLemmas
+pub mod ExecLemmas
+pub mod CodeLemmas
+pub mod TopLemmas
+pub mod WholeLemmas

@@ -1,0 +1,14 @@
+pub mod ListLemmas
+pub mod SaysLemmas
+pub mod WordLemmas
+pub mod BlockLemmas
+pub mod TableLemmas
+pub mod TimingLemmas
+pub mod RowLemmas
+pub mod NestLemmas
+pub mod ExecLemmas
+pub mod FactLemmas
+pub mod TextLemmas
+pub mod DeepLemmas
+pub mod ShapeLemmas
+pub mod FaultLemmas
