@@ -13,7 +13,7 @@ use Rattle.page_code.specs.Reading.{magic_at, known_version, version_of, head_at
 use Rattle.page_code.proofs.LoadLemmas.{is_only}
 use Rattle.saved_laws.specs.Laws.{HasRefusedField, HasRefusedHead, AgreeUpTo}
 use Rattle.saved_laws.proofs.Sights.{torn, refused, Waits, Takes, Refuses, Sees, takes, refuses, ends, took}
-use Rattle.saved_laws.proofs.ProgramSights.{Begins, sees, other_magic, other_version, bad_magic, bad_version, parsed, parsed_begins}
+use Rattle.saved_laws.proofs.ProgramSights.{Stops, Begins, sees, other_magic, other_version, bad_magic, bad_version, parsed, parsed_begins}
 
 -- ---- what is answered
 
@@ -169,6 +169,18 @@ of_taken : (bytes : List ℕ) (code : Program) (rest : List ℕ) → Takes parse
 of_taken bytes code [] t = of_code bytes code t
 of_taken bytes code (b ∷ more) t = a_field (length t.front) (of_more bytes code b more t)
 
+-- first bytes that are refused
+head_of : (bytes : List ℕ) (most : ℕ) (fault : SavedFault) (bad : Read Program) → ((size : ℕ) → told size bad ≡ Err fault)
+    → Stops parsed bytes most bad → HasRefusedHead bytes most fault
+head_of bytes most fault bad is s = record {
+  front = s.front;
+  rest = s.rest;
+  whole = s.split;
+  short = s.few;
+  same = λ other. load_told (s.front ++ other) bad (s.same other) ∙ is (length (s.front ++ other));
+  sooner = λ n lt. load_waits s.front bytes s.rest s.split s.waits n lt;
+}
+
 pub outcome : (bytes : List ℕ) → Outcome bytes
 outcome bytes = by_sight (parsed_begins bytes)
   where
@@ -179,22 +191,8 @@ outcome bytes = by_sight (parsed_begins bytes)
 
     by_sight : Begins parsed bytes 4 6 → Outcome bytes
     by_sight (sees s) = by_seen s
-    by_sight (other_magic s) = a_magic (record {
-      front = s.front;
-      rest = s.rest;
-      whole = s.split;
-      short = s.few;
-      same = λ other. load_told (s.front ++ other) bad_magic (s.same other);
-      sooner = λ n lt. load_waits s.front bytes s.rest s.split s.waits n lt;
-    })
-    by_sight (other_version s) = a_version (record {
-      front = s.front;
-      rest = s.rest;
-      whole = s.split;
-      short = s.few;
-      same = λ other. load_told (s.front ++ other) bad_version (s.same other);
-      sooner = λ n lt. load_waits s.front bytes s.rest s.split s.waits n lt;
-    })
+    by_sight (other_magic s) = a_magic (head_of bytes 4 saved.BadMagic bad_magic (λ size. refl) s)
+    by_sight (other_version s) = a_version (head_of bytes 6 saved.BadVersion bad_version (λ size. refl) s)
 
 -- ---- the laws
 
@@ -219,64 +217,41 @@ ok_or_err read code a one two = differ (sym one ∙ two)
     differ : Ok code ≡ faulty a → ⊥
     differ e = cc
 
-place_is : (a b : ℕ) → saved.BadCode a ≡ saved.BadCode b → a ≡ b
-place_is a b e = cc
+-- what must be so for a refusal; none is for want of memory
+abbrev Met : List ℕ → SavedFault → Type 0
+Met bytes (saved.BadCode place) = HasRefusedField bytes place
+Met bytes saved.BadMagic = HasRefusedHead bytes 4 saved.BadMagic
+Met bytes saved.BadVersion = HasRefusedHead bytes 6 saved.BadVersion
+Met bytes (saved.Torn size) = size ≡ length bytes
+Met bytes saved.NoMemory = ⊥
 
-length_is : (a b : ℕ) → saved.Torn a ≡ saved.Torn b → a ≡ b
-length_is a b e = cc
+met : (bytes : List ℕ) (fault : SavedFault) → load_of bytes ≡ Err fault → Met bytes fault
+met bytes fault e = by_outcome (outcome bytes)
+  where
+    moved : (other : SavedFault) → load_of bytes ≡ Err other → Met bytes other → Met bytes fault
+    moved other is h = subst (Met bytes) (one_fault (load_of bytes) other fault is e) h
+
+    by_outcome : Outcome bytes → Met bytes fault
+    by_outcome (a_code code is w m) = absurd (ok_or_err (load_of bytes) code fault is e)
+    by_outcome (a_field place h) = moved (saved.BadCode place) (field_here bytes place h) h
+    by_outcome (an_end is) = moved (saved.Torn (length bytes)) is refl
+    by_outcome (a_magic h) = moved saved.BadMagic (head_here bytes 4 saved.BadMagic h) h
+    by_outcome (a_version h) = moved saved.BadVersion (head_here bytes 6 saved.BadVersion h) h
 
 pub field_law : (bytes : List ℕ) (place : ℕ) → load_of bytes ≡ Err (saved.BadCode place) → HasRefusedField bytes place
-field_law bytes place e = by_outcome (outcome bytes)
-  where
-    by_outcome : Outcome bytes → HasRefusedField bytes place
-    by_outcome (a_code code is w m) = absurd (ok_or_err (load_of bytes) code (saved.BadCode place) is e)
-    by_outcome (a_field other h) =
-        subst (HasRefusedField bytes) (place_is other place (one_fault (load_of bytes) (saved.BadCode other) (saved.BadCode place) (field_here bytes other h) e)) h
-    by_outcome (an_end is) = let same = one_fault (load_of bytes) (saved.Torn (length bytes)) (saved.BadCode place) is e in absurd cc
-    by_outcome (a_magic h) =
-        let same = one_fault (load_of bytes) saved.BadMagic (saved.BadCode place) (head_here bytes 4 saved.BadMagic h) e in absurd cc
-    by_outcome (a_version h) =
-        let same = one_fault (load_of bytes) saved.BadVersion (saved.BadCode place) (head_here bytes 6 saved.BadVersion h) e in absurd cc
+field_law bytes place e = met bytes (saved.BadCode place) e
 
 pub magic_law : (bytes : List ℕ) → load_of bytes ≡ Err saved.BadMagic → HasRefusedHead bytes 4 saved.BadMagic
-magic_law bytes e = by_outcome (outcome bytes)
-  where
-    by_outcome : Outcome bytes → HasRefusedHead bytes 4 saved.BadMagic
-    by_outcome (a_code code is w m) = absurd (ok_or_err (load_of bytes) code saved.BadMagic is e)
-    by_outcome (a_field other h) =
-        let same = one_fault (load_of bytes) (saved.BadCode other) saved.BadMagic (field_here bytes other h) e in absurd cc
-    by_outcome (an_end is) = let same = one_fault (load_of bytes) (saved.Torn (length bytes)) saved.BadMagic is e in absurd cc
-    by_outcome (a_magic h) = h
-    by_outcome (a_version h) =
-        let same = one_fault (load_of bytes) saved.BadVersion saved.BadMagic (head_here bytes 6 saved.BadVersion h) e in absurd cc
+magic_law bytes e = met bytes saved.BadMagic e
 
 pub version_law : (bytes : List ℕ) → load_of bytes ≡ Err saved.BadVersion → HasRefusedHead bytes 6 saved.BadVersion
-version_law bytes e = by_outcome (outcome bytes)
-  where
-    by_outcome : Outcome bytes → HasRefusedHead bytes 6 saved.BadVersion
-    by_outcome (a_code code is w m) = absurd (ok_or_err (load_of bytes) code saved.BadVersion is e)
-    by_outcome (a_field other h) =
-        let same = one_fault (load_of bytes) (saved.BadCode other) saved.BadVersion (field_here bytes other h) e in absurd cc
-    by_outcome (an_end is) = let same = one_fault (load_of bytes) (saved.Torn (length bytes)) saved.BadVersion is e in absurd cc
-    by_outcome (a_magic h) =
-        let same = one_fault (load_of bytes) saved.BadMagic saved.BadVersion (head_here bytes 4 saved.BadMagic h) e in absurd cc
-    by_outcome (a_version h) = h
+version_law bytes e = met bytes saved.BadVersion e
 
 -- torn bytes are torn at their end, and all their beginnings at theirs
 pub torn_law : (bytes : List ℕ) (size : ℕ) → load_of bytes ≡ Err (saved.Torn size)
     → (size ≡ length bytes) × ((n : ℕ) → n ≤ length bytes → load_of (take n bytes) ≡ Err (saved.Torn n))
-torn_law bytes size e = (by_outcome (outcome bytes), each)
+torn_law bytes size e = (met bytes (saved.Torn size) e, each)
   where
-    by_outcome : Outcome bytes → size ≡ length bytes
-    by_outcome (a_code code is w m) = absurd (ok_or_err (load_of bytes) code (saved.Torn size) is e)
-    by_outcome (a_field other h) =
-        let same = one_fault (load_of bytes) (saved.BadCode other) (saved.Torn size) (field_here bytes other h) e in absurd cc
-    by_outcome (an_end is) = length_is size (length bytes) (one_fault (load_of bytes) (saved.Torn size) (saved.Torn (length bytes)) e is)
-    by_outcome (a_magic h) =
-        let same = one_fault (load_of bytes) saved.BadMagic (saved.Torn size) (head_here bytes 4 saved.BadMagic h) e in absurd cc
-    by_outcome (a_version h) =
-        let same = one_fault (load_of bytes) saved.BadVersion (saved.Torn size) (head_here bytes 6 saved.BadVersion h) e in absurd cc
-
     back : (n : ℕ) → take n bytes ++ drop n bytes ≡ bytes
     back n = take-append-drop n bytes
 

@@ -136,10 +136,19 @@ stops_then read next bytes a rest taken most fault short first second = record {
   waits = waits_then read next a first.front second.front first.waits first.same second.waits;
 }
 
+-- what comes first takes bytes, or all is as it is
+first_seen : {A B : Type 0} (read : List ℕ → Read A) (next : A × List ℕ → Read B) (magic version : ℕ) (bytes : List ℕ)
+    → ((a : A) (rest : List ℕ) → Takes read bytes a rest → Begins (Then read next) bytes magic version)
+    → Sees read bytes → Begins (Then read next) bytes magic version
+first_seen read next magic version bytes taken (takes a rest t) = taken a rest t
+first_seen read next magic version bytes taken (refuses s) = sees (refuses (kept read (λ left. next) bytes s))
+first_seen read next magic version bytes taken (ends e) = sees (ends (bound (read bytes) torn next e))
+
 begins_then : {A B : Type 0} (read : List ℕ → Read A) (next : A × List ℕ → Read B) (taken magic version : ℕ) → IsLocal read → IsShort taken read
     → ((a : A) (bytes : List ℕ) → Begins (λ bytes. next (a, bytes)) bytes magic version) → (bytes : List ℕ)
     → Begins (Then read next) bytes (taken + magic) (taken + version)
-begins_then {A} {B} read next taken magic version local short second bytes = by_first (local bytes)
+begins_then {A} {B} read next taken magic version local short second bytes =
+    first_seen read next (taken + magic) (taken + version) bytes (λ a rest t. by_second a rest t (second a rest)) (local bytes)
   where
     by_second : (a : A) (rest : List ℕ) → Takes read bytes a rest → Begins (λ bytes. next (a, bytes)) rest magic version
         → Begins (Then read next) bytes (taken + magic) (taken + version)
@@ -147,16 +156,12 @@ begins_then {A} {B} read next taken magic version local short second bytes = by_
     by_second a rest t (other_magic s) = other_magic (stops_then read next bytes a rest taken magic bad_magic short t s)
     by_second a rest t (other_version s) = other_version (stops_then read next bytes a rest taken version bad_version short t s)
 
-    by_first : Sees read bytes → Begins (Then read next) bytes (taken + magic) (taken + version)
-    by_first (takes a rest t) = by_second a rest t (second a rest)
-    by_first (refuses s) = sees (refuses (kept read (λ left. next) bytes s))
-    by_first (ends e) = sees (ends (bound (read bytes) torn next e))
-
 -- the same, where the second refuses no first byte
 late_then : {A B : Type 0} (read : List ℕ → Read A) (next : A × List ℕ → Read B) (taken version : ℕ) → IsLocal read → IsShort taken read
     → ((a : A) (bytes : List ℕ) → Sees (λ bytes. next (a, bytes)) bytes ⊎ Stops (λ bytes. next (a, bytes)) bytes version bad_version)
     → (bytes : List ℕ) → Begins (Then read next) bytes 0 (taken + version)
-late_then {A} {B} read next taken version local short second bytes = by_first (local bytes)
+late_then {A} {B} read next taken version local short second bytes =
+    first_seen read next 0 (taken + version) bytes (λ a rest t. by_second a rest t (second a rest)) (local bytes)
   where
     by_second : (a : A) (rest : List ℕ) → Takes read bytes a rest
         → Sees (λ bytes. next (a, bytes)) rest ⊎ Stops (λ bytes. next (a, bytes)) rest version bad_version
@@ -164,30 +169,23 @@ late_then {A} {B} read next taken version local short second bytes = by_first (l
     by_second a rest t (inl s) = sees (sees_then read next bytes a rest t s)
     by_second a rest t (inr s) = other_version (stops_then read next bytes a rest taken version bad_version short t s)
 
-    by_first : Sees read bytes → Begins (Then read next) bytes 0 (taken + version)
-    by_first (takes a rest t) = by_second a rest t (second a rest)
-    by_first (refuses s) = sees (refuses (kept read (λ left. next) bytes s))
-    by_first (ends e) = sees (ends (bound (read bytes) torn next e))
+-- readers that are alike stop alike, and begin alike
+stops_alike : {A : Type 0} (read other : List ℕ → Read A) (bytes : List ℕ) (most : ℕ) (fault : Read A)
+    → ((bytes : List ℕ) → other bytes ≡ read bytes) → Stops read bytes most fault → Stops other bytes most fault
+stops_alike read other bytes most fault is s = record {
+  front = s.front;
+  rest = s.rest;
+  split = s.split;
+  few = s.few;
+  same = λ more. is (s.front ++ more) ∙ s.same more;
+  waits = λ n lt. is (take n s.front) ∙ s.waits n lt;
+}
 
 begins_alike : {A : Type 0} (read other : List ℕ → Read A) (bytes : List ℕ) (magic version : ℕ) → ((bytes : List ℕ) → other bytes ≡ read bytes)
     → Begins read bytes magic version → Begins other bytes magic version
 begins_alike read other bytes magic version is (sees s) = sees (alike_at read other is bytes s)
-begins_alike read other bytes magic version is (other_magic s) = other_magic (record {
-  front = s.front;
-  rest = s.rest;
-  split = s.split;
-  few = s.few;
-  same = λ more. is (s.front ++ more) ∙ s.same more;
-  waits = λ n lt. is (take n s.front) ∙ s.waits n lt;
-})
-begins_alike read other bytes magic version is (other_version s) = other_version (record {
-  front = s.front;
-  rest = s.rest;
-  split = s.split;
-  few = s.few;
-  same = λ more. is (s.front ++ more) ∙ s.same more;
-  waits = λ n lt. is (take n s.front) ∙ s.waits n lt;
-})
+begins_alike read other bytes magic version is (other_magic s) = other_magic (stops_alike read other bytes magic bad_magic is s)
+begins_alike read other bytes magic version is (other_version s) = other_version (stops_alike read other bytes version bad_version is s)
 
 -- at once
 at_once : {A : Type 0} (bytes : List ℕ) (most : ℕ) (fault : Read A) → Stops (λ bytes. fault) bytes most fault
