@@ -25,7 +25,8 @@ use Rattle.site_meaning.specs.Playing.{Stand, starting}
 use Rattle.site_meaning.specs.Part.{Part, lot_in, dies_in, order_in, skews_in, circuit_in, image_in, stand_for}
 use Rattle.site_meaning.specs.Trials.{Cut, with_cut, recorded, trial, batches_of, tried, execs_of, more_in}
 use Rattle.site_meaning.specs.Records.{TryCut, cut_at, then_again, tries_from, touchdown, records}
-use Rattle.lot_laws.specs.Moved.{moved, moved_record}
+use Rattle.plan_parts.specs.Moved.{moved}
+use Rattle.lot_laws.specs.Moved.{moved_record}
 use Rattle.lot_laws.proofs.MovedRows.{AreOf, lots_moved, clocks_moved, binds_moved, dies_moved, faults_moved, stops_moved, skews_moved}
 
 -- ---- what is found among changed rows

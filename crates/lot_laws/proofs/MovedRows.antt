@@ -16,7 +16,7 @@ use Rattle.plan_rows.specs.declared.row.SkewRow.{SkewRow}
 use Rattle.plan_rows.specs.declared.row.StopRow.{StopRow}
 use Rattle.plan_rows.specs.Rows.{one, each_of, as_lot, as_clock, as_bind, as_bin, as_die, as_fault, as_stop, as_skew, dies_at, faults_at, stops_at, skews_at}
 use Rattle.site_meaning.specs.Part.{concerns, rows_for}
-use Rattle.lot_laws.specs.Moved.{moved}
+use Rattle.plan_parts.specs.Moved.{moved}
 
 -- ---- rows by their kinds
 

@@ -24,7 +24,8 @@ use Rattle.site_meaning.proofs.PartLemmas.{circuit_in-part_of, dies_in-part_of}
 use Rattle.tester_run.specs.Work.{AreRecords}
 use Rattle.datalog.specs.DatalogText.{final_verdict, die_bin, die_line, bin_line, trial_text, record_text}
 use Rattle.tool_inputs.specs.Inputs.{Inputs, AreInputs, bound_of}
-use Rattle.lot_laws.specs.Moved.{moved, moved_record, SayTheSameMoved}
+use Rattle.plan_parts.specs.Moved.{moved}
+use Rattle.lot_laws.specs.Moved.{moved_record, SayTheSameMoved}
 use Rattle.lot_laws.proofs.SiteLemmas.{one_code, one_circuit, die_net, all_trials, bin_here}
 use Rattle.lot_laws.proofs.MovedRows.{rows_of, dies_moved, bins_moved}
 use Rattle.lot_laws.proofs.MovedLemmas.{there, dies_is, records_is}

@@ -1,23 +1,11 @@
--- A site under another number: its rows, its records, and lots that say the same of two sites.
+-- A site under another number: its records, and lots that say the same of two sites.
 use Rattle.std.specs.Prelude.{◌≡◌, ℕ, List, map}
 use Rattle.tester_types.specs.Outside.{Files}
 use Rattle.tester_types.specs.declared.record.Record.{Record}
-use Rattle.plan_rows.specs.declared.row.Row.{Row}
-use Rattle.plan_rows.specs.declared.row.Row.TheVariants as row
 use Rattle.site_meaning.specs.Part.{rows_for}
+use Rattle.plan_parts.specs.Moved.{moved}
 use Rattle.tool_inputs.specs.Inputs.{Inputs}
 use Rattle.lot_laws.specs.Alone.{IsOneProgram, AreOneNets}
-
--- a row that names a site, with this number in its place; a row without a site stays
-abbrev pub moved : ℕ → Row → Row
-moved site (row.Lot lot) = row.Lot lot
-moved site (row.Clock signal) = row.Clock signal
-moved site (row.Bind bind) = row.Bind bind
-moved site (row.Die die) = row.Die (record die { site = site })
-moved site (row.Fault fault) = row.Fault (record fault { site = site })
-moved site (row.Stop stop) = row.Stop (record stop { site = site })
-moved site (row.Bin bin) = row.Bin bin
-moved site (row.Skew skew) = row.Skew (record skew { site = site })
 
 -- a record as one of this site
 abbrev pub moved_record : ℕ → Record → Record

@@ -1,0 +1,5 @@
+pub mod LineLemmas
+pub mod ReadingLemmas
+pub mod FaultLemmas
+pub mod PrintedLemmas
+pub mod HasReadLemmas
