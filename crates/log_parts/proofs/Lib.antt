@@ -1,0 +1,12 @@
+pub mod DigitLemmas
+pub mod WordLemmas
+pub mod RestLemmas
+pub mod DieLemmas
+pub mod SiteLemmas
+pub mod TotalLemmas
+pub mod ReadDieLemmas
+pub mod ReadSiteLemmas
+pub mod StandardFacts
+pub mod DealLemmas
+pub mod RangedLemmas
+pub mod MergedLemmas

@@ -1,0 +1,11 @@
+use Rattle.std.proofs.Common.{ap}
+use Rattle.part_lines.specs.declared.fault.LineFault.TheVariants.{Line}
+use Rattle.part_lines.proofs.HasReadLemmas.{one_next}
+use Rattle.log_parts.proofs.die.read_bin.Goals as goal
+
+pub returns-in_default-told_bin-clause-fault : goal.returns-in_default-told_bin-clause-fault
+returns-in_default-told_bin-clause-fault c = (
+  ap Line c.number-in_default-told_bin.ensures.number,
+  λ bin some last next.
+      c.in_default-told_bin.ensures.none bin some last (one_next _ _ _ c.in-Some.ensures.found next),
+)

@@ -1,0 +1,7 @@
+-- Read Log first (what a datalog of named dies is), then Slices (what is kept of it), Merged (the datalog of all
+-- parts). Step and Dealt say what the code computes.
+pub mod Log
+pub mod Slices
+pub mod Merged
+pub mod Step
+pub mod Dealt

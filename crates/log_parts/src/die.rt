@@ -1,0 +1,98 @@
+//! The lines of a die.
+
+ghost use Rattle.std.specs.Prelude.{◌≡◌, ◌≤◌, ◌+◌, ◌∷◌, ◌++◌, [], ℕ, List, Vec, IfOk, IfErr, IsTrue, true, false, length, codes};
+ghost use Rattle.std.specs.List.{flat_map};
+ghost use Rattle.datalog.specs.DatalogText.{bin_line, die_line};
+ghost use Rattle.tester_types.specs.Printing.{printed_name};
+ghost use Rattle.part_lines.specs.Lines.{ended, is_one_line, lines_in};
+ghost use Rattle.part_lines.specs.Reading.{HasRead, IsNext, FaultFrom};
+ghost use Rattle.part_lines.specs.declared.fault.LineFault.TheVariants as fault;
+ghost use Rattle.log_parts.specs.Log.{DieLog, IsDieLog, is_body_line, die_text};
+ghost use Rattle.log_parts.specs.Slices.{lent};
+ghost use Rattle.log_parts.specs.Step.{AreBody, AreOneLine, AreRead, IsRest, bin_words};
+
+use crate::words::{is_body, told_bin};
+use part_lines::{LineFault, Lines};
+use tester_types::Piece;
+
+/// Reads the dies of a site, and adds their bins.
+pub(crate) fn read_dies(
+    lines: &mut Lines,
+    names: &[&[u8]],
+    bins: &mut Vec<u8>,
+) -> Result<(), LineFault>
+    requires { AreOneLine (lent names.now) }
+    ensures found { IfOk result (λ _. AreRead (lent names.now) lines.old lines.new bins.old.items bins.new.items) }
+    ensures fault { IfErr result (λ e. (number : ℕ) (later : List (List (List ℕ))) (before : List ℕ)
+        → FaultFrom (IsRest (lent names.now) number later before) lines.old e) }
+{
+    for name in names {
+        read_die(lines, name, bins)?;
+    }
+    Ok(())
+}
+
+/// Reads a die, and adds its bin.
+fn read_die(lines: &mut Lines, name: &[u8], bins: &mut Vec<u8>) -> Result<(), LineFault>
+    requires { is_one_line name.now ≡ true }
+    ensures found { IfOk result (λ _. (log : DieLog) × IsDieLog log
+        × HasRead lines.old lines.new (die_text name.now log) × (bins.new.items ≡ bins.old.items ++ log.bin ∷ [])) }
+    ensures fault { IfErr result (λ e. (names : List (List ℕ)) (number : ℕ) (later : List (List (List ℕ)))
+        (before : List ℕ) → FaultFrom (IsRest (name.now ∷ names) number later before) lines.old e) }
+{
+    expect_die(lines, name)?;
+    read_body(lines);
+    let bin = read_bin(lines)?;
+    bins.push(bin)?;
+    Ok(())
+}
+
+/// Reads the line of a die's name.
+fn expect_die(lines: &mut Lines, name: &[u8]) -> Result<(), LineFault>
+    ensures found { IfOk result (λ _. HasRead lines.old lines.new (die_line name.now)) }
+    ensures fault { IfErr result (λ e. (e ≡ fault.Line (lines_in lines.old.front + 1))
+        × (IsNext lines.old.rest (codes "die " ++ printed_name name.now) → ⊥)) }
+{
+    lines.expect(&[Piece::Text(b"die "), Piece::Name(name)])
+}
+
+/// Reads the lines of a die between its name and its bin.
+fn read_body(lines: &mut Lines)
+    ensures { (body : List (List ℕ)) × AreBody body × HasRead lines.old lines.new (flat_map ended body)
+        × ((line : List ℕ) → IsNext lines.new.rest line → is_body_line line ≡ false) }
+{
+    while read_body_line(lines) {}
+}
+
+/// Reads such a line, if it is the next one.
+fn read_body_line(lines: &mut Lines) -> bool
+    ensures read { IsTrue result → (line : List ℕ) × (is_body_line line ≡ true)
+        × HasRead lines.old lines.new (ended line) }
+    ensures none { result ≡ false → (lines.new ≡ lines.old)
+        × ((line : List ℕ) → IsNext lines.new.rest line → is_body_line line ≡ false) }
+{
+    let Some(line) = lines.peek() else {
+        return false;
+    };
+    if !is_body(line) {
+        return false;
+    }
+    lines.pass(line);
+    true
+}
+
+/// Reads the line of a bin.
+fn read_bin(lines: &mut Lines) -> Result<u8, LineFault>
+    ensures found { IfOk result (λ bin. (1 ≤ bin) × (bin ≤ 99) × HasRead lines.old lines.new (bin_line bin)) }
+    ensures fault { IfErr result (λ e. (e ≡ fault.Line (lines_in lines.old.front + 1))
+        × ((bin : ℕ) → 1 ≤ bin → bin ≤ 99 → IsNext lines.old.rest (bin_words bin) → ⊥)) }
+{
+    let Some(line) = lines.peek() else {
+        return Err(LineFault::Line(lines.number()));
+    };
+    let Some(bin) = told_bin(line) else {
+        return Err(LineFault::Line(lines.number()));
+    };
+    lines.pass(line);
+    Ok(bin)
+}
