@@ -1,0 +1,8 @@
+-- Read Part first (which faults a part of a grade has), then Log (what the text of a part may be), Merged, and Printed
+-- (what the printed text of a grade says). Held and Step are what the code holds and finds.
+pub mod Part
+pub mod Log
+pub mod Merged
+pub mod Printed
+pub mod Held
+pub mod Step

@@ -1,0 +1,16 @@
+-- The text of a whole grade, of what the texts of its parts say.
+use Rattle.std.specs.Prelude.{◌≡◌, ℕ, List, ◌∷◌}
+use Rattle.std.specs.List.{flat_map, AllByRecursion}
+use Rattle.grade_parts.specs.Log.{GradeLog, log_text}
+
+-- the parts say the same of the good die
+abbrev pub AgreeWith : List ℕ → List GradeLog → Type 0
+AgreeWith good logs = AllByRecursion (λ (log : GradeLog). log.good ≡ good) logs
+
+-- the grade of all faults, part after part, with the good die of the first part
+abbrev pub merged : GradeLog → List GradeLog → GradeLog
+merged first later = record { good = first.good; faults = flat_map (λ (log : GradeLog). log.faults) (first ∷ later) }
+
+-- its text
+abbrev pub merged_text : GradeLog → List GradeLog → List ℕ
+merged_text first later = log_text (merged first later)
