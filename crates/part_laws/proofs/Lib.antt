@@ -1,0 +1,20 @@
+pub mod OneLine
+pub mod TextNames
+pub mod LogLines
+pub mod LogSites
+pub mod OneLog
+pub mod Ranks
+pub mod CallsAlike
+pub mod StandMoved
+pub mod MovedBack
+pub mod SiteBack
+pub mod PartRows
+pub mod PartAlike
+pub mod RunParts
+pub mod RunsRead
+pub mod PartSite
+pub mod Joined
+pub mod WholeBook
+pub mod WholeFloor
+pub mod MergedLaws
+mod StandardFacts
