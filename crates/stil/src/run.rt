@@ -1,13 +1,12 @@
 //! The command that the command line names, run.
 
 use die_sim::{SimSocket, SocketBox};
-use host_files::{FileShelf, WriterSink};
+use host_files::{FileShelf, WriterSink, words};
 use std::alloc::Global;
-use std::io::BufWriter;
+use std::io::{self, BufWriter};
 use std::rt::{Env, Files};
 use std::sync::Wait;
 use std::thread::Threads;
-use std::{env, io};
 use stil_tool::{Status, no_memory, tester};
 use tester_types::{Desk, OpenGate, Shelf, Sink};
 
@@ -16,14 +15,6 @@ const SITES: usize = 16;
 
 /// How many bytes of output are written at a time.
 const HELD_BACK: usize = 65_536;
-
-/// The words behind the program's name.
-fn words<R: Env + AllocGlobal>(rt: &R) -> io::Result<Vec<String>> {
-    env::args(rt)?
-        .skip(1)
-        .collect(rt.alloc())
-        .map_err(io::Error::from)
-}
 
 /// Runs the command of these words at sockets with simulated dies, one for each site. The gate is open.
 fn run_words<R: Threads + Wait + Sync, F: Shelf, D: Desk, K: Sink>(
@@ -47,18 +38,15 @@ fn run_words<R: Threads + Wait + Sync, F: Shelf, D: Desk, K: Sink>(
     tester(rt, alloc, words, shelf, &mut sockets, desk, &OpenGate, sink)
 }
 
-/// Runs the command that the command line names, over a sink. There are no words where one of them is no text; want of memory
-/// while they are read is answered as such.
+/// Runs the command that the command line names, over a sink.
 fn run_over<R: Files + Env + AllocGlobal + Threads + Wait + Sync, D: Desk, K: Sink>(
     rt: &R,
     desk: &mut D,
     sink: &mut K,
 ) -> Status {
     let alloc = rt.alloc();
-    let words = match words(rt) {
-        Ok(words) => words,
-        Err(fault) if fault.kind() == io::ErrorKind::OutOfMemory => return no_memory(sink),
-        Err(_) => Vec::new(alloc),
+    let Ok(words) = words(rt) else {
+        return no_memory(sink);
     };
     let mut shelf = FileShelf::new(rt);
     run_words(rt, alloc, words.as_slice(), &mut shelf, desk, sink)

@@ -28,8 +28,8 @@ use text_bytes::MOST_BYTES;
 /// The most bytes that a file may have.
 pub const LIMIT: usize = MOST_BYTES;
 
-/// Loads a file.
-fn load<F: Shelf>(alloc: Global, file: &str, shelf: &mut F) -> Result<Vec<u8>, Refusal>
+/// Loads a file, of as many bytes as a file may have.
+pub fn load<F: Shelf>(alloc: Global, file: &str, shelf: &mut F) -> Result<Vec<u8>, Refusal>
     ensures found { IfOk result (λ bytes. IsFile (F.told shelf.old) file.now bytes.items) }
     ensures unread { IfErr result (λ r. IsUnread
         (F.told shelf.old) (F.faults shelf.old) (F.faults shelf.new) file.now r) }

@@ -10,7 +10,7 @@ mod refusal;
 mod status;
 
 pub use ending::{ended, no_memory};
-pub use inputs::LIMIT;
+pub use inputs::{LIMIT, load};
 pub use number::read_number;
 pub use ready::{ReadyLot, prepare};
 pub use refusal::{Refusal, put_refusal, put_stil};

@@ -10,6 +10,8 @@ pub struct Case {
     pub words: Vec<String>,
     /// Whether only `offline` is called, which needs no tester.
     pub is_offline: bool,
+    /// Whether the words are those of the program that cuts lots into parts.
+    pub is_divided: bool,
     pub files: Vec<(String, Vec<u8>)>,
     /// The numbers of the loads that fail, counted from 1.
     pub failing_loads: Vec<u64>,
@@ -62,6 +64,7 @@ impl Case {
             title,
             words: Vec::new(alloc),
             is_offline: false,
+            is_divided: false,
             files: Vec::new(alloc),
             failing_loads: Vec::new(alloc),
             room: None,
@@ -83,6 +86,7 @@ impl Case {
             "words" => self.words = words(alloc, rest)?,
             "word" => self.words.push(String::from_str(alloc, rest)?)?,
             "offline" => self.is_offline = true,
+            "divided" => self.is_divided = true,
             "loads" => self.failing_loads = numbers(alloc, rest)?,
             "loaded" => self.loaded = words(alloc, rest)?,
             "sockets" => self.sockets = numbers(alloc, rest)?,

@@ -1,6 +1,6 @@
-//! Runs worked cases through the public calls of `stil_tool`, over objects in memory, and prints each whose answer isn't the
-//! one that it wants, and how many there are. The words of the command line name the files of cases; docs/formats.md says
-//! how these are written.
+//! Runs worked cases through the public calls of `stil_tool` and `lot_parts`, over objects in memory, and prints each whose
+//! answer isn't the one that it wants, and how many there are. The words of the command line name the files of cases;
+//! docs/formats.md says how these are written.
 #![tactic(auto)]
 
 mod bytes;

@@ -46,7 +46,7 @@ fn print_difference<R: Print + AllocGlobal>(
     let (title, outside, found, status) = (
         &case.title,
         wanted.outside,
-        answer.status.number(),
+        answer.status,
         wanted.status,
     );
     println!(rt;
@@ -67,7 +67,7 @@ fn print_difference<R: Print + AllocGlobal>(
 
 /// Whether the answer is the one that is wanted.
 fn agrees(wanted: Wanted, answer: &Answer) -> bool {
-    answer.status.number() == wanted.status && answer.sink.bytes() == wanted.text
+    answer.status == wanted.status && answer.sink.bytes() == wanted.text
 }
 
 impl CaseTally {

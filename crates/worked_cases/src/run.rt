@@ -3,6 +3,7 @@
 use crate::case::Case;
 use crate::outside::Outside;
 use die_sim::{FailingSocket, SimSocket, SocketBox};
+use lot_parts::divide;
 use std::alloc::Global;
 use std::fmt;
 use std::sync::Wait;
@@ -12,11 +13,12 @@ use tester_types::{
     Desk, ListDesk, MemShelf, MemSink, NoMemory, OpenGate, Shelf, SilentDesk, Sink,
 };
 
-/// A public call of `stil_tool`.
+/// A public call of `stil_tool`, or that of `lot_parts`.
 #[derive(Clone, Copy, Debug, PartialEq, Eq)]
 pub enum Call {
     Tester,
     Offline,
+    Divide,
 }
 
 impl fmt::Display for Call {
@@ -24,6 +26,7 @@ impl fmt::Display for Call {
         match self {
             Call::Tester => write!(f, "tester"),
             Call::Offline => write!(f, "offline"),
+            Call::Divide => write!(f, "divide"),
         }
     }
 }
@@ -31,7 +34,8 @@ impl fmt::Display for Call {
 /// What a call answered, and what it wrote.
 #[derive(Drop)]
 pub struct Answer {
-    pub status: Status,
+    /// The exit status.
+    pub status: u8,
     pub sink: MemSink,
 }
 
@@ -107,7 +111,10 @@ fn run_with<R: AllocGlobal + Threads + Wait + Sync, D: Desk>(
     let alloc = rt.alloc();
     let (mut shelf, mut sink) = (shelf(alloc, case, outside)?, sink(alloc, case, outside)?);
     let status = run_words(rt, alloc, case, &mut shelf, desk, &mut sink)?;
-    Ok(Answer { status, sink })
+    Ok(Answer {
+        status: status.number(),
+        sink,
+    })
 }
 
 /// Runs a case through `tester`, whose desk is silent where the case says nothing of it.
@@ -127,7 +134,20 @@ fn run_tester<R: AllocGlobal + Threads + Wait + Sync>(
 fn run_offline(alloc: Global, case: &Case, outside: Outside) -> Result<Answer, NoMemory> {
     let (mut shelf, mut sink) = (shelf(alloc, case, outside)?, sink(alloc, case, outside)?);
     let status = offline(alloc, case.words.as_slice(), &mut shelf, &mut sink);
-    Ok(Answer { status, sink })
+    Ok(Answer {
+        status: status.number(),
+        sink,
+    })
+}
+
+/// Runs a case through `divide`.
+fn run_divide(alloc: Global, case: &Case, outside: Outside) -> Result<Answer, NoMemory> {
+    let (mut shelf, mut sink) = (shelf(alloc, case, outside)?, sink(alloc, case, outside)?);
+    let outcome = divide(alloc, case.words.as_slice(), &mut shelf, &mut sink);
+    Ok(Answer {
+        status: outcome.number(),
+        sink,
+    })
 }
 
 /// Runs a case through a call, with an outside that fails in this way.
@@ -140,6 +160,7 @@ pub fn run<R: AllocGlobal + Threads + Wait + Sync>(
     match call {
         Call::Tester => run_tester(rt, case, outside),
         Call::Offline => run_offline(rt.alloc(), case, outside),
+        Call::Divide => run_divide(rt.alloc(), case, outside),
     }
 }
 
@@ -151,9 +172,12 @@ fn needs_tester(case: &Case) -> bool {
     }
 }
 
-/// The calls of a case: both, but the tester alone for a lot, a drill or a grade, and `offline` alone where the case says so.
+/// The calls of a case: `divide` or `offline` alone where the case says so, else the tester, and `offline` too but for a lot, a
+/// drill or a grade.
 pub fn calls(case: &Case) -> &'static [Call] {
-    if case.is_offline {
+    if case.is_divided {
+        &[Call::Divide]
+    } else if case.is_offline {
         &[Call::Offline]
     } else if needs_tester(case) {
         &[Call::Tester]

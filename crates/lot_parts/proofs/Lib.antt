@@ -1,0 +1,9 @@
+pub mod WordsLemmas
+pub mod CutLemmas
+pub mod LoadLemmas
+pub mod EndingLemmas
+pub mod GradeLemmas
+pub mod GradesLemmas
+pub mod NameLemmas
+pub mod SiteNameLemmas
+pub mod MergeLemmas

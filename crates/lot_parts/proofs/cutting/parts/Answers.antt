@@ -1,0 +1,30 @@
+use Rattle.std.proofs.Common.{refl, ap, inl, inr}
+use Rattle.tool_inputs.specs.declared.status.Status.TheVariants.{Done}
+use Rattle.tool_inputs.specs.Refusals.{status_of, line_of}
+use Rattle.lot_parts.specs.Parts.{number_line}
+use Rattle.lot_parts.specs.Parts.PartsWants.{are_needed, is_refused}
+use Rattle.lot_parts.proofs.cutting.parts.Goals as goal
+
+pub returns-in-Err-clause-answers : goal.returns-in-Err-clause-answers
+returns-in-Err-clause-answers g c = record {
+  status = status_of c.in-Err.refusal;
+  text = line_of c.in-Err.refusal;
+  wanted = is_refused (record { refused = c.in-Err.refusal; cause = c.in-Err.ensures.refused; answer = refl; line = refl });
+  ends = c.put_refusal.ensures.ends;
+}
+
+pub returns-in-Ok-put_each-clause-answers : goal.returns-in-Ok-put_each-clause-answers
+returns-in-Ok-put_each-clause-answers g c = record {
+  status = Done;
+  text = number_line c.from.result;
+  wanted = are_needed refl c.in-Ok.rows c.in-Ok.ensures.found c.parts_needed.result c.parts_needed.ensures (ap number_line c.from.ensures);
+  ends = inl (refl, c.in-Ok-put_each.ensures.puts);
+}
+
+pub returns-clause-answers : goal.returns-clause-answers
+returns-clause-answers g c = record {
+  status = Done;
+  text = number_line c.from.result;
+  wanted = are_needed refl c.in-Ok.rows c.in-Ok.ensures.found c.parts_needed.result c.parts_needed.ensures (ap number_line c.from.ensures);
+  ends = inr (refl, c.in-Err-put_each.ensures.puts, c.in-Err-put_each.ensures.cause);
+}

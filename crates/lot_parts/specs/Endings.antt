@@ -1,0 +1,25 @@
+-- How a run ends.
+use Rattle.std.specs.Prelude.{◌≡◌, ◌⊎◌, ℕ, List, Option, codes}
+use Rattle.tester_types.specs.Outside.{HasRisen, gained, GainsFront}
+use Rattle.tool_inputs.specs.declared.status.Status.TheVariants.{WriteFault}
+use Rattle.lot_parts.specs.declared.outcome.Outcome.{Outcome}
+use Rattle.lot_parts.specs.declared.outcome.Outcome.TheVariants.{Ended}
+
+-- what is written where the words are none of the forms
+abbrev pub usage_line : List ℕ
+usage_line =
+    codes "usage: parts PLAN | part PLAN K N | merge PLAN FILE .. | grade PROGRAM PLAN K N | merge-grade FILE ..\n"
+
+-- a run ends with the outcome and its text written whole, or as a write fault with a front of that text
+abbrev pub EndsAs : Option (List ℕ) → ℕ → Outcome → List ℕ → Outcome → Option (List ℕ) → ℕ → Type 0
+EndsAs held faults outcome text result held' faults' =
+    ((result ≡ outcome) × (held' ≡ gained held text))
+    ⊎ ((result ≡ Ended WriteFault) × GainsFront held text held' × HasRisen faults faults')
+
+-- a run's answer has its cause, and its text
+pub record AnswersAs (wants : Outcome → List ℕ → Type 0)
+    (held : Option (List ℕ)) (faults : ℕ) (result : Outcome) (held' : Option (List ℕ)) (faults' : ℕ) : Type 0 where
+  pub outcome : Outcome
+  pub text : List ℕ
+  pub wanted : wants outcome text
+  pub ends : EndsAs held faults outcome text result held' faults'
