@@ -1,0 +1,111 @@
+"""Runs a lot or a grade in parts: by GNU parallel here or over ssh, one part after another where it is missing, or by Slurm."""
+import argparse
+import shlex
+import shutil
+import signal
+import subprocess
+import sys
+import whole
+from work import HERE, MOST_PARTS, Work, made, say
+
+
+def number(least, most):
+    """What takes a number in a range, in digits."""
+    def taken(word):
+        if not (word.isascii() and word.isdigit() and least <= int(word) <= most):
+            raise argparse.ArgumentTypeError(f"{word} is no number from {least} to {most}")
+        return int(word)
+    return taken
+
+
+def words(kind, is_slurm):
+    """The words of the command: a working folder to go on with, or a program, a plan and a number of parts."""
+    name = f"farm/{kind}.slurm" if is_slurm else f"farm/{kind}"
+    parts = "N" if kind == "grade" else "[N]"
+    reader = argparse.ArgumentParser(prog=name, usage=f"{name} [OPTION ..] PROGRAM PLAN {parts} | {name} [OPTION ..] --resume FOLDER")
+    reader.add_argument("--retries", type=number(1, 99), default=3, metavar="R", help="how often a part is run at most; 3 times")
+    reader.add_argument("--resume", metavar="FOLDER", help="runs the parts that are missing in this working folder")
+    if is_slurm:
+        reader.add_argument("--sbatch", action="append", default=[], metavar="WORD", help="a word more for sbatch, as --sbatch=--mem=2G")
+    else:
+        reader.add_argument("--jobs", metavar="J", help="how many parts run beside each other on a machine; as many as it has processors")
+        reader.add_argument("--sshloginfile", metavar="FILE", help="the machines, one a line, as GNU parallel takes them")
+    reader.add_argument("program", nargs="?", metavar="PROGRAM")
+    reader.add_argument("plan", nargs="?", metavar="PLAN")
+    reader.add_argument("parts", nargs="?", type=number(1, MOST_PARTS), metavar="N")
+    given = reader.parse_args()
+    wants = [given.program] if given.resume else [not given.plan, kind == "grade" and given.parts is None]
+    if any(wants):
+        reader.print_usage(sys.stderr)
+        sys.exit(1)
+    return given
+
+
+def has_parallel():
+    """Whether GNU parallel is here (another program has its name too)."""
+    if not shutil.which("parallel"):
+        return False
+    return b"GNU" in subprocess.run(["parallel", "--version"], stdout=subprocess.PIPE, stderr=subprocess.DEVNULL).stdout
+
+
+def by_parallel(work, given):
+    asked = ["parallel", "--will-cite", "--quote", "--joblog", work.folder / "joblog", "--resume-failed", "--retries", str(given.retries)]
+    asked += ["--jobs", given.jobs] if given.jobs else []
+    asked += ["--sshloginfile", given.sshloginfile] if given.sshloginfile else []
+    ran = subprocess.Popen([*asked, HERE / "part", work.folder, "{}", ":::", *map(str, range(1, work.parts + 1))], stdin=subprocess.DEVNULL)
+    try:
+        ran.wait()
+    finally:
+        if ran.poll() is None:
+            # (at the first of these it waits for what runs, at the second it ends that)
+            for _ in range(2):
+                ran.send_signal(signal.SIGTERM)
+            ran.wait()
+
+
+def one_by_one(work, given):
+    for k in work.missing():
+        subprocess.run([HERE / "part", "--retries", str(given.retries), work.folder, str(k)], stdin=subprocess.DEVNULL)
+
+
+def by_slurm(work, given):
+    """Submits the parts as an array of jobs and the merge behind them, and waits for it; its text and status are in the working folder."""
+    folder, missing = shlex.quote(str(work.folder)), work.missing()
+    common = ["sbatch", "--parsable", f"--chdir={work.start}", *given.sbatch]
+    behind = []
+    for name in "whole", "ended":
+        (work.folder / name).unlink(missing_ok=True)
+    if missing:
+        part = f"exec {shlex.quote(str(HERE / 'part'))} --retries {given.retries} {folder} $SLURM_ARRAY_TASK_ID"
+        array = "1-%d" % work.parts if len(missing) == work.parts else ",".join(map(str, missing))
+        asked = [*common, f"--array={array}", "--requeue", "--job-name=farm", f"--output={work.folder}/slurm.%a", f"--wrap={part}"]
+        ran = subprocess.run(asked, stdout=subprocess.PIPE, text=True)
+        if ran.returncode:
+            sys.exit(70)
+        job = ran.stdout.strip().split(";")[0]
+        say(f"the parts are the array {job}")
+        behind = [f"--dependency=afterok:{job}", "--kill-on-invalid-dep=yes"]
+    merge = f"{shlex.quote(str(HERE / 'merged'))} {folder}"
+    subprocess.run([*common, *behind, "--wait", "--job-name=farm-merge", f"--output={work.folder}/slurm.merge", f"--wrap={merge}"],
+                   stdout=subprocess.DEVNULL)
+
+
+def main(kind, is_slurm=False):
+    given = words(kind, is_slurm)
+    signal.signal(signal.SIGTERM, lambda number, frame: sys.exit(128 + number))
+    work = Work(given.resume) if given.resume else made(kind, given.program, given.plan, given.parts)
+    try:
+        if is_slurm:
+            by_slurm(work, given)
+        elif has_parallel():
+            by_parallel(work, given)
+        elif given.sshloginfile:
+            say("parallel is missing, which --sshloginfile needs")
+            sys.exit(70)
+        else:
+            say("parallel is missing, so the parts run one after another")
+            one_by_one(work, given)
+    except (KeyboardInterrupt, SystemExit) as ended:
+        say(f"broken off; --resume {work.folder} goes on")
+        sys.exit(130 if isinstance(ended, KeyboardInterrupt) else ended.code)
+    whole.end(work)

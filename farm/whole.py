@@ -1,0 +1,82 @@
+"""What is said of a lot or a grade whose parts have run."""
+import shutil
+import subprocess
+import sys
+from work import FINAL, LAST_SITE, NO_DIE, READ_FAULT, Plan, answer, end_with, say
+
+
+def in_plan(plan, work, k, line):
+    """A part's line with its row put back to the plan's."""
+    words = line.split()
+    if words[:2] == [b"refused", b"plan"] and words[2] != b"Unbound":
+        return b"refused plan %s %d\n" % (words[2], plan.numbers(k, work.parts)[int(words[3]) - 1])
+    return line
+
+
+def place(plan, line):
+    """Where a refusal stands among those of the whole: netlists as the plan first names them, its rows, signals without a net."""
+    words = line.split()
+    if words[:2] in ([b"read", b"fault"], [b"too", b"long"], [b"refused", b"net"]):
+        name = words[2].decode("latin-1")
+        return 1, plan.files.index(name) if name in plan.files else -1
+    if words[:2] == [b"refused", b"plan"]:
+        return (3, 0) if words[2] == b"Unbound" else (2, int(words[3]))
+    return (4 if words[:2] == [b"too", b"few"] else 0), 0
+
+
+def asked(work, plan):
+    """What the program says of the whole plan, which it refuses."""
+    free = [site for site in range(LAST_SITE + 1) if site not in plan.sites]
+    words = ["dump", work.program, work.plan, str(free[0])] if free else ["lot", work.program, work.plan]
+    return answer([work.stil, *words], cwd=work.start)
+
+
+def refused(work, told):
+    """The refusal of the whole, of those of its parts: the first in the order of the whole."""
+    if work.kind == "grade":
+        return told[0][1:]
+    plan = Plan(work.plan)
+    lines = [(status, in_plan(plan, work, k, line)) for k, status, line in told]
+    status, line = min(lines, key=lambda it: place(plan, it[1]))
+    if place(plan, line)[0] == 3 and len({it[1] for it in lines}) > 1:
+        # (which netlist leaves the signal without a net, the line doesn't say)
+        whole, said = asked(work, plan)
+        return (whole, said) if whole not in (0, NO_DIE) else (status, line)
+    return status, line
+
+
+def told(work):
+    """Prints the whole, and answers the status; where parts are refused or missing, says so."""
+    every = range(1, work.parts + 1)
+    ends = [(k, *work.refusal(k)) for k in every]
+    stopped = [it for it in ends if it[1] != 0 and it[1] in FINAL | {READ_FAULT}]
+    if stopped:
+        return end_with(*refused(work, stopped))
+    missing = work.missing()
+    if missing:
+        say(f"parts without a text: {' '.join(map(str, missing))}; --resume {work.folder} runs them again")
+        k, status, line = next(it for it in ends if it[0] == missing[0])
+        return end_with(status or 70, line)
+    words = ["merge", work.plan] if work.kind == "lot" else ["merge-grade"]
+    return subprocess.run([work.lots, *words, *(work.of(k, "text") for k in every)], restore_signals=False).returncode
+
+
+def merged(work):
+    """Prints what a job has merged, and answers its status."""
+    with open(work.folder / "whole", "rb") as text:
+        shutil.copyfileobj(text, sys.stdout.buffer)
+    sys.stdout.buffer.flush()
+    return int((work.folder / "ended").read_text())
+
+
+def end(work):
+    """Prints the whole and ends; the working folder stays where something failed."""
+    try:
+        status = merged(work) if (work.folder / "ended").exists() else told(work)
+    except SystemExit as ended:
+        status = ended.code
+    if status == 0:
+        shutil.rmtree(work.folder)
+    else:
+        say(f"the working folder stays: {work.folder}")
+    raise SystemExit(status)

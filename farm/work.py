@@ -1,0 +1,143 @@
+"""The working folder of a lot or a grade that runs in parts, and what is known of its plan.
+
+It holds `program` and `plan.csv` (the program, saved, and the plan), `said` (how it was started, in JSON), a folder for each part by its
+number, with its `text` and the `status` that the program ended with, or `failed` where it gave no answer, and `joblog`."""
+import csv
+import json
+import os
+import pathlib
+import shutil
+import subprocess
+import sys
+import tempfile
+
+HERE = pathlib.Path(__file__).resolve().parent
+SAVED = b"\xd7STP"
+LONGEST = 16777216
+MOST_PARTS = 4096
+LAST_SITE = 63
+DONE, READ_FAULT, REFUSED_PLAN, TOO_LONG, NO_DIE = 0, 2, 6, 9, 12
+# statuses behind which another try would end alike: done, refused, too few sockets, too long, no die
+FINAL = {0, 4, 5, 6, 7, 9, 10, 12}
+# the rows that name a site
+SITED = {"die", "fault", "stop", "skew"}
+
+
+def say(text):
+    print(f"farm: {text}", file=sys.stderr, flush=True)
+
+
+def program_of(name):
+    """Where a program is: as the variable of its name in capitals says, in release/ or built beside this folder, or on the path."""
+    tool, wrapper = HERE.parent / "tools/program", HERE.parent / name
+    if name.upper() in os.environ:
+        return str(pathlib.Path(os.environ[name.upper()]).absolute())
+    if tool.exists():
+        found = subprocess.run([tool, name], stdout=subprocess.PIPE, text=True).stdout.strip()
+        return str(HERE.parent / found if found else wrapper)
+    return shutil.which(name) or name
+
+
+def answer(words, **more):
+    """The status and the text of a run of a program."""
+    ran = subprocess.run(words, stdout=subprocess.PIPE, stdin=subprocess.DEVNULL, restore_signals=False, **more)
+    return ran.returncode, ran.stdout
+
+
+class Plan:
+    """The rows of a plan that was accepted: each with its fields, and the sites with dies by rising number."""
+
+    def __init__(self, path):
+        with open(path, encoding="latin-1", newline="") as file:
+            self.rows = [row for row in csv.reader(file) if row]
+        dies = [row for row in self.rows if row[0] == "die"]
+        self.sites = sorted({int(row[1]) for row in dies})
+        self.files = list(dict.fromkeys(row[3] for row in dies))
+
+    def part(self, k, n):
+        """The sites of part k of n: the i-th of them has the number i there."""
+        return self.sites[k - 1 :: n]
+
+    def numbers(self, k, n):
+        """The numbers of a part's rows in the plan, in order."""
+        mine = set(self.part(k, n))
+        return [i for i, row in enumerate(self.rows, 1) if row[0] not in SITED or int(row[1]) in mine]
+
+    def netlists(self, k, n):
+        mine = set(self.part(k, n))
+        return list(dict.fromkeys(row[3] for row in self.rows if row[0] == "die" and int(row[1]) in mine))
+
+
+class Work:
+    """A working folder that is there."""
+
+    def __init__(self, folder):
+        self.folder = pathlib.Path(folder).absolute()
+        self.said = json.loads((self.folder / "said").read_text())
+        self.kind, self.parts, self.start = self.said["kind"], self.said["parts"], self.said["start"]
+        self.stil, self.lots = self.said["stil"], self.said["lots"]
+        self.program, self.plan = self.folder / "program", self.folder / "plan.csv"
+
+    def of(self, k, name):
+        return self.folder / str(k) / name
+
+    def status(self, k):
+        """The status that part k ended with for good, or none."""
+        path = self.of(k, "status")
+        return int(path.read_text()) if path.exists() else None
+
+    def missing(self):
+        return [k for k in range(1, self.parts + 1) if self.status(k) is None]
+
+    def refusal(self, k):
+        """The status and line of a part that was refused or failed; a status of none where nothing is known of it."""
+        kept = self.of(k, "failed") if self.status(k) is None else self.of(k, "status")
+        status = int(kept.read_text()) if kept.exists() else None
+        text = self.of(k, "text" if kept.name == "status" else "failed.text")
+        return status, text.read_bytes() if text.exists() else b""
+
+
+def saved(stil, program, to):
+    """Puts a program into a file, saved where it is a text, and answers the status and line of what refuses it, if anything does."""
+    try:
+        with open(program, "rb") as file:
+            is_saved = file.read(len(SAVED)) == SAVED
+    except OSError:
+        is_saved = False
+    if is_saved:
+        # (behind a program that is accepted the first refusal is that of a plan without rows)
+        status, line = answer([stil, "lot", program, os.devnull])
+        shutil.copyfile(program, to)
+        return None if status == REFUSED_PLAN else (status, line)
+    with open(to, "wb") as file:
+        status = subprocess.run([stil, "save", program], stdout=file, restore_signals=False).returncode
+    if status == TOO_LONG and os.stat(program).st_size <= LONGEST:
+        # (a text whose saved program would be too long is read by each part)
+        shutil.copyfile(program, to)
+        status = DONE
+    return None if status == DONE else (status, pathlib.Path(to).read_bytes())
+
+
+def end_with(status, line):
+    """Ends as the program does."""
+    sys.stdout.buffer.write(line)
+    sys.stdout.buffer.flush()
+    sys.exit(status)
+
+
+def made(kind, program, plan, parts):
+    """A new working folder in the folder where one stands; ends as the program does where it refuses the program or the plan."""
+    stil, lots = program_of("stil"), program_of("lots")
+    folder = tempfile.mkdtemp(prefix="farm.", dir=os.getcwd())
+    refused = saved(stil, program, f"{folder}/program")
+    if not refused:
+        status, line = answer([lots, "parts", plan])
+        refused = (status, line) if status else None
+    if refused:
+        shutil.rmtree(folder)
+        end_with(*refused)
+    shutil.copyfile(plan, f"{folder}/plan.csv")
+    said = {"kind": kind, "parts": parts or int(line), "start": os.getcwd(), "stil": stil, "lots": lots}
+    pathlib.Path(folder, "said").write_text(json.dumps(said) + "\n")
+    say(f"the working folder is {folder}, and the parts are {said['parts']}")
+    return Work(folder)
