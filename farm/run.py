@@ -6,7 +6,7 @@ import signal
 import subprocess
 import sys
 import whole
-from work import HERE, MOST_PARTS, Work, made, say
+from work import HERE, MOST_PARTS, Work, made, say, without
 
 
 def number(least, most):
@@ -33,6 +33,7 @@ def words(kind, is_slurm):
     reader.add_argument("program", nargs="?", metavar="PROGRAM")
     reader.add_argument("plan", nargs="?", metavar="PLAN")
     reader.add_argument("parts", nargs="?", type=number(1, MOST_PARTS), metavar="N")
+    reader.error = lambda fault: sys.exit(f"{name}: {fault}")
     given = reader.parse_args()
     wants = [given.program] if given.resume else [not given.plan, kind == "grade" and given.parts is None]
     if any(wants):
@@ -92,6 +93,10 @@ def by_slurm(work, given):
 
 def main(kind, is_slurm=False):
     given = words(kind, is_slurm)
+    if is_slurm and not shutil.which("sbatch"):
+        without("sbatch", "a lot by Slurm")
+    if not is_slurm and given.sshloginfile and not has_parallel():
+        without("parallel", "--sshloginfile")
     signal.signal(signal.SIGTERM, lambda number, frame: sys.exit(128 + number))
     work = Work(given.resume) if given.resume else made(kind, given.program, given.plan, given.parts)
     try:
@@ -99,9 +104,6 @@ def main(kind, is_slurm=False):
             by_slurm(work, given)
         elif has_parallel():
             by_parallel(work, given)
-        elif given.sshloginfile:
-            say("parallel is missing, which --sshloginfile needs")
-            sys.exit(70)
         else:
             say("parallel is missing, so the parts run one after another")
             one_by_one(work, given)

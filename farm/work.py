@@ -27,15 +27,20 @@ def say(text):
     print(f"farm: {text}", file=sys.stderr, flush=True)
 
 
+def without(what, wants):
+    """Ends where a program is missing that is wanted."""
+    say(f"{what} is missing, which {wants} needs")
+    sys.exit(70)
+
+
 def program_of(name):
     """Where a program is: as the variable of its name in capitals says, in release/ or built beside this folder, or on the path."""
-    tool, wrapper = HERE.parent / "tools/program", HERE.parent / name
-    if name.upper() in os.environ:
-        return str(pathlib.Path(os.environ[name.upper()]).absolute())
-    if tool.exists():
-        found = subprocess.run([tool, name], stdout=subprocess.PIPE, text=True).stdout.strip()
-        return str(HERE.parent / found if found else wrapper)
-    return shutil.which(name) or name
+    tool, found = HERE.parent / "tools/program", os.environ.get(name.upper())
+    if not found and tool.exists():
+        said = subprocess.run([tool, name], stdout=subprocess.PIPE, text=True).stdout.strip()
+        found = HERE.parent / (said or name)
+    found = shutil.which(found or name)
+    return str(pathlib.Path(found).absolute()) if found else without(name, "a lot in parts")
 
 
 def answer(words, **more):

@@ -4,6 +4,8 @@ import pathlib
 
 top = pathlib.Path(__file__).resolve().parent.parent
 PROGRAM = "examples/s27scan/s27scan.stil"
+# the call of the scan example around which a loop makes it longer
+CALL = 'Call "capture" { "_pi"=0101; "_po"=L; }'
 NET = "examples/s27scan/s27scan.bench"
 
 
@@ -16,6 +18,11 @@ def nets():
         elif " = " in line:
             found.append(line.partition(" = ")[0])
     return list(dict.fromkeys(found))
+
+
+def longer(text, times):
+    """The scan program with a capture that is run so many times."""
+    return text.replace(CALL, f"Loop {times} {{ {CALL} }}")
 
 
 def rolls(seed):
