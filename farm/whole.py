@@ -76,7 +76,8 @@ def end(work):
     except SystemExit as ended:
         status = ended.code
     if status == 0:
-        shutil.rmtree(work.folder)
+        # (a run of a part that was given up may be there still)
+        shutil.rmtree(work.folder, ignore_errors=True)
     else:
         say(f"the working folder stays: {work.folder}")
     raise SystemExit(status)

@@ -78,6 +78,9 @@ class Work:
 
     def __init__(self, folder):
         self.folder = pathlib.Path(folder).absolute()
+        if not (self.folder / "said").exists():
+            say(f"{folder} is no working folder")
+            sys.exit(1)
         self.said = json.loads((self.folder / "said").read_text())
         self.kind, self.parts, self.start = self.said["kind"], self.said["parts"], self.said["start"]
         self.stil, self.lots = self.said["stil"], self.said["lots"]
@@ -134,15 +137,18 @@ def made(kind, program, plan, parts):
     """A new working folder in the folder where one stands; ends as the program does where it refuses the program or the plan."""
     stil, lots = program_of("stil"), program_of("lots")
     folder = tempfile.mkdtemp(prefix="farm.", dir=os.getcwd())
-    refused = saved(stil, program, f"{folder}/program")
-    if not refused:
-        status, line = answer([lots, "parts", plan])
-        refused = (status, line) if status else None
-    if refused:
-        shutil.rmtree(folder)
-        end_with(*refused)
-    shutil.copyfile(plan, f"{folder}/plan.csv")
-    said = {"kind": kind, "parts": parts or int(line), "start": os.getcwd(), "stil": stil, "lots": lots}
-    pathlib.Path(folder, "said").write_text(json.dumps(said) + "\n")
+    try:
+        refused = saved(stil, program, f"{folder}/program")
+        if not refused:
+            status, line = answer([lots, "parts", plan])
+            refused = (status, line) if status else None
+        if refused:
+            end_with(*refused)
+        shutil.copyfile(plan, f"{folder}/plan.csv")
+        said = {"kind": kind, "parts": parts or int(line), "start": os.getcwd(), "stil": stil, "lots": lots}
+        pathlib.Path(folder, "said").write_text(json.dumps(said) + "\n")
+    except BaseException:
+        shutil.rmtree(folder, ignore_errors=True)
+        raise
     say(f"the working folder is {folder}, and the parts are {said['parts']}")
     return Work(folder)
