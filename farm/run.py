@@ -5,8 +5,12 @@ import shutil
 import signal
 import subprocess
 import sys
+import time
 import whole
 from work import HERE, MOST_PARTS, Work, made, say, without
+
+# how many seconds a merge is awaited of which Slurm knows nothing any more
+AWAITED = 5
 
 
 def number(least, most):
@@ -69,6 +73,14 @@ def one_by_one(work, given):
         subprocess.run([HERE / "part", "--retries", str(given.retries), work.folder, str(k)], stdin=subprocess.DEVNULL)
 
 
+def submitted(asked):
+    """Submits a job, and answers its number."""
+    ran = subprocess.run(asked, stdout=subprocess.PIPE, text=True)
+    if ran.returncode:
+        sys.exit(70)
+    return ran.stdout.strip().split(";")[0]
+
+
 def by_slurm(work, given):
     """Submits the parts as an array of jobs and the merge behind them, and waits for it; its text and status are in the working folder."""
     folder, missing = shlex.quote(str(work.folder)), work.missing()
@@ -80,15 +92,17 @@ def by_slurm(work, given):
         part = f"exec {shlex.quote(str(HERE / 'part'))} --retries {given.retries} {folder} $SLURM_ARRAY_TASK_ID"
         array = "1-%d" % work.parts if len(missing) == work.parts else ",".join(map(str, missing))
         asked = [*common, f"--array={array}", "--requeue", "--job-name=farm", f"--output={work.folder}/slurm.%a", f"--wrap={part}"]
-        ran = subprocess.run(asked, stdout=subprocess.PIPE, text=True)
-        if ran.returncode:
-            sys.exit(70)
-        job = ran.stdout.strip().split(";")[0]
+        job = submitted(asked)
         say(f"the parts are the array {job}")
         behind = [f"--dependency=afterok:{job}", "--kill-on-invalid-dep=yes"]
     merge = f"{shlex.quote(str(HERE / 'merged'))} {folder}"
-    subprocess.run([*common, *behind, "--wait", "--job-name=farm-merge", f"--output={work.folder}/slurm.merge", f"--wrap={merge}"],
-                   stdout=subprocess.DEVNULL)
+    job = submitted([*common, *behind, "--job-name=farm-merge", f"--output={work.folder}/slurm.merge", f"--wrap={merge}"])
+    # (what is on its way through the file system when the job is gone has some seconds to come)
+    left = AWAITED
+    while left and not (work.folder / "ended").exists():
+        time.sleep(1)
+        known = subprocess.run(["squeue", "-h", "-j", job], stdout=subprocess.PIPE, stderr=subprocess.DEVNULL).stdout
+        left = AWAITED if known else left - 1
 
 
 def main(kind, is_slurm=False):
