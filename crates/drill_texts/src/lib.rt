@@ -9,6 +9,3 @@ mod program;
 pub use netlist::net_text;
 pub use plan::plan_text;
 pub use program::stil_text;
-
-#[cfg(test)]
-mod tests;

@@ -15,6 +15,3 @@ pub use laws::{
     same_is_saved, same_is_transitive,
 };
 pub use place::{BodyKind, Origin};
-
-#[cfg(test)]
-mod tests;

@@ -11,6 +11,3 @@ pub use command_line::words;
 pub use desk::FileDesk;
 pub use shelf::FileShelf;
 pub use sink::WriterSink;
-
-#[cfg(test)]
-mod tests;

@@ -14,6 +14,3 @@ mod writing;
 pub use counting::cycles;
 pub use fault::{VectorFault, WriteError};
 pub use trees::write;
-
-#[cfg(test)]
-mod tests;

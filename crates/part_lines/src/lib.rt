@@ -8,6 +8,3 @@ mod printed;
 pub use fault::LineFault;
 pub use lines::Lines;
 pub use printed::is_printed;
-
-#[cfg(test)]
-mod tests;

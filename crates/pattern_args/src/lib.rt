@@ -7,6 +7,3 @@ mod characters;
 mod lane;
 
 pub use arguments::Arguments;
-
-#[cfg(test)]
-mod tests;

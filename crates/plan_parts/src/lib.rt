@@ -4,8 +4,6 @@
 mod laws;
 mod record;
 mod sites;
-#[cfg(test)]
-mod tests;
 mod text;
 
 pub use laws::{numbers_of_part, part_is_plan, rows_of_site, sites_of_part};

@@ -9,6 +9,3 @@ pub use laws::{
     played_states_are_steps, polls_are_counted, polls_are_true, sound_is_touchdown,
     touchdown_is_sound, trials_are_true,
 };
-
-#[cfg(test)]
-mod tests;

@@ -11,6 +11,3 @@ mod view;
 pub use asked::AskedList;
 pub use board::{Board, BoardEnd};
 pub use seats::{DeskSeat, SiteSeat, SiteSeatList};
-
-#[cfg(test)]
-mod tests;

@@ -28,6 +28,3 @@ pub use signal::Direction;
 pub use wave::{
     Act, Event, EventList, Look, Push, Table, TableList, Text, TextList, Wave, WaveList,
 };
-
-#[cfg(test)]
-mod tests;

@@ -17,6 +17,3 @@ pub use limit::{
     MOST_WAVES, limits_agree,
 };
 pub use number::{are_digits, number_by, number_of};
-
-#[cfg(test)]
-mod tests;

@@ -9,6 +9,3 @@ mod told;
 
 pub use laws::one_front;
 pub use reading::read_text;
-
-#[cfg(test)]
-mod tests;

@@ -1,5 +1,5 @@
 use Rattle.std.proofs.Common.{◌≡◌, ◌≤◌, length, slice_index}
-use Rattle.stop_board.proofs.tests.ask_often.Given as goal
+use Rattle.call_tests.proofs.board_calls.ask_often.Given as goal
 
 abbrev pub invariant-loop : goal.invariant-loop
 invariant-loop l = record {

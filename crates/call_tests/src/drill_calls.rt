@@ -1,6 +1,6 @@
 //! The texts of small drills, and words that are numbers and that are none.
 
-use crate::{net_text, plan_text, stil_text};
+use drill_texts::{net_text, plan_text, stil_text};
 use std::test::Fail;
 
 #[test]

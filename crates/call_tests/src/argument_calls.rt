@@ -1,6 +1,6 @@
 //! Arguments that are given, laid as columns and taken. `-` stands for padding.
 
-use super::*;
+use pattern_args::*;
 use std::alloc::{AllocError, Global};
 use std::test::Fail;
 use stil_ast::{ItemRun, VecItem};

@@ -1,5 +1,5 @@
 use Rattle.std.proofs.Common.{◌≡◌}
-use Rattle.stop_board.proofs.tests.poll_until_asked.Given as goal
+use Rattle.call_tests.proofs.board_calls.poll_until_asked.Given as goal
 
 abbrev pub invariant-loop : goal.invariant-loop
 invariant-loop l = record {

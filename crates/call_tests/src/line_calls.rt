@@ -1,4 +1,4 @@
-use super::*;
+use part_lines::*;
 use std::test::Fail;
 use tester_types::Piece;
 

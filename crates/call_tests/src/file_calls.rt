@@ -1,6 +1,6 @@
 //! The shelf, the sink and the desk, each once.
 
-use crate::{FileDesk, FileShelf, WriterSink};
+use host_files::{FileDesk, FileShelf, WriterSink};
 use std::io::BufWriter;
 use std::test::Fail;
 use std::{fs, io};

@@ -1,10 +1,10 @@
 //! Values that no clause names: printed names, and the objects in memory in each of their ways.
 
-use crate::{
+use std::test::Fail;
+use tester_types::{
     Ask, Desk, Items, ListDesk, MemShelf, MemSink, NoMemory, Piece, Record, RecordList, Shelf,
     ShelfFault, Sink, SinkFault, put_all, put_each,
 };
-use std::test::Fail;
 
 #[test]
 fn one_byte_a_put_and_a_fault_at_the_second_leave_one_byte(rt: HostRuntime) -> Result<(), Fail> {

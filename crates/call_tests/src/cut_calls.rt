@@ -1,7 +1,7 @@
 //! Parts of plans as they are written.
 
-use crate::{Sites, part_text, parts_needed};
 use itoa::Buffer;
+use plan_parts::{Sites, part_text, parts_needed};
 use plan_rows::read_rows;
 use std::alloc::{AllocError, Global};
 use std::test::Fail;

@@ -1,4 +1,4 @@
-use crate::{
+use site_meaning::{
     accepted_plan_gives_parts, batches_are_pieces, equal_parts_record_alike, moments_rise,
     part_is_alone, part_says_what_plan_says, played_states_are_steps, polls_are_counted,
     polls_are_true, sound_is_touchdown, touchdown_is_sound, trials_are_true,

@@ -3,8 +3,8 @@
 ghost use Rattle.std.specs.Prelude.{◌≡◌, IfOk, length};
 ghost use Rattle.wave_tables.specs.Waves.{AreInOrder};
 
-use super::*;
 use flat_tree::{BodyKind, FlatList, Origin};
+use instr_writer::*;
 use packed_code::{Instr, RowList};
 use std::alloc::{AllocError, Global};
 use std::test::Fail;

@@ -1,8 +1,8 @@
 //! A known text that is compiled.
 
-use crate::{compiled, program};
 use std::alloc::Global;
 use std::test::Fail;
+use stil_program::{compiled, program};
 
 /// Two executives over one pattern of three vectors with two rows.
 const TEXT: &[u8] = b"STIL 1.0;

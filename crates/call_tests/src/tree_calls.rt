@@ -1,6 +1,6 @@
 //! What no contract says: that calls succeed, and that a tree may cross threads.
 
-use super::*;
+use flat_tree::*;
 use std::alloc::{AllocError, Global};
 use std::test::Fail;
 

@@ -1,4 +1,4 @@
-use super::*;
+use text_bytes::*;
 
 #[test]
 fn words_are_letters_digits_and_the_low_line(rt: HostRuntime) {

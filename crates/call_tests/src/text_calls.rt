@@ -1,9 +1,9 @@
 //! Two texts: one with a byte beyond ASCII, and one without a fault.
 
-use crate::read_text;
 use std::alloc::Global;
 use stil_ast::StilKind::BadByte;
 use stil_ast::{Blocks, StilRefusal};
+use text_front::read_text;
 
 /// What a short text is read as.
 fn read(alloc: Global, text: &[u8]) -> Option<Result<Blocks, StilRefusal>> {

@@ -1,9 +1,9 @@
 //! Boards that two threads share, and boards of no site and of sixteen.
 ghost use Rattle.std.specs.Prelude.{◌≡◌, ◌<◌, ◌≤◌, replicate};
 
-use crate::{Board, DeskSeat, SiteSeat, SiteSeatList};
 use std::test::Fail;
 use std::thread::{join_mut, yield_now};
+use stop_board::{Board, DeskSeat, SiteSeat, SiteSeatList};
 
 /// How often the desk asks.
 const ASKS: u32 = 1000;
