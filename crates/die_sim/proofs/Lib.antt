@@ -4,6 +4,7 @@ pub mod MomentLemmas
 pub mod OrderLemmas
 pub mod PendingLemmas
 pub mod WalkLemmas
+pub mod TableLemmas
 pub mod StepLemmas
 pub mod SettledLemmas
 pub mod SettlingLemmas

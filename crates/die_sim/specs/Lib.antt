@@ -1,4 +1,5 @@
 pub mod Gates
+pub mod Table
 pub mod Die
 pub mod Moment
 pub mod Spread

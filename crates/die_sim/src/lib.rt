@@ -12,6 +12,7 @@ mod settle;
 mod sim;
 mod socket;
 mod steps;
+mod table;
 mod tape;
 mod tape_socket;
 
