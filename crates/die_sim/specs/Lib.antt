@@ -4,6 +4,8 @@ pub mod Die
 pub mod Moment
 pub mod Spread
 pub mod Stepped
+pub mod Cells
+pub mod Readers
 pub mod Pending
 pub mod Walk
 pub mod Socket

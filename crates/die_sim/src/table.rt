@@ -105,3 +105,17 @@ pub(crate) fn row_of(kind: GateKind) -> Row
         GateKind::Xnor => Row::Xnor,
     }
 }
+
+/// The row that gives for one level twice what a row gives for it once.
+pub(crate) fn single_row(row: Row) -> Row
+    ensures { result ≡ single_row row }
+{
+    match row {
+        Row::And | Row::Xor => Row::And,
+        Row::Nand | Row::Xnor => Row::Nand,
+        Row::Or => Row::Or,
+        Row::Nor => Row::Nor,
+        Row::Low => Row::Low,
+        Row::High => Row::High,
+    }
+}
