@@ -4,8 +4,12 @@ pub mod MomentLemmas
 pub mod OrderLemmas
 pub mod PendingLemmas
 pub mod WalkLemmas
+pub mod TableLemmas
+pub mod CellLemmas
+pub mod ReaderLemmas
 pub mod StepLemmas
 pub mod SettledLemmas
 pub mod SettlingLemmas
 pub mod SteppedLemmas
+pub mod SocketLemmas
 pub mod TapeLemmas

@@ -1,8 +1,11 @@
 pub mod Gates
+pub mod Table
 pub mod Die
 pub mod Moment
 pub mod Spread
 pub mod Stepped
+pub mod Cells
+pub mod Readers
 pub mod Pending
 pub mod Walk
 pub mod Socket

@@ -15,6 +15,9 @@ use Rattle.tester_types.specs.declared.level.Drive.{Drive}
 use Rattle.die_sim.specs.Gates.{level_at, is_zero, is_one}
 use Rattle.die_sim.specs.Die.{Device, State, own_level, wanted, Settled, IsDevice, bind_at}
 use Rattle.die_sim.specs.Pending.{PendingGates, is_pending, AreSeats}
+use Rattle.die_sim.specs.declared.cells.Cell.{Cell}
+use Rattle.die_sim.specs.Cells.{AreCells}
+use Rattle.die_sim.specs.Readers.{AreReaderPlaces}
 use Rattle.die_sim.specs.Spread.{Reads}
 
 -- whether the level is unknown
@@ -145,7 +148,8 @@ pub record AreFaultsWithin (nets : ℕ) (faults : List StuckAt) : Type 0 where
   pub each : (k : ℕ) (d : StuckAt) → k < length faults → (slice_index_or faults k d).net < nets
 
 -- what a die keeps inside
-pub record IsKept (d : Device) (s : State) (pending : PendingGates) (flip_flops : List ℕ) : Type 0 where
+pub record IsKept (d : Device) (s : State) (pending : PendingGates) (flip_flops : List ℕ) (cells : List Cell)
+    (pins starts places : List ℕ) : Type 0 where
   pub whole : IsWhole d.circuit
   pub device : IsDevice d
   pub held_count : length s.held ≡ length d.circuit.net.drivers
@@ -153,3 +157,5 @@ pub record IsKept (d : Device) (s : State) (pending : PendingGates) (flip_flops 
   pub seats : AreSeats d.circuit.order pending
   pub clear : (n : ℕ) → is_pending pending n ≡ false
   pub all_flip_flops : AreFlipFlops d.circuit.net.drivers flip_flops (length d.circuit.net.drivers)
+  pub gates : AreCells d.circuit d.fixed cells pins
+  pub reader_places : AreReaderPlaces d.circuit starts places

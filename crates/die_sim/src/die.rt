@@ -5,12 +5,15 @@ ghost use Rattle.bench_net.specs.Circuit.{IsWhole};
 ghost use Rattle.die_sim.specs.Die.{device_of, IsOfNet, stuck, with_fault, fixed_of, is_clock, bind_at, IsBoundTo, IsFresh, level_of};
 ghost use Rattle.die_sim.specs.Moment.{AreDrives, IsStep};
 ghost use Rattle.die_sim.specs.Spread.{IsSpread};
+ghost use Rattle.die_sim.specs.Cells.{AreStuck, AreCells};
 ghost use Rattle.die_sim.specs.Walk.{AreFaultsWithin};
 
+use crate::cells::Cells;
 use crate::image::{Bind, Binding, DieImage, StuckAt};
 use crate::moment::{capture_each, capturing, clock_after, clock_edge, flip_flops, put_all};
 use crate::pending::Pending;
-use crate::settle::{activate_all, refresh_driven, refresh_each, walk};
+use crate::readers::Readers;
+use crate::settle::{activate_all, refresh_driven, refresh_each, settle_first, walk};
 use crate::steps::Steps;
 use bench_net::Netlist;
 use std::alloc::{AllocError, Global};
@@ -23,6 +26,8 @@ use tester_types::{Drive, Level, NoMemory};
 pub struct DieState {
     net: Arc<Netlist>,
     bind: Arc<Binding>,
+    cells: Cells,
+    readers: Readers,
     fixed: Vec<Option<Level>>,
     clock: Level,
     held: Vec<Level>,
@@ -57,7 +62,7 @@ impl Model for DieState {
           (arc_value d.bind).nets;
       fixed = d.fixed.items;
     })
-        (record { clock = d.clock; held = d.held.items; levels = d.levels.items }) d.pending d.flip_flops.items };
+        (record { clock = d.clock; held = d.held.items; levels = d.levels.items }) d.pending d.flip_flops.items d.cells.cells.items d.cells.pins.items d.readers.starts.items d.readers.places.items };
 }
 
 impl DieState {
@@ -73,8 +78,12 @@ impl DieState {
         let mut levels = first_levels(alloc, fixed.as_slice())?;
         let mut pending = Pending::all(alloc, &net)?;
         let flip_flops = flip_flops(alloc, &net)?;
-        walk(
+        let readers = Readers::new(alloc, &net, &pending)?;
+        let cells = gates_of(alloc, &net, fixed.as_slice())?;
+        settle_first(
             &net,
+            &cells,
+            &readers,
             fixed.as_slice(),
             held.as_slice(),
             &mut levels,
@@ -83,6 +92,8 @@ impl DieState {
         Ok(DieState {
             net,
             bind,
+            cells,
+            readers,
             fixed,
             clock: Level::X,
             held,
@@ -101,12 +112,21 @@ impl DieState {
         let net: &Netlist = &self.net;
         fix_anew(&mut self.fixed, die.faults.as_slice());
         let fixed = self.fixed.as_slice();
-        self.held.as_mut_slice().fill(Level::X);
+        self.cells.put_rows(net, fixed);
+        forget(&mut self.held);
         put_first(fixed, &mut self.levels);
         activate_all(net, &mut self.pending);
         self.clock = Level::X;
         let held = self.held.as_slice();
-        walk(net, fixed, held, &mut self.levels, &mut self.pending);
+        settle_first(
+            net,
+            &self.cells,
+            &self.readers,
+            fixed,
+            held,
+            &mut self.levels,
+            &mut self.pending,
+        );
     }
 
     /// One moment: the flip-flops capture where the clock rises, the inputs take their levels, and all settles. Each
@@ -143,9 +163,18 @@ impl DieState {
         put_all(&mut self.held, bind, drives);
         self.clock = clock;
         let held = self.held.as_slice();
-        refresh_each(net, fixed, held, &mut self.levels, &mut self.pending, nets);
+        refresh_each(
+            net,
+            &self.readers,
+            fixed,
+            held,
+            &mut self.levels,
+            &mut self.pending,
+            nets,
+        );
         refresh_driven(
             net,
+            &self.readers,
             fixed,
             held,
             &mut self.levels,
@@ -153,7 +182,15 @@ impl DieState {
             bind,
             drives,
         );
-        walk(net, fixed, held, &mut self.levels, &mut self.pending)
+        walk(
+            net,
+            &self.cells,
+            &self.readers,
+            fixed,
+            held,
+            &mut self.levels,
+            &mut self.pending,
+        )
     }
 
     /// The level of a signal that is bound to a net, or is the clock.
@@ -187,6 +224,7 @@ fn unfixed(alloc: Global, nets: u32) -> Result<Vec<Option<Level>>, AllocError>
 fn fix_anew(fixed: &mut Vec<Option<Level>>, faults: &[StuckAt])
     requires { AreFaultsWithin (length fixed.old.items) faults.now }
     ensures all { fixed.new.items ≡ fixed_of (length fixed.old.items) faults.now }
+    ensures stuck { AreStuck fixed.new.items }
     ensures count { length fixed.new.items ≡ length fixed.old.items }
 {
     fixed.as_mut_slice().fill(None);
@@ -198,6 +236,7 @@ fn fix_each(fixed: &mut Vec<Option<Level>>, faults: &[StuckAt])
     requires none { fixed.old.items ≡ replicate (length fixed.old.items) None }
     requires within { AreFaultsWithin (length fixed.old.items) faults.now }
     ensures all { fixed.new.items ≡ fixed_of (length fixed.old.items) faults.now }
+    ensures stuck { AreStuck fixed.new.items }
     ensures count { length fixed.new.items ≡ length fixed.old.items }
 {
     for fault in faults {
@@ -213,6 +252,7 @@ fn fixed_levels(
 ) -> Result<Vec<Option<Level>>, AllocError>
     requires { AreFaultsWithin nets faults.now }
     ensures all { IfOk result (λ fixed. fixed.items ≡ fixed_of nets faults.now) }
+    ensures stuck { IfOk result (λ fixed. AreStuck fixed.items) }
     ensures count { IfOk result (λ fixed. length fixed.items ≡ nets) }
 {
     let mut fixed = unfixed(alloc, nets)?;
@@ -225,6 +265,24 @@ fn unknown_levels(alloc: Global, nets: u32) -> Result<Vec<Level>, AllocError>
     ensures { IfOk result (λ levels. levels.items ≡ replicate nets X) }
 {
     vec![in alloc; Level::X; nets as usize]
+}
+
+/// The gates of a netlist whose nets are stuck at these levels.
+fn gates_of(alloc: Global, net: &Netlist, fixed: &[Option<Level>]) -> Result<Cells, AllocError>
+    requires count { length fixed.now ≡ length net.now.net.names }
+    requires stuck { AreStuck fixed.now }
+    ensures { IfOk result (λ c. AreCells net.now fixed.now c.cells.items c.pins.items) }
+{
+    let mut cells = Cells::wired(alloc, net)?;
+    cells.put_rows(net, fixed);
+    Ok(cells)
+}
+
+/// X for each net, as many as there are.
+fn forget(held: &mut Vec<Level>)
+    ensures { held.new.items ≡ replicate (length held.old.items) X }
+{
+    held.as_mut_slice().fill(Level::X);
 }
 
 /// For each net the level at which it is stuck, else X.

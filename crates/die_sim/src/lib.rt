@@ -1,6 +1,7 @@
 //! Dies: what a die is after each moment, exactly, and the socket through which a tester meets a die.
 #![tactic(auto)]
 
+mod cells;
 mod die;
 mod failing_socket;
 mod gate;
@@ -8,10 +9,12 @@ mod image;
 mod laws;
 mod moment;
 mod pending;
+mod readers;
 mod settle;
 mod sim;
 mod socket;
 mod steps;
+mod table;
 mod tape;
 mod tape_socket;
 

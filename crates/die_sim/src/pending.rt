@@ -2,7 +2,7 @@
 //! order passes 64 gates that are not at once.
 ghost use Rattle.std.specs.Prelude.{◌≡◌, ℕ, ◌+◌, ◌<◌, ◌≤◌, true, false, length, IfOk, replicate};
 ghost use Rattle.bench_net.specs.Wiring.{gate_at};
-ghost use Rattle.die_sim.specs.Pending.{place_at, is_pending, nowhere, HasPlace, SetsPending, AreSeats, SeatedTo};
+ghost use Rattle.die_sim.specs.Pending.{place_at, is_pending, nowhere, HasPlace, SameSeats, SetsPending, AreSeats, SeatedTo};
 
 use bench_net::Netlist;
 use place_bits::Bits;
@@ -47,13 +47,30 @@ impl Pending {
         self.bits.set(place as usize);
     }
 
-    /// A gate is pending no more.
-    pub(crate) fn clear(&mut self, net: u32)
-        requires { HasPlace self.old net }
-        ensures { SetsPending net false self.old self.new }
+    /// The gate at this place is pending.
+    pub(crate) fn set_at(&mut self, place: usize)
+        requires { place < length self.old.bits }
+        ensures sets { (n : ℕ) → place_at self.old n ≡ place → SetsPending n true self.old self.new }
+        ensures seats { SameSeats self.old self.new }
     {
-        let place = self.places[net as usize];
-        self.bits.clear(place as usize);
+        self.bits.set(place);
+    }
+
+    /// The gate at this place is pending no more.
+    pub(crate) fn clear_at(&mut self, place: usize)
+        requires { place < length self.old.bits }
+        ensures sets { (n : ℕ) → place_at self.old n ≡ place → SetsPending n false self.old self.new }
+        ensures seats { SameSeats self.old self.new }
+    {
+        self.bits.clear(place);
+    }
+
+    /// The place of a net's gate.
+    pub(crate) fn place(&self, net: u32) -> u32
+        requires { HasPlace self.now net }
+        ensures { result ≡ place_at self.now net }
+    {
+        self.places[net as usize]
     }
 
     /// The first place from this one on whose gate is pending, past the last gate where there is none.

@@ -1,16 +1,21 @@
 //! Settling: each net gets the level that it must have, and of the gates those are evaluated that a change reaches.
-ghost use Rattle.std.specs.Prelude.{◌≡◌, ℕ, ◌<◌, ◌≤◌, Bool, true, false, length, All, count_by, slice_index};
-ghost use Rattle.bench_net.specs.Wiring.{IsWired, driver_at, gate_at};
+ghost use Rattle.std.specs.Prelude.{◌≡◌, ℕ, ◌<◌, ◌≤◌, Bool, true, false, List, length, map, replicate, unwrap_or, All, count_by, slice_index};
+ghost use Rattle.tester_types.specs.declared.level.Level.TheVariants.{X};
+ghost use Rattle.bench_net.specs.Wiring.{driver_at, gate_at};
 ghost use Rattle.bench_net.specs.Circuit.{IsWhole};
 ghost use Rattle.die_sim.specs.Gates.{level_at};
-ghost use Rattle.die_sim.specs.Die.{driven, own_level, wanted, Settled, IsNetBind, bind_at};
-ghost use Rattle.die_sim.specs.Pending.{is_pending, HasPlace, AreSeats, ActivatesEach, ActivatesReaders};
+ghost use Rattle.die_sim.specs.Die.{own_level, Settled, IsNetBind, bind_at};
+ghost use Rattle.die_sim.specs.Pending.{is_pending, HasPlace, SameSeats, AreSeats, ActivatesEach, ActivatesReaders};
+ghost use Rattle.die_sim.specs.Cells.{AreCells};
+ghost use Rattle.die_sim.specs.Readers.{AreReaderPlaces};
 ghost use Rattle.die_sim.specs.Walk.{same_level, is_unknown, is_off, is_flip_flop, AreTables, Puts, Waits, Refreshes, HaveLevels, HasLevel, HaveDriven, Carries, Visits};
 
-use crate::gate::{gate_level, is_one, is_zero};
+use crate::cells::Cells;
+use crate::gate::{is_one, is_zero};
 use crate::image::{Bind, Binding};
 use crate::pending::Pending;
-use bench_net::{Driver, Netlist};
+use crate::readers::Readers;
+use bench_net::Netlist;
 use tester_types::{Drive, Level};
 
 /// Whether the level is unknown.
@@ -39,34 +44,6 @@ fn same_level(left: Level, right: Level) -> bool
     }
 }
 
-/// What a net's own driver gives it.
-fn driven_level(driver: &Driver, own: Level, levels: &[Level]) -> Level
-    requires { IsWired (length levels.now) driver.now }
-    ensures { result ≡ driven driver.now own levels.now }
-{
-    match driver {
-        Driver::Input => own,
-        Driver::Dff(_) => own,
-        Driver::Gate(kind, pins) => gate_level(*kind, levels, pins.as_slice()),
-    }
-}
-
-/// The level that a net must have.
-fn wanted_level(
-    net: &Netlist,
-    fixed: &[Option<Level>],
-    held: &[Level],
-    levels: &[Level],
-    n: u32,
-) -> Level
-    requires tables { AreTables net.now fixed.now held.now levels.now }
-    requires within { n < length net.now.net.names }
-    ensures { result ≡ wanted net.now.net.drivers fixed.now held.now levels.now n }
-{
-    let level = driven_level(net.driver(n), held[n as usize], levels);
-    fixed[n as usize].unwrap_or(level)
-}
-
 /// These gates are pending.
 fn activate_each(pending: &mut Pending, nets: &[u32])
     requires { All (λ r. HasPlace pending.old r) nets.now }
@@ -88,20 +65,41 @@ pub(crate) fn activate_all(net: &Netlist, pending: &mut Pending)
     activate_each(pending, net.order());
 }
 
+/// The gates at these places are pending.
+fn activate_places(pending: &mut Pending, places: &[u32])
+    requires { All (λ p. p < length pending.old.bits) places.now }
+    ensures activates { (order : List ℕ) → AreSeats order pending.old → All (λ p. p < length order) places.now
+        → ActivatesEach (map (λ p. slice_index order p) places.now) pending.old pending.new }
+    ensures seats { SameSeats pending.old pending.new }
+{
+    for place in places {
+        pending.set_at(*place as usize);
+    }
+}
+
 /// The gates that read a net are pending.
-fn activate_readers(net: &Netlist, pending: &mut Pending, n: u32)
+fn activate_readers(net: &Netlist, readers: &Readers, pending: &mut Pending, n: u32)
     requires whole { IsWhole net.now }
+    requires readers { AreReaderPlaces net.now readers.now.starts.items readers.now.places.items }
     requires seats { AreSeats net.now.order pending.old }
     requires within { n < length net.now.net.names }
     ensures pending { ActivatesReaders net.now.net.drivers n pending.old pending.new }
     ensures seats { AreSeats net.now.order pending.new }
 {
-    activate_each(pending, net.readers(n))
+    activate_places(pending, readers.at(n))
 }
 
 /// Gives a net a level, and the gates are pending that read it where that is another than before.
-fn put_level(net: &Netlist, levels: &mut Vec<Level>, pending: &mut Pending, n: u32, level: Level)
+fn put_level(
+    net: &Netlist,
+    readers: &Readers,
+    levels: &mut Vec<Level>,
+    pending: &mut Pending,
+    n: u32,
+    level: Level,
+)
     requires whole { IsWhole net.now }
+    requires readers { AreReaderPlaces net.now readers.now.starts.items readers.now.places.items }
     requires levels { length levels.old.items ≡ length net.now.net.names }
     requires seats { AreSeats net.now.order pending.old }
     requires within { n < length net.now.net.names }
@@ -112,7 +110,7 @@ fn put_level(net: &Netlist, levels: &mut Vec<Level>, pending: &mut Pending, n: u
         return;
     }
     levels[n as usize] = level;
-    activate_readers(net, pending, n);
+    activate_readers(net, readers, pending, n);
 }
 
 /// The level that an input or a flip-flop must have.
@@ -127,6 +125,7 @@ fn own_level(fixed: &[Option<Level>], held: &[Level], n: u32) -> Level
 /// Gives an input or a flip-flop its level.
 fn refresh_net(
     net: &Netlist,
+    readers: &Readers,
     fixed: &[Option<Level>],
     held: &[Level],
     levels: &mut Vec<Level>,
@@ -134,6 +133,7 @@ fn refresh_net(
     n: u32,
 )
     requires tables { AreTables net.now fixed.now held.now levels.old.items }
+    requires readers { AreReaderPlaces net.now readers.now.starts.items readers.now.places.items }
     requires waits { Waits net.now.net.drivers fixed.now held.now levels.old.items pending.old }
     requires seats { AreSeats net.now.order pending.old }
     requires within { n < length net.now.net.names }
@@ -144,12 +144,13 @@ fn refresh_net(
     ensures seats { AreSeats net.now.order pending.new }
 {
     let level = own_level(fixed, held, n);
-    put_level(net, levels, pending, n, level);
+    put_level(net, readers, levels, pending, n, level);
 }
 
 /// Gives these flip-flops their levels, and the gates are pending that read one whose level changed.
 pub(crate) fn refresh_each(
     net: &Netlist,
+    readers: &Readers,
     fixed: &[Option<Level>],
     held: &[Level],
     levels: &mut Vec<Level>,
@@ -157,6 +158,7 @@ pub(crate) fn refresh_each(
     nets: &[u32],
 )
     requires tables { AreTables net.now fixed.now held.now levels.old.items }
+    requires readers { AreReaderPlaces net.now readers.now.starts.items readers.now.places.items }
     requires waits { Waits net.now.net.drivers fixed.now held.now levels.old.items pending.old }
     requires seats { AreSeats net.now.order pending.old }
     requires nets { (k : ℕ) → k < length nets.now
@@ -167,13 +169,14 @@ pub(crate) fn refresh_each(
     ensures seats { AreSeats net.now.order pending.new }
 {
     for n in nets {
-        refresh_net(net, fixed, held, levels, pending, *n);
+        refresh_net(net, readers, fixed, held, levels, pending, *n);
     }
 }
 
 /// Gives the input its level that a signal is bound to.
 fn refresh_bound(
     net: &Netlist,
+    readers: &Readers,
     fixed: &[Option<Level>],
     held: &[Level],
     levels: &mut Vec<Level>,
@@ -181,6 +184,7 @@ fn refresh_bound(
     bind: Bind,
 )
     requires tables { AreTables net.now fixed.now held.now levels.old.items }
+    requires readers { AreReaderPlaces net.now readers.now.starts.items readers.now.places.items }
     requires waits { Waits net.now.net.drivers fixed.now held.now levels.old.items pending.old }
     requires seats { AreSeats net.now.order pending.old }
     requires bind { IsNetBind net.now.net.drivers bind }
@@ -191,7 +195,7 @@ fn refresh_bound(
 {
     match bind {
         Bind::Free => {}
-        Bind::Input(n) => refresh_net(net, fixed, held, levels, pending, n),
+        Bind::Input(n) => refresh_net(net, readers, fixed, held, levels, pending, n),
         Bind::Output(_) => {}
     }
 }
@@ -199,6 +203,7 @@ fn refresh_bound(
 /// Gives the inputs that are driven their levels, and the gates are pending that read one whose level changed.
 pub(crate) fn refresh_driven(
     net: &Netlist,
+    readers: &Readers,
     fixed: &[Option<Level>],
     held: &[Level],
     levels: &mut Vec<Level>,
@@ -207,6 +212,7 @@ pub(crate) fn refresh_driven(
     drives: &[(u16, Drive)],
 )
     requires tables { AreTables net.now fixed.now held.now levels.old.items }
+    requires readers { AreReaderPlaces net.now readers.now.starts.items readers.now.places.items }
     requires waits { Waits net.now.net.drivers fixed.now held.now levels.old.items pending.old }
     requires seats { AreSeats net.now.order pending.old }
     requires binds { (s : ℕ) → IsNetBind net.now.net.drivers (bind_at bind.now.nets s) }
@@ -216,43 +222,60 @@ pub(crate) fn refresh_driven(
     ensures seats { AreSeats net.now.order pending.new }
 {
     for (signal, _) in drives {
-        refresh_bound(net, fixed, held, levels, pending, bind.bind_at(*signal));
+        refresh_bound(
+            net,
+            readers,
+            fixed,
+            held,
+            levels,
+            pending,
+            bind.bind_at(*signal),
+        );
     }
 }
 
-/// Evaluates a gate.
+/// Evaluates the gate at a place.
 fn visit(
     net: &Netlist,
+    cells: &Cells,
+    readers: &Readers,
     fixed: &[Option<Level>],
     held: &[Level],
     levels: &mut Vec<Level>,
     pending: &mut Pending,
+    place: usize,
     g: u32,
 )
     requires tables { AreTables net.now fixed.now held.now levels.old.items }
+    requires cells { AreCells net.now fixed.now cells.now.cells.items cells.now.pins.items }
+    requires readers { AreReaderPlaces net.now readers.now.starts.items readers.now.places.items }
     requires seats { AreSeats net.now.order pending.old }
-    requires within { g < length net.now.net.names }
-    requires gate { gate_at net.now.net.drivers g ≡ true }
+    requires within { place < length net.now.order }
+    requires gate { slice_index net.now.order place ≡ g }
     requires active { is_pending pending.old g ≡ true }
     ensures visits { Visits net.now.net.drivers fixed.now held.now g levels.old.items levels.new.items pending.old
         pending.new }
     ensures seats { AreSeats net.now.order pending.new }
 {
-    let level = wanted_level(net, fixed, held, levels.as_slice(), g);
-    pending.clear(g);
-    put_level(net, levels, pending, g, level);
+    let level = cells.level(place, levels.as_slice());
+    pending.clear_at(place);
+    put_level(net, readers, levels, pending, g, level);
 }
 
 /// Evaluates the gates that are pending, and those that change on the way, each once, in the netlist's order. Answers how
 /// many evaluations that took.
 pub(crate) fn walk(
     net: &Netlist,
+    cells: &Cells,
+    readers: &Readers,
     fixed: &[Option<Level>],
     held: &[Level],
     levels: &mut Vec<Level>,
     pending: &mut Pending,
 ) -> usize
     requires tables { AreTables net.now fixed.now held.now levels.old.items }
+    requires cells { AreCells net.now fixed.now cells.now.cells.items cells.now.pins.items }
+    requires readers { AreReaderPlaces net.now readers.now.starts.items readers.now.places.items }
     requires waits { Waits net.now.net.drivers fixed.now held.now levels.old.items pending.old }
     requires seats { AreSeats net.now.order pending.old }
     requires sources { (n : ℕ) → n < length net.now.net.drivers → gate_at net.now.net.drivers n ≡ false
@@ -269,9 +292,43 @@ pub(crate) fn walk(
     let mut count = 0;
     let mut place = pending.next(0);
     while place < order.len() {
-        visit(net, fixed, held, levels, pending, order[place]);
+        visit(
+            net,
+            cells,
+            readers,
+            fixed,
+            held,
+            levels,
+            pending,
+            place,
+            order[place],
+        );
         count += 1;
         place = pending.next(place + 1);
     }
     count
+}
+
+/// Settles all nets where inputs and flip-flops are unknown and each gate is pending.
+pub(crate) fn settle_first(
+    net: &Netlist,
+    cells: &Cells,
+    readers: &Readers,
+    fixed: &[Option<Level>],
+    held: &[Level],
+    levels: &mut Vec<Level>,
+    pending: &mut Pending,
+)
+    requires tables { AreTables net.now fixed.now held.now levels.old.items }
+    requires cells { AreCells net.now fixed.now cells.now.cells.items cells.now.pins.items }
+    requires readers { AreReaderPlaces net.now readers.now.starts.items readers.now.places.items }
+    requires seats { AreSeats net.now.order pending.old }
+    requires pending { (n : ℕ) → is_pending pending.old n ≡ gate_at net.now.net.drivers n }
+    requires held { held.now ≡ replicate (length net.now.net.names) X }
+    requires levels { levels.old.items ≡ map (λ f. unwrap_or f X) fixed.now }
+    ensures settled { Settled net.now.net.drivers fixed.now held.now levels.new.items }
+    ensures seats { AreSeats net.now.order pending.new }
+    ensures clear { (n : ℕ) → is_pending pending.new n ≡ false }
+{
+    walk(net, cells, readers, fixed, held, levels, pending);
 }

@@ -1,19 +1,17 @@
-use Rattle.std.proofs.Common.{ℕ, ◌<◌, List, length, get_or, sym, subst}
-use Rattle.std.proofs.lemmas.List.Elements.{All-get_or}
-use Rattle.die_sim.specs.Pending.{HasPlace, ActivatesEach}
-use Rattle.die_sim.proofs.PendingLemmas.{ActivatesReaders-each, AreSeats-same, readers_have_places}
+use Rattle.std.proofs.Common.{ℕ, ◌<◌, List, length, sym, subst}
+use Rattle.std.specs.Prelude.{All}
+use Rattle.die_sim.proofs.PendingLemmas.{AreSeats-same}
+use Rattle.die_sim.proofs.ReaderLemmas.{readers_have_bits, readers_activated}
 use Rattle.die_sim.proofs.settle.activate_readers.Goals as goal
 
-pub activate_each-requires : goal.activate_each-requires
-activate_each-requires c =
-    let all = readers_have_places c.args.net.now c.requires.whole c.args.pending.now c.requires.seats c.args.n c.requires.within in
-    subst (λ (xs : List ℕ). (k : ℕ) (d : ℕ) → k < length xs → HasPlace c.args.pending.now (get_or xs k d)) (sym c.readers.ensures)
-    (λ k d l. All-get_or (λ r. HasPlace c.args.pending.now r) _ k d l all)
+pub activate_places-requires : goal.activate_places-requires
+activate_places-requires c =
+    subst (λ (xs : List ℕ). All (λ p. p < length c.args.pending.now.bits) xs) (sym c.at.ensures)
+    (readers_have_bits c.args.net.now c.args.readers.now.starts.items c.args.readers.now.places.items c.args.pending.now c.args.n c.requires.readers c.requires.seats c.requires.within)
 
 pub returns : goal.returns
-returns c =
-    let each = subst (λ (xs : List ℕ). ActivatesEach xs c.args.pending.now c.activate_each.new.pending) c.readers.ensures c.activate_each.ensures in
-    record {
-      pending = ActivatesReaders-each c.args.net.now c.args.n c.args.pending.now c.activate_each.new.pending c.requires.whole c.requires.within each;
-      seats = AreSeats-same c.args.net.now.order c.args.pending.now c.activate_each.new.pending each.seats c.requires.seats;
-    }
+returns c = record {
+  pending = readers_activated c.args.net.now c.requires.whole c.args.readers.now.starts.items c.args.readers.now.places.items c.at.result.now
+      c.args.pending.now c.activate_places.new.pending c.args.n c.requires.within c.requires.readers c.requires.seats c.at.ensures c.activate_places.ensures.activates;
+  seats = AreSeats-same c.args.net.now.order c.args.pending.now c.activate_places.new.pending c.activate_places.ensures.seats c.requires.seats;
+}

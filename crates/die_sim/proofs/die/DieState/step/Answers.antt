@@ -1,11 +1,14 @@
-use Rattle.std.proofs.Common.{◌≡◌, List, ℕ, Option, length, sym, subst, ◌∙◌}
+use Rattle.std.proofs.Common.{◌≡◌, ◌≤◌, List, ℕ, Bool, Option, length, sym, subst, ◌∙◌}
 use Rattle.std.specs.Arc.{arc_value}
 use Rattle.tester_types.specs.declared.level.Level.{Level}
 use Rattle.bench_net.specs.Circuit.{Circuit}
-use Rattle.die_sim.specs.Die.{Settled}
+use Rattle.die_sim.specs.Die.{Settled, Die}
 use Rattle.die_sim.specs.Moment.{Captures}
 use Rattle.die_sim.specs.Walk.{AreFlipFlops}
-use Rattle.die_sim.proofs.StepLemmas.{sources_refreshed}
+use Rattle.die_sim.proofs.StepLemmas.{sources_refreshed, spread_carries}
+use Rattle.die_sim.proofs.WalkLemmas.{Refreshes-then}
+use Rattle.die_sim.specs.Spread.{IsSpread}
+use Rattle.std.specs.Prelude.{count_by}
 use Rattle.die_sim.proofs.die.DieState.step.Goals as goal
 
 pub walk-requires-clause-sources : goal.walk-requires-clause-sources
@@ -25,3 +28,14 @@ walk-requires-clause-sources c =
     c.self.inside.pending c.refresh_each.new.pending c.refresh_driven.new.pending c.capturing-nets.result.now _ c.args.drives.now
     settled captures (held ∙ c.put_all.ensures.all) (c.capturing-nets.ensures drivers all)
     c.refresh_each.ensures.refreshes c.refresh_each.ensures.each c.refresh_driven.ensures.refreshes c.refresh_driven.ensures.driven
+
+pub returns-clause-bound : goal.returns-clause-bound
+returns-clause-bound c =
+    let levels = c.self.inside.levels.items in
+    let refreshes = Refreshes-then c.deref-net.result.now.net.drivers c.as_slice-fixed.result.now c.as_slice-held.result.now levels c.refresh_each.new.levels.items c.refresh_driven.new.levels.items
+    c.self.inside.pending c.refresh_each.new.pending c.refresh_driven.new.pending c.refresh_each.ensures.refreshes c.refresh_driven.ensures.refreshes in
+    let bound : (set : ℕ → Bool) → IsSpread c.deref-net.result.now.net.drivers levels c.walk.new.levels.items set → c.walk.result ≤ count_by set c.deref-net.result.now.order =
+    λ set spread. c.walk.ensures.bound set (spread_carries c.deref-net.result.now.net.drivers c.as_slice-fixed.result.now c.as_slice-held.result.now levels c.refresh_driven.new.levels.items c.walk.new.levels.items
+    c.self.inside.pending c.refresh_driven.new.pending refreshes c.self.invariant.clear c.walk.ensures.kept set spread) in
+    subst (λ (d : Die). (set : ℕ → Bool) → IsSpread d.device.circuit.net.drivers d.state.levels c.walk.new.levels.items set → c.walk.result ≤ count_by set d.device.circuit.order) c.self.view_is
+    (subst (λ (k : Circuit). (set : ℕ → Bool) → IsSpread k.net.drivers levels c.walk.new.levels.items set → c.walk.result ≤ count_by set k.order) c.deref-net.ensures bound)
