@@ -1,26 +1,25 @@
 -- A gate at its place gives what its net must have: it holds its driver's pins, and its row is that of its function or of
 -- its level.
-use Rattle.std.proofs.Common.{◌≡◌, ◌≢◌, ℕ, ◌+◌, ◌-◌, ◌*◌, ◌<◌, ◌≤◌, ◌++◌, Bool, true, false, cond, Option, Some, None, List, [], ◌∷◌, length, get_or, set, take, drop, map, fold, replicate, refl, sym, ap, ◌∙◌, subst, arith, inl, inr, eqb, length-set, length-append}
-use Rattle.std.specs.Prelude.{if◌then◌else◌, All, slice_index, slice_index_or, unwrap_or}
+use Rattle.std.proofs.Common.{◌≡◌, ℕ, ◌+◌, ◌-◌, ◌<◌, ◌≤◌, ◌++◌, Bool, true, false, Option, Some, None, List, [], ◌∷◌, length, get_or, set, take, drop, map, fold, replicate, refl, sym, ap, ◌∙◌, subst, arith, inl, inr, eqb, length-set, length-append}
+use Rattle.std.specs.Prelude.{if◌then◌else◌, All, unwrap_or}
 use Rattle.std.proofs.lemmas.List.{get_or-set_same, get_or-set_other, get_or_append_left, get_or_push, get_or_past, take-append-le, drop-append-le, length-drop, get_or-replicate, length-replicate, get_or-map}
-use Rattle.std.proofs.lemmas.List.Elements.{All-get_or, All-head, All-tail}
-use Rattle.std.proofs.lemmas.Bool.{cases_eq, cases_lt, eq-eqb, ne_eqb}
+use Rattle.std.proofs.lemmas.List.Elements.{All-get_or}
+use Rattle.std.proofs.lemmas.Bool.{cases_eq, cases_lt, ne_eqb}
 use Rattle.tester_types.specs.declared.level.Level.{Level}
 use Rattle.tester_types.specs.declared.level.Level.TheVariants as level
-use Rattle.bench_net.specs.declared.gate.GateKind.{GateKind}
 use Rattle.bench_net.specs.declared.gate.Driver.{Driver}
 use Rattle.bench_net.specs.declared.gate.Driver.TheVariants.{Input, Dff, Gate}
-use Rattle.bench_net.specs.Wiring.{driver_at, is_gate, gate_at, pins_of, pins_at, is_single, IsWired}
+use Rattle.bench_net.specs.Wiring.{driver_at, is_gate, gate_at, pins_of, pins_at, IsWired}
 use Rattle.bench_net.specs.Circuit.{Circuit, IsWhole}
 use Rattle.die_sim.specs.declared.image.StuckAt.{StuckAt}
 use Rattle.die_sim.specs.declared.table.Row.{Row}
 use Rattle.die_sim.specs.declared.table.Row.TheVariants.{And, Nand, Or, Nor, Xor, Xnor, Low, High}
 use Rattle.die_sim.specs.declared.cells.Cell.{Cell}
 use Rattle.die_sim.specs.declared.cells.Cell.TheVariants.{Pair, Many}
-use Rattle.die_sim.specs.Gates.{level_at, is_zero, is_one, zeros, ones, gate_of}
+use Rattle.die_sim.specs.Gates.{level_at, is_zero, is_one}
 use Rattle.die_sim.specs.Die.{stuck, with_fault, fixed_of, driven, wanted, own_level}
 use Rattle.die_sim.specs.Table.{gives, pair_of, row_of, single_row}
-use Rattle.die_sim.specs.Cells.{plain_row, stuck_row, row_for, with_row, row_in, no_cell, IsPair, IsCut, HoldsPins, CanRead, gives_at, cell_gives, IsFront, AreWiredTo, AreWired, HaveRows, SamePins, IsStuck, AreStuck, AreCells}
+use Rattle.die_sim.specs.Cells.{plain_row, row_for, with_row, row_in, no_cell, IsPair, HoldsPins, CanRead, gives_at, cell_gives, IsFront, AreWiredTo, AreWired, HaveRows, SamePins, IsStuck, AreStuck, AreCells}
 use Rattle.die_sim.proofs.TableLemmas.{row_is, bit}
 use Rattle.die_sim.proofs.OrderLemmas.{gate_in_order}
 use Rattle.bench_net.proofs.SortLemmas.{gate_within}

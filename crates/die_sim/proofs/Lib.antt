@@ -7,6 +7,7 @@ pub mod WalkLemmas
 pub mod TableLemmas
 pub mod CellLemmas
 pub mod ReaderLemmas
+pub mod WaitingLemmas
 pub mod StepLemmas
 pub mod SettledLemmas
 pub mod SettlingLemmas

@@ -1,5 +1,5 @@
 -- The flip-flops capture one after another, and the inputs get their levels.
-use Rattle.std.proofs.Common.{◌≡◌, ◌≢◌, ℕ, suc, ◌+◌, ◌<◌, ◌≤◌, ◌⊎◌, ◌++◌, Bool, true, false, cond, List, [], ◌∷◌, length, get_or, set, refl, sym, ap, ◌∙◌, subst, arith, inl, inr, length-set, length-append}
+use Rattle.std.proofs.Common.{◌≡◌, ℕ, suc, ◌+◌, ◌<◌, ◌≤◌, ◌⊎◌, ◌++◌, Bool, true, false, cond, List, [], ◌∷◌, length, get_or, set, refl, sym, ap, ◌∙◌, subst, arith, inl, inr, length-set, length-append}
 use Rattle.std.proofs.lemmas.List.{get_or-set_same, get_or-set_other, get_or_append_left, get_or_push, get_or_past}
 use Rattle.std.proofs.lemmas.Bool.{cases_Bool, cases_eq, cases_lt, both_ways}
 use borrow.Author.Count.{below_more}
@@ -40,18 +40,6 @@ captured-twice : (d : Driver) (e : Edge) (own : Level) (before : List Level) →
 captured-twice Input e own before = refl
 captured-twice (Dff p) e own before = capture-twice e own (level_at before p)
 captured-twice (Gate kind pins) e own before = refl
-
--- what is no flip-flop keeps its level
-captured-other : (d : Driver) (e : Edge) (own : Level) (before : List Level) → is_flip_flop d ≡ false → captured d e own before ≡ own
-captured-other Input e own before f = refl
-captured-other (Dff p) e own before f = cc
-captured-other (Gate kind pins) e own before f = refl
-
--- where the clock has no edge all keep theirs
-pub captured-keeps : (d : Driver) (own : Level) (before : List Level) → captured d Keeps own before ≡ own
-captured-keeps Input own before = refl
-captured-keeps (Dff p) own before = refl
-captured-keeps (Gate kind pins) own before = refl
 
 -- a flip-flop is no gate
 pub flip_flop_no_gate : (d : Driver) → is_flip_flop d ≡ true → is_gate d ≡ false
@@ -112,35 +100,22 @@ module _ (drivers : List Driver) (e : Edge) (before old cur : List Level) (nets 
         (subst (λ (a : ℕ). level_at (set cur n x) a ≡ captured (driver_at drivers a) e (level_at old a) before) n_is here);
   }
 
-is_keeps : (e : Edge) → (e ≡ Keeps) ⊎ (e ≢ Keeps)
-is_keeps Takes = inr (λ q. cc)
-is_keeps Doubts = inr (λ q. cc)
-is_keeps Keeps = inl refl
-
 -- when each of them has, all flip-flops have captured
 pub CapturedTo-all : (drivers : List Driver) (e : Edge) (before old new : List Level) (nets : List ℕ) (i : ℕ)
-    → length nets ≤ i → MayCapture drivers e nets → CapturedTo drivers e before old new nets i
+    → length nets ≤ i → MayCapture drivers e before old nets → CapturedTo drivers e before old new nets i
     → Captures drivers e before old new
 CapturedTo-all drivers e before old new nets i l may h = record {
   count = h.count;
-  each = λ n within. elim (is_keeps e) [
-    | inl keeps ↦ unchanged n (ap (λ (x : Edge). captured (driver_at drivers n) x (level_at old n) before) keeps ∙ captured-keeps (driver_at drivers n) (level_at old n) before)
-    | inr other ↦ elim (cases_Bool (is_flip_flop (driver_at drivers n))) [
-      | inl flip ↦
-          let s = may.all n within flip other in
-          let w = s.within in
-          subst (λ (a : ℕ). level_at new a ≡ captured (driver_at drivers a) e (level_at old a) before) s.is (h.done s.place (omega (arith, w, l)))
-      | inr none ↦ unchanged n (captured-other (driver_at drivers n) e (level_at old n) before none)
+  each = λ n within. elim (may.all n within) [
+    | inl s ↦
+        let w = s.within in
+        subst (λ (a : ℕ). level_at new a ≡ captured (driver_at drivers a) e (level_at old a) before) s.is (h.done s.place (omega (arith, w, l)))
+    | inr stays ↦ elim (h.either n) [
+      | inl was ↦ was ∙ sym stays
+      | inr now ↦ now
     ]
   ];
 }
-  where
-    unchanged : (n : ℕ) → captured (driver_at drivers n) e (level_at old n) before ≡ level_at old n
-        → level_at new n ≡ captured (driver_at drivers n) e (level_at old n) before
-    unchanged n q = elim (h.either n) [
-      | inl was ↦ was ∙ sym q
-      | inr now ↦ now
-    ]
 
 -- the list of flip-flops after one more net
 pub AreFlipFlops-none : (drivers : List Driver) → AreFlipFlops drivers [] 0

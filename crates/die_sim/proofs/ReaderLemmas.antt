@@ -1,17 +1,16 @@
 -- The places of the readers of a net are the places of the gates that read it.
-use Rattle.std.proofs.Common.{◌≡◌, ◌≢◌, ℕ, ◌+◌, ◌-◌, ◌<◌, ◌≤◌, ◌++◌, true, List, [], ◌∷◌, length, get_or, take, drop, map, refl, sym, ap, ◌∙◌, subst, arith, inl, inr, length-append}
-use Rattle.std.specs.Prelude.{All, slice_index, slice_index_or}
-use Rattle.std.proofs.lemmas.List.{get_or_append_left, get_or_push, get_or-map, length-map, drop-append-le, take_all, map-append}
+use Rattle.std.proofs.Common.{◌≡◌, ℕ, ◌+◌, ◌-◌, ◌<◌, ◌≤◌, ◌++◌, true, List, [], ◌∷◌, length, get_or, take, drop, map, refl, sym, ap, ◌∙◌, subst, arith, inl, inr, length-append}
+use Rattle.std.specs.Prelude.{All}
+use Rattle.std.proofs.lemmas.List.{get_or_append_left, get_or_push, get_or-map, length-map, take_all}
 use Rattle.std.proofs.lemmas.List.Elements.{All-get_or, All-head, All-tail, All-nil, All-cons, All-weaker}
 use Rattle.std.proofs.Math.Seq.{drop-append_seam}
 use Rattle.std.proofs.lemmas.Bool.{cases_eq}
 use Rattle.bench_net.specs.declared.gate.Driver.{Driver}
 use Rattle.bench_net.specs.Wiring.{gate_at, IsOrder}
 use Rattle.bench_net.specs.Circuit.{Circuit, IsWhole}
-use Rattle.bench_net.specs.Sorting.{times}
 use Rattle.die_sim.specs.Spread.{Reads}
-use Rattle.die_sim.specs.Pending.{PendingGates, place_at, HasPlace, AreSeats, SameSeats, SetsPending, ActivatesEach, ActivatesReaders}
-use Rattle.die_sim.specs.Readers.{cut, IsCutAt, ArePlacesOf, AreReadersTo, AreReaderPlaces}
+use Rattle.die_sim.specs.Pending.{PendingGates, place_at, AreSeats, SameSeats, SetsPending, ActivatesEach, ActivatesReaders}
+use Rattle.die_sim.specs.Readers.{cut, ArePlacesOf, AreReadersTo, AreReaderPlaces}
 use Rattle.die_sim.proofs.OrderLemmas.{place_of, All-times, reader_is_gate, reads_is_times}
 use Rattle.die_sim.proofs.PendingLemmas.{ActivatesEach-more, ActivatesReaders-each}
 use Rattle.die_sim.proofs.CellLemmas.{cut_kept}

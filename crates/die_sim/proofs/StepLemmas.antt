@@ -1,5 +1,5 @@
 -- One moment: after the flip-flops and the driven inputs got their levels, all inputs and flip-flops have theirs.
-use Rattle.std.proofs.Common.{◌≡◌, ◌≢◌, ℕ, ◌<◌, ◌⊎◌, Bool, true, false, List, length, get_or, refl, sym, ap, ◌∙◌, subst, inl, inr, Option, None}
+use Rattle.std.proofs.Common.{◌≡◌, ℕ, ◌<◌, Bool, true, false, List, length, get_or, refl, sym, ap, ◌∙◌, subst, inl, inr, Option, None}
 use Rattle.std.specs.Prelude.{slice_index_or, unwrap_or}
 use Rattle.std.proofs.lemmas.Bool.{both_ways}
 use Rattle.tester_types.specs.declared.level.Level.{Level}
@@ -10,13 +10,12 @@ use Rattle.bench_net.specs.Wiring.{driver_at, gate_at, is_gate}
 use Rattle.die_sim.specs.declared.image.Bind.{Bind}
 use Rattle.die_sim.specs.declared.image.Bind.TheVariants as bind
 use Rattle.die_sim.specs.declared.moment.Edge.{Edge}
-use Rattle.die_sim.specs.declared.moment.Edge.TheVariants.{Takes, Doubts, Keeps}
 use Rattle.die_sim.specs.Gates.{level_at}
 use Rattle.die_sim.specs.Die.{own_level, driven, Settled, bind_at}
-use Rattle.die_sim.specs.Moment.{captured, Captures, put_all}
+use Rattle.die_sim.specs.Moment.{Captures, put_all}
 use Rattle.die_sim.specs.Spread.{IsSpread}
 use Rattle.die_sim.specs.Pending.{PendingGates, is_pending}
-use Rattle.die_sim.specs.Walk.{is_flip_flop, MayCapture, HasLevel, HaveLevels, HaveDriven, Waits, Refreshes, HasCause, before, by, Carries}
+use Rattle.die_sim.specs.Walk.{MayCapture, HasLevel, HaveLevels, HaveDriven, Waits, Refreshes, HasCause, before, by, Carries}
 use Rattle.die_sim.proofs.MomentLemmas.{put_all-other}
 use Rattle.die_sim.proofs.WalkLemmas.{wanted_source, Refreshes-keeps, Refreshes-then}
 
@@ -45,13 +44,6 @@ Waits-all drivers fixed held levels pending count all = record {
   fits = λ g l e f. absurd (both_ways (is_pending pending g) f (all g ∙ e));
 }
 
-captured_or : (d : Driver) (e : Edge) (own : Level) (levels : List Level) → (captured d e own levels ≡ own) ⊎ ((is_flip_flop d ≡ true) × (e ≢ Keeps))
-captured_or Input e own levels = inl refl
-captured_or (Dff p) Takes own levels = inr (refl, λ q. cc)
-captured_or (Dff p) Doubts own levels = inr (refl, λ q. cc)
-captured_or (Dff p) Keeps own levels = inl refl
-captured_or (Gate kind pins) e own levels = inl refl
-
 has_level : (fixed : List (Option Level)) (held levels : List Level) (b : Bind) (n : ℕ) → b ≡ bind.Input n
     → HasLevel fixed held levels b → level_at levels n ≡ own_level fixed held n
 has_level fixed held levels b n e h = subst (λ (x : Bind). HasLevel fixed held levels x) e h
@@ -60,7 +52,7 @@ has_level fixed held levels b n e h = subst (λ (x : Bind). HasLevel fixed held 
 pub sources_refreshed : (drivers : List Driver) (fixed : List (Option Level)) (e : Edge)
     (old kept held start mid levels : List Level) (pending pending' pending'' : PendingGates) (nets : List ℕ)
     (binds : List Bind) (drives : List (ℕ × Drive))
-    → Settled drivers fixed old start → Captures drivers e start old kept → held ≡ put_all binds kept drives → MayCapture drivers e nets
+    → Settled drivers fixed old start → Captures drivers e start old kept → held ≡ put_all binds kept drives → MayCapture drivers e start old nets
     → Refreshes drivers fixed held start mid pending pending' → HaveLevels fixed held mid nets
     → Refreshes drivers fixed held mid levels pending' pending'' → HaveDriven fixed held levels binds drives
     → (n : ℕ) → n < length drivers → gate_at drivers n ≡ false → level_at levels n ≡ own_level fixed held n
@@ -68,12 +60,11 @@ sources_refreshed drivers fixed e old kept held start mid levels pending pending
     captures held_is may first have second driven_have n within source =
     elim (put_all-other binds drives kept n) [
       | inr d ↦ has_level fixed held levels (bind_at binds (get_or drives d.place d.drive).0) n d.is (driven_have.each d.place d.drive d.within)
-      | inl same ↦ elim (captured_or (driver_at drivers n) e (level_at old n) start) [
-        | inr flip ↦
-            let s = may.all n within flip.0 flip.1 in
+      | inl same ↦ elim (may.all n within) [
+        | inl s ↦
             let there : level_at mid n ≡ own_level fixed held n = subst (λ (a : ℕ). level_at mid a ≡ own_level fixed held a) s.is (have.each s.place s.within) in
             Refreshes-keeps drivers fixed held mid levels pending' pending'' second n there
-        | inl stays ↦
+        | inr stays ↦
             let held_same : level_at held n ≡ level_at old n = ap (λ (v : List Level). level_at v n) held_is ∙ same ∙ captures.each n within ∙ stays in
             let was : level_at start n ≡ own_level fixed held n =
             settled.fits n within ∙ wanted_source drivers fixed old start n source ∙ ap (λ (x : Level). unwrap_or (slice_index_or fixed n None) x) (sym held_same) in

@@ -1,5 +1,5 @@
 -- The gates by their places in an order, as a walk looks at them; no public clause cites it.
-use Rattle.std.specs.Prelude.{◌≡◌, ℕ, ◌+◌, ◌-◌, ◌<◌, ◌≤◌, ◌==◌, ◌++◌, if◌then◌else◌, Bool, Option, Some, None, List, length, take, drop, All, slice_index, slice_index_or}
+use Rattle.std.specs.Prelude.{◌≡◌, ℕ, ◌-◌, ◌<◌, ◌≤◌, ◌==◌, ◌++◌, if◌then◌else◌, Option, Some, None, List, length, take, drop, All, slice_index, slice_index_or}
 use Rattle.tester_types.specs.declared.level.Level.{Level}
 use Rattle.tester_types.specs.declared.level.Level.TheVariants as level
 use Rattle.bench_net.specs.declared.gate.Driver.{Driver}
@@ -66,7 +66,8 @@ HoldsPins pins nets (Many row from to) = IsCut pins nets from to
 -- the gate reads nets of so many
 abbrev pub CanRead : ℕ → List ℕ → Cell → Type 0
 CanRead count pins (Pair row first last) = (first < count) × (last < count)
-CanRead count pins (Many row from to) = (from ≤ to) × (to ≤ length pins) × All (λ p. p < count) (take (to - from) (drop from pins))
+CanRead count pins (Many row from to) =
+    (from ≤ to) × (to ≤ length pins) × All (λ p. p < count) (take (to - from) (drop from pins))
 
 -- what a row gives for the levels of these nets
 abbrev pub gives_at : Row → List Level → List ℕ → Level

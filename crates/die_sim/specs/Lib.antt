@@ -8,6 +8,8 @@ pub mod Cells
 pub mod Readers
 pub mod Pending
 pub mod Walk
+pub mod Waiting
+pub mod Kept
 pub mod Socket
 pub mod Tape
 pub mod Taping

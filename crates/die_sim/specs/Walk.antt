@@ -10,14 +10,11 @@ use Rattle.die_sim.specs.declared.image.StuckAt.{StuckAt}
 use Rattle.die_sim.specs.declared.image.Bind.{Bind}
 use Rattle.die_sim.specs.declared.image.Bind.TheVariants as bind
 use Rattle.die_sim.specs.declared.moment.Edge.{Edge}
-use Rattle.die_sim.specs.declared.moment.Edge.TheVariants.{Keeps}
 use Rattle.tester_types.specs.declared.level.Drive.{Drive}
 use Rattle.die_sim.specs.Gates.{level_at, is_zero, is_one}
-use Rattle.die_sim.specs.Die.{Device, State, own_level, wanted, Settled, IsDevice, bind_at}
-use Rattle.die_sim.specs.Pending.{PendingGates, is_pending, AreSeats}
-use Rattle.die_sim.specs.declared.cells.Cell.{Cell}
-use Rattle.die_sim.specs.Cells.{AreCells}
-use Rattle.die_sim.specs.Readers.{AreReaderPlaces}
+use Rattle.die_sim.specs.Die.{own_level, wanted, bind_at}
+use Rattle.die_sim.specs.Moment.{captured}
+use Rattle.die_sim.specs.Pending.{PendingGates, is_pending}
 use Rattle.die_sim.specs.Spread.{Reads}
 
 -- whether the level is unknown
@@ -114,10 +111,11 @@ pub record AreFlipFlops (drivers : List Driver) (nets : List ℕ) (below : ℕ) 
   pub each : (k : ℕ) → k < length nets → is_flip_flop (driver_at drivers (slice_index nets k)) ≡ true
   pub all : (n : ℕ) → n < below → is_flip_flop (driver_at drivers n) ≡ true → StandsAt n nets
 
--- these nets are flip-flops, and where the clock's change may be an edge all of them
-pub record MayCapture (drivers : List Driver) (e : Edge) (nets : List ℕ) : Type 0 where
+-- these nets are flip-flops, and what is kept at any other net is what it captures
+pub record MayCapture (drivers : List Driver) (e : Edge) (before old : List Level) (nets : List ℕ) : Type 0 where
   pub each : (k : ℕ) → k < length nets → is_flip_flop (driver_at drivers (slice_index nets k)) ≡ true
-  pub all : (n : ℕ) → n < length drivers → is_flip_flop (driver_at drivers n) ≡ true → e ≢ Keeps → StandsAt n nets
+  pub all : (n : ℕ) → n < length drivers → StandsAt n nets
+      ⊎ (captured (driver_at drivers n) e (level_at old n) before ≡ level_at old n)
 
 -- a set of nets holds the pending gates, and with a gate each gate that reads it
 pub record Carries (drivers : List Driver) (pending : PendingGates) (set : ℕ → Bool) : Type 0 where
@@ -146,16 +144,3 @@ pub record WalkedTo (drivers : List Driver) (fixed : List (Option Level)) (held 
 -- each fault is of a net
 pub record AreFaultsWithin (nets : ℕ) (faults : List StuckAt) : Type 0 where
   pub each : (k : ℕ) (d : StuckAt) → k < length faults → (slice_index_or faults k d).net < nets
-
--- what a die keeps inside
-pub record IsKept (d : Device) (s : State) (pending : PendingGates) (flip_flops : List ℕ) (cells : List Cell)
-    (pins starts places : List ℕ) : Type 0 where
-  pub whole : IsWhole d.circuit
-  pub device : IsDevice d
-  pub held_count : length s.held ≡ length d.circuit.net.drivers
-  pub settled : Settled d.circuit.net.drivers d.fixed s.held s.levels
-  pub seats : AreSeats d.circuit.order pending
-  pub clear : (n : ℕ) → is_pending pending n ≡ false
-  pub all_flip_flops : AreFlipFlops d.circuit.net.drivers flip_flops (length d.circuit.net.drivers)
-  pub gates : AreCells d.circuit d.fixed cells pins
-  pub reader_places : AreReaderPlaces d.circuit starts places

@@ -126,8 +126,10 @@ impl Cells {
     /// What the gate at a place gives.
     pub(crate) fn level(&self, place: usize, levels: &[Level]) -> Level
         requires within { place < length self.now.cells.items }
-        requires reads { CanRead (length levels.now) self.now.pins.items (slice_index_or self.now.cells.items place no_cell) }
-        ensures { result ≡ cell_gives self.now.pins.items (slice_index_or self.now.cells.items place no_cell) levels.now }
+        requires reads { CanRead (length levels.now) self.now.pins.items
+            (slice_index_or self.now.cells.items place no_cell) }
+        ensures { result
+            ≡ cell_gives self.now.pins.items (slice_index_or self.now.cells.items place no_cell) levels.now }
     {
         cell_level(self.cells[place], self.pins.as_slice(), levels)
     }

@@ -10,11 +10,12 @@ ghost use Rattle.die_sim.specs.Walk.{AreFaultsWithin};
 
 use crate::cells::Cells;
 use crate::image::{Bind, Binding, DieImage, StuckAt};
-use crate::moment::{capture_each, capturing, clock_after, clock_edge, flip_flops, put_all};
+use crate::moment::{capture_each, clock_after, clock_edge, put_all};
 use crate::pending::Pending;
 use crate::readers::Readers;
 use crate::settle::{activate_all, refresh_driven, refresh_each, settle_first, walk};
 use crate::steps::Steps;
+use crate::waiting::Waiting;
 use bench_net::Netlist;
 use std::alloc::{AllocError, Global};
 use std::marker::Model;
@@ -33,13 +34,14 @@ pub struct DieState {
     held: Vec<Level>,
     levels: Vec<Level>,
     pending: Pending,
-    flip_flops: Vec<u32>,
+    waiting: Waiting,
+    list: Vec<u32>,
 }
 
 impl Model for DieState {
     ghost use Rattle.std.specs.Arc.{arc_value};
     ghost use Rattle.die_sim.specs.Die.{Die};
-    ghost use Rattle.die_sim.specs.Walk.{IsKept};
+    ghost use Rattle.die_sim.specs.Kept.{IsKept};
 
     ghost Value = { Die };
 
@@ -62,7 +64,9 @@ impl Model for DieState {
           (arc_value d.bind).nets;
       fixed = d.fixed.items;
     })
-        (record { clock = d.clock; held = d.held.items; levels = d.levels.items }) d.pending d.flip_flops.items d.cells.cells.items d.cells.pins.items d.readers.starts.items d.readers.places.items };
+        (record { clock = d.clock; held = d.held.items; levels = d.levels.items })
+        d.pending d.waiting d.list.items d.cells.cells.items d.cells.pins.items
+        d.readers.starts.items d.readers.places.items };
 }
 
 impl DieState {
@@ -77,9 +81,11 @@ impl DieState {
         let held = unknown_levels(alloc, nets)?;
         let mut levels = first_levels(alloc, fixed.as_slice())?;
         let mut pending = Pending::all(alloc, &net)?;
-        let flip_flops = flip_flops(alloc, &net)?;
+        let mut waiting = Waiting::new(alloc, &net)?;
+        let list = no_nets(alloc, nets)?;
         let readers = Readers::new(alloc, &net, &pending)?;
         let cells = gates_of(alloc, &net, fixed.as_slice())?;
+        waiting.wake_all();
         settle_first(
             &net,
             &cells,
@@ -88,6 +94,7 @@ impl DieState {
             held.as_slice(),
             &mut levels,
             &mut pending,
+            &mut waiting,
         );
         Ok(DieState {
             net,
@@ -99,7 +106,8 @@ impl DieState {
             held,
             levels,
             pending,
-            flip_flops,
+            waiting,
+            list,
         })
     }
 
@@ -116,6 +124,7 @@ impl DieState {
         forget(&mut self.held);
         put_first(fixed, &mut self.levels);
         activate_all(net, &mut self.pending);
+        self.waiting.wake_all();
         self.clock = Level::X;
         let held = self.held.as_slice();
         settle_first(
@@ -126,6 +135,7 @@ impl DieState {
             held,
             &mut self.levels,
             &mut self.pending,
+            &mut self.waiting,
         );
     }
 
@@ -158,8 +168,10 @@ impl DieState {
         let bind: &Binding = &self.bind;
         let clock = clock_after(bind, self.clock, drives);
         let edge = clock_edge(self.clock, clock);
-        let nets = capturing(self.flip_flops.as_slice(), edge);
-        capture_each(net, edge, nets, self.levels.as_slice(), &mut self.held);
+        let count = self.waiting.take(edge, &mut self.list);
+        let nets = &self.list[..count];
+        let before = self.levels.as_slice();
+        capture_each(net, edge, nets, before, &mut self.held);
         put_all(&mut self.held, bind, drives);
         self.clock = clock;
         let held = self.held.as_slice();
@@ -170,6 +182,7 @@ impl DieState {
             held,
             &mut self.levels,
             &mut self.pending,
+            &mut self.waiting,
             nets,
         );
         refresh_driven(
@@ -179,6 +192,7 @@ impl DieState {
             held,
             &mut self.levels,
             &mut self.pending,
+            &mut self.waiting,
             bind,
             drives,
         );
@@ -190,6 +204,7 @@ impl DieState {
             held,
             &mut self.levels,
             &mut self.pending,
+            &mut self.waiting,
         )
     }
 
@@ -276,6 +291,13 @@ fn gates_of(alloc: Global, net: &Netlist, fixed: &[Option<Level>]) -> Result<Cel
     let mut cells = Cells::wired(alloc, net)?;
     cells.put_rows(net, fixed);
     Ok(cells)
+}
+
+/// A list with room for so many nets.
+fn no_nets(alloc: Global, count: u32) -> Result<Vec<u32>, AllocError>
+    ensures { IfOk result (λ nets. length nets.items ≡ count) }
+{
+    vec![in alloc; 0; count as usize]
 }
 
 /// X for each net, as many as there are.

@@ -17,6 +17,7 @@ mod steps;
 mod table;
 mod tape;
 mod tape_socket;
+mod waiting;
 
 pub use die::DieState;
 pub use failing_socket::FailingSocket;

@@ -1,17 +1,15 @@
 //! What a moment does to the clock, and to what inputs and flip-flops keep.
-ghost use Rattle.std.specs.Prelude.{◌≡◌, ℕ, ◌<◌, ◌≤◌, List, [], ◌∷◌, ◌++◌, length, cond, IfOk, OnOk};
+ghost use Rattle.std.specs.Prelude.{◌≡◌, ℕ, ◌<◌, ◌≤◌, length};
 ghost use Rattle.die_sim.specs.Gates.{level_at};
 ghost use Rattle.die_sim.specs.Die.{bind_at};
-ghost use Rattle.bench_net.specs.Wiring.{IsWired, driver_at};
+ghost use Rattle.bench_net.specs.Wiring.{IsWired};
 ghost use Rattle.bench_net.specs.Circuit.{IsWhole};
-ghost use Rattle.bench_net.specs.declared.gate.Driver.{Driver};
-ghost use Rattle.die_sim.specs.Walk.{is_flip_flop, AreFlipFlops, MayCapture};
+ghost use Rattle.die_sim.specs.Walk.{MayCapture};
 ghost use Rattle.die_sim.specs.Moment.{drive_level, edge, agreed, capture, captured, clock_put, clock_after, put_at, put_all, IsWithin, Captures};
 
 use crate::gate::read;
 use crate::image::{Bind, Binding};
 use bench_net::{Driver, Netlist};
-use std::alloc::{AllocError, Global};
 use tester_types::{Drive, Level};
 
 /// What the clock's change means: an edge, perhaps one, or none.
@@ -97,49 +95,7 @@ fn captured(driver: &Driver, edge: Edge, own: Level, before: &[Level]) -> Level
     }
 }
 
-/// Whether a flip-flop drives.
-fn is_flip_flop(driver: &Driver) -> bool
-    ensures { result ≡ is_flip_flop driver.now }
-{
-    matches!(driver, Driver::Dff(_))
-}
-
-/// Adds a net to a list where it is a flip-flop.
-fn push_flip_flop(list: &mut Vec<u32>, net: &Netlist, n: u32) -> Result<(), AllocError>
-    requires { n < length net.now.net.names }
-    ensures { OnOk result (list.new.items
-        ≡ cond (is_flip_flop (driver_at net.now.net.drivers n)) (list.old.items ++ n ∷ []) list.old.items) }
-{
-    if is_flip_flop(net.driver(n)) {
-        list.push(n)?;
-    }
-    Ok(())
-}
-
-/// The nets of all flip-flops.
-pub(crate) fn flip_flops(alloc: Global, net: &Netlist) -> Result<Vec<u32>, AllocError>
-    ensures { IfOk result (λ list. AreFlipFlops net.now.net.drivers list.items (length net.now.net.drivers)) }
-{
-    let mut list = Vec::new(alloc);
-    for n in 0..net.nets() {
-        push_flip_flop(&mut list, net, n)?;
-    }
-    Ok(list)
-}
-
-/// Of these flip-flops those that may capture: all, or none where the clock's change is no edge.
-pub(crate) fn capturing(flip_flops: &[u32], edge: Edge) -> &[u32]
-    ensures { (drivers : List Driver) → AreFlipFlops drivers flip_flops.now (length drivers)
-        → MayCapture drivers edge result.now }
-{
-    match edge {
-        Edge::Takes => flip_flops,
-        Edge::Doubts => flip_flops,
-        Edge::Keeps => &flip_flops[..0],
-    }
-}
-
-/// The flip-flops capture, from the levels before the moment.
+/// These flip-flops capture, from the levels before the moment.
 pub(crate) fn capture_each(
     net: &Netlist,
     edge: Edge,
@@ -150,7 +106,7 @@ pub(crate) fn capture_each(
     requires whole { IsWhole net.now }
     requires before { length before.now ≡ length net.now.net.names }
     requires held { length held.old.items ≡ length net.now.net.names }
-    requires nets { MayCapture net.now.net.drivers edge nets.now }
+    requires nets { MayCapture net.now.net.drivers edge before.now held.old.items nets.now }
     ensures { Captures net.now.net.drivers edge before.now held.old.items held.new.items }
 {
     for n in nets {

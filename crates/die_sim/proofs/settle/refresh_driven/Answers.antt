@@ -10,4 +10,5 @@ loop-signal-preserved c = record {
   driven = HaveDriven-more c.args.net.now.net.drivers c.args.fixed.now c.args.held.now c.loop-signal.levels.items c.refresh_bound.new.levels.items c.loop-signal.pending c.refresh_bound.new.pending c.args.bind.now.nets c.args.drives.now _ c.loop-signal.signal-index c.loop-signal-test.true c.refresh_bound.ensures.refreshes
       (subst (λ (b : Bind). HasLevel c.args.fixed.now c.args.held.now c.refresh_bound.new.levels.items b) c.bind_at.ensures c.refresh_bound.ensures.here) c.loop-signal.invariant.driven;
   seats = c.refresh_bound.ensures.seats;
+  rest = c.refresh_bound.ensures.rest;
 }

@@ -33,3 +33,6 @@ returns-clause-visits c =
       rest = sets.others;
       puts = subst (λ (l : Level). Puts drivers c.args.g l c.args.levels.now.items c.put_level.new.levels.items c.clear_at.new.self c.put_level.new.pending) is c.put_level.ensures.puts;
     }
+
+pub returns-clause-rest : goal.returns-clause-rest
+returns-clause-rest c = c.put_level.ensures.rest c.args.held.now c.requires.rest

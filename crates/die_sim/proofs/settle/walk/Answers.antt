@@ -16,6 +16,7 @@ loop-place-preserved c =
           (λ i a b l. next.ensures.skipped (get_or order i 0) (omega (arith, seats.here i l, a)) (omega (arith, seats.here i l, b))) done;
       active = λ l. next.ensures.found (get_or order next.result 0) (seats.here next.result l) (omega (arith, l, seats.room));
       seats = seats;
+      rest = c.visit.ensures.rest;
     }
 
 pub returns-clause-settled : goal.returns-clause-settled

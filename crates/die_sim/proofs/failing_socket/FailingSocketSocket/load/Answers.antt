@@ -1,4 +1,4 @@
-use Rattle.std.proofs.Common.{◌≡◌, ◌∙◌, Some, sym, ap, subst}
+use Rattle.std.proofs.Common.{◌∙◌, Some, sym, ap, subst}
 use Rattle.die_sim.specs.Socket.{Failing, Passes}
 use Rattle.die_sim.proofs.SocketLemmas.{ok_is}
 use Rattle.die_sim.proofs.failing_socket.FailingSocketSocket.load.Goals as goal
