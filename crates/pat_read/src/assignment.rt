@@ -98,15 +98,6 @@ pub(crate) fn assignment_of<'a>(
     Ok(found)
 }
 
-/// The same data without its items, in the same memory.
-pub(crate) fn emptied(items: VecText) -> VecText
-    ensures { result ≡ [] }
-{
-    let mut runs = items.into_vec();
-    runs.clear();
-    VecText::from_vec(runs)
-}
-
 /// Adds an assignment of these parts.
 pub(crate) fn add_assignment<'a>(
     read: &mut AssignmentList,

@@ -10,7 +10,7 @@ ghost use Rattle.stil_form.specs.Setting.{Setting, setting, setting_of, line_at,
 ghost use Rattle.pat_read.specs.Body.{assignment_with, outline_at, judge_assignment, assignments_of, step_of, action_of, judge_statement, body_from, body_of};
 ghost use Rattle.pat_read.specs.Refusal.{IsBodyFault, BodyAnswers};
 
-use crate::assignment::{add_assignment, assignment_of, emptied};
+use crate::assignment::{add_assignment, assignment_of};
 use crate::outline::{Outline, Plain, statement_said};
 use crate::refusal::refused;
 use std::alloc::Global;
@@ -30,6 +30,14 @@ pub enum BodyPlace {
     Pattern,
     Macro,
     Procedure,
+}
+
+/// The data of the assignment at hand, and the assignments of the block at hand. They are emptied and filled again for
+/// each, so that they grow but once in a body.
+#[derive(Drop)]
+struct Drafts {
+    items: VecText,
+    read: AssignmentList,
 }
 
 /// The line of a statement.
@@ -57,32 +65,52 @@ fn read_assignment<'k, 'a>(
     }
 }
 
-/// The assignments of a block.
+/// Takes the assignments of a block, each by way of a list of data that is filled again.
+fn take_assignments(
+    read: &mut AssignmentList,
+    items: &mut VecText,
+    form: &Reader,
+    stmts: &[Stmt],
+) -> Result<(), FormFault>
+    requires { read.old ≡ [] }
+    ensures { AnswersBy (λ _. read.new) result (assignments_of (setting_of form.now) (map entry_of stmts.now)) }
+{
+    for stmt in stmts {
+        if skips(form, stmt) {
+            continue;
+        }
+        items.clear();
+        let (reference, bytes) = read_assignment(items, form, stmt)?;
+        add_assignment(read, reference, bytes, items, line_of(form, stmt))?;
+    }
+    Ok(())
+}
+
+/// The assignments of a block, with exactly the room that they need.
 fn read_assignments(
     alloc: Global,
+    drafts: &mut Drafts,
     form: &Reader,
     stmts: &[Stmt],
 ) -> Result<AssignmentList, FormFault>
     ensures { Answers result (assignments_of (setting_of form.now) (map entry_of stmts.now)) }
 {
-    let mut read = AssignmentList::with_capacity(alloc, stmts.len())?;
-    let mut items = VecText::with_capacity(alloc, 0)?;
-    for stmt in stmts {
-        if skips(form, stmt) {
-            continue;
-        }
-        items = emptied(items);
-        let (reference, bytes) = read_assignment(&mut items, form, stmt)?;
-        add_assignment(&mut read, reference, bytes, &items, line_of(form, stmt))?;
-    }
+    drafts.read.clear();
+    take_assignments(&mut drafts.read, &mut drafts.items, form, stmts)?;
+    let read = drafts.read.copied(alloc)?;
     Ok(read)
 }
 
 /// The assignments of a block of arguments.
-fn read_arguments(alloc: Global, form: &Reader, stmts: &[Stmt]) -> Result<ArgumentList, FormFault>
+fn read_arguments(
+    alloc: Global,
+    drafts: &mut Drafts,
+    form: &Reader,
+    stmts: &[Stmt],
+) -> Result<ArgumentList, FormFault>
     ensures { Answers result (assignments_of (setting_of form.now) (map entry_of stmts.now)) }
 {
-    let given = read_assignments(alloc, form, stmts)?;
+    let given = read_assignments(alloc, drafts, form, stmts)?;
     let given = ArgumentList::new(alloc, given)?;
     Ok(given)
 }
@@ -99,25 +127,31 @@ fn read_outline(alloc: Global, form: &Reader, top: bool, stmt: &Stmt) -> Result<
 }
 
 /// A plain statement with the assignments of its block.
-fn read_step(alloc: Global, form: &Reader, plain: Plain, stmts: &[Stmt]) -> Result<Step, FormFault>
+fn read_step(
+    alloc: Global,
+    drafts: &mut Drafts,
+    form: &Reader,
+    plain: Plain,
+    stmts: &[Stmt],
+) -> Result<Step, FormFault>
     ensures { Answers result (step_of plain (assignments_of (setting_of form.now) (map entry_of stmts.now))) }
 {
     match plain {
         Plain::Wave(table) => Ok(Step::Wave(table)),
         Plain::Vector => {
-            let given = read_assignments(alloc, form, stmts)?;
+            let given = read_assignments(alloc, drafts, form, stmts)?;
             Ok(Step::Vector(given))
         }
         Plain::Condition => {
-            let given = read_assignments(alloc, form, stmts)?;
+            let given = read_assignments(alloc, drafts, form, stmts)?;
             Ok(Step::Condition(given))
         }
         Plain::Macro(name) => {
-            let given = read_arguments(alloc, form, stmts)?;
+            let given = read_arguments(alloc, drafts, form, stmts)?;
             Ok(Step::Macro(name, given))
         }
         Plain::Call(name) => {
-            let given = read_arguments(alloc, form, stmts)?;
+            let given = read_arguments(alloc, drafts, form, stmts)?;
             Ok(Step::Call(name, given))
         }
         Plain::Stop => Ok(Step::Stop),
@@ -130,6 +164,7 @@ fn read_step(alloc: Global, form: &Reader, plain: Plain, stmts: &[Stmt]) -> Resu
 #[cycle(body)]
 fn read_action(
     alloc: Global,
+    drafts: &mut Drafts,
     form: &Reader,
     outline: Outline,
     stmts: &[Stmt],
@@ -138,13 +173,16 @@ fn read_action(
         (body_from (setting_of form.now) false [] (trees_from (map entry_of stmts.now)))) }
 {
     match outline {
-        Outline::Step(plain) => Ok(PatAction::Step(read_step(alloc, form, plain, stmts)?)),
+        Outline::Step(plain) => {
+            let step = read_step(alloc, drafts, form, plain, stmts)?;
+            Ok(PatAction::Step(step))
+        }
         Outline::Loop(times) => {
-            let inner = read_stmts(alloc, form, false, stmts)?;
+            let inner = read_stmts(alloc, drafts, form, false, stmts)?;
             Ok(PatAction::Loop(times, PatBody::from_vec(inner)))
         }
         Outline::Shift => {
-            let inner = read_stmts(alloc, form, false, stmts)?;
+            let inner = read_stmts(alloc, drafts, form, false, stmts)?;
             Ok(PatAction::Shift(PatBody::from_vec(inner)))
         }
     }
@@ -152,12 +190,18 @@ fn read_action(
 
 /// A statement with its block.
 #[cycle(body)]
-fn read_stmt(alloc: Global, form: &Reader, top: bool, stmt: &Stmt) -> Result<PatStmt, FormFault>
+fn read_stmt(
+    alloc: Global,
+    drafts: &mut Drafts,
+    form: &Reader,
+    top: bool,
+    stmt: &Stmt,
+) -> Result<PatStmt, FormFault>
     ensures { Answers result (judge_statement (setting_of form.now) top (entry_of stmt.now)
         (body_from (setting_of form.now) false [] (trees_from (inner_of (entry_of stmt.now).body)))) }
 {
     let outline = read_outline(alloc, form, top, stmt)?;
-    let action = read_action(alloc, form, outline, inner_of(stmt))?;
+    let action = read_action(alloc, drafts, form, outline, inner_of(stmt))?;
     Ok(PatStmt {
         line: line_at(form.source.tokens, first_of(stmt) as usize),
         action,
@@ -168,6 +212,7 @@ fn read_stmt(alloc: Global, form: &Reader, top: bool, stmt: &Stmt) -> Result<Pat
 #[cycle(body)]
 fn read_stmts(
     alloc: Global,
+    drafts: &mut Drafts,
     form: &Reader,
     top: bool,
     stmts: &[Stmt],
@@ -180,7 +225,7 @@ fn read_stmts(
         if skips(form, stmt) {
             continue;
         }
-        let stmt = read_stmt(alloc, form, top, stmt)?;
+        let stmt = read_stmt(alloc, drafts, form, top, stmt)?;
         read.push(stmt)?;
     }
     Ok(read)
@@ -189,13 +234,14 @@ fn read_stmts(
 /// Statements of a body, seen as trees.
 fn read_trees(
     alloc: Global,
+    drafts: &mut Drafts,
     form: &Reader,
     top: bool,
     body: &StmtList,
 ) -> Result<Vec<PatStmt>, FormFault>
     ensures { AnswersBy (λ read. read.items) result (body_from (setting_of form.now) top [] (trees body.now)) }
 {
-    read_stmts(alloc, form, top, body.as_slice())
+    read_stmts(alloc, drafts, form, top, body.as_slice())
 }
 
 /// The body that statements are, or the first fault of its statements, for readers of the blocks in which it stands.
@@ -207,8 +253,12 @@ pub fn read_written(
 ) -> Result<PatBody, FormFault>
     ensures { Answers result (body_of (setting_of form.now) place (trees body.now)) }
 {
+    let mut drafts = Drafts {
+        items: VecText::from_vec(Vec::new(alloc)),
+        read: AssignmentList::new(alloc),
+    };
     let top = matches!(place, BodyPlace::Pattern);
-    let stmts = read_trees(alloc, form, top, body)?;
+    let stmts = read_trees(alloc, &mut drafts, form, top, body)?;
     Ok(PatBody::from_vec(stmts))
 }
 

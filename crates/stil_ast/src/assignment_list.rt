@@ -125,6 +125,24 @@ impl AssignmentList {
         Ok(())
     }
 
+    /// Takes all assignments away, and keeps the memory.
+    pub fn clear(&mut self)
+        ensures { self.new ≡ [] }
+    {
+        self.texts.clear();
+        self.runs.clear();
+    }
+
+    /// The same assignments, with exactly the room that they need.
+    pub fn copied(&self, alloc: Global) -> Result<AssignmentList, AllocError>
+        ensures { IfOk result (λ copy. copy ≡ self.now) }
+    {
+        Ok(AssignmentList {
+            texts: Vec::from_slice(alloc, self.texts.as_slice())?,
+            runs: Vec::from_slice(alloc, self.runs.as_slice())?,
+        })
+    }
+
     /// How many assignments there are. It goes over them.
     pub fn len(&self) -> usize
         ensures { result ≡ length self.now }

@@ -63,6 +63,13 @@ impl VecText {
         Ok(())
     }
 
+    /// Takes all items away, and keeps the memory.
+    pub fn clear(&mut self)
+        ensures { self.new ≡ [] }
+    {
+        self.runs.clear();
+    }
+
     /// The data of these runs.
     pub fn from_vec(runs: Vec<ItemRun>) -> VecText
         requires { KeepRepeats runs.items }

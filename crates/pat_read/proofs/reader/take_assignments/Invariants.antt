@@ -3,7 +3,7 @@ use Rattle.stil_tree.specs.Trees.{entry_of}
 use Rattle.stil_form.specs.Reading.{reading}
 use Rattle.stil_form.specs.Setting.{setting_of, unskipped}
 use Rattle.pat_read.specs.Body.{judge_assignment, assignments_of}
-use Rattle.pat_read.proofs.reader.read_assignments.Given as goal
+use Rattle.pat_read.proofs.reader.take_assignments.Given as goal
 
 -- what was read, and the rest, are the whole
 abbrev pub invariant-loop-stmt : goal.invariant-loop-stmt

@@ -7,11 +7,11 @@ use Rattle.stil_ast.specs.declared.body.Assignment.{Assignment}
 use Rattle.stil_form.specs.Setting.{setting_of}
 use Rattle.pat_read.specs.Body.{assignment_with, judge_assignment}
 use Rattle.pat_read.proofs.FormLemmas.{fault_seen}
-use Rattle.pat_read.proofs.reader.read_assignments.Goals as goal
+use Rattle.pat_read.proofs.reader.take_assignments.Goals as goal
 
 pub returns-in_err-reference : goal.returns-in_err-reference
 returns-in_err-reference c =
-    let p = err_from_is_err_and c.from_residual-in_err-reference.result c.from_residual-in_err-reference.ensures.1 in
+    let p = err_from_is_err_and c.from_residual.result c.from_residual.ensures.1 in
     let form = c.args.form.now in
     let item = entry_of c.stmt-item.result in
     let fault = c.in_err-reference.field-0.0 in
