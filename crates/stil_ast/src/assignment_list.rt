@@ -81,16 +81,6 @@ impl AssignmentList {
         }
     }
 
-    /// No assignment, with room for so many that have a name of one letter and a run each.
-    pub fn with_capacity(alloc: Global, count: usize) -> Result<AssignmentList, AllocError>
-        ensures { IfOk result (λ list. list ≡ []) }
-    {
-        Ok(AssignmentList {
-            texts: Vec::with_capacity(alloc, count.saturating_mul(HEAD_SIZE + 1))?,
-            runs: Vec::with_capacity(alloc, count)?,
-        })
-    }
-
     /// Adds an assignment. At an error, also where its name or its data are longer than 2^24 - 1, nothing changes.
     pub fn push(&mut self, assignment: &Assignment) -> Result<(), AllocError>
         ensures added { OnOk result (self.new ≡ self.old ++ assignment.now ∷ []) }

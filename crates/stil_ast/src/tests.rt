@@ -54,7 +54,7 @@ fn assignment(alloc: Global, name: &[u8], line: u32) -> Result<Assignment, Alloc
 
 #[test]
 fn assignments_are_read_back_in_order(rt: HostRuntime) -> Result<(), Fail> {
-    let mut list = AssignmentList::with_capacity(rt.alloc(), 1)?;
+    let mut list = AssignmentList::new(rt.alloc());
     list.push(&assignment(rt.alloc(), b"a", 4)?)?;
     list.push(&assignment(rt.alloc(), b"bus", 5)?)?;
     assert_eq!(rt; list.len(), 2);
