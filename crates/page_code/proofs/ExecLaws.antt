@@ -7,7 +7,7 @@ use Rattle.std.proofs.lemmas.List.{append-nil, length-take, length-drop, take-ap
 use Rattle.std.proofs.lemmas.Option.{same_Some}
 use Rattle.tester_types.specs.declared.wave.Table.{Table}
 use Rattle.page_meaning.specs.declared.instr.Instr.{Instr}
-use Rattle.page_meaning.specs.declared.instr.Instr.TheVariants.{Run, Loop, End, Done}
+use Rattle.page_meaning.specs.declared.instr.Instr.TheVariants.{Run, Loop}
 use Rattle.page_meaning.specs.Whole.{IsRest}
 use Rattle.packed_code.specs.declared.parts.CodeChain.{CodeChain}
 use Rattle.packed_code.specs.Program.{Exec}

@@ -9,4 +9,3 @@ pub mod ProgramLaws
 pub mod ReaderLaws
 pub mod RowLaws
 pub mod StandardFacts
-pub mod WaveLemmas

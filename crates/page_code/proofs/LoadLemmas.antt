@@ -1,8 +1,7 @@
 -- A code is read of its parts, and what is read is what is saved.
-use Rattle.std.proofs.Common.{◌≡◌, ℕ, ◌*◌, ◌^◌, ◌<◌, ◌≤◌, eqb, ltb, leb, cond, ◌&&◌, List, [], ◌++◌, length, Result, Ok, Err, refl, sym, ap, subst, ◌∙◌, append_assoc, arith, ◌⊎◌, inl, inr}
+use Rattle.std.proofs.Common.{◌≡◌, ℕ, ◌*◌, ◌^◌, eqb, ltb, leb, cond, ◌&&◌, List, [], ◌++◌, length, Result, Ok, Err, refl, sym, ap, subst, ◌∙◌, append_assoc, ◌⊎◌, inl, inr}
 use Rattle.std.specs.Int.{w16, w32}
-use Rattle.std.specs.List.{AllByRecursion}
-use Rattle.std.proofs.lemmas.Bool.{eqb-true, leb-true}
+use Rattle.std.proofs.lemmas.Bool.{eqb-true}
 use Rattle.std.proofs.lemmas.List.{append-nil, nil_from_length}
 use Rattle.tester_types.specs.declared.wave.Table.{Table}
 use Rattle.packed_code.specs.declared.version.Version.{Version}
@@ -13,18 +12,15 @@ use Rattle.page_code.specs.declared.fault.Refusal.TheVariants.{BadCode}
 use Rattle.page_code.specs.declared.fault.ReadError.{ReadError}
 use Rattle.page_code.specs.declared.fault.ReadError.TheVariants as errors
 use Rattle.packed_code.specs.Program.{Exec, Program}
-use Rattle.packed_code.specs.Conditions.{IsRising, IsSignal, IsTable, IsProgram}
-use Rattle.packed_code.specs.Spelling.{number, signal, table, head, earlier, later}
+use Rattle.packed_code.specs.Conditions.{IsProgram}
+use Rattle.packed_code.specs.Spelling.{head, earlier, later}
 use Rattle.page_code.specs.Saved.{SavedIn, Saved}
 use Rattle.page_code.specs.Fields.{◌>>=◌, Fails, Read, number_at, checked, items_at}
 use Rattle.page_code.specs.Reading.{head_at, signal_at, table_at, row_at, exec_at, program_at, whole_at, answered, load_of}
 use Rattle.page_code.specs.declared.fault.SavedFault.{SavedFault}
 use Rattle.page_code.specs.declared.fault.SavedFault.TheVariants as saved
 use Rattle.std.specs.Prelude.{MatchResult, IfOk}
-use Rattle.page_code.proofs.WaveLemmas.{are_rising}
-use Rattle.packed_code.proofs.SizeLemmas.{behind_all}
-use Rattle.page_code.proofs.ReaderLaws.{IsBytes, bind_ok, guard_ok, wide16, number_reader, checked_reader, items_reader, ok_is}
-use Rattle.page_code.proofs.PartLaws.{signal_reader, table_reader}
+use Rattle.page_code.proofs.ReaderLaws.{IsBytes, bind_ok, guard_ok, ok_is}
 use Rattle.page_code.proofs.ProgramLaws.{head_reader, program_reader}
 
 -- ---- the parts
@@ -127,22 +123,6 @@ program_stops (errors.Refused refusal) version bytes signals tables others rows 
     let here : Execs (length signals) tables rows count rest ≡ Err refusal =
     sym (execs_alike signals tables others rows width count rest counted same) ∙ last in
     reads_on version bytes signals tables rows count rest e ∙ rw here refl
-
--- the waves of the tables are in order
-pub tables_rising : (version : Version) (bytes : List ℕ) (signals : List CodeSignal) (tables : List Table) (rows : List (List ℕ)) (count : ℕ)
-    (rest : List ℕ) → IsBytes bytes → ReadsEarlier version bytes signals tables rows count rest
-    → AllByRecursion (λ t. IsRising t.waves) tables
-tables_rising version bytes signals tables rows count rest fits e =
-    let small = checked_reader (number_at w16) (number w16) (λ n. n < 2 ^ 16) (λ count. leb count 1024) (number_reader w16 (2 ^ 16) wide16) in
-    let b = small.takes bytes e.c2 e.r2 fits e.signal_count in
-    let c = (items_reader signal_at signal IsSignal signal_reader e.c2).takes e.r2 signals e.r3 b.1 e.are_signals in
-    let many = checked_reader (number_at w16) (number w16) (λ n. n < 2 ^ 16) (λ count. leb count 4096) (number_reader w16 (2 ^ 16) wide16) in
-    let d = many.takes e.r3 e.c4 e.r4 c.1 e.table_count in
-    let few : e.c2 ≤ 1024 = leb-true e.c2 1024 b.2.1 in
-    let readers = table_reader (length signals) (omega (arith, c.2.0)) in
-    let t = (items_reader (table_at (length signals)) table (IsTable (length signals)) readers e.c4).takes e.r4 tables e.r5 d.1 e.are_tables in
-    behind_all (IsTable (length signals)) (λ t. IsRising t.waves)
-    (λ before t is. are_rising (length signals) t.period _ t.waves is.waves) [] tables t.2.1
 
 -- ---- the whole
 

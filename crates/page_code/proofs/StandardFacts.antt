@@ -1,15 +1,11 @@
 -- Known parts and their bytes, which the definitions must give.
-use Rattle.std.proofs.Common.{◌≡◌, ℕ, List, [], ◌∷◌, Some, None, Ok, Err, refl}
-use Rattle.page_meaning.specs.declared.instr.Instr.TheVariants.{Run}
-use Rattle.tester_types.specs.declared.wave.Act.TheVariants.{Look}
-use Rattle.tester_types.specs.declared.wave.Look.TheVariants as look
+use Rattle.std.proofs.Common.{◌≡◌, [], ◌∷◌, Ok, Err, refl}
 use Rattle.page_code.specs.declared.fault.Refusal.TheVariants.{BadMagic, BadVersion, Torn, BadCode}
 use Rattle.text_bytes.specs.Bytes.{is_character}
 use Rattle.packed_code.specs.declared.version.Version.TheVariants.{Two}
 use Rattle.packed_code.proofs.StandardFacts.{first_row, second_row}
 use Rattle.page_code.specs.Fields.{number_at, items_at}
 use Rattle.page_code.specs.Reading.{head_at, letters_at, change_from, difference_at, whole_row_at, formed_row_at, row_at}
-use Rattle.packed_code.specs.Packed.{instr_of}
 
 -- a byte that is there and differs comes before one that is missing
 pub wrong_magic : head_at (0xD7 ∷ 0 ∷ []) ≡ Err BadMagic

@@ -1,8 +1,8 @@
 -- Reading a saved program from left to right, with the first refusal that is met.
-use Rattle.std.specs.Prelude.{ℕ, suc, ◌+◌, ◌-◌, ◌*◌, Bool, true, false, not, List, [], ◌∷◌, ◌++◌, ◌==◌, ◌&&◌, ◌||◌, nat_lt, nat_le, length, take, drop, slice_index, Option, Some, None, Result, Ok, Err, if◌then◌else◌}
+use Rattle.std.specs.Prelude.{ℕ, suc, ◌+◌, ◌-◌, ◌*◌, Bool, true, false, not, List, [], ◌∷◌, ◌++◌, ◌==◌, ◌&&◌, ◌||◌, nat_lt, nat_le, length, take, slice_index, Option, Some, None, Result, Ok, Err, if◌then◌else◌}
 use Rattle.std.specs.List.{list_all, list_any, take_while, find}
 use Rattle.std.specs.Option.{option_map_or}
-use Rattle.std.specs.Int.{w16, w32, w64, from_le_bytes}
+use Rattle.std.specs.Int.{w16, w32, w64}
 use Rattle.text_bytes.specs.Limits.{longest_name, longest_period, most_waves, most_cells, most_passes, deepest_loops, most_cycles, most_chains, most_signals, most_code_tables, most_row_characters, most_executives}
 use Rattle.text_bytes.specs.Bytes.{is_printable, is_character}
 use Rattle.tester_types.specs.declared.wave.Event.{Event}

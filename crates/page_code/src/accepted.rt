@@ -1,44 +1,58 @@
 //! Pairs of a table and a row that were found to go together, so that each is judged once.
 
-ghost use Rattle.std.specs.Prelude.{◌≡◌, ◌<◌, length, IfOk};
-ghost use Rattle.std.specs.List.{AllByRecursion};
-ghost use Rattle.packed_code.specs.Conditions.{IsRising, has_waves, waves_of, letters_of};
+ghost use Rattle.std.specs.Prelude.{◌≡◌, ◌<◌, List, ℕ, length, IfOk};
+ghost use Rattle.tester_types.specs.declared.wave.Table.{Table as ATable};
+ghost use Rattle.packed_code.specs.Conditions.{has_waves, waves_of, letters_of};
 ghost use Rattle.page_code.specs.Accepted.{AreAccepted};
 
-use crate::wave_check::has_each_wave;
+use crate::wave_index::WaveIndex;
 use indexmap::IndexSet;
 use packed_code::RowList;
-use std::alloc::AllocError;
+use std::alloc::{AllocError, Global};
 use tester_types::Table;
 
-/// Numbers of tables and rows, where the table has a wave for each character of the row.
-pub(crate) type Accepted = IndexSet<(u16, u32)>;
+/// Numbers of tables and rows, where the table has a wave for each character of the row, and the waves of the table
+/// that was asked last.
+#[derive(Drop)]
+pub(crate) struct Accepted {
+    pairs: IndexSet<(u16, u32)>,
+    index: WaveIndex,
+}
 
-/// Whether a table has a wave for each character of a row. A pair that was accepted is not judged again.
-pub(crate) fn has_waves_for(
-    tables: &[Table],
-    rows: &RowList,
-    accepted: &mut Accepted,
-    table: u16,
-    row: u32,
-) -> Result<bool, AllocError>
-    requires rising { AllByRecursion (λ table. IsRising table.waves) tables.now }
-    requires accepted { AreAccepted tables.now rows.now accepted.old.keys }
-    requires table { table < length tables.now }
-    requires row { row < length rows.now }
-    ensures fits { IfOk result (λ fits. fits ≡ has_waves (waves_of tables.now table) 0 (letters_of rows.now row)) }
-    ensures accepted { AreAccepted tables.now rows.now accepted.new.keys }
-{
-    let pair = (table, row);
-    if accepted.contains(&pair) {
-        return Ok(true);
+impl Accepted {
+    /// No pairs.
+    pub(crate) fn new(alloc: Global) -> Accepted
+        ensures { (tables : List ATable) → (rows : List (List ℕ)) → AreAccepted tables rows result }
+    {
+        Accepted {
+            pairs: IndexSet::new(alloc),
+            index: WaveIndex::new(alloc),
+        }
     }
-    if !has_each_wave(
-        tables[table as usize].waves.as_slice(),
-        rows.row(row as usize),
-    ) {
-        return Ok(false);
+
+    /// Whether a table has a wave for each character of a row. A pair that was accepted is not judged again.
+    pub(crate) fn has_waves_for(
+        &mut self,
+        tables: &[Table],
+        rows: &RowList,
+        table: u16,
+        row: u32,
+    ) -> Result<bool, AllocError>
+        requires accepted { AreAccepted tables.now rows.now self.old }
+        requires row { row < length rows.now }
+        ensures fits { IfOk result (λ fits. fits ≡ has_waves (waves_of tables.now table) 0 (letters_of rows.now row)) }
+        ensures accepted { AreAccepted tables.now rows.now self.new }
+    {
+        let pair = (table, row);
+        if self.pairs.contains(&pair) {
+            return Ok(true);
+        }
+        let letters = rows.row(row as usize);
+        self.index.turn_to(tables, table, letters.len())?;
+        if !self.index.has_each(letters) {
+            return Ok(false);
+        }
+        self.pairs.insert(pair)?;
+        Ok(true)
     }
-    accepted.insert(pair)?;
-    Ok(true)
 }

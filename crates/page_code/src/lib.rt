@@ -10,7 +10,7 @@ mod read_execs;
 mod read_instrs;
 mod read_rows;
 mod read_tables;
-mod wave_check;
+mod wave_index;
 
 pub use fault::SavedFault;
 pub use laws::{no_spelling_begins_another, one_spelling};

@@ -1,10 +1,8 @@
 //! Reading the executives of a saved program.
 
 ghost use Rattle.std.specs.Prelude.{◌≡◌, ◌&&◌, [], nat_le, nat_lt, true};
-ghost use Rattle.std.specs.List.{AllByRecursion};
 ghost use Rattle.std.specs.Int.{w32};
 ghost use Rattle.page_code.specs.Accepted.{AreAccepted};
-ghost use Rattle.packed_code.specs.Conditions.{IsRising};
 ghost use Rattle.page_code.specs.Fields.{Gives, number_at, checked, items_at};
 ghost use Rattle.page_code.specs.Reading.{name_at, chain_at, exec_at};
 
@@ -92,9 +90,8 @@ fn exec<'a>(
     accepted: &mut Accepted,
     bytes: &'a [u8],
 ) -> Result<(CodeExec, &'a [u8]), ReadError>
-    requires rising { AllByRecursion (λ table. IsRising table.waves) tables.now }
-    requires accepted { AreAccepted tables.now rows.now accepted.old.keys }
-    ensures accepted { AreAccepted tables.now rows.now accepted.new.keys }
+    requires accepted { AreAccepted tables.now rows.now accepted.old }
+    ensures accepted { AreAccepted tables.now rows.now accepted.new }
     ensures read { Gives (λ x. (x.0, x.1.now)) result (exec_at signals tables.now rows.now bytes.now) }
 {
     let (name, rest) = text(alloc, bytes)?;
@@ -114,7 +111,6 @@ pub(crate) fn execs<'a>(
     count: u16,
     bytes: &'a [u8],
 ) -> Result<(CodeExecList, &'a [u8]), ReadError>
-    requires { AllByRecursion (λ table. IsRising table.waves) tables.now }
     ensures { Gives (λ x. (x.0, x.1.now)) result
         (items_at (λ before. exec_at signals tables.now rows.now) count [] bytes.now) }
 {

@@ -5,13 +5,12 @@ ghost use Rattle.page_code.specs.Fields.{Gives, Fails, known, piece_at, items_at
 ghost use Rattle.page_code.specs.Reading.{follows, is_bounded, instr_with, instr_at};
 ghost use Rattle.packed_code.specs.Packed.{instr_of};
 ghost use Rattle.page_code.specs.Accepted.{AreAccepted};
-ghost use Rattle.packed_code.specs.Conditions.{IsRising, IsNarrow};
-ghost use Rattle.std.specs.List.{AllByRecursion};
+ghost use Rattle.packed_code.specs.Conditions.{IsNarrow};
 ghost use Rattle.page_meaning.specs.Whole.{IsRest, IsWhole};
 ghost use Rattle.page_meaning.specs.declared.instr.Instr.TheVariants.{Done};
 ghost use Rattle.page_code.specs.Nest.{IsNest, depth_after, begins};
 
-use crate::accepted::{Accepted, has_waves_for};
+use crate::accepted::Accepted;
 use crate::fault::ReadError;
 use crate::fields::{bad, piece};
 use packed_code::{PackedInstr, PackedInstrList, RowList, cycles, instr_of_bytes};
@@ -82,10 +81,9 @@ fn may_stand(
     nest: Nest,
     instr: Instr,
 ) -> Result<bool, AllocError>
-    requires rising { AllByRecursion (λ table. IsRising table.waves) tables.now }
-    requires accepted { AreAccepted tables.now rows.now accepted.old.keys }
+    requires accepted { AreAccepted tables.now rows.now accepted.old }
     ensures stands { IfOk result (λ stands. stands ≡ follows tables.now rows.now is_last nest.depth nest.begun instr) }
-    ensures accepted { AreAccepted tables.now rows.now accepted.new.keys }
+    ensures accepted { AreAccepted tables.now rows.now accepted.new }
 {
     match instr {
         Instr::Run {
@@ -101,7 +99,7 @@ fn may_stand(
             {
                 return Ok(false);
             }
-            has_waves_for(tables, rows, accepted, table, row)
+            accepted.has_waves_for(tables, rows, table, row)
         }
         Instr::Loop { times } => Ok(
             !is_last && times > 0 && times <= MOST_PASSES && nest.depth < DEEPEST_LOOPS,
@@ -133,10 +131,9 @@ fn instr<'a>(
     instrs: &mut Vec<PackedInstr>,
     bytes: &'a [u8],
 ) -> Result<(Instr, &'a [u8]), ReadError>
-    requires rising { AllByRecursion (λ table. IsRising table.waves) tables.now }
-    requires accepted { AreAccepted tables.now rows.now accepted.old.keys }
+    requires accepted { AreAccepted tables.now rows.now accepted.old }
     requires nest { IsNest instrs.old.items nest }
-    ensures accepted { AreAccepted tables.now rows.now accepted.new.keys }
+    ensures accepted { AreAccepted tables.now rows.now accepted.new }
     ensures narrow { IfOk result (λ x. IsNarrow x.0) }
     ensures read { MatchResult result
         (λ x. (instr_with tables.now rows.now is_last instrs.old.items bytes.now ≡ Ok (x.0, x.1.now))
@@ -163,9 +160,8 @@ pub(crate) fn instrs<'a>(
     count: u32,
     bytes: &'a [u8],
 ) -> Result<(PackedInstrList, &'a [u8]), ReadError>
-    requires rising { AllByRecursion (λ table. IsRising table.waves) tables.now }
-    requires accepted { AreAccepted tables.now rows.now accepted.old.keys }
-    ensures accepted { AreAccepted tables.now rows.now accepted.new.keys }
+    requires accepted { AreAccepted tables.now rows.now accepted.old }
+    ensures accepted { AreAccepted tables.now rows.now accepted.new }
     ensures read { Gives (λ x. (x.0, x.1.now)) result
         (items_at (instr_at tables.now rows.now count) count [] bytes.now) }
     ensures whole { IfOk result (λ x. 0 < count → IsWhole x.0) }

@@ -1,17 +1,6 @@
-use Rattle.std.proofs.Common.{List, subst, sym, arith}
-use Rattle.std.specs.List.{AllByRecursion}
 use Rattle.std.proofs.lemmas.Result.{err_from_is_err_and}
-use Rattle.tester_types.specs.declared.wave.Table.{Table}
-use Rattle.packed_code.specs.Conditions.{IsRising}
-use Rattle.page_code.proofs.LoadLemmas.{reads_earlier, program_made, program_stops, tables_rising}
+use Rattle.page_code.proofs.LoadLemmas.{reads_earlier, program_made, program_stops}
 use Rattle.page_code.proofs.loading.read_parts.Goals as goal
-
-pub execs-requires : goal.execs-requires
-execs-requires c =
-    let e = reads_earlier c.len-width.ensures c.in_ok-count.ensures c.in_ok-signals.ensures
-    c.in_ok-count-2.ensures c.in_ok-tables.ensures c.in_ok-count-3.ensures c.in_ok-rows.ensures c.in_ok-count-4.ensures in
-    subst (λ (ts : List Table). AllByRecursion (λ table. IsRising table.waves) ts) (sym c.as_slice.ensures)
-    (tables_rising c.args.version c.args.bytes.now _ _ _ _ _ (λ i. omega (arith, c.type_inv.bytes i)) e)
 
 pub returns-in_err-execs : goal.returns-in_err-execs
 returns-in_err-execs c =

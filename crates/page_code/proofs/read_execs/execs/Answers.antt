@@ -3,14 +3,13 @@ use Rattle.std.proofs.lemmas.Result.{err_from_is_err_and}
 use Rattle.page_code.specs.Fields.{items_at}
 use Rattle.page_code.specs.Reading.{exec_at}
 use Rattle.packed_code.specs.Program.{Exec}
-use Rattle.page_code.proofs.AcceptedLemmas.{none_accepted}
 use Rattle.page_code.proofs.ItemsLemmas.{goes_on, stops, is_done}
 use Rattle.page_code.proofs.read_execs.execs.Goals as goal
 
 pub loop-init : goal.loop-init
 loop-init c = record {
   so_far = search rules;
-  accepted = none_accepted c.args.tables.now c.args.rows.now c.new-accepted.result.keys c.new-accepted.ensures.empty;
+  accepted = c.new-accepted.ensures c.args.tables.now c.args.rows.now;
 }
 
 pub returns-in_err-exec : goal.returns-in_err-exec

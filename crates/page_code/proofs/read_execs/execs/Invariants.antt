@@ -7,5 +7,5 @@ use Rattle.page_code.proofs.read_execs.execs.Given as goal
 abbrev pub invariant-loop : goal.invariant-loop
 invariant-loop l = record {
   so_far : items_at (λ before. exec_at l.signals l.tables l.rows) (l.count - l.counter) l.execs.items l.rest ≡ items_at (λ before. exec_at l.signals l.tables l.rows) l.count [] l.bytes;
-  accepted : AreAccepted l.tables l.rows l.accepted.keys;
+  accepted : AreAccepted l.tables l.rows l.accepted;
 }

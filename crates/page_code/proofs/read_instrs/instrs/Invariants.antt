@@ -9,7 +9,7 @@ use Rattle.page_code.proofs.read_instrs.instrs.Given as goal
 abbrev pub invariant-loop-place : goal.invariant-loop-place
 invariant-loop-place l = record {
   so_far : items_at (instr_at l.tables l.rows l.count) (l.count - l.place) l.instrs.items l.rest ≡ items_at (instr_at l.tables l.rows l.count) l.count [] l.bytes;
-  accepted : AreAccepted l.tables l.rows l.accepted.keys;
+  accepted : AreAccepted l.tables l.rows l.accepted;
   size : length l.instrs.items ≡ l.place;
   nest : l.place < l.count → IsNest l.instrs.items l.nest;
   whole : l.place ≡ l.count → 0 < l.place → IsWhole l.instrs.items;
