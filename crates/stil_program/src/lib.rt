@@ -9,6 +9,3 @@ mod text;
 pub use coding::{compiled, program};
 pub use laws::{code_keeps_loops, one_text_fault, sixth_pass_is_over_runs};
 pub use text::CompiledText;
-
-#[cfg(test)]
-mod tests;
