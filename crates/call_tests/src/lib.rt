@@ -22,8 +22,6 @@ mod line_calls;
 #[cfg(test)]
 mod outside_calls;
 #[cfg(test)]
-mod program_calls;
-#[cfg(test)]
 mod text_calls;
 #[cfg(test)]
 mod tree_calls;

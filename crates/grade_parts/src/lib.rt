@@ -11,6 +11,3 @@ pub use laws::{one_log, part_text_is_log, parts_are_grade};
 pub use log::GradeLog;
 pub use merge::put_merged_grade;
 pub use part::grade_part;
-
-#[cfg(test)]
-mod tests;

@@ -1,9 +1,7 @@
-//! What no text shows of what is built of it: that it crosses threads, and the limit of statements that are walked.
+//! What no text shows of what is built of it: that it crosses threads, and how a refusal is printed.
 #![tactic(auto)]
 
 #[cfg(test)]
-mod no_blocks;
+mod refusal_tests;
 #[cfg(test)]
 mod thread_tests;
-#[cfg(test)]
-mod walk_tests;

@@ -47,6 +47,3 @@ pub use variable::{
     Category, CategoryList, Choice, Choices, Selection, SelectionList, Selector, SelectorList,
     SpecBlock, SpecBlockList, VariableDecl, VariableDeclList, VariableValue,
 };
-
-#[cfg(test)]
-mod tests;

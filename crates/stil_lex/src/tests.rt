@@ -3,18 +3,6 @@ use crate::slow::slow_lex;
 use crate::slow_faults::slow_fault;
 use std::test::Fail;
 
-/// The fault of a short text; want of memory, which no row expects, where the slow search finds another.
-fn fault_of(rt: &HostRuntime, text: &[u8]) -> Option<LexFault> {
-    if text.len() > 1000 {
-        return Some(LexFault::NoMemory);
-    }
-    let fault = lex(rt.alloc(), text).err();
-    if slow_fault(text) != fault {
-        return Some(LexFault::NoMemory);
-    }
-    fault
-}
-
 #[test]
 fn a_head_is_cut_into_its_tokens(rt: HostRuntime) -> Result<(), Fail> {
     let text = b"Ann {* x *}\nW \"a b\" '1+2';";
@@ -29,38 +17,6 @@ fn a_head_is_cut_into_its_tokens(rt: HostRuntime) -> Result<(), Fail> {
     assert_eq!(rt; items[3].kind, TokenKind::Sign(b';'));
     assert_eq!(rt; items[3].line, 2);
     Ok(())
-}
-
-#[test]
-fn good_texts_have_no_fault(rt: HostRuntime) {
-    assert_eq!(rt; fault_of(&rt, b""), None);
-    assert_eq!(rt; fault_of(&rt, b"STIL"), None);
-    assert_eq!(rt; fault_of(&rt, b"Ann x; // caf\xC3\xA9"), None);
-    assert_eq!(rt; fault_of(&rt, b"a /* \xFF\n * / */ b"), None);
-    assert_eq!(rt; fault_of(&rt, b"Ann\n{* \x00 } * *} '\n\"' \"'\""), None);
-}
-
-#[test]
-fn a_text_that_is_cut_has_its_open_place(rt: HostRuntime) {
-    assert_eq!(rt; fault_of(&rt, b"W \"abc"), Some(LexFault::OpenQuote(2)));
-    assert_eq!(rt; fault_of(&rt, b"a 'b\xFF"), Some(LexFault::OpenQuote(2)));
-    assert_eq!(rt; fault_of(&rt, b"a /* b"), Some(LexFault::OpenComment(2)));
-    assert_eq!(rt; fault_of(&rt, b"/*/"), Some(LexFault::OpenComment(0)));
-    assert_eq!(rt;
-        fault_of(&rt, b"a; Ann {* b } *"),
-        Some(LexFault::OpenComment(3))
-    );
-    assert_eq!(rt; fault_of(&rt, b"Ann {*}"), Some(LexFault::OpenComment(0)));
-}
-
-#[test]
-fn a_byte_that_nothing_may_hold_has_its_place(rt: HostRuntime) {
-    assert_eq!(rt; fault_of(&rt, b"abc\x7F"), Some(LexFault::BadByte(3)));
-    assert_eq!(rt; fault_of(&rt, b"\n\x80 'a"), Some(LexFault::BadByte(1)));
-    assert_eq!(rt;
-        fault_of(&rt, b"'a\x01\x02' \x03"),
-        Some(LexFault::BadByte(2))
-    );
 }
 
 /// Whether both lexers give the same tokens, or none, and the slow search the same fault.
@@ -86,34 +42,67 @@ fn agree_on_prefixes(rt: &HostRuntime, text: &[u8]) -> Result<bool, Fail> {
     agree(rt, text)
 }
 
+/// A short text of each kind of piece, and a whole text.
+static PIECES: &[u8] = b"STIL 1.0; // a\nAnn {* b *} Ann\nW \"t\"; /* c\n*/ 'x+\ty'/2; \"\x01\" ~";
+
+static WHOLE: &[u8] =
+    b"STIL 1.0;\nSignals { a In; y Out; }\nTiming t { WaveformTable w {\nPeriod '100ns';\n\
+Waveforms {\na { 01 { '0ns' D/U; } }\ny { LHX { '40ns' L/H/X; } }\n} } }\nPattern p {\nW w;\n\
+V { a=0; y=H; }\nV { a=1; y=L; }\nV { y=X; }\n}\nPatternBurst b { PatList { p; } }\n\
+PatternExec { Timing t; PatternBurst b; }\n";
+
 #[test]
 fn the_slow_programs_agree_on_every_prefix(rt: HostRuntime) -> Result<(), Fail> {
-    let text = b"STIL 1.0; // a\nAnn {* b *} Ann\nW \"t\"; /* c\n*/ 'x+\ty'/2; \"\x01\" ~";
-    assert!(rt; agree_on_prefixes(&rt, text)?);
-    assert!(rt; agree(&rt, b"/*/ Ann {*}")?);
-    assert!(rt;
-        agree_on_prefixes(
-            &rt,
-            b"STIL 1.0;\nSignals { a In; y Out; }\nTiming t { WaveformTable w {\nPeriod '100ns';\nWaveforms {\na { 01 { '0ns' D/U; } }\ny { LHX { '40ns' L/H/X; } }\n} } }\nPattern p {\nW w;\nV { a=0; y=H; }\nV { a=1; y=L; }\nV { y=X; }\n}\nPatternBurst b { PatList { p; } }\nPatternExec { Timing t; PatternBurst b; }\n"
-        )?
-    );
+    assert!(rt; agree_on_prefixes(&rt, PIECES)? && agree_on_prefixes(&rt, WHOLE)?);
     Ok(())
 }
 
+/// Texts between bars: good ones, ones that are cut, and ones with a byte that nothing may hold.
+static TEXTS: &[u8] =
+    b"|STIL|Ann x; // caf\xC3\xA9|a /* \xFF\n * / */ b|Ann\n{* \x00 } * *} '\n\"' \"'\"|\
+STIL 1.0; Signals { a In;|STIL 1.0; }|\
+W \"abc|a 'b\xFF|a /* b|/*/|a; Ann {* b } *|Ann {*}|/*/ Ann {*}|STIL 1.0; Signals { a In; \"b|\
+abc\x7F|\n\x80 'a|'a\x01\x02' \x03";
+
+/// The faults of these texts.
+static FAULTS: [Option<LexFault>; 18] = [
+    None,
+    None,
+    None,
+    None,
+    None,
+    None,
+    None,
+    Some(LexFault::OpenQuote(2)),
+    Some(LexFault::OpenQuote(2)),
+    Some(LexFault::OpenComment(2)),
+    Some(LexFault::OpenComment(0)),
+    Some(LexFault::OpenComment(3)),
+    Some(LexFault::OpenComment(0)),
+    Some(LexFault::OpenComment(0)),
+    Some(LexFault::OpenQuote(26)),
+    Some(LexFault::BadByte(3)),
+    Some(LexFault::BadByte(1)),
+    Some(LexFault::BadByte(2)),
+];
+
+/// Whether the texts between bars have these faults, one by one, and both readers agree on each.
+fn have_faults(rt: &HostRuntime, texts: &[u8], faults: &[Option<LexFault>]) -> Result<bool, Fail> {
+    let mut left = faults.iter();
+    for text in texts.split(|byte| *byte == b'|') {
+        let Some(fault) = left.next() else {
+            return Ok(false);
+        };
+        if text.len() > 1000 || lex(rt.alloc(), text).err() != *fault || !agree(rt, text)? {
+            return Ok(false);
+        }
+    }
+    Ok(left.next().is_none())
+}
+
 #[test]
-fn the_worked_texts_agree(rt: HostRuntime) -> Result<(), Fail> {
-    assert!(rt;
-        agree(
-            &rt,
-            b"STIL 1.0;\nSignals { A In; Y Out; }\nTiming { WaveformTable w { Period '100ns'; Waveforms {\nA { 01 { '0ns' D/U; } }\nY { LHX { '40ns' L/H/X; } }\n} } }\nPattern p { W w; V { A=0; Y=H; } V { A=1; Y=L; } }\nPatternBurst b { PatList { p; } }\nPatternExec { PatternBurst b; }\n"
-        )?
-    );
-    assert_eq!(rt;
-        fault_of(&rt, b"STIL 1.0; Signals { a In; \"b"),
-        Some(LexFault::OpenQuote(26))
-    );
-    assert_eq!(rt; fault_of(&rt, b"STIL 1.0; Signals { a In;"), None);
-    assert_eq!(rt; fault_of(&rt, b"STIL 1.0; }"), None);
+fn texts_have_their_faults(rt: HostRuntime) -> Result<(), Fail> {
+    assert!(rt; have_faults(&rt, TEXTS, &FAULTS)?);
     Ok(())
 }
 

@@ -4,24 +4,6 @@ use crate::slow_faults::slow_tree_fault;
 use std::test::Fail;
 use stil_lex::{Token, lex};
 
-/// The fault of a short text's tokens; want of memory, which no row expects, where the slow search finds another.
-fn fault_of(rt: &HostRuntime, text: &[u8]) -> Option<TreeFault> {
-    if text.len() > 1000 {
-        return Some(TreeFault::NoMemory);
-    }
-    let Ok(tokens) = lex(rt.alloc(), text) else {
-        return Some(TreeFault::NoMemory);
-    };
-    if tokens.len() > 1000 {
-        return Some(TreeFault::NoMemory);
-    }
-    let fault = forest(rt.alloc(), tokens.as_slice()).err();
-    if slow_tree_fault(tokens.as_slice()) != fault {
-        return Some(TreeFault::NoMemory);
-    }
-    fault
-}
-
 #[test]
 fn statements_keep_their_heads_and_blocks(rt: HostRuntime) -> Result<(), Fail> {
     let tokens = lex(rt.alloc(), b"STIL 1.0;; Signals { a In; }")?;
@@ -37,38 +19,6 @@ fn statements_keep_their_heads_and_blocks(rt: HostRuntime) -> Result<(), Fail> {
     let body = stmts[1].body.as_ref().ok_or("a block")?;
     assert_eq!(rt; body.len(), 1);
     Ok(())
-}
-
-#[test]
-fn good_texts_have_no_fault(rt: HostRuntime) {
-    assert_eq!(rt; fault_of(&rt, b""), None);
-    assert_eq!(rt; fault_of(&rt, b";;"), None);
-    assert_eq!(rt; fault_of(&rt, b"{ }"), None);
-    assert_eq!(rt;
-        fault_of(&rt, b"{{{{{{{{{{{{{{{{ a; }}}}}}}}}}}}}}}}"),
-        None
-    );
-}
-
-#[test]
-fn the_first_refusal_has_its_token(rt: HostRuntime) {
-    assert_eq!(rt; fault_of(&rt, b"STIL"), Some(TreeFault::OpenStatement(0)));
-    assert_eq!(rt; fault_of(&rt, b"a; b"), Some(TreeFault::OpenStatement(2)));
-    assert_eq!(rt; fault_of(&rt, b"a; }"), Some(TreeFault::StrayClose(2)));
-    assert_eq!(rt; fault_of(&rt, b"a }"), Some(TreeFault::StrayClose(1)));
-    assert_eq!(rt;
-        fault_of(&rt, b"a { b } c"),
-        Some(TreeFault::OpenStatement(2))
-    );
-    assert_eq!(rt;
-        fault_of(&rt, b"a { b { c; "),
-        Some(TreeFault::OpenBlock(3))
-    );
-    assert_eq!(rt; fault_of(&rt, b"a { b; c"), Some(TreeFault::OpenBlock(1)));
-    assert_eq!(rt;
-        fault_of(&rt, b"{{{{{{{{{{{{{{{{ { }"),
-        Some(TreeFault::TooDeep(16))
-    );
 }
 
 #[test]
@@ -113,33 +63,71 @@ fn agree_on_prefixes(rt: &HostRuntime, text: &[u8]) -> Result<bool, Fail> {
     agree(rt, items)
 }
 
+/// A text with blocks in one another, and a whole text.
+static BLOCKS: &[u8] = b"STIL 1.0;; Timing \"t\" { W { Period '1us'; } } { a; { } } } Z";
+
+static WHOLE: &[u8] =
+    b"STIL 1.0;\nSignals { a In; y Out; }\nTiming t { WaveformTable w {\nPeriod '100ns';\n\
+Waveforms {\na { 01 { '0ns' D/U; } }\ny { LHX { '40ns' L/H/X; } }\n} } }\nPattern p {\nW w;\n\
+V { a=0; y=H; }\nV { a=1; y=L; }\nV { y=X; }\n}\nPatternBurst b { PatList { p; } }\n\
+PatternExec { Timing t; PatternBurst b; }\n";
+
 #[test]
 fn the_slow_programs_agree_on_every_prefix(rt: HostRuntime) -> Result<(), Fail> {
-    let text = b"STIL 1.0;; Timing \"t\" { W { Period '1us'; } } { a; { } } } Z";
-    assert!(rt; agree_on_prefixes(&rt, text)?);
-    assert!(rt;
-        agree_on_prefixes(
-            &rt,
-            b"STIL 1.0;\nSignals { a In; y Out; }\nTiming t { WaveformTable w {\nPeriod '100ns';\nWaveforms {\na { 01 { '0ns' D/U; } }\ny { LHX { '40ns' L/H/X; } }\n} } }\nPattern p {\nW w;\nV { a=0; y=H; }\nV { a=1; y=L; }\nV { y=X; }\n}\nPatternBurst b { PatList { p; } }\nPatternExec { Timing t; PatternBurst b; }\n"
-        )?
-    );
+    assert!(rt; agree_on_prefixes(&rt, BLOCKS)? && agree_on_prefixes(&rt, WHOLE)?);
     Ok(())
 }
 
-#[test]
-fn the_worked_texts_agree(rt: HostRuntime) -> Result<(), Fail> {
-    let text =
-        b"STIL 1.0;\nSignals { A In; Y Out; }\nTiming { WaveformTable w { Period '100ns'; Waveforms {\nA { 01 { '0ns' D/U; } }\nY { LHX { '40ns' L/H/X; } }\n} } }\nPattern p { W w; V { A=0; Y=H; } V { A=1; Y=L; } }\nPatternBurst b { PatList { p; } }\nPatternExec { PatternBurst b; }\n";
+/// Texts between bars: good ones, and each with a first refusal.
+static TEXTS: &[u8] = b"|;;|{ }|{{{{{{{{{{{{{{{{ a; }}}}}}}}}}}}}}}}|\
+STIL|a; b|a; }|a }|a { b } c|a { b { c; |a { b; c|{{{{{{{{{{{{{{{{ { }|\
+STIL 1.0; Signals { a In;|STIL 1.0; }";
+
+/// The faults of these texts.
+static FAULTS: [Option<TreeFault>; 14] = [
+    None,
+    None,
+    None,
+    None,
+    Some(TreeFault::OpenStatement(0)),
+    Some(TreeFault::OpenStatement(2)),
+    Some(TreeFault::StrayClose(2)),
+    Some(TreeFault::StrayClose(1)),
+    Some(TreeFault::OpenStatement(2)),
+    Some(TreeFault::OpenBlock(3)),
+    Some(TreeFault::OpenBlock(1)),
+    Some(TreeFault::TooDeep(16)),
+    Some(TreeFault::OpenBlock(6)),
+    Some(TreeFault::StrayClose(5)),
+];
+
+/// Whether a short text has this fault, and both readers agree on it.
+fn has_fault(rt: &HostRuntime, text: &[u8], fault: Option<TreeFault>) -> Result<bool, Fail> {
+    if text.len() > 1000 {
+        return Ok(false);
+    }
     let tokens = lex(rt.alloc(), text)?;
-    assert!(rt; agree(&rt, tokens.as_slice())?);
-    assert_eq!(rt;
-        fault_of(&rt, b"STIL 1.0; Signals { a In;"),
-        Some(TreeFault::OpenBlock(6))
-    );
-    assert_eq!(rt;
-        fault_of(&rt, b"STIL 1.0; }"),
-        Some(TreeFault::StrayClose(5))
-    );
+    let items = tokens.as_slice();
+    Ok(items.len() <= 1000 && forest(rt.alloc(), items).err() == fault && agree(rt, items)?)
+}
+
+/// Whether the texts between bars have these faults, one by one.
+fn have_faults(rt: &HostRuntime, texts: &[u8], faults: &[Option<TreeFault>]) -> Result<bool, Fail> {
+    let mut left = faults.iter();
+    for text in texts.split(|byte| *byte == b'|') {
+        let Some(fault) = left.next() else {
+            return Ok(false);
+        };
+        if !has_fault(rt, text, *fault)? {
+            return Ok(false);
+        }
+    }
+    Ok(left.next().is_none())
+}
+
+#[test]
+fn texts_have_their_faults(rt: HostRuntime) -> Result<(), Fail> {
+    assert!(rt; have_faults(&rt, TEXTS, &FAULTS)?);
     Ok(())
 }
 
