@@ -4,4 +4,6 @@
 #[cfg(test)]
 mod memory_tests;
 #[cfg(test)]
+mod programs;
+#[cfg(test)]
 mod saved_tests;

@@ -1,4 +1,4 @@
-//! The tape of the first try of the scan lot's site 2, and what a socket there was told.
+//! The tape of the first try of a known die at site 2, and what a socket there was told.
 
 ghost use Rattle.std.specs.Prelude.{◌≡◌, ◌≤◌, ◌<◌, false, length, IfOk};
 ghost use Rattle.text_bytes.specs.Limits.{most_bytes};
@@ -18,80 +18,30 @@ use std::sync::{Arc, Wait};
 use std::test::Fail;
 use vcd_dump::tape_of;
 
-/// The scan test of s27, with its chain of three cells: the saved program.
-const S27_SCAN: &[u8] = &[
-    0xD7, b'S', b'T', b'P', 2, 0, 0, 0, 9, 0, 0, 2, 0, b'C', b'K', 0, 2, 0, b'S', b'E', 0, 2, 0,
-    b'S', b'I', 0, 2, 0, b'G', b'0', 0, 2, 0, b'G', b'1', 0, 2, 0, b'G', b'2', 0, 2, 0, b'G', b'3',
-    1, 3, 0, b'G', b'1', b'7', 1, 2, 0, b'S', b'O', 1, 0, 0x0D, 0, 0x5F, b'd', b'e', b'f', b'a',
-    b'u', b'l', b't', 0x5F, b'W', b'F', b'T', 0x5F, 0, 0xE1, 0xF5, 5, 0, 0, 0, 0, 0x14, 0, 0, 0, 0,
-    0, b'0', 1, 0, 0, 0, 0, 0, 0, 0, 0, 1, 0, 0, b'P', 3, 0, 0, 0, 0, 0, 0, 0, 0, 1, 0x40, 0xA5,
-    0xAE, 2, 0, 0, 0, 0, 2, 0xC0, 0x3B, b'G', 3, 0, 0, 0, 0, 1, 1, 0, b'0', 1, 0, 0, 0, 0, 0, 0, 0,
-    0, 1, 1, 0, b'1', 1, 0, 0, 0, 0, 0, 0, 0, 0, 2, 2, 0, b'0', 1, 0, 0, 0, 0, 0, 0, 0, 0, 1, 2, 0,
-    b'1', 1, 0, 0, 0, 0, 0, 0, 0, 0, 2, 3, 0, b'0', 1, 0, 0, 0, 0, 0, 0, 0, 0, 1, 3, 0, b'1', 1, 0,
-    0, 0, 0, 0, 0, 0, 0, 2, 4, 0, b'0', 1, 0, 0, 0, 0, 0, 0, 0, 0, 1, 4, 0, b'1', 1, 0, 0, 0, 0, 0,
-    0, 0, 0, 2, 5, 0, b'0', 1, 0, 0, 0, 0, 0, 0, 0, 0, 1, 5, 0, b'1', 1, 0, 0, 0, 0, 0, 0, 0, 0, 2,
-    6, 0, b'0', 1, 0, 0, 0, 0, 0, 0, 0, 0, 1, 6, 0, b'1', 1, 0, 0, 0, 0, 0, 0, 0, 0, 2, 7, 0, b'H',
-    1, 0, b'Z', b'b', 2, 0, 0, 0, 0, 7, 7, 0, b'L', 1, 0, b'Z', b'b', 2, 0, 0, 0, 0, 6, 7, 0, b'X',
-    1, 0, b'Z', b'b', 2, 0, 0, 0, 0, 8, 8, 0, b'H', 1, 0, b'Z', b'b', 2, 0, 0, 0, 0, 7, 8, 0, b'L',
-    1, 0, b'Z', b'b', 2, 0, 0, 0, 0, 6, 8, 0, b'X', 1, 0, b'Z', b'b', 2, 0, 0, 0, 0, 8, 5, 0, 0, 0,
-    0, b'P', b'1', b'1', b'0', b'0', b'0', b'0', b'X', b'X', 1, 1, 0, 2, 0, b'0', 0, b'P', b'0',
-    b'0', b'0', b'1', b'0', b'1', b'L', b'X', 0, b'P', b'1', b'0', b'0', b'0', b'0', b'0', b'X',
-    b'H', 1, 1, 0, 8, 0, b'L', 1, 0, 0, 0, 1, 0, 2, 0, b'c', b'1', 8, 0, 3, 0, 0, 0, 3, 0, 0, 0, 2,
-    0, b'f', b'5', 2, 0, b'f', b'6', 2, 0, b'f', b'7', 8, 0, 0, 0, 1, 0, 0, 0, 0, 0, 0, 0, 1, 0, 0,
-    0, 1, 0, 0, 0, 1, 0, 0, 0, 0, 0, 0, 0, 2, 0, 0, 0, 1, 0, 0, 0, 1, 0, 0, 0, 1, 0, 0, 0, 3, 0, 0,
-    0, 1, 0, 0, 0, 1, 0, 0, 0, 2, 0, 0, 0, 0, 0, 0, 0, 1, 0, 0, 0, 1, 0, 0, 0, 3, 0, 0, 0, 1, 0, 0,
-    0, 1, 0, 0, 0, 1, 0, 0, 0, 3, 0, 0, 0, 2, 0, 0, 0, 1, 0, 0, 0, 1, 0, 0, 0, 4, 0, 0, 0, 3, 0, 0,
-    0, 1, 0, 0, 0, 4, 0, 0, 0, 0, 0, 0, 0, 0, 0, 0, 0, 0, 0, 0, 0,
+/// A program of the signals A, C and Y: in a table w of 100 ns, A is driven down or up at 0, C falls at 0, rises at 20 ns and
+/// falls at 60 ns, and Y is wanted high or low at 40 ns; the rows 0 P H and 1 P L; and an executive of both, each once.
+static PROGRAM: &[u8] = &[
+    0xD7, 0x53, 0x54, 0x50, 1, 0, 0, 0, 3, 0, 0, 1, 0, b'A', 0, 1, 0, b'C', 1, 1, 0, b'Y', 1, 0, 1,
+    0, b'w', 0x00, 0xE1, 0xF5, 0x05, 0, 0, 0, 0, 5, 0, 0, 0, 0, 0, b'0', 1, 0, 0, 0, 0, 0, 0, 0, 0,
+    1, 0, 0, b'1', 1, 0, 0, 0, 0, 0, 0, 0, 0, 2, 1, 0, b'P', 3, 0, 0, 0, 0, 0, 0, 0, 0, 1, 0x00,
+    0x2D, 0x31, 0x01, 0, 0, 0, 0, 2, 0x00, 0x87, 0x93, 0x03, 0, 0, 0, 0, 1, 2, 0, b'H', 1, 0x00,
+    0x5A, 0x62, 0x02, 0, 0, 0, 0, 7, 2, 0, b'L', 1, 0x00, 0x5A, 0x62, 0x02, 0, 0, 0, 0, 6, 2, 0, 0,
+    0, b'0', b'P', b'H', b'1', b'P', b'L', 1, 0, 0, 0, 0, 0, 3, 0, 0, 0, 1, 0, 0, 0, 0, 0, 0, 0, 0,
+    0, 0, 0, 1, 0, 0, 0, 1, 0, 0, 0, 1, 0, 0, 0, 0, 0, 0, 0, 1, 0, 0, 0, 4, 0, 0, 0, 0, 0, 0, 0, 0,
+    0, 0, 0, 0, 0, 0, 0,
 ];
 
-/// Its netlist.
-const NET: &[u8] = b"INPUT(G0)\n\
-INPUT(G1)\n\
-INPUT(G2)\n\
-INPUT(G3)\n\
-OUTPUT(G17)\n\
-INPUT(SE)\n\
-INPUT(SI)\n\
-OUTPUT(G7)\n\
-NSE = NOT(SE)\n\
-A5 = AND(NSE, G10)\n\
-B5 = AND(SE, SI)\n\
-M5 = OR(A5, B5)\n\
-G5 = DFF(M5)\n\
-A6 = AND(NSE, G11)\n\
-B6 = AND(SE, G5)\n\
-M6 = OR(A6, B6)\n\
-G6 = DFF(M6)\n\
-A7 = AND(NSE, G13)\n\
-B7 = AND(SE, G6)\n\
-M7 = OR(A7, B7)\n\
-G7 = DFF(M7)\n\
-G14 = NOT(G0)\n\
-G17 = NOT(G11)\n\
-G8 = AND(G14, G6)\n\
-G15 = OR(G12, G8)\n\
-G16 = OR(G3, G8)\n\
-G9 = NAND(G16, G15)\n\
-G10 = NOR(G14, G11)\n\
-G11 = NOR(G5, G9)\n\
-G12 = NOR(G1, G7)\n\
-G13 = NOR(G2, G12)\n";
+/// A flip-flop in front of an inverter.
+const NET: &[u8] = b"INPUT(A)\nOUTPUT(Y)\nQ = DFF(A)\nY = NOT(Q)\n";
 
-/// The plan of its lot: four dies, of which that of site 2 has a net that is stuck at 1, so that its try fails.
-const PLAN: &[u8] = b"lot,256,1,16,,\n\
-clock,CK,,,,\n\
-bind,SO,G7,,,\n\
-die,0,a,s27scan.bench,,\n\
-die,1,b,s27scan.bench,,\n\
-die,2,c,s27scan.bench,,\n\
-die,3,d,s27scan.bench,,\n\
-fault,2,c,G9,1,\n";
+/// A plan with a die at site 2, whose net Q is stuck at 1, so that its try fails.
+const PLAN: &[u8] = b"lot,256,1,16,,\nclock,C,,,,\ndie,2,c,dff.bench,,\nfault,2,c,Q,1,\n";
 
 /// The site of that die.
 const SITE: u8 = 2;
 
 /// How many drive calls the try has.
-const CALLS: usize = 21;
+const CALLS: usize = 6;
 
 /// The program that these bytes save.
 fn code_of(alloc: Global, bytes: &[u8]) -> Result<Code, Fail> {
@@ -207,7 +157,7 @@ fn planned(alloc: Global) -> Result<(Code, BoundPlan), Fail>
     ensures site { IfOk result (λ made. 2 < sites_of made.1.rows) }
     ensures die { IfOk result (λ made. 0 < length (dies_at 2 made.1.rows)) }
 {
-    let code = code_of(alloc, S27_SCAN)?;
+    let code = code_of(alloc, PROGRAM)?;
     let plan = bound(alloc, &code, PLAN, NET)?;
     Ok((code, plan))
 }

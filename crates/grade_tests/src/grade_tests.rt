@@ -9,7 +9,7 @@ use die_sim::StuckAt;
 use fault_grade::{Grade, Graded, fault_count, first_of, grade, grade_run};
 use lot_plan::{BoundPlan, Plan};
 use page_code::{Code, load};
-use std::alloc::{AllocError, Global};
+use std::alloc::Global;
 use std::sync::atomic::{AtomicU64, Ordering};
 use std::sync::{Arc, Wait};
 use std::test::Fail;
@@ -19,27 +19,18 @@ use tester_types::{Gate, OpenGate};
 /// How often a gate looks before it lets a worker through that no other one came for.
 const LOOKS: u32 = 10_000_000;
 
-/// A program up to the count of its instructions: the signals A, C and Y; a table w of 100 ns, where A is driven down or
+/// A program: the signals A, C and Y; a table w of 100 ns, where A is driven down or
 /// up at 0, C falls at 0, rises at 20 ns and falls at 60 ns, and Y is wanted high or low at 40 ns; the rows 0 P H and
-/// 1 P L; and one executive.
-const FRONT: &[u8] = &[
+/// 1 P L; and an executive of both rows, each once.
+static BOTH: &[u8] = &[
     0xD7, 0x53, 0x54, 0x50, 1, 0, 0, 0, 3, 0, 0, 1, 0, b'A', 0, 1, 0, b'C', 1, 1, 0, b'Y', 1, 0, 1,
     0, b'w', 0x00, 0xE1, 0xF5, 0x05, 0, 0, 0, 0, 5, 0, 0, 0, 0, 0, b'0', 1, 0, 0, 0, 0, 0, 0, 0, 0,
     1, 0, 0, b'1', 1, 0, 0, 0, 0, 0, 0, 0, 0, 2, 1, 0, b'P', 3, 0, 0, 0, 0, 0, 0, 0, 0, 1, 0x00,
     0x2D, 0x31, 0x01, 0, 0, 0, 0, 2, 0x00, 0x87, 0x93, 0x03, 0, 0, 0, 0, 1, 2, 0, b'H', 1, 0x00,
     0x5A, 0x62, 0x02, 0, 0, 0, 0, 7, 2, 0, b'L', 1, 0x00, 0x5A, 0x62, 0x02, 0, 0, 0, 0, 6, 2, 0, 0,
-    0, b'0', b'P', b'H', b'1', b'P', b'L', 1, 0, 0, 0, 0, 0,
-];
-
-/// The first row alone, and both rows, each once.
-const FIRST: &[u8] = &[
-    2, 0, 0, 0, 1, 0, 0, 0, 0, 0, 0, 0, 0, 0, 0, 0, 1, 0, 0, 0, 4, 0, 0, 0, 0, 0, 0, 0, 0, 0, 0, 0,
-    0, 0, 0, 0,
-];
-
-const BOTH: &[u8] = &[
-    3, 0, 0, 0, 1, 0, 0, 0, 0, 0, 0, 0, 0, 0, 0, 0, 1, 0, 0, 0, 1, 0, 0, 0, 1, 0, 0, 0, 0, 0, 0, 0,
-    1, 0, 0, 0, 4, 0, 0, 0, 0, 0, 0, 0, 0, 0, 0, 0, 0, 0, 0, 0,
+    0, b'0', b'P', b'H', b'1', b'P', b'L', 1, 0, 0, 0, 0, 0, 3, 0, 0, 0, 1, 0, 0, 0, 0, 0, 0, 0, 0,
+    0, 0, 0, 1, 0, 0, 0, 1, 0, 0, 0, 1, 0, 0, 0, 0, 0, 0, 0, 1, 0, 0, 0, 4, 0, 0, 0, 0, 0, 0, 0, 0,
+    0, 0, 0, 0, 0, 0, 0,
 ];
 
 /// An inverter, and a plan of it.
@@ -47,61 +38,9 @@ const INVERTER: &[u8] = b"INPUT(A)\nOUTPUT(Y)\nY = NOT(A)\n";
 
 const PLAN: &[u8] = b"lot,256,1,8,,\nbind,C,-,,,\ndie,0,d0,inv.bench,,\n";
 
-/// A flip-flop in front of the inverter, with an output U that no signal shows, and a plan of it.
-const CLOCKED: &[u8] =
-    b"INPUT(A)\nINPUT(C)\nOUTPUT(Y)\nOUTPUT(U)\nQ = DFF(A)\nY = NOT(Q)\nU = NOT(A)\n";
-
-const CLOCKED_PLAN: &[u8] = b"lot,256,1,8,,\nclock,C,,,,\ndie,0,d0,dff.bench,,\n";
-
-/// s27, its clock and its first inputs in two vectors, of which the first wants a level that the unknown flip-flops don't
-/// give: the saved program.
-const S27: &[u8] = &[
-    0xD7, b'S', b'T', b'P', 2, 0, 0, 0, 6, 0, 0, 2, 0, b'c', b'k', 0, 2, 0, b'G', b'0', 0, 2, 0,
-    b'G', b'1', 0, 2, 0, b'G', b'2', 0, 2, 0, b'G', b'3', 1, 3, 0, b'G', b'1', b'7', 1, 0, 1, 0,
-    b'w', 0, 0xE1, 0xF5, 5, 0, 0, 0, 0, 0x0C, 0, 0, 0, 0, 0, b'P', 2, 0, 0, 0, 0, 0, 0, 0, 0, 1,
-    0x80, 0xF0, 0xFA, 2, 0, 0, 0, 0, 2, 1, 0, b'0', 1, 0, 0, 0, 0, 0, 0, 0, 0, 1, 1, 0, b'1', 1, 0,
-    0, 0, 0, 0, 0, 0, 0, 2, 2, 0, b'0', 1, 0, 0, 0, 0, 0, 0, 0, 0, 1, 2, 0, b'1', 1, 0, 0, 0, 0, 0,
-    0, 0, 0, 2, 3, 0, b'0', 1, 0, 0, 0, 0, 0, 0, 0, 0, 1, 3, 0, b'1', 1, 0, 0, 0, 0, 0, 0, 0, 0, 2,
-    4, 0, b'0', 1, 0, 0, 0, 0, 0, 0, 0, 0, 1, 4, 0, b'1', 1, 0, 0, 0, 0, 0, 0, 0, 0, 2, 5, 0, b'H',
-    1, 0, b'Z', b'b', 2, 0, 0, 0, 0, 7, 5, 0, b'L', 1, 0, b'Z', b'b', 2, 0, 0, 0, 0, 6, 5, 0, b'X',
-    1, 0, b'Z', b'b', 2, 0, 0, 0, 0, 8, 2, 0, 0, 0, 0, b'P', b'0', b'0', b'0', b'0', b'H', 0, b'P',
-    b'1', b'1', b'0', b'0', b'H', 1, 0, 0, 0, 0, 0, 3, 0, 0, 0, 1, 0, 0, 0, 0, 0, 0, 0, 0, 0, 0, 0,
-    1, 0, 0, 0, 1, 0, 0, 0, 1, 0, 0, 0, 0, 0, 0, 0, 1, 0, 0, 0, 4, 0, 0, 0, 0, 0, 0, 0, 0, 0, 0, 0,
-    0, 0, 0, 0,
-];
-
-const S27_NET: &[u8] = b"INPUT(G0)\n\
-INPUT(G1)\n\
-INPUT(G2)\n\
-INPUT(G3)\n\
-OUTPUT(G17)\n\
-G5 = DFF(G10)\n\
-G6 = DFF(G11)\n\
-G7 = DFF(G13)\n\
-G14 = NOT(G0)\n\
-G17 = NOT(G11)\n\
-G8 = AND(G14, G6)\n\
-G15 = OR(G12, G8)\n\
-G16 = OR(G3, G8)\n\
-G9 = NAND(G16, G15)\n\
-G10 = NOR(G14, G11)\n\
-G11 = NOR(G5, G9)\n\
-G12 = NOR(G1, G7)\n\
-G13 = NOR(G2, G12)\n";
-
-const S27_PLAN: &[u8] = b"lot,256,1,8,,\nclock,ck,,,,\ndie,0,d0,s27.bench,,\n";
-
-/// The bytes of the program with these instructions.
-fn program(alloc: Global, instrs: &[u8]) -> Result<Vec<u8>, AllocError> {
-    let mut bytes = Vec::from_slice(alloc, FRONT)?;
-    bytes.extend_from_slice(instrs)?;
-    Ok(bytes)
-}
-
-/// The program with these instructions.
-fn code_of(alloc: Global, instrs: &[u8]) -> Result<Code, Fail> {
-    let bytes = program(alloc, instrs)?;
-    match load(alloc, &bytes) {
+/// The program that these bytes save.
+fn code_of(alloc: Global, bytes: &[u8]) -> Result<Code, Fail> {
+    match load(alloc, bytes) {
         Ok(code) => Ok(code),
         Err(_) => Err("the bytes are a program".into()),
     }
@@ -153,11 +92,11 @@ fn graded_by<R: Threads + Wait + Sync, G: Gate>(
     Ok(grade(rt, alloc, code, &plan, workers, gate)?)
 }
 
-/// The grade of a netlist under a plan by these instructions, with so many workers.
+/// The grade of a netlist under a plan by the program of these bytes, with so many workers.
 fn graded<R: Threads + Wait + Sync, G: Gate>(
     rt: &R,
     alloc: Global,
-    instrs: &[u8],
+    bytes: &[u8],
     text: &[u8],
     net: &[u8],
     workers: u8,
@@ -168,7 +107,7 @@ fn graded<R: Threads + Wait + Sync, G: Gate>(
     requires some { 1 ≤ workers }
     requires few { workers ≤ 16 }
 {
-    let code = code_of(alloc, instrs)?;
+    let code = code_of(alloc, bytes)?;
     graded_by(rt, alloc, &code, text, net, workers, gate)
 }
 
@@ -192,93 +131,6 @@ fn each_fault_of_an_inverter_is_found(rt: HostRuntime) -> Result<(), Fail> {
     for workers in [1u8, 3, 16] {
         let all = graded(&rt, rt.alloc(), BOTH, PLAN, INVERTER, workers, &OpenGate)?;
         assert!(rt; has_firsts(&all, &found));
-    }
-    Ok(())
-}
-
-#[test]
-fn one_vector_finds_two_faults(rt: HostRuntime) -> Result<(), Fail> {
-    let all = graded(&rt, rt.alloc(), FIRST, PLAN, INVERTER, 1, &OpenGate)?;
-    assert!(rt; has_firsts(&all, &[None, Some(0), Some(0), None]));
-    Ok(())
-}
-
-/// The nets A, C, Y, U and Q, in the order in which the text names them, each stuck at 0 and at 1.
-#[test]
-fn a_clock_and_an_output_that_is_not_read_are_not_found(rt: HostRuntime) -> Result<(), Fail> {
-    let found = [
-        Some(1),
-        Some(0),
-        None,
-        None,
-        Some(0),
-        Some(1),
-        None,
-        None,
-        Some(1),
-        Some(0),
-    ];
-    let all = graded(&rt, rt.alloc(), BOTH, CLOCKED_PLAN, CLOCKED, 2, &OpenGate)?;
-    assert!(rt; has_firsts(&all, &found));
-    Ok(())
-}
-
-/// The first failing cycles of the faults of s27: its nets in the order in which the text names them, each stuck at 0 and at 1.
-const S27_FIRSTS: &[Option<u64>] = &[
-    Some(0),
-    None,
-    Some(0),
-    Some(0),
-    Some(0),
-    Some(0),
-    Some(0),
-    Some(0),
-    Some(0),
-    None,
-    Some(0),
-    None,
-    Some(0),
-    Some(0),
-    None,
-    Some(0),
-    None,
-    Some(0),
-    Some(0),
-    Some(0),
-    Some(0),
-    Some(0),
-    None,
-    Some(0),
-    None,
-    Some(0),
-    None,
-    Some(0),
-    Some(0),
-    Some(0),
-    None,
-    Some(0),
-    Some(0),
-    None,
-];
-
-/// s27 is graded, and 24 of its 34 faults are found, by one worker, by three and by sixteen.
-#[test]
-fn the_grade_of_s27_is_one_for_all_numbers_of_workers(rt: HostRuntime) -> Result<(), Fail> {
-    let Ok(code) = load(rt.alloc(), S27) else {
-        return Err("the bytes are a program".into());
-    };
-    for workers in [1u8, 3, 16] {
-        let all = graded_by(
-            &rt,
-            rt.alloc(),
-            &code,
-            S27_PLAN,
-            S27_NET,
-            workers,
-            &OpenGate,
-        )?;
-        assert_eq!(rt; all.good, Some(0));
-        assert!(rt; have_firsts(all.faults.as_slice(), S27_FIRSTS));
     }
     Ok(())
 }

@@ -18,6 +18,3 @@ pub use name::is_plain;
 pub use names::VarList;
 pub use put::{put_calls, put_definitions, put_numbered_var, put_start, put_var};
 pub use read::{DumpFault, read_dump};
-
-#[cfg(test)]
-mod tests;

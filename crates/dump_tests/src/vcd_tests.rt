@@ -2,10 +2,10 @@
 
 ghost use Rattle.std.specs.Prelude.{◌≤◌, length};
 
-use super::*;
 use std::alloc::Global;
 use std::test::Fail;
 use tester_types::{Drive, MemSink, put_all};
+use vcd_text::*;
 
 /// An input that goes down at 0 and up after 100 ns.
 const DUMP: &[u8] =
