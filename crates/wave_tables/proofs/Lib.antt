@@ -1,4 +1,5 @@
 pub mod WaveLemmas
+pub mod PlaceLemmas
 pub mod StandardFacts
 pub mod ScopeLemmas
 pub mod SourceLemmas

@@ -1,19 +1,15 @@
 -- A wave is found among waves in order.
-use Rattle.std.proofs.Common.{◌≡◌, ◌≢◌, ℕ, suc, zero, ◌+◌, ◌*◌, ◌<◌, ◌≤◌, ◌==◌, Bool, true, false, cond, List, [], ◌∷◌, Option, Some, None, length, get_or, refl, sym, ap, ◌∙◌, inl, inr, arith, Result, Ok, Err, MatchResult}
+use Rattle.std.proofs.Common.{◌≡◌, ◌≢◌, ℕ, suc, zero, ◌+◌, ◌*◌, ◌<◌, ◌≤◌, ◌==◌, Bool, true, false, cond, List, [], ◌∷◌, Option, Some, None, length, get_or, refl, sym, ap, ◌∙◌, inl, inr, arith, subst}
 use Rattle.std.specs.Prelude.{slice_get, MatchOption}
 use Rattle.std.specs.Borrow.{Bor}
 use Rattle.std.specs.Option.{option_map}
 use Rattle.std.specs.List.{find, HoldsAt}
-use Rattle.std.specs.List.Sorted.{IsSearchInRange, IsBinarySearchResult, IsNonDecreasingBy}
-use Rattle.std.specs.Ordering.{nat_cmp, ordering_index}
-use Rattle.std.proofs.lemmas.Cmp.{ranked}
-use Rattle.std.proofs.lemmas.List.Sorted.{IsNonDecreasingBy-from_default}
 use Rattle.std.proofs.lemmas.Option.{slice_get-get_or}
-use Rattle.std.proofs.lemmas.Bool.Decides.{nat_tests}
 use Rattle.std.proofs.lemmas.Bool.{cases_lt, and_parts, eqb-true, false_from_ne_true}
 use Rattle.tester_types.specs.Waves.{is_wave}
 use Rattle.tester_types.specs.declared.wave.Wave.{Wave}
 use Rattle.wave_tables.specs.Waves.{wave_key, key_in, AreInOrder}
+use Rattle.wave_tables.specs.Firsts.{AreBefore}
 
 -- the first item that passes
 pub find_first : {X : Type 0} (p : X → Bool) (xs : List X) (i : ℕ) (d : X) → i < length xs → p (get_or xs i d) ≡ true
@@ -63,40 +59,45 @@ abbrev blank : Wave
 blank = record { signal = 0; letter = 0; events = [] }
 
 module _ (waves : List Wave) (in_order : AreInOrder waves) (signal letter : ℕ) (byte : letter < 256) where
-  -- the comparisons with a key rise along waves in order
-  rises : IsNonDecreasingBy (λ (w : Wave). ordering_index (nat_cmp (key_in w) (wave_key signal letter))) waves
-  rises = IsNonDecreasingBy-from_default (λ (w : Wave). ordering_index (nat_cmp (key_in w) (wave_key signal letter)))
-      waves blank (λ i j le within.
-      let up : key_in (get_or waves i blank) ≤ key_in (get_or waves j blank) = below i j le within in
-      grind (arith, nat_tests))
-    where
-      below : (i j : ℕ) → i ≤ j → j < length waves → key_in (get_or waves i blank) ≤ key_in (get_or waves j blank)
-      below i j le within =
-          elim (cases_lt i j) [
-            | inl lt ↦ omega (arith, in_order.rising i j blank lt within)
-            | inr ge ↦ let same : i ≡ j = omega arith in rw same (omega arith)
-          ]
+  -- where the waves before a place are of signals before this one, their keys are below that of the signal and a letter
+  pub keys_before : (place j : ℕ) (d : Wave) → AreBefore waves signal place → j < place → j < length waves
+      → key_in (get_or waves j d) < wave_key signal letter
+  keys_before place j d before lt within =
+      let low : (get_or waves j d).signal < signal = before j d lt within in
+      let small : (get_or waves j d).letter < 256 = in_order.bytes j d within in
+      omega (arith, low, small)
 
-  -- a search by key ends at the wave, or there is none
-  pub searched_wave : (r : Result ℕ ℕ) → IsSearchInRange r (length waves)
-      → IsBinarySearchResult (λ (w : Wave). nat_cmp (key_in w) (wave_key signal letter)) waves r
-      → MatchResult r (λ i. slice_get waves i ≡ find (is_wave signal letter) waves)
-      (λ _. None ≡ find (is_wave signal letter) waves)
-  searched_wave (Ok i) within equal =
-      let key : key_in (get_or waves i blank) ≡ wave_key signal letter =
-      ranked _ (wave_key signal letter) _ (sym (equal blank)) in
-      let here : is_wave signal letter (get_or waves i blank) ≡ true =
-      same_key (get_or waves i blank) signal letter (in_order.bytes i blank within) byte key in
-      let before : (j : ℕ) → j < i → is_wave signal letter (get_or waves j blank) ≡ false =
-      λ j lt. other_key (get_or waves j blank) signal letter
-      (λ e. omega (arith, e, key, in_order.rising j i blank lt within)) in
-      slice_get-get_or waves i blank within ∙ sym (find_first (is_wave signal letter) waves i blank within here before)
-  searched_wave (Err i) within parted =
-      let low : (j : ℕ) → j < i → key_in (get_or waves j blank) < wave_key signal letter =
-      λ j lt. ranked _ (wave_key signal letter) _ (sym ((parted rises).0 j blank (omega arith) lt)) in
-      let high : (j : ℕ) → i ≤ j → j < length waves → wave_key signal letter < key_in (get_or waves j blank) =
-      λ j le lt. ranked _ (wave_key signal letter) _ (sym ((parted rises).1 j blank le lt)) in
+  -- the wave at a place with the key is the one
+  pub found_wave : (i : ℕ) (d : Wave) → i < length waves → key_in (get_or waves i d) ≡ wave_key signal letter
+      → slice_get waves i ≡ find (is_wave signal letter) waves
+  found_wave i d within key =
+      let here : is_wave signal letter (get_or waves i d) ≡ true =
+      same_key (get_or waves i d) signal letter (in_order.bytes i d within) byte key in
+      let before : (j : ℕ) → j < i → is_wave signal letter (get_or waves j d) ≡ false =
+      λ j lt. other_key (get_or waves j d) signal letter
+      (λ e. omega (arith, e, key, in_order.rising j i d lt within)) in
+      slice_get-get_or waves i d within ∙ sym (find_first (is_wave signal letter) waves i d within here before)
+
+  -- there is none where the keys before a place are smaller and that at the place is larger
+  pub no_wave : (i : ℕ) → ((j : ℕ) (d : Wave) → j < i → j < length waves → key_in (get_or waves j d) < wave_key signal letter)
+      → ((d : Wave) → i < length waves → wave_key signal letter < key_in (get_or waves i d))
+      → None ≡ find (is_wave signal letter) waves
+  no_wave i low high =
+      let above : (j : ℕ) → i ≤ j → j < length waves → wave_key signal letter < key_in (get_or waves j blank) =
+      λ j le within. elim (cases_lt i j) [
+        | inl lt ↦ omega (arith, high blank (omega arith), in_order.rising i j blank lt within)
+        | inr ge ↦
+            let same : i ≡ j = omega arith in
+            subst (λ (k : ℕ). wave_key signal letter < key_in (get_or waves k blank)) same (high blank (omega arith))
+      ] in
       let none : (j : ℕ) → j < length waves → is_wave signal letter (get_or waves j blank) ≡ false =
-      λ j lt. other_key (get_or waves j blank) signal letter (λ e.
-      elim (cases_lt j i) [ inl b ↦ omega (arith, e, low j b) | inr a ↦ omega (arith, e, high j a lt) ]) in
+      λ j within. other_key (get_or waves j blank) signal letter (λ e.
+      elim (cases_lt j i) [ inl b ↦ omega (arith, e, low j blank b within) | inr a ↦ omega (arith, e, above j a within) ]) in
       sym (find_none (is_wave signal letter) waves blank none)
+
+  -- the same of a wave that was read there
+  pub found_read : (i : ℕ) (wave : Wave) → i < length waves → wave ≡ get_or waves i wave
+      → key_in wave ≡ wave_key signal letter → Some wave ≡ find (is_wave signal letter) waves
+  found_read i wave within is key =
+      ap Some is ∙ sym (slice_get-get_or waves i wave within)
+      ∙ found_wave i wave within (ap key_in (sym is) ∙ key)

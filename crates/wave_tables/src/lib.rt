@@ -5,6 +5,7 @@
 mod asked;
 mod building;
 mod check;
+mod firsts;
 mod judge;
 mod laws;
 mod lineage;
