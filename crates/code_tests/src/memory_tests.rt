@@ -7,6 +7,7 @@ ghost use Rattle.pattern_mem.specs.Cursor.{IsCursorOf};
 use crate::programs::long_code;
 use page_code::walk;
 use pattern_mem::*;
+use std::alloc::Global;
 use std::sync::{Arc, Wait};
 use std::test::*;
 use std::thread::join_mut;
@@ -37,6 +38,24 @@ fn alike<R: Wait>(
         }
     }
     Ok(Some(most))
+}
+
+/// How many cycles of the program a memory with so many frames gives alike.
+fn alike_with<R: Wait>(rt: &R, alloc: Global, frames: u16) -> Result<Option<u32>, Fail>
+    requires { (1 ≤ frames) × (frames ≤ 256) }
+{
+    let code = long_code(alloc)?;
+    if code.execs() == 0 {
+        return Ok(None);
+    }
+    let (mem, passes) = PatternMem::new(alloc, code, frames, 1)?;
+    match passes.into_vec().pop() {
+        Some(mut pass) => {
+            let mut cursor = at(alloc, &mem, 0)?;
+            Ok(alike(rt, &mem, &mut pass, &mut cursor, 5000)?)
+        }
+        None => Ok(None),
+    }
 }
 
 /// Whether a pool answers that the page was among its entries; none where there is no such page.
@@ -76,6 +95,14 @@ fn two_frames_hold_the_pages_that_were_asked_for_last(rt: HostRuntime) -> Result
         (0, false),
     ] {
         assert_eq!(rt; hits(&mut pool, pages, page, &mut window)?, Some(is_hit));
+    }
+    Ok(())
+}
+
+#[test]
+fn a_loop_across_a_border_with_each_number_of_frames(rt: HostRuntime) -> Result<(), Fail> {
+    for frames in [1, 2, 64] {
+        assert_eq!(rt; alike_with(&rt, rt.alloc(), frames)?, Some(1674));
     }
     Ok(())
 }

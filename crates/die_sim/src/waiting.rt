@@ -94,7 +94,7 @@ impl Waiting {
             Edge::Doubts => list_waiting(self.nets.as_slice(), &self.bits, list),
             Edge::Takes => {
                 let count = list_waiting(self.nets.as_slice(), &self.bits, list);
-                clear_each(&mut self.bits, self.nets.len());
+                self.bits.clear_all();
                 count
             }
         }
@@ -181,18 +181,6 @@ fn set_each(bits: &mut Bits, count: usize)
 {
     for place in 0..count {
         bits.set(place);
-    }
-}
-
-/// Clears those of so many bits that are set.
-fn clear_each(bits: &mut Bits, count: usize)
-    requires { count ≤ length bits.old }
-    ensures { length bits.new ≡ length bits.old }
-{
-    let mut place = bits.next(0);
-    while place < count {
-        bits.clear(place);
-        place = bits.next(place + 1);
     }
 }
 

@@ -1,6 +1,6 @@
 //! A set of places, packed into words of 64.
 
-ghost use Rattle.std.specs.Prelude.{◌≡◌, ℕ, ◌+◌, ◌*◌, ◌/◌, ◌%◌, ◌<◌, ◌≤◌, true, false, length, IfOk, slice_set, slice_index, slice_index_or};
+ghost use Rattle.std.specs.Prelude.{◌≡◌, ℕ, ◌+◌, ◌*◌, ◌/◌, ◌%◌, ◌<◌, ◌≤◌, true, false, length, IfOk, slice_set, slice_index, slice_index_or, replicate};
 ghost use Rattle.std.specs.Int.{bit_at};
 ghost use Rattle.place_bits.specs.Bits.{most_places, bit_of};
 
@@ -55,6 +55,14 @@ impl Bits {
         self.words[place / 64] = word & !(1u64 << (place % 64));
     }
 
+    /// Takes all places out of the set.
+    pub fn clear_all(&mut self)
+        ensures size { length self.new ≡ length self.old }
+        ensures none { (k : ℕ) → slice_index_or self.new k false ≡ false }
+    {
+        put_zeros(&mut self.words);
+    }
+
     /// The first place from this one on that is in the set, past the last place where there is none.
     pub fn next(&self, from: usize) -> usize
         requires { from ≤ length self.now }
@@ -64,6 +72,13 @@ impl Bits {
     {
         next_bit(self.words.as_slice(), from)
     }
+}
+
+/// Puts 0 in the place of each word.
+fn put_zeros(words: &mut Vec<u64>)
+    ensures { words.new.items ≡ replicate (length words.old.items) 0 }
+{
+    words.as_mut_slice().fill(0);
 }
 
 /// The place of the lowest 1 of a word that isn't 0.

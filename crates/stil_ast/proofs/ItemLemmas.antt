@@ -1,8 +1,8 @@
 -- Runs of data judged without spreading them: how many items they are, and whether they are one alone.
-use Rattle.std.proofs.Common.{◌≡◌, ℕ, zero, suc, ◌+◌, ◌*◌, ◌≤◌, List, [], ◌∷◌, ◌++◌, Option, Some, None, refl, sym, ap, ◌∙◌, arith, length, append_assoc, append-nil, replicate, option_map, if◌then◌else◌}
+use Rattle.std.proofs.Common.{◌≡◌, ℕ, zero, suc, ◌+◌, ◌*◌, ◌≤◌, List, [], ◌∷◌, ◌++◌, get_or, set, Option, Some, None, refl, sym, ap, ◌∙◌, arith, length, append_assoc, append-nil, replicate, option_map, if◌then◌else◌}
 use Rattle.std.specs.Prelude.{◌==◌}
 use Rattle.std.proofs.lemmas.Bool.{cond-false, ne_eqb}
-use Rattle.std.proofs.lemmas.List.{length-append, length-replicate}
+use Rattle.std.proofs.lemmas.List.{length-append, length-replicate, replicate-append-replicate}
 use Rattle.std.proofs.lemmas.List.Elements.{All-head, All-push, All-tail}
 use Rattle.std.proofs.lemmas.List.Sums.{sum_by-cons}
 use Rattle.text_bytes.specs.Limits.{most_repeats}
@@ -29,6 +29,24 @@ items_of-more [] run = append-nil (replicate run.times (item_of run.item))
 items_of-more (first ∷ runs) run =
     ap (λ items. replicate first.times (item_of first.item) ++ items) (items_of-more runs run)
     ∙ sym (append_assoc (replicate first.times (item_of first.item)) (items_of runs) (replicate run.times (item_of run.item)))
+
+-- the items of runs of which the last is made longer
+pub items_of-longer : (runs : List ItemRun) (at times : ℕ) (last : ItemRun) (item : VecItem) → suc at ≡ length runs
+    → last ≡ get_or runs at last → item_of last.item ≡ item_of item
+    → items_of (set runs at (record { item = last.item; times = last.times + times }))
+    ≡ items_of runs ++ replicate times (item_of item)
+items_of-longer [] at times last item one is same = elim (let f : ⊥ = omega (arith, one) in f) [ ]
+items_of-longer (run ∷ []) zero times last item one is same =
+    append-nil (replicate (last.times + times) (item_of last.item))
+    ∙ sym (replicate-append-replicate last.times times (item_of last.item))
+    ∙ ap (λ i. replicate last.times (item_of last.item) ++ replicate times i) same
+    ∙ ap (λ (r : ItemRun). replicate r.times (item_of r.item) ++ replicate times (item_of item)) is
+    ∙ ap (λ items. items ++ replicate times (item_of item)) (sym (append-nil (replicate run.times (item_of run.item))))
+items_of-longer (run ∷ more ∷ runs) zero times last item one is same = elim (let f : ⊥ = omega (arith, one) in f) [ ]
+items_of-longer (run ∷ runs) (suc at) times last item one is same =
+    ap (λ items. replicate run.times (item_of run.item) ++ items)
+    (items_of-longer runs at times last item (omega (arith, one)) is same)
+    ∙ sym (append_assoc (replicate run.times (item_of run.item)) (items_of runs) (replicate times (item_of item)))
 
 -- one run more that is not too long
 pub one_more_keeps : (runs : List ItemRun) (run : ItemRun) → KeepRepeats runs → run.times ≤ most_repeats → KeepRepeats (runs ++ run ∷ [])

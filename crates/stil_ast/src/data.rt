@@ -2,6 +2,7 @@
 
 use std::alloc::{AllocError, Global};
 use std::marker::Model;
+use text_bytes::MOST_REPEATS;
 
 /// One item of data.
 #[derive(Clone, Copy, Debug, PartialEq, Eq)]
@@ -40,7 +41,7 @@ impl Model for VecText {
     ghost invariant = { λ t. KeepRepeats t.runs.items };
 }
 
-ghost use Rattle.std.specs.Prelude.{◌≡◌, ◌≤◌, ◌++◌, [], replicate, IfOk, OnOk, OnErr};
+ghost use Rattle.std.specs.Prelude.{◌≡◌, ◌≤◌, ◌++◌, [], true, replicate, IfOk, OnOk, OnErr, if◌then◌else◌};
 ghost use Rattle.text_bytes.specs.Limits.{most_repeats};
 ghost use Rattle.stil_ast.specs.Data.Items.{item_of, items_of, KeepRepeats};
 
@@ -53,13 +54,16 @@ impl VecText {
         Ok(VecText { runs })
     }
 
-    /// Adds an item that stands so often. At an error nothing changes.
+    /// Adds an item that stands so often. A run of the same item before it becomes longer, as long as it may be. At an
+    /// error nothing changes.
     pub fn push(&mut self, item: VecItem, times: u32) -> Result<(), AllocError>
         requires { times ≤ most_repeats }
         ensures added { OnOk result (self.new ≡ self.old ++ replicate times (item_of item)) }
         ensures kept { OnErr result (self.new ≡ self.old) }
     {
-        self.runs.push(ItemRun { item, times })?;
+        if !lengthen(&mut self.runs, item, times) {
+            self.runs.push(ItemRun { item, times })?;
+        }
         Ok(())
     }
 
@@ -93,4 +97,42 @@ impl VecText {
     {
         self.runs.as_slice()
     }
+}
+
+/// Whether two items are one.
+fn is_same(a: VecItem, b: VecItem) -> bool
+    ensures { result ≡ true → item_of a ≡ item_of b }
+{
+    match (a, b) {
+        (VecItem::Letter(first), VecItem::Letter(second)) => first == second,
+        (VecItem::Take, VecItem::Take) => true,
+        (VecItem::Peek, VecItem::Peek) => true,
+        _ => false,
+    }
+}
+
+/// Makes the last run longer by so many items, where it is of this item and stays short enough, and says whether it did.
+fn lengthen(runs: &mut Vec<ItemRun>, item: VecItem, times: u32) -> bool
+    requires repeats { KeepRepeats runs.old.items }
+    requires times { times ≤ most_repeats }
+    ensures items { items_of runs.new.items ≡ (if result
+        then items_of runs.old.items ++ replicate times (item_of item) else items_of runs.old.items) }
+    ensures repeats { KeepRepeats runs.new.items }
+{
+    let count = runs.len();
+    if count == 0 {
+        return false;
+    }
+    let last = runs[count - 1];
+    if !is_same(last.item, item) {
+        return false;
+    }
+    if u64::from(last.times) + u64::from(times) > MOST_REPEATS {
+        return false;
+    }
+    runs[count - 1] = ItemRun {
+        item: last.item,
+        times: last.times + times,
+    };
+    true
 }
