@@ -15,10 +15,10 @@ fn trees_may_cross_threads() {
 /// A letter for each item at the top of a tree.
 fn letters(alloc: Global, tree: &FlatList) -> Result<Vec<u8>, AllocError> {
     let mut letters = Vec::new(alloc);
-    for item in tree.as_slice() {
+    for item in tree.steps() {
         letters.push(match item {
             FlatItem::Table(_) => b'T',
-            FlatItem::Character(_, character) => *character,
+            FlatItem::Character(_, character) => character,
             FlatItem::Back(_) => b'B',
             FlatItem::Cycle(_, _) => b'V',
             FlatItem::Repeat(_, _) => b'L',

@@ -1,5 +1,5 @@
 -- What calls leave in a tree serves for it.
-use Rattle.std.proofs.Common.{Box, Global, ◌≡◌, ℕ, zero, suc, ◌+◌, ◌≤◌, ◌||◌, Bool, true, false, List, [], ◌∷◌, ◌++◌, refl, ap, sym, ◌∙◌, arith, if◌then◌else◌}
+use Rattle.std.proofs.Common.{◌≡◌, ℕ, zero, suc, ◌+◌, ◌||◌, Bool, true, false, List, [], ◌∷◌, ◌++◌, refl, ap, sym, ◌∙◌, arith, if◌then◌else◌}
 use Rattle.std.proofs.lemmas.Bool.{or_parts, cond_both, cond-false}
 use Rattle.stil_ast.specs.Meaning.State.{State}
 use Rattle.stil_ast.specs.Meaning.Flat.{Flat, done, table, character, back, cycle, repeat, save, saved, flat_run, measure}
@@ -9,12 +9,11 @@ use Rattle.stil_ast.specs.Meaning.Running.{Made, Ran, still, behind, then_run, t
 use Rattle.stil_ast.specs.Meaning.ExecutiveData.{IsSameFlat}
 use Rattle.stil_ast.proofs.FlatSteps.{flat_run-joined}
 use Rattle.stil_ast.proofs.RunLemmas.{then_run-same}
-use Rattle.flat_tree.specs.Items.{item_front, items_flat, body_count}
+use Rattle.flat_tree.specs.Slots.{whole_front, wholes_flat}
 use Rattle.flat_tree.specs.Kept.{has_vector, loops_in, call_front, kept}
-use Rattle.flat_tree.specs.declared.flat.FlatItem.{FlatItem}
-use Rattle.flat_tree.specs.declared.flat.FlatList.{FlatList}
-use Rattle.flat_tree.specs.declared.flat.FlatItem.TheVariants.{Table, Character, Back, Cycle, Repeat, Save}
-use Rattle.flat_tree.proofs.FlatLemmas.{front_bodies, joined-assoc, joined-done, measure-joined, least_written-joined}
+use Rattle.flat_tree.specs.declared.flat.Whole.{Whole}
+use Rattle.flat_tree.specs.declared.flat.Whole.TheVariants.{Cycle, Repeat, Save}
+use Rattle.flat_tree.proofs.FlatLemmas.{joined-assoc, joined-done, measure-joined, least_written-joined}
 use Rattle.flat_tree.proofs.SameLemmas.{same-refl, same-trans, same-repeat, same-save, same-table, same-character, same-back, same-cycle}
 
 -- passes that make nothing make nothing together
@@ -187,49 +186,22 @@ call_front-joined body a b = front_joined (has_vector body)
     front_joined true = refl
     front_joined false = joined-assoc (loops_in body) a b
 
--- the loops of an item, and of what stands behind it
-front-loops : (item : FlatItem) (rest : Flat)
-    → loops_in (item_front item rest) ≡ joined (loops_in (item_front item done)) (loops_in rest)
-front-loops (Table t) rest = refl
-front-loops (Character signal c) rest = refl
-front-loops (Back signal) rest = refl
-front-loops (Cycle mark place) rest = refl
-front-loops (Repeat count body) rest = refl
-front-loops (Save putting body) rest =
+-- the loops of a whole, and of what stands behind it
+whole-loops : (whole : Whole) (rest : Flat)
+    → loops_in (whole_front whole rest) ≡ joined (loops_in (whole_front whole done)) (loops_in rest)
+whole-loops (Cycle mark place) rest = refl
+whole-loops (Repeat count body) rest = refl
+whole-loops (Save putting body) rest =
     ap (λ (f : Flat). joined f (loops_in rest)) (sym (joined-done (loops_in body.value)))
 
--- those of an item are added, with others still to come
-pub loops_more : (loops more : Flat) (item : FlatItem) (rest : List FlatItem)
-    → more ≡ joined loops (loops_in (item_front item done))
-    → joined more (loops_in (items_flat rest)) ≡ joined loops (loops_in (items_flat (item ∷ rest)))
-loops_more loops more item rest e =
-    ap (λ (f : Flat). joined f (loops_in (items_flat rest))) e
-    ∙ (joined-assoc loops (loops_in (item_front item done)) (loops_in (items_flat rest))
-    ∙ ap (joined loops) (sym (front-loops item (items_flat rest))))
-
--- the rest of a list has no more bodies
-pub rest_bodies-le : (item : FlatItem) (rest : List FlatItem)
-    → body_count (items_flat rest) ≤ body_count (items_flat (item ∷ rest))
-rest_bodies-le item rest = omega (arith, front_bodies item (items_flat rest))
-
--- an item that is neither a loop nor a save adds nothing
-pub loops_apart : (loops : Flat) (item : FlatItem)
-    → ((count : ℕ) (body : Box FlatList Global) → item ≡ Repeat count body → ⊥)
-    → ((putting : Bool) (body : Box FlatList Global) → item ≡ Save putting body → ⊥)
-    → loops ≡ joined loops (loops_in (item_front item done))
-loops_apart loops (Table t) no_loop no_save = sym (joined-done loops)
-loops_apart loops (Character signal c) no_loop no_save = sym (joined-done loops)
-loops_apart loops (Back signal) no_loop no_save = sym (joined-done loops)
-loops_apart loops (Cycle mark place) no_loop no_save = sym (joined-done loops)
-loops_apart loops (Repeat count body) no_loop no_save = absurd (no_loop count body refl)
-loops_apart loops (Save putting body) no_loop no_save = absurd (no_save putting body refl)
-
--- a save adds the loops of its body
-pub loops_in_save : (item : FlatItem) (putting : Bool) (body : Box FlatList Global) (f : Flat) → item ≡ Save putting body
-    → f ≡ body.value → loops_in f ≡ loops_in (item_front item done)
-loops_in_save item putting body f is e =
-    ap loops_in e
-    ∙ (sym (joined-done (loops_in body.value)) ∙ ap (λ (x : FlatItem). loops_in (item_front x done)) (sym is))
+-- those of a whole are added, with others still to come
+pub loops_more : (loops more : Flat) (whole : Whole) (rest : List Whole)
+    → more ≡ joined loops (loops_in (whole_front whole done))
+    → joined more (loops_in (wholes_flat rest)) ≡ joined loops (loops_in (wholes_flat (whole ∷ rest)))
+loops_more loops more whole rest e =
+    ap (λ (f : Flat). joined f (loops_in (wholes_flat rest))) e
+    ∙ (joined-assoc loops (loops_in (whole_front whole done)) (loops_in (wholes_flat rest))
+    ∙ ap (joined loops) (sym (whole-loops whole (wholes_flat rest))))
 
 -- without a vector a call leaves its loops
 pub loops_left : (body loops : Flat) → has_vector body ≡ false → loops ≡ loops_in body → loops ≡ call_front body done

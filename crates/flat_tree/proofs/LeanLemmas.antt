@@ -1,23 +1,20 @@
 -- Each step from a list's end keeps a lean tree that does the same.
-use Rattle.std.proofs.Common.{◌≡◌, ◌≢◌, ℕ, zero, suc, ◌<◌, ◌==◌, ◌||◌, Bool, true, false, List, [], ◌∷◌, Some, None, refl, ap, sym, ◌∙◌, subst, length, slice_index_or, slice_set, get_or-set_other, get_or-set_same, eq-eqb, eqb-true, arith}
-use Rattle.std.proofs.lemmas.List.{length-set, length-replicate, get_or-replicate}
+use Rattle.std.proofs.Common.{◌≡◌, ℕ, zero, suc, ◌<◌, Bool, true, false, List, [], ◌∷◌, Some, None, refl, ap, sym, ◌∙◌, subst, length, slice_index_or, arith}
+use Rattle.std.proofs.lemmas.List.{length-replicate, get_or-replicate}
+use Rattle.std.specs.List.{AllZip}
 use Rattle.stil_ast.specs.Meaning.Dealing.{with_letter}
 use Rattle.stil_ast.specs.Meaning.State.{State}
 use Rattle.stil_ast.specs.Meaning.Running.{Ran}
-use Rattle.stil_ast.specs.Meaning.Flat.{Flat, table, character, back, repeat, measure}
+use Rattle.stil_ast.specs.Meaning.Flat.{Flat, table, character, back, measure}
 use Rattle.stil_ast.specs.Meaning.ExecutiveData.{IsSameFlat}
 use Rattle.flat_tree.specs.Lean.{sets_table, sets_signal, IsLean, Ahead}
-use Rattle.flat_tree.specs.Leaning.{IsMade, none_ahead}
-use Rattle.flat_tree.proofs.SameLemmas.{same-table, same-character, same-back, same-repeat}
+use Rattle.flat_tree.specs.Slots.{whole_front, slots_flat, next_count, wholes_in}
+use Rattle.flat_tree.specs.Leaning.{AreMade, IsLeaned, IsMade, none_ahead}
+use Rattle.flat_tree.specs.declared.flat.Slot.{Slot}
+use Rattle.flat_tree.specs.declared.flat.Slot.TheVariants.{Next}
+use Rattle.flat_tree.specs.declared.flat.Whole.{Whole}
+use Rattle.flat_tree.specs.declared.flat.Whole.TheVariants.{Cycle, Repeat, Save}
 use Rattle.flat_tree.proofs.AheadLemmas.{run_and_least, overwritten, overwritten_table}
-
--- the table is set ahead
-abbrev pub table_ahead : Ahead → Ahead
-table_ahead a = record { table = true; signals = a.signals }
-
--- a signal is set ahead
-abbrev pub signal_ahead : ℕ → Ahead → Ahead
-signal_ahead signal a = record { table = a.table; signals = slice_set a.signals signal true }
 
 -- what is found true in a list stands in it
 found_within : (bs : List Bool) (i : ℕ) → slice_index_or bs i false ≡ true → i < length bs
@@ -55,17 +52,6 @@ table_dropped signals a t made wanted m e =
       at_signal = m.at_signal;
     }
 
-pub table_kept : (signals : ℕ) (a : Ahead) (t : ℕ) (made wanted : Flat) → IsMade signals a made wanted
-    → a.table ≡ false → IsMade signals (table_ahead a) (table t made) (table t wanted)
-table_kept signals a t made wanted m e =
-    record {
-      same = same-table t made wanted m.same;
-      lean = (sym m.at_table ∙ e, m.lean);
-      size = m.size;
-      at_table = refl;
-      at_signal = m.at_signal;
-    }
-
 -- a signal that is found ahead is set by what was made
 found_set : (signals : ℕ) (a : Ahead) (signal : ℕ) (made wanted : Flat) → IsMade signals a made wanted
     → slice_index_or a.signals signal false ≡ true → sets_signal signal made ≡ true
@@ -94,51 +80,6 @@ back_dropped signals a signal made wanted m e =
     (λ base s. overwritten signal (slice_index_or base.letters signal None) made base s
     (found_set signals a signal made wanted m e)))
 
--- what is set ahead once a signal is
-set_now : (b : Bool) (bs : List Bool) (signal other : ℕ) (sets : Bool) → (signal == other) ≡ b
-    → other < length bs → slice_index_or bs other false ≡ sets
-    → slice_index_or (slice_set bs signal true) other false ≡ (b || sets)
-set_now true bs signal other sets e within known =
-    let same : signal ≡ other = eqb-true signal other e in
-    subst (λ (n : ℕ). slice_index_or (slice_set bs n true) other false ≡ true) (sym same)
-    (get_or-set_same bs other true false within)
-set_now false bs signal other sets e within known =
-    let ne : other ≢ signal = λ same. let h : (signal == other) ≡ true = eq-eqb signal other (sym same) in cc in
-    get_or-set_other bs signal other true false ne ∙ known
-
--- the same, once an assignment has been put in front
-signal_now : (signals : ℕ) (a : Ahead) (signal : ℕ) (made wanted : Flat) → IsMade signals a made wanted → (other : ℕ)
-    → other < signals
-    → slice_index_or (slice_set a.signals signal true) other false ≡ ((signal == other) || sets_signal other made)
-signal_now signals a signal made wanted m other within =
-    set_now (signal == other) a.signals signal other (sets_signal other made) refl
-    (subst (λ (n : ℕ). other < n) (sym m.size) within)
-    (m.at_signal other within)
-
-pub character_kept : (signals : ℕ) (a : Ahead) (signal c : ℕ) (made wanted : Flat) → IsMade signals a made wanted
-    → slice_index_or a.signals signal false ≡ false
-    → IsMade signals (signal_ahead signal a) (character signal c made) (character signal c wanted)
-character_kept signals a signal c made wanted m e =
-    record {
-      same = same-character signal c made wanted m.same;
-      lean = (λ within. sym (m.at_signal signal within) ∙ e, m.lean);
-      size = length-set a.signals signal true ∙ m.size;
-      at_table = m.at_table;
-      at_signal = signal_now signals a signal made wanted m;
-    }
-
-pub back_kept : (signals : ℕ) (a : Ahead) (signal : ℕ) (made wanted : Flat) → IsMade signals a made wanted
-    → slice_index_or a.signals signal false ≡ false
-    → IsMade signals (signal_ahead signal a) (back signal made) (back signal wanted)
-back_kept signals a signal made wanted m e =
-    record {
-      same = same-back signal made wanted m.same;
-      lean = (λ within. sym (m.at_signal signal within) ∙ e, m.lean);
-      size = length-set a.signals signal true ∙ m.size;
-      at_table = m.at_table;
-      at_signal = signal_now signals a signal made wanted m;
-    }
-
 -- a tree that begins with a vector, a loop or a save
 pub whole_made : (signals : ℕ) (a : Ahead) (made wanted : Flat) → length a.signals ≡ signals → IsSameFlat made wanted
     → IsLean signals made → sets_table made ≡ false → ((signal : ℕ) → sets_signal signal made ≡ false)
@@ -155,14 +96,51 @@ whole_made signals a made wanted size same lean no_table no_signal =
           ∙ sym (no_signal signal);
     }
 
--- a loop of a lean body in front, where some were ahead in its body
-pub repeat_made : (signals count : ℕ) (a in_body b : Ahead) (body other begun made wanted whole : Flat)
-    → IsMade signals a made wanted → begun ≡ other → IsSameFlat body begun → IsLean (length a.signals) body
-    → length in_body.signals ≡ length a.signals → whole ≡ repeat count body made → b ≡ none_ahead in_body
-    → IsMade signals b whole (repeat count other wanted)
-repeat_made signals count a in_body b body other begun made wanted whole m same_body same lean size is none =
-    subst (λ (f : Flat). IsMade signals b f (repeat count other wanted)) (sym is)
-    (subst (λ (x : Ahead). IsMade signals x (repeat count body made) (repeat count other wanted)) (sym none)
-    (whole_made signals in_body (repeat count body made) (repeat count other wanted) (size ∙ m.size)
-    (same-repeat count body other made wanted (subst (λ (f : Flat). IsSameFlat body f) same_body same) m.same)
-    (subst (λ (n : ℕ). IsLean n body) m.size lean, m.lean) refl (λ signal. refl)))
+-- ---- slots
+
+-- an assignment stays or goes
+pub in_front : (signals : ℕ) (a b : Ahead) (slot : Slot) (kept now slots : List Slot) → AreMade signals a kept slots
+    → length b.signals ≡ signals → next_count slot ≡ 0 → wholes_in now ≡ wholes_in kept
+    → ((lean was : List Whole) → IsMade signals a (slots_flat kept lean) (slots_flat slots was)
+    → IsMade signals b (slots_flat now lean) (slots_flat (slot ∷ slots) was))
+    → AreMade signals b now (slot ∷ slots)
+in_front signals a b slot kept now slots m size none fits step =
+    record {
+      size = size;
+      fits = omega (arith, fits, m.fits, none);
+      made = λ lean was leaned fit. step lean was (m.made lean was leaned (omega (arith, fit, none)));
+    }
+
+-- a vector, a loop or a save sets nothing before itself
+no_table : (whole : Whole) (rest : Flat) → sets_table (whole_front whole rest) ≡ false
+no_table (Cycle mark place) rest = refl
+no_table (Repeat count body) rest = refl
+no_table (Save putting body) rest = refl
+
+no_signal : (whole : Whole) (rest : Flat) (signal : ℕ) → sets_signal signal (whole_front whole rest) ≡ false
+no_signal (Cycle mark place) rest signal = refl
+no_signal (Repeat count body) rest signal = refl
+no_signal (Save putting body) rest signal = refl
+
+-- the next of the wholes stands in front
+next_made : (signals : ℕ) (a : Ahead) (kept slots : List Slot) → AreMade signals a kept slots → (lean was : List Whole)
+    → AllZip (IsLeaned signals) lean was → wholes_in (Next ∷ slots) ≡ length was
+    → IsMade signals (none_ahead a) (slots_flat (Next ∷ kept) lean) (slots_flat (Next ∷ slots) was)
+next_made signals a kept slots m lean [] leaned fit = absurd (omega (arith, fit))
+next_made signals a kept slots m [] (was ∷ others) leaned fit = absurd leaned
+next_made signals a kept slots m (lean ∷ more) (was ∷ others) leaned fit =
+    let rest = m.made more others leaned.1 (omega (arith, fit)) in
+    whole_made signals a (whole_front lean (slots_flat kept more)) (whole_front was (slots_flat slots others)) m.size
+    (leaned.0.same (slots_flat kept more) (slots_flat slots others) rest.same)
+    (leaned.0.stays (slots_flat kept more) rest.lean) (no_table lean (slots_flat kept more))
+    (no_signal lean (slots_flat kept more))
+
+-- it stays, whatever it is
+pub next_stays : (signals : ℕ) (a : Ahead) (kept slots : List Slot) → AreMade signals a kept slots
+    → AreMade signals (none_ahead a) (Next ∷ kept) (Next ∷ slots)
+next_stays signals a kept slots m =
+    record {
+      size = length-replicate (length a.signals) false ∙ m.size;
+      fits = omega (arith, m.fits);
+      made = next_made signals a kept slots m;
+    }

@@ -1,5 +1,6 @@
 pub mod StandardFacts
 pub mod FlatLemmas
+pub mod SlotLemmas
 pub mod SameLemmas
 pub mod AheadLemmas
 pub mod MarkLemmas

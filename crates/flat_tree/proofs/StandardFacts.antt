@@ -3,10 +3,12 @@ use Rattle.std.proofs.Common.{◌≡◌, true, false, [], ◌∷◌, refl, arith
 use Rattle.stil_ast.specs.Data.Places.{of_pattern, Origin}
 use Rattle.stil_ast.specs.Meaning.Flat.{Flat, done, table, character, back, cycle, repeat, save, measure}
 use Rattle.flat_tree.specs.Lean.{sets_table, sets_signal, IsLean}
-use Rattle.flat_tree.specs.Items.{items_flat, item_count}
+use Rattle.flat_tree.specs.Counts.{item_count}
+use Rattle.flat_tree.specs.Slots.{slots_flat}
 use Rattle.flat_tree.specs.Kept.{has_vector, kept}
 use Rattle.flat_tree.specs.FlatCode.{marks, open_trees, innermost}
-use Rattle.flat_tree.specs.declared.flat.FlatItem.TheVariants.{Table, Character, Back}
+use Rattle.flat_tree.specs.declared.flat.Slot.TheVariants.{Table, Character, Back, Next}
+use Rattle.flat_tree.specs.declared.flat.Whole.TheVariants.{Cycle}
 
 -- the first line of a pattern
 abbrev first_line : Origin
@@ -16,8 +18,9 @@ first_line = record { body = of_pattern; line = 1 }
 abbrev vector_last : Flat
 vector_last = cycle 0 first_line done
 
--- items in running order
-in_order : items_flat (Table 2 ∷ Character 0 49 ∷ Back 1 ∷ []) ≡ table 2 (character 0 49 (back 1 done))
+-- items in running order, of which the vectors stand in a list of their own
+in_order : slots_flat (Table 2 ∷ Next ∷ Character 49 0 ∷ Next ∷ Back 1 ∷ []) (Cycle 5 first_line ∷ Cycle 0 first_line ∷ [])
+    ≡ table 2 (cycle 5 first_line (character 0 49 (cycle 0 first_line (back 1 done))))
 in_order = refl
 
 -- a signal is set ahead up to a vector, a loop or a save, and not behind it

@@ -3,10 +3,10 @@
 ghost use Rattle.std.specs.Prelude.{◌≡◌, IfOk, OnErr, OnOk};
 ghost use Rattle.stil_ast.specs.Meaning.Flat.{done};
 ghost use Rattle.stil_ast.specs.Meaning.Flattening.{joined};
-ghost use Rattle.flat_tree.specs.Items.{item_front};
+ghost use Rattle.flat_tree.specs.Slots.{whole_front, wholes_flat};
 ghost use Rattle.flat_tree.specs.Kept.{has_vector, loops_in, call_front};
 
-use crate::flat::{FlatItem, FlatList};
+use crate::flat::{FlatList, Whole};
 use std::alloc::{AllocError, Global};
 
 impl FlatList {
@@ -19,35 +19,42 @@ impl FlatList {
         if body.has_vector() {
             return self.push_save(true, body);
         }
-        let alloc = *self.items.allocator();
+        let alloc = *self.slots.allocator();
         let loops = loops_of(alloc, body)?;
         self.append(loops)
     }
 
-    /// Whether a vector stands in it, at any depth. The search ends at the first.
+    /// Whether a vector stands in it, at any depth.
     #[cycle(vector)]
     fn has_vector(&self) -> bool
         ensures { result ≡ has_vector self.now }
     {
-        for item in self.as_slice() {
-            if item_has_vector(item) {
-                return true;
-            }
-        }
-        false
+        any_vector(self.wholes.as_slice())
     }
 }
 
-/// Whether a vector stands in an item.
+/// Whether a vector is or stands in one of vectors, loops and saves. The search ends at the first.
 #[cycle(vector)]
-fn item_has_vector(item: &FlatItem) -> bool
-    ensures { result ≡ has_vector (item_front item.now done) }
+fn any_vector(wholes: &[Whole]) -> bool
+    ensures { result ≡ has_vector (wholes_flat wholes.now) }
 {
-    match item {
-        FlatItem::Cycle(_, _) => true,
-        FlatItem::Repeat(_, body) => body.has_vector(),
-        FlatItem::Save(_, body) => body.has_vector(),
-        _ => false,
+    for whole in wholes {
+        if whole_has_vector(whole) {
+            return true;
+        }
+    }
+    false
+}
+
+/// Whether a vector is or stands in one of them.
+#[cycle(vector)]
+fn whole_has_vector(whole: &Whole) -> bool
+    ensures { result ≡ has_vector (whole_front whole.now done) }
+{
+    match whole {
+        Whole::Cycle(_, _) => true,
+        Whole::Repeat(_, body) => body.has_vector(),
+        Whole::Save(_, body) => body.has_vector(),
     }
 }
 
@@ -57,32 +64,35 @@ fn loops_of(alloc: Global, body: FlatList) -> Result<FlatList, AllocError>
     ensures { IfOk result (λ f. f ≡ loops_in body) }
 {
     let mut loops = FlatList::new(alloc);
-    add_loops(alloc, &mut loops, body)?;
+    add_loops(alloc, &mut loops, body.wholes)?;
     Ok(loops)
 }
 
-/// Behind a tree stand the loops of another one.
+/// Behind a tree stand the loops of others.
 #[cycle(loops)]
-fn add_loops(alloc: Global, loops: &mut FlatList, body: FlatList) -> Result<(), AllocError>
-    ensures { OnOk result (loops.new ≡ joined loops.old (loops_in body)) }
+fn add_loops(alloc: Global, loops: &mut FlatList, wholes: Vec<Whole>) -> Result<(), AllocError>
+    ensures { OnOk result (loops.new ≡ joined loops.old (loops_in (wholes_flat wholes.items))) }
 {
-    for item in body.items {
-        add_item(alloc, loops, item)?;
+    for whole in wholes {
+        add_loop(alloc, loops, whole)?;
     }
     Ok(())
 }
 
-/// Behind a tree stand the loops of an item.
+/// Behind a tree stands a loop with its loops alone in it, or stand the loops in a save.
 #[cycle(loops)]
-fn add_item(alloc: Global, loops: &mut FlatList, item: FlatItem) -> Result<(), AllocError>
-    ensures { OnOk result (loops.new ≡ joined loops.old (loops_in (item_front item done))) }
+fn add_loop(alloc: Global, loops: &mut FlatList, whole: Whole) -> Result<(), AllocError>
+    ensures { OnOk result (loops.new ≡ joined loops.old (loops_in (whole_front whole done))) }
 {
-    match item {
-        FlatItem::Repeat(count, body) => {
+    match whole {
+        Whole::Cycle(_, _) => Ok(()),
+        Whole::Repeat(count, body) => {
             let inner = loops_of(alloc, Box::into_inner(body))?;
             loops.push_repeat(count, inner)
         }
-        FlatItem::Save(_, body) => add_loops(alloc, loops, Box::into_inner(body)),
-        _ => Ok(()),
+        Whole::Save(_, body) => {
+            let body = Box::into_inner(body);
+            add_loops(alloc, loops, body.wholes)
+        }
     }
 }

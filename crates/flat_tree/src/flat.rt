@@ -1,24 +1,35 @@
-//! A flat tree as a list of items.
+//! A flat tree in two lists: its steps in running order, and of those that aren't assignments what they are.
 
-ghost use Rattle.std.specs.Prelude.{◌≡◌, ◌==◌, OnErr, OnOk};
+ghost use Rattle.std.specs.Prelude.{◌≡◌, ◌==◌, ◌++◌, ◌∷◌, [], OnErr, OnOk, is_ok, if◌then◌else◌};
 ghost use Rattle.stil_ast.specs.Meaning.Flat.{done, table as at_table, character as at_character, back, cycle, repeat, save};
 ghost use Rattle.stil_ast.specs.Meaning.Flattening.{joined};
-ghost use Rattle.flat_tree.specs.Items.{item_front, items_flat, item_count};
+ghost use Rattle.flat_tree.specs.Counts.{item_count};
+ghost use Rattle.flat_tree.specs.Slots.{next_count, slots_flat, whole_front};
+ghost use Rattle.flat_tree.specs.declared.flat.Slot.TheVariants.{Next};
 
 use crate::place::Origin;
 use std::alloc::{AllocError, Global};
 use std::marker::Model;
 
-/// A step of a flat tree.
-#[cycle(flat)]
-#[derive(Drop)]
-pub enum FlatItem {
+/// A step of a flat tree in its list: what is assigned, or that the next of the other steps stands here.
+#[derive(Clone, Copy)]
+pub(crate) enum Slot {
     /// The table from here on, by its number.
     Table(u16),
-    /// A signal, by its number, has this waveform character from here on.
-    Character(u16, u8),
+    /// This waveform character has a signal, by its number, from here on.
+    Character(u8, u16),
     /// A signal has again what it had when the innermost save round it began.
     Back(u16),
+    /// A vector, a loop or a save.
+    Next,
+}
+
+const _: () = prove!(size_of::<Slot>() == 4);
+
+/// A step that isn't an assignment.
+#[cycle(flat)]
+#[derive(Drop)]
+pub(crate) enum Whole {
     /// A vector with its mark, and where its V stands.
     Cycle(u32, Origin),
     /// Runs the body this often.
@@ -27,16 +38,16 @@ pub enum FlatItem {
     Save(bool, Box<FlatList>),
 }
 
-const _: () = prove!(size_of::<FlatItem>() == 24);
-
-/// A flat tree: items in running order. A contract sees it as the `Flat` of the language's definitions.
+/// A flat tree: steps in running order. A contract sees it as the `Flat` of the language's definitions.
 #[cycle(flat)]
 #[derive(Drop)]
 pub struct FlatList {
-    pub(crate) items: Vec<FlatItem>,
+    pub(crate) slots: Vec<Slot>,
+    pub(crate) wholes: Vec<Whole>,
 }
 
 impl Model for FlatList {
+    ghost use Rattle.std.specs.Prelude.{◌≡◌, length};
     ghost use Rattle.stil_ast.specs.Meaning.Flat.{Flat};
 
     ghost Value = { Flat };
@@ -45,15 +56,18 @@ impl Model for FlatList {
 
     ghost coded = { flat_code };
 
-    ghost use Rattle.flat_tree.specs.Items.{items_flat, body_count};
+    ghost use Rattle.flat_tree.specs.Counts.{body_count};
+    ghost use Rattle.flat_tree.specs.Slots.{slots_flat, wholes_in};
 
-    ghost view = { λ f. items_flat f.items.items };
+    ghost view = { λ f. slots_flat f.slots.items f.wholes.items };
+
+    ghost invariant = { λ f. wholes_in f.slots.items ≡ length f.wholes.items };
 
     ghost size = { body_count };
 
-    ghost use Rattle.flat_tree.specs.ItemsFall.{most_le-body_count};
+    ghost use Rattle.flat_tree.specs.SlotsFall.{most_le-body_count};
 
-    ghost size_decreases = { λ f h. most_le-body_count f.items.items };
+    ghost size_decreases = { λ f h. most_le-body_count f.slots.items f.wholes.items h };
 }
 
 impl FlatList {
@@ -62,7 +76,8 @@ impl FlatList {
         ensures { result ≡ done }
     {
         FlatList {
-            items: Vec::new(alloc),
+            slots: Vec::new(alloc),
+            wholes: Vec::new(alloc),
         }
     }
 
@@ -70,29 +85,32 @@ impl FlatList {
     pub fn len(&self) -> usize
         ensures { result ≡ item_count self.now }
     {
-        self.items.len()
+        self.slots.len()
     }
 
     /// Whether it does nothing.
     pub fn is_empty(&self) -> bool
         ensures { result ≡ (item_count self.now == 0) }
     {
-        self.items.is_empty()
+        self.slots.is_empty()
     }
 
-    /// Its items in running order.
-    pub fn as_slice(&self) -> &[FlatItem]
-        ensures { items_flat result.now ≡ self.now }
-    {
-        self.items.as_slice()
-    }
-
-    /// At its end stands an item. An error leaves it as it was.
-    fn push(&mut self, item: FlatItem) -> Result<(), AllocError>
-        ensures made { OnOk result (self.new ≡ joined self.old (item_front item done)) }
+    /// At its end stands an assignment. An error leaves it as it was.
+    fn push_slot(&mut self, slot: Slot) -> Result<(), AllocError>
+        requires { next_count slot ≡ 0 }
+        ensures made { OnOk result (self.new ≡ joined self.old (slots_flat (slot ∷ []) [])) }
         ensures kept { OnErr result (self.new ≡ self.old) }
     {
-        self.items.push(item)?;
+        self.slots.push(slot)?;
+        Ok(())
+    }
+
+    /// At its end stands a vector, a loop or a save. An error leaves it as it was.
+    fn push_whole(&mut self, whole: Whole) -> Result<(), AllocError>
+        ensures made { OnOk result (self.new ≡ joined self.old (whole_front whole done)) }
+        ensures kept { OnErr result (self.new ≡ self.old) }
+    {
+        add_whole(&mut self.slots, &mut self.wholes, whole)?;
         Ok(())
     }
 
@@ -101,7 +119,7 @@ impl FlatList {
         ensures made { OnOk result (self.new ≡ joined self.old (at_table table done)) }
         ensures kept { OnErr result (self.new ≡ self.old) }
     {
-        self.push(FlatItem::Table(table))
+        self.push_slot(Slot::Table(table))
     }
 
     /// At its end a signal gets a character. An error leaves it as it was.
@@ -109,7 +127,7 @@ impl FlatList {
         ensures made { OnOk result (self.new ≡ joined self.old (at_character signal character done)) }
         ensures kept { OnErr result (self.new ≡ self.old) }
     {
-        self.push(FlatItem::Character(signal, character))
+        self.push_slot(Slot::Character(character, signal))
     }
 
     /// At its end a signal gets what it had when the innermost save began. An error leaves it as it was.
@@ -117,7 +135,7 @@ impl FlatList {
         ensures made { OnOk result (self.new ≡ joined self.old (back signal done)) }
         ensures kept { OnErr result (self.new ≡ self.old) }
     {
-        self.push(FlatItem::Back(signal))
+        self.push_slot(Slot::Back(signal))
     }
 
     /// At its end stands a vector with its mark, whose V stands in this place. An error leaves it as it was.
@@ -125,7 +143,7 @@ impl FlatList {
         ensures made { OnOk result (self.new ≡ joined self.old (cycle mark place done)) }
         ensures kept { OnErr result (self.new ≡ self.old) }
     {
-        self.push(FlatItem::Cycle(mark, place))
+        self.push_whole(Whole::Cycle(mark, place))
     }
 
     /// At its end a body is run so often. An error leaves it as it was.
@@ -133,9 +151,9 @@ impl FlatList {
         ensures made { OnOk result (self.new ≡ joined self.old (repeat count body done)) }
         ensures kept { OnErr result (self.new ≡ self.old) }
     {
-        let alloc = *self.items.allocator();
+        let alloc = *self.slots.allocator();
         let body = Box::new(alloc, body)?;
-        self.push(FlatItem::Repeat(count, body))
+        self.push_whole(Whole::Repeat(count, body))
     }
 
     /// At its end a body is run in a save, behind which the state is put back or not. An error leaves it as it was.
@@ -143,9 +161,9 @@ impl FlatList {
         ensures made { OnOk result (self.new ≡ joined self.old (save putting body done)) }
         ensures kept { OnErr result (self.new ≡ self.old) }
     {
-        let alloc = *self.items.allocator();
+        let alloc = *self.slots.allocator();
         let body = Box::new(alloc, body)?;
-        self.push(FlatItem::Save(putting, body))
+        self.push_whole(Whole::Save(putting, body))
     }
 
     /// At its end stands another tree. An error leaves it as it was.
@@ -153,8 +171,42 @@ impl FlatList {
         ensures made { OnOk result (self.new ≡ joined self.old more) }
         ensures kept { OnErr result (self.new ≡ self.old) }
     {
-        let mut items = more.items;
-        self.items.append(&mut items)?;
+        let slots = more.slots;
+        let mut wholes = more.wholes;
+        add_all(
+            &mut self.slots,
+            &mut self.wholes,
+            slots.as_slice(),
+            &mut wholes,
+        )?;
         Ok(())
     }
+}
+
+/// Adds a whole behind others, and a slot for it, or nothing at all.
+fn add_whole(slots: &mut Vec<Slot>, wholes: &mut Vec<Whole>, whole: Whole) -> Result<(), AllocError>
+    ensures slots { slots.new.items ≡ (if is_ok result then slots.old.items ++ Next ∷ [] else slots.old.items) }
+    ensures wholes { wholes.new.items ≡ (if is_ok result then wholes.old.items ++ whole ∷ [] else wholes.old.items) }
+{
+    slots.reserve(1)?;
+    wholes.push(whole)?;
+    slots.push(Slot::Next).unwrap();
+    Ok(())
+}
+
+/// Adds slots and wholes behind others, or nothing at all.
+fn add_all(
+    slots: &mut Vec<Slot>,
+    wholes: &mut Vec<Whole>,
+    more: &[Slot],
+    others: &mut Vec<Whole>,
+) -> Result<(), AllocError>
+    ensures slots { slots.new.items ≡ (if is_ok result then slots.old.items ++ more.now else slots.old.items) }
+    ensures wholes { wholes.new.items
+        ≡ (if is_ok result then wholes.old.items ++ others.old.items else wholes.old.items) }
+{
+    slots.reserve(more.len())?;
+    wholes.append(others)?;
+    slots.extend_from_slice(more).unwrap();
+    Ok(())
 }

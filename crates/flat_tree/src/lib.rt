@@ -8,10 +8,12 @@ mod laws;
 mod measure;
 mod only_last;
 mod place;
+mod steps;
 
-pub use flat::{FlatItem, FlatList};
+pub use flat::FlatList;
 pub use laws::{
     joined_associates, joined_with_nothing, same_is_joined, same_is_reflexive, same_is_repeated,
     same_is_saved, same_is_transitive,
 };
 pub use place::{BodyKind, Origin};
+pub use steps::{FlatItem, FlatSteps};

@@ -1,15 +1,14 @@
 -- The count of a flat tree is how many vectors it runs.
-use Rattle.std.proofs.Common.{◌≡◌, ℕ, zero, suc, ◌+◌, ◌*◌, ◌<◌, Bool, true, false, List, [], ◌∷◌, length, take, get_or, refl, sym, ap, ◌∙◌, length-append, arith}
-use Rattle.std.proofs.lemmas.List.{take_more}
+use Rattle.std.proofs.Common.{◌≡◌, ℕ, zero, suc, ◌+◌, ◌*◌, ◌<◌, Bool, true, false, length, refl, sym, ap, ◌∙◌, length-append, arith}
 use Rattle.stil_ast.specs.Meaning.State.{State}
 use Rattle.stil_ast.specs.Meaning.Flattening.{joined}
 use Rattle.stil_ast.specs.Meaning.Running.{Ran, times}
 use Rattle.stil_ast.specs.Meaning.Flat.{Flat, done, table, character, back, cycle, repeat, save, saved, flat_run}
 use Rattle.page_meaning.specs.Count.{capped}
 use Rattle.page_meaning.proofs.CountLemmas.{capped-closed}
-use Rattle.flat_tree.specs.Items.{item_front, items_flat}
-use Rattle.flat_tree.specs.declared.flat.FlatItem.{FlatItem}
-use Rattle.flat_tree.proofs.FlatLemmas.{items_flat-append}
+use Rattle.flat_tree.specs.Items.{item_front}
+use Rattle.flat_tree.specs.declared.steps.FlatItem.{FlatItem}
+use Rattle.flat_tree.proofs.FlatLemmas.{item_front-joined}
 use Rattle.instr_writer.specs.Counting.{vector_count}
 
 pub times-count : (n : ℕ) (f : State → Ran State) (k : ℕ) → ((s : State) → length (f s).made ≡ k) → (s : State)
@@ -46,15 +45,11 @@ count-joined (cycle mark spot rest) b = omega (arith, count-joined rest b)
 count-joined (repeat count body rest) b = omega (arith, count-joined rest b)
 count-joined (save putting body rest) b = omega (arith, count-joined rest b)
 
--- an item adds its count to that of what stands before it
-pub count-take_more : (items : List FlatItem) (i : ℕ) (d item : FlatItem) → item ≡ get_or items i d → i < length items
-    → vector_count (items_flat (take (i + 1) items))
-    ≡ vector_count (items_flat (take i items)) + vector_count (item_front item done)
-count-take_more items i d item e within =
-    ap (λ (xs : List FlatItem). vector_count (items_flat xs)) (take_more items i d within)
-    ∙ (ap vector_count (items_flat-append (take i items) (get_or items i d ∷ []))
-    ∙ (count-joined (items_flat (take i items)) (item_front (get_or items i d) done)
-    ∙ ap (λ (x : FlatItem). vector_count (items_flat (take i items)) + vector_count (item_front x done)) (sym e)))
+-- an item adds its count to that of what stands behind it
+pub item-count : (item : FlatItem) (rest : Flat)
+    → vector_count (item_front item rest) ≡ vector_count (item_front item done) + vector_count rest
+item-count item rest =
+    ap vector_count (sym (item_front-joined item done rest)) ∙ count-joined (item_front item done) rest
 
 -- a loop's count, capped
 pub capped-loop : (count body : ℕ) → capped (count * capped body) ≡ capped (count * body + 0)

@@ -7,8 +7,6 @@ use Rattle.stil_ast.specs.Meaning.Running.{Made, times, outside}
 use Rattle.stil_ast.specs.Meaning.Flat.{Flat, done, table, character, back, cycle, repeat, save, saved, flat_run}
 use Rattle.stil_ast.specs.Meaning.Flattening.{joined}
 use Rattle.stil_ast.specs.Meaning.ExecutiveData.{distinct_rows}
-use Rattle.flat_tree.specs.Items.{item_front, items_flat}
-use Rattle.flat_tree.specs.declared.flat.FlatItem.{FlatItem}
 use Rattle.page_meaning.specs.declared.instr.Entry.{Entry}
 use Rattle.page_meaning.specs.declared.instr.Instr.{Instr}
 use Rattle.instr_writer.specs.Known.{row_of_letters}
@@ -16,9 +14,8 @@ use Rattle.instr_writer.specs.Working.{looped, row_in, flats_run}
 use Rattle.instr_writer.specs.Passes.{entry_in, with_entry, later_passes, passes, with_passes, vector_at, written, flats_written, IsExact}
 use Rattle.instr_writer.proofs.SameLemmas.{same_code-refl}
 use Rattle.instr_writer.proofs.NumberLemmas.{entry-is, goes_on-earlier}
-use Rattle.instr_writer.proofs.ListLemmas.{taken_more}
 
--- ---- items
+-- ---- trees that are joined
 
 -- a tree behind another one
 pub written-joined : (e : Vector → Entry) (a b : Flat) (base s : State) (code : List Instr)
@@ -35,22 +32,18 @@ written-joined e (repeat count body rest) b base s code =
 written-joined e (save putting body rest) b base s code =
     written-joined e rest b base (saved putting s (flat_run body s s)).here (written e body s s code)
 
-pub exact-item : (first : ℕ) (items : List FlatItem) (i : ℕ) (d item : FlatItem) (base s : State)
-    (old mid new : List Instr) (made : List Made) (rows after : List (List ℕ)) (now : State)
-    → item ≡ get_or items i d → i < length items → now ≡ (flat_run (items_flat (take i items)) base s).here
+pub exact-joined : (first : ℕ) (front last : Flat) (base s : State) (old mid new : List Instr) (made : List Made)
+    (rows after : List (List ℕ)) (now : State) → now ≡ (flat_run front base s).here
     → after ≡ distinct_rows rows (map row_in made)
-    → IsExact first (λ entry code. written entry (items_flat (take i items)) base s code) old mid rows
-    → IsExact first (λ entry code. written entry (item_front item done) base now code) mid new after
-    → IsExact first (λ entry code. written entry (items_flat (take (i + 1) items)) base s code) old new after
-exact-item first items i d item base s old mid new made rows after now is within here grows p q = λ all on.
+    → IsExact first (λ entry code. written entry front base s code) old mid rows
+    → IsExact first (λ entry code. written entry last base now code) mid new after
+    → IsExact first (λ entry code. written entry (joined front last) base s code) old new after
+exact-joined first front last base s old mid new made rows after now here grows p q = λ all on.
     let e = entry_in first all in
-    let front = items_flat (take i items) in
-    let last = item_front item done in
     q all on
     ∙ (ap (written e last base now) (p all (goes_on-earlier rows after all made grows on))
     ∙ (ap (λ (x : State). written e last base x (written e front base s old)) here
-    ∙ (sym (written-joined e front last base s old)
-    ∙ ap (λ (f : Flat). written e f base s old) (sym (taken_more items i d item is within)))))
+    ∙ sym (written-joined e front last base s old)))
 
 -- ---- a vector
 

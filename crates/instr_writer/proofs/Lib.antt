@@ -20,6 +20,7 @@ pub mod WaveLemmas
 pub mod PutLemmas
 pub mod ListLemmas
 pub mod ExactLemmas
+pub mod StepLemmas
 pub mod LeastLemmas
 pub mod VectorLemmas
 pub mod WriteLemmas

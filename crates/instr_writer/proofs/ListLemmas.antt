@@ -1,5 +1,5 @@
--- What is written of a list of items, item by item, and of trees, tree by tree.
-use Rattle.std.proofs.Common.{◌≡◌, ℕ, ◌+◌, ◌<◌, List, [], ◌∷◌, ◌++◌, length, take, drop, take-append-drop, get_or, refl, sym, ap, subst, ◌∙◌, arith}
+-- What is written of trees that are joined, and of trees one after another.
+use Rattle.std.proofs.Common.{◌≡◌, ℕ, ◌+◌, ◌<◌, List, [], ◌∷◌, ◌++◌, length, take, get_or, refl, sym, ap, subst, ◌∙◌, arith}
 use Rattle.std.proofs.lemmas.List.{take_more, get_or_default}
 use Rattle.std.proofs.lemmas.List.Sums.{sum_by_more}
 use Rattle.tester_types.specs.declared.wave.Table.{Table}
@@ -9,9 +9,7 @@ use Rattle.stil_ast.specs.Meaning.Flat.{Flat, done, flat_run, measure}
 use Rattle.stil_ast.specs.Meaning.Flattening.{joined}
 use Rattle.stil_ast.proofs.RunLemmas.{then_run-assoc}
 use Rattle.stil_ast.proofs.FlatSteps.{flat_run-joined}
-use Rattle.flat_tree.specs.Items.{item_front, items_flat}
-use Rattle.flat_tree.specs.declared.flat.FlatItem.{FlatItem}
-use Rattle.flat_tree.proofs.FlatLemmas.{items_flat-append, measure-take_more}
+use Rattle.flat_tree.proofs.FlatLemmas.{measure-joined}
 use Rattle.page_meaning.specs.declared.instr.Instr.{Instr}
 use Rattle.instr_writer.specs.Working.{Walked, IsStopped, flats_run, flats_measure, AreStopped, IsOfTree}
 use Rattle.instr_writer.specs.declared.fault.WriteError.{WriteError}
@@ -20,63 +18,35 @@ use Rattle.instr_writer.specs.declared.trouble.Trouble.TheVariants.{NoMemory, At
 use Rattle.instr_writer.proofs.FaultLemmas.{stopped-behind, stopped-before}
 use Rattle.instr_writer.proofs.WalkedLemmas.{walked-then, walked-as, walked-alone}
 
--- ---- items
+-- ---- trees that are joined
 
--- an item behind those before it
-pub taken_more : (items : List FlatItem) (i : ℕ) (d item : FlatItem) → item ≡ get_or items i d → i < length items
-    → items_flat (take (i + 1) items) ≡ joined (items_flat (take i items)) (item_front item done)
-taken_more items i d item e within =
-    ap items_flat (take_more items i d within)
-    ∙ (items_flat-append (take i items) (get_or items i d ∷ [])
-    ∙ ap (λ (x : FlatItem). joined (items_flat (take i items)) (item_front x done)) (sym e))
+pub walked-joined : (tables : List Table) (first : ℕ) (front last : Flat) (base s : State) (old mid new : List Instr)
+    (before rows after : List (List ℕ)) (now next : State)
+    → Walked tables first (flat_run front base s) (measure front) old mid before rows now
+    → Walked tables first (flat_run last base now) (measure last) mid new rows after next
+    → Walked tables first (flat_run (joined front last) base s) (measure (joined front last)) old new before after next
+walked-joined tables first front last base s old mid new before rows after now next p q =
+    let r = flat_run front base s in
+    let size = measure-joined front last in
+    walked-as tables first (then_run r (flat_run last base)) (flat_run (joined front last) base s)
+    (measure front + measure last) (measure (joined front last)) old new before after next
+    (sym (flat_run-joined front last base s)) (omega (arith, size))
+    (walked-then tables first r (flat_run last base) (measure front) (measure last) old mid new before rows after now next p q)
 
-taken_run : (items : List FlatItem) (i : ℕ) (d item : FlatItem) (base s : State) → item ≡ get_or items i d
-    → i < length items
-    → flat_run (items_flat (take (i + 1) items)) base s
-    ≡ then_run (flat_run (items_flat (take i items)) base s) (flat_run (item_front item done) base)
-taken_run items i d item base s e within =
-    ap (λ (f : Flat). flat_run f base s) (taken_more items i d item e within)
-    ∙ flat_run-joined (items_flat (take i items)) (item_front item done) base s
-
-pub walked-item : (tables : List Table) (first : ℕ) (items : List FlatItem) (i : ℕ) (d item : FlatItem) (base s : State)
-    (old mid new : List Instr) (before rows after : List (List ℕ)) (now next : State)
-    → item ≡ get_or items i d → i < length items
-    → Walked tables first (flat_run (items_flat (take i items)) base s) (measure (items_flat (take i items)))
-    old mid before rows now
-    → Walked tables first (flat_run (item_front item done) base now) (measure (item_front item done))
-    mid new rows after next
-    → Walked tables first (flat_run (items_flat (take (i + 1) items)) base s) (measure (items_flat (take (i + 1) items)))
-    old new before after next
-walked-item tables first items i d item base s old mid new before rows after now next e within p q =
-    let m = measure (items_flat (take i items)) in
-    let n = measure (item_front item done) in
-    let size = measure-take_more items i d item e within in
-    let r = flat_run (items_flat (take i items)) base s in
-    let last = flat_run (item_front item done) base in
-    walked-as tables first (then_run r last) (flat_run (items_flat (take (i + 1) items)) base s) (m + n)
-    (measure (items_flat (take (i + 1) items))) old new before after next
-    (sym (taken_run items i d item base s e within)) (omega (arith, size))
-    (walked-then tables first r last m n old mid new before rows after now next p q)
-
--- a list stops at an item
-pub stopped-item : (tables : List Table) (first : ℕ) (items : List FlatItem) (i : ℕ) (d item : FlatItem) (base s : State)
-    (size : ℕ) (old mid : List Instr) (before rows : List (List ℕ)) (now : State) (t : Trouble)
-    → item ≡ get_or items i d → i < length items
-    → Walked tables first (flat_run (items_flat (take i items)) base s) size old mid before rows now
-    → IsStopped tables (flat_run (item_front item done) base now).made t
-    → IsStopped tables (flat_run (items_flat items) base s).made t
-stopped-item tables first items i d item base s size old mid before rows now t e within p stop =
-    let r = flat_run (items_flat (take i items)) base s in
-    let one = flat_run (item_front item done) base r.here in
-    let here = subst (λ (x : State). IsStopped tables (flat_run (item_front item done) base x).made t) p.here_is stop in
-    let upto = subst (λ (x : Ran State). IsStopped tables x.made t) (sym (taken_run items i d item base s e within))
-    (stopped-behind tables r.made one.made t p.wrote.fine here) in
-    let front = items_flat (take (i + 1) items) in
-    let rest = items_flat (drop (i + 1) items) in
-    let whole = ap items_flat (sym (take-append-drop (i + 1) items)) ∙ items_flat-append (take (i + 1) items) (drop (i + 1) items) in
-    subst (λ (x : Ran State). IsStopped tables x.made t)
-    (sym (ap (λ (f : Flat). flat_run f base s) whole ∙ flat_run-joined front rest base s))
-    (stopped-before tables (flat_run front base s).made (flat_run rest base (flat_run front base s).here).made t upto)
+-- a tree stops in its middle
+pub stopped-joined : (tables : List Table) (first : ℕ) (front last rest : Flat) (base s : State) (size : ℕ)
+    (old mid : List Instr) (before rows : List (List ℕ)) (now : State) (t : Trouble)
+    → Walked tables first (flat_run front base s) size old mid before rows now
+    → IsStopped tables (flat_run last base now).made t
+    → IsStopped tables (flat_run (joined front (joined last rest)) base s).made t
+stopped-joined tables first front last rest base s size old mid before rows now t p stop =
+    let r = flat_run front base s in
+    let one = flat_run last base r.here in
+    let here = subst (λ (x : State). IsStopped tables (flat_run last base x).made t) p.here_is stop in
+    let upto = subst (λ (x : Ran State). IsStopped tables x.made t) (sym (flat_run-joined last rest base r.here))
+    (stopped-before tables one.made (flat_run rest base one.here).made t here) in
+    subst (λ (x : Ran State). IsStopped tables x.made t) (sym (flat_run-joined front (joined last rest) base s))
+    (stopped-behind tables r.made (flat_run (joined last rest) base r.here).made t p.wrote.fine upto)
 
 -- ---- trees
 

@@ -6,7 +6,7 @@ use Rattle.stil_ast.specs.Meaning.State.{State}
 use Rattle.stil_ast.specs.Meaning.Running.{Made, Ran, still, times}
 use Rattle.stil_ast.specs.Meaning.Flat.{Flat, done, flat_run, measure}
 use Rattle.flat_tree.specs.Items.{item_front}
-use Rattle.flat_tree.specs.declared.flat.FlatItem.{FlatItem}
+use Rattle.flat_tree.specs.declared.steps.FlatItem.{FlatItem}
 use Rattle.page_meaning.specs.declared.instr.Entry.{Entry}
 use Rattle.page_meaning.specs.declared.instr.Instr.{Instr}
 use Rattle.instr_writer.specs.Entries.{AreEntries}

@@ -25,15 +25,15 @@ pub(crate) fn list_cycles(list: &FlatList) -> u64
     ensures { result ≡ capped (vector_count list.now) }
 {
     let mut total: u64 = 0;
-    for item in list.as_slice() {
-        total = at_most(total.saturating_add(item_cycles(item)));
+    for item in list.steps() {
+        total = at_most(total.saturating_add(item_cycles(&item)));
     }
     total
 }
 
 /// The count of an item, as far.
 #[cycle(counting)]
-fn item_cycles(item: &FlatItem) -> u64
+fn item_cycles(item: &FlatItem<'_>) -> u64
     ensures { result ≡ capped (vector_count (item_front item.now done)) }
 {
     match item {

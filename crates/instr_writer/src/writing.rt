@@ -87,7 +87,7 @@ pub(crate) fn write_list(
     ensures stopped { IfErr result (IsStopped source.now.tables.now
         (flat_run list.now base.now.told state.old.told).made) }
 {
-    for item in list.as_slice() {
+    for item in list.steps() {
         match write_item(source, item, base, state, code, rows) {
             Ok(()) => {}
             Err(trouble) => return Err(trouble),
@@ -100,7 +100,7 @@ pub(crate) fn write_list(
 #[cycle(writing)]
 fn write_item(
     source: &Source,
-    item: &FlatItem,
+    item: FlatItem<'_>,
     base: &State,
     state: &mut State,
     code: &mut Vec<Instr>,
@@ -108,32 +108,32 @@ fn write_item(
 ) -> Result<(), Trouble>
     requires known { IsKnown source.now.tables.now rows.old state.old }
     ensures done { OnOk result (Walked source.now.tables.now source.now.first
-        (flat_run (item_front item.now done) base.now.told state.old.told) (measure (item_front item.now done))
+        (flat_run (item_front item.entry done) base.now.told state.old.told) (measure (item_front item.entry done))
         code.old.items code.new.items rows.old rows.new state.new.told) }
     ensures known { OnOk result (IsKnown source.now.tables.now rows.new state.new) }
     ensures moves { OnOk result (Moves state.old state.new) }
     ensures exact { OnOk result (IsExact source.now.first
-        (λ entry code. written entry (item_front item.now done) base.now.told state.old.told code)
+        (λ entry code. written entry (item_front item.entry done) base.now.told state.old.told code)
         code.old.items code.new.items rows.new) }
     ensures stopped { IfErr result (IsStopped source.now.tables.now
-        (flat_run (item_front item.now done) base.now.told state.old.told).made) }
+        (flat_run (item_front item.entry done) base.now.told state.old.told).made) }
 {
     match item {
         FlatItem::Table(table) => {
-            state.set_table(*table);
+            state.set_table(table);
             Ok(())
         }
         FlatItem::Character(signal, letter) => {
-            state.set(*signal, Some(*letter));
+            state.set(signal, Some(letter));
             Ok(())
         }
         FlatItem::Back(signal) => {
-            state.set(*signal, base.letter(*signal));
+            state.set(signal, base.letter(signal));
             Ok(())
         }
-        FlatItem::Cycle(mark, place) => write_vector(source, state, *mark, *place, code, rows),
-        FlatItem::Repeat(count, body) => write_loop(source, *count, body, base, state, code, rows),
-        FlatItem::Save(putting, body) => write_save(source, *putting, body, state, code, rows),
+        FlatItem::Cycle(mark, place) => write_vector(source, state, mark, place, code, rows),
+        FlatItem::Repeat(count, body) => write_loop(source, count, body, base, state, code, rows),
+        FlatItem::Save(putting, body) => write_save(source, putting, body, state, code, rows),
     }
 }
 

@@ -1,22 +1,41 @@
-use Rattle.std.proofs.Common.{ap, arith}
-use Rattle.flat_tree.specs.Items.{body_count}
-use Rattle.flat_tree.proofs.FlatLemmas.{item_bodies_at-le, measure-take_more}
+use Rattle.std.proofs.Common.{◌+◌, List, ap, drop, arith}
+use Rattle.stil_ast.specs.Meaning.Flat.{measure}
+use Rattle.flat_tree.specs.Counts.{body_count}
+use Rattle.flat_tree.specs.Slots.{wholes_flat}
+use Rattle.flat_tree.specs.declared.flat.Whole.{Whole}
+use Rattle.flat_tree.proofs.SlotLemmas.{bodies_alone, measure_alone, whole_bodies-le, whole_measure, wholes_from}
 use Rattle.flat_tree.proofs.+measure.Goals as goal
 
-pub flat::FlatList::measure-item_measure-requires :
-    goal.flat::FlatList::measure-item_measure-requires
-flat::FlatList::measure-item_measure-requires t c =
-    let items = c.as_slice-item-items.result.now in
-    let item = c.item-item.result in
-    let small = item_bodies_at-le items c.loop-item.item-index item item c.item-item.is c.loop-item-test.true in
-    let whole = ap body_count c.as_slice-item-items.ensures in
-    (omega (arith, small, whole, c.decreases), tt)
+pub measure::wholes_measure-whole_measure-requires :
+    goal.measure::wholes_measure-whole_measure-requires
+measure::wholes_measure-whole_measure-requires t c =
+    let whole = c.whole-item.result in
+    let small = whole_bodies-le c.args.wholes.now c.loop-whole.whole-index whole whole c.whole-item.is c.loop-whole-test.true in
+    (omega (arith, small, c.decreases), tt)
 
-pub flat::FlatList::measure-loop-item-preserved : goal.flat::FlatList::measure-loop-item-preserved
-flat::FlatList::measure-loop-item-preserved t c =
-    let items = c.as_slice-item-items.result.now in
-    let item = c.item-item.result in
-    let more = measure-take_more items c.loop-item.item-index item item c.item-item.is c.loop-item-test.true in (
-      c.loop-item.invariant.0,
-      omega (arith, more, c.loop-item.invariant.1, c.item_measure.ensures, c.min-total.ensures),
+pub measure::wholes_measure-loop-whole-preserved : goal.measure::wholes_measure-loop-whole-preserved
+measure::wholes_measure-loop-whole-preserved t c =
+    let wholes = c.args.wholes.now in
+    let place = c.loop-whole.whole-index in
+    let whole = c.whole-item.result in
+    let here = ap measure (wholes_from wholes place whole whole c.whole-item.is c.loop-whole-test.true) in
+    let more = whole_measure whole (wholes_flat (drop (place + 1) wholes)) in
+    let inv = c.loop-whole.invariant in (
+      omega (arith, here, more, inv.0, inv.1, c.whole_measure.ensures, c.min-total.ensures),
+      omega (arith, c.min-total.ensures),
     )
+
+pub flat::FlatList::measure-wholes_measure-requires :
+    goal.flat::FlatList::measure-wholes_measure-requires
+flat::FlatList::measure-wholes_measure-requires t c =
+    let own = c.self.inside in
+    let lent = ap (λ (ws : List Whole). body_count (wholes_flat ws)) c.as_slice.ensures.value in
+    let few = bodies_alone own.slots.items own.wholes.items c.self.invariant in
+    (omega (arith, lent, few, ap body_count c.self.view_is, c.decreases), tt)
+
+pub flat::FlatList::measure-returns : goal.flat::FlatList::measure-returns
+flat::FlatList::measure-returns t c =
+    let own = c.self.inside in
+    let lent = ap (λ (ws : List Whole). measure (wholes_flat ws)) c.as_slice.ensures.value in
+    let same = measure_alone own.slots.items own.wholes.items c.self.invariant in
+    omega (arith, lent, same, ap measure c.self.view_is, c.wholes_measure.ensures)

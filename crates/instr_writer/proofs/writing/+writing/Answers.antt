@@ -1,31 +1,30 @@
-use Rattle.std.proofs.Common.{ℕ, ◌+◌, ◌*◌, List, vec_len, take, Option, refl, sym, ap, subst, ◌∙◌, arith}
+use Rattle.std.proofs.Common.{rules, ◌≡◌, ℕ, ◌+◌, ◌*◌, List, vec_len, Option, refl, sym, ap, subst, ◌∙◌, arith}
 use Rattle.std.proofs.lemmas.Result.{on_ok_weaker}
 use Rattle.std.proofs.lemmas.Bool.{eqb-true}
 use Rattle.stil_ast.specs.Meaning.Dealing.{with_letter}
 use Rattle.stil_ast.specs.Meaning.Running.{times}
-use Rattle.stil_ast.specs.Meaning.Flat.{Flat, done, flat_run, measure}
+use Rattle.stil_ast.specs.Meaning.Flat.{done, flat_run, measure}
 use Rattle.page_meaning.specs.declared.instr.Instr.{Instr}
-use Rattle.instr_writer.specs.Working.{Walked, IsStopped}
+use Rattle.instr_writer.specs.Working.{Walked}
 use Rattle.instr_writer.specs.Passes.{with_passes, written, IsExact}
-use Rattle.flat_tree.specs.Items.{item_front, items_flat, body_count}
-use Rattle.flat_tree.specs.declared.flat.FlatItem.{FlatItem}
-use Rattle.flat_tree.specs.declared.flat.FlatItem.TheVariants.{Table, Character, Back}
-use Rattle.flat_tree.proofs.FlatLemmas.{item_bodies_at-le}
-use Rattle.instr_writer.proofs.ListLemmas.{walked-item, stopped-item}
-use Rattle.instr_writer.proofs.WalkedLemmas.{walked-still, walked-once, stopped-first, stopped-second}
+use Rattle.flat_tree.specs.Items.{item_front}
+use Rattle.flat_tree.specs.declared.steps.FlatItem.{FlatItem}
+use Rattle.flat_tree.specs.declared.steps.FlatItem.TheVariants.{Table, Character, Back}
+use Rattle.flat_tree.proofs.FlatLemmas.{next_bodies}
+use Rattle.instr_writer.proofs.WalkedLemmas.{walked-once, stopped-first, stopped-second}
 use Rattle.instr_writer.proofs.LoopLemmas.{walked-none, walked-empty, walked-alike, walked-passes, walked-item_set, not_nothing, moves-none, moves-then}
-use Rattle.instr_writer.proofs.ExactLemmas.{exact-item, exact-empty, exact-alike, exact-passes}
+use Rattle.instr_writer.proofs.StepLemmas.{writing_starts, writing_goes_on, writing_stops, writing_walked, writing_exact}
+use Rattle.instr_writer.proofs.ExactLemmas.{exact-empty, exact-alike, exact-passes}
 use Rattle.instr_writer.proofs.KnownLemmas.{known-as, known-later}
 use Rattle.instr_writer.proofs.writing.+writing.Goals.{write_save-then-putting, write_save-else-putting}
 use Rattle.instr_writer.proofs.writing.+writing.Goals as goal
 
 pub write_list-write_item-requires : goal.write_list-write_item-requires
 write_list-write_item-requires t c =
-    let items = c.as_slice-item-items.result.now in
-    let item = c.item-item.result in
-    let small = item_bodies_at-le items c.loop-item.item-index item item c.item-item.is c.loop-item-test.true in
-    let whole = ap body_count c.as_slice-item-items.ensures in
-    (omega (arith, small, whole, c.decreases), c.loop-item.invariant.2)
+    let w = c.loop-item.invariant.writing in
+    let small = next_bodies w.front c.loop-item.item-iterator c.next.new.self c.args.list.now c.in-Some.item w.whole
+    c.in-Some.ensures.steps in
+    (omega (arith, small, c.decreases), c.loop-item.invariant.known)
 
 pub write_loop-returns-in-Err-clause-stopped : goal.write_loop-returns-in-Err-clause-stopped
 write_loop-returns-in-Err-clause-stopped t c =
@@ -181,66 +180,70 @@ write_loop-returns-clause-exact t c =
     c.in-Ok-write_list.ensures.done.wrote.rows exact second)
 
 pub write_list-loop-item-init : goal.write_list-loop-item-init
-write_list-loop-item-init t c = (
-  c.as_slice-item-items.ensures,
-  walked-still c.args.source.now.tables.now c.args.source.now.first 0 c.args.code.now.items c.args.rows.now
-      c.args.state.now.told c.args.state.now.told refl,
-  c.requires.known,
-  moves-none c.args.state.now,
-  λ all on. refl,
-)
+write_list-loop-item-init t c =
+    let begins = c.into_iter-item-iterator.ensures.into_iter_gives in
+    let steps = c.steps-item-items.ensures in
+    let whole : c.into_iter-item-iterator.result ≡ c.args.list.now = cc in
+    record {
+      can_go = tt;
+      ends = tt;
+      writing =
+          writing_starts c.args.source.now.tables.now c.args.source.now.first c.args.list.now c.into_iter-item-iterator.result
+          c.args.base.now.told c.args.state.now.told c.args.code.now.items c.args.rows.now whole;
+      known = c.requires.known;
+      moves = moves-none c.args.state.now;
+    }
 
 pub write_list-loop-item-preserved : goal.write_list-loop-item-preserved
 write_list-loop-item-preserved t c =
-    let items = c.as_slice-item-items.result.now in
-    let item = c.item-item.result in (
-      c.loop-item.invariant.0,
-      walked-item c.args.source.now.tables.now c.args.source.now.first items c.loop-item.item-index item item
-          c.args.base.now.told c.args.state.now.told c.args.code.now.items c.loop-item.code.items
-          c.write_item.new.code.items
-          c.args.rows.now c.loop-item.rows c.write_item.new.rows c.loop-item.state.told c.write_item.new.state.told
-          c.item-item.is c.loop-item-test.true c.loop-item.invariant.1 c.in-Ok.ensures.done,
-      c.in-Ok.ensures.known,
-      moves-then c.args.state.now c.loop-item.state c.write_item.new.state c.loop-item.invariant.3
-          c.in-Ok.ensures.moves,
-      exact-item c.args.source.now.first items c.loop-item.item-index item item c.args.base.now.told
-          c.args.state.now.told c.args.code.now.items c.loop-item.code.items c.write_item.new.code.items
-          (flat_run (item_front item done) c.args.base.now.told c.loop-item.state.told).made c.loop-item.rows
-          c.write_item.new.rows c.loop-item.state.told c.item-item.is c.loop-item-test.true
-          c.loop-item.invariant.1.here_is c.in-Ok.ensures.done.wrote.rows c.loop-item.invariant.4
-          c.in-Ok.ensures.exact,
-    )
+    let inv = c.loop-item.invariant in
+    record {
+      can_go = search rules;
+      ends = search rules;
+      writing =
+          writing_goes_on c.args.source.now.tables.now c.args.source.now.first c.args.list.now c.loop-item.item-iterator
+          c.next.new.self c.in-Some.item c.args.base.now.told c.args.state.now.told c.args.code.now.items
+          c.loop-item.code.items c.write_item.new.code.items c.args.rows.now c.loop-item.rows c.write_item.new.rows
+          c.loop-item.state.told c.write_item.new.state.told c.in-Some.ensures.steps inv.writing c.in-Ok.ensures.done
+          c.in-Ok.ensures.exact;
+      known = c.in-Ok.ensures.known;
+      moves = moves-then c.args.state.now c.loop-item.state c.write_item.new.state inv.moves c.in-Ok.ensures.moves;
+    }
+
+pub write_list-returns-clause-done : goal.write_list-returns-clause-done
+write_list-returns-clause-done t c =
+    writing_walked c.args.source.now.tables.now c.args.source.now.first c.args.list.now c.loop-item.item-iterator
+    c.args.base.now.told c.args.state.now.told c.args.code.now.items c.loop-item.code.items c.args.rows.now c.loop-item.rows
+    c.loop-item.state.told c.in-None.ensures.steps.0 c.loop-item.invariant.writing
+
+pub write_list-returns-clause-exact : goal.write_list-returns-clause-exact
+write_list-returns-clause-exact t c =
+    writing_exact c.args.source.now.tables.now c.args.source.now.first c.args.list.now c.loop-item.item-iterator
+    c.args.base.now.told c.args.state.now.told c.args.code.now.items c.loop-item.code.items c.args.rows.now c.loop-item.rows
+    c.loop-item.state.told c.in-None.ensures.steps.0 c.loop-item.invariant.writing
 
 pub write_list-returns-in-Err-clause-stopped : goal.write_list-returns-in-Err-clause-stopped
 write_list-returns-in-Err-clause-stopped t c =
-    let tables = c.args.source.now.tables.now in
-    let items = c.as_slice-item-items.result.now in
-    let item = c.item-item.result in
-    subst (λ (f : Flat). IsStopped tables (flat_run f c.args.base.now.told c.args.state.now.told).made c.in-Err.trouble)
-    c.as_slice-item-items.ensures
-    (stopped-item tables c.args.source.now.first items c.loop-item.item-index item item c.args.base.now.told
-    c.args.state.now.told
-    (measure (items_flat (take c.loop-item.item-index items))) c.args.code.now.items c.loop-item.code.items
-    c.args.rows.now
-    c.loop-item.rows c.loop-item.state.told c.in-Err.trouble c.item-item.is c.loop-item-test.true
-    c.loop-item.invariant.1
-    c.in-Err.ensures.stopped)
+    writing_stops c.args.source.now.tables.now c.args.source.now.first c.args.list.now c.loop-item.item-iterator
+    c.next.new.self c.in-Some.item c.args.base.now.told c.args.state.now.told c.args.code.now.items
+    c.loop-item.code.items c.args.rows.now c.loop-item.rows c.loop-item.state.told c.in-Err.trouble
+    c.in-Some.ensures.steps c.loop-item.invariant.writing c.in-Err.ensures.stopped
 
 pub write_item-returns-in-Table-clause-done : goal.write_item-returns-in-Table-clause-done
 write_item-returns-in-Table-clause-done t c =
-    walked-item_set c.args.source.now.tables.now c.args.source.now.first c.args.item.now (Table c.in-Table.table)
+    walked-item_set c.args.source.now.tables.now c.args.source.now.first c.args.item (Table c.in-Table.table)
     c.args.code.now.items c.args.rows.now c.args.base.now.told c.args.state.now.told _ _ c.in-Table.is refl
     c.set_table.ensures.told
 
 pub write_item-returns-in-Character-clause-done : goal.write_item-returns-in-Character-clause-done
 write_item-returns-in-Character-clause-done t c =
-    walked-item_set c.args.source.now.tables.now c.args.source.now.first c.args.item.now
+    walked-item_set c.args.source.now.tables.now c.args.source.now.first c.args.item
     (Character c.in-Character.signal c.in-Character.letter) c.args.code.now.items c.args.rows.now c.args.base.now.told
     c.args.state.now.told _ _ c.in-Character.is refl c.set.ensures.told
 
 pub write_item-returns-in-Back-clause-done : goal.write_item-returns-in-Back-clause-done
 write_item-returns-in-Back-clause-done t c =
-    walked-item_set c.args.source.now.tables.now c.args.source.now.first c.args.item.now (Back c.in-Back.signal)
+    walked-item_set c.args.source.now.tables.now c.args.source.now.first c.args.item (Back c.in-Back.signal)
     c.args.code.now.items c.args.rows.now c.args.base.now.told c.args.state.now.told _ _ c.in-Back.is refl
     (c.set-in-Back.ensures.told
     ∙ ap (λ (letter : Option ℕ). with_letter c.in-Back.signal letter c.args.state.now.told) c.letter.ensures)
@@ -250,11 +253,7 @@ write_item-returns-in-Repeat-clause-exact t c =
     on_ok_weaker c.write_loop.result
     (λ exact. subst (λ (item : FlatItem). IsExact c.args.source.now.first
     (λ entry code. written entry (item_front item done) c.args.base.now.told c.args.state.now.told code)
-    c.args.code.now.items c.write_loop.new.code.items c.write_loop.new.rows) (sym c.in-Repeat.is)
-    (subst (λ (body : Flat). IsExact c.args.source.now.first
-    (λ entry code. with_passes c.in-Repeat.count (written entry body c.args.base.now.told)
-    (flat_run body c.args.base.now.told) c.args.state.now.told code) c.args.code.now.items c.write_loop.new.code.items
-    c.write_loop.new.rows) c.deref.ensures exact))
+    c.args.code.now.items c.write_loop.new.code.items c.write_loop.new.rows) (sym c.in-Repeat.is) exact)
     c.write_loop.ensures.exact
 
 pub write_item-returns-in-Table-clause-known : goal.write_item-returns-in-Table-clause-known
