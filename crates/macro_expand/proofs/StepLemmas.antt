@@ -1,5 +1,5 @@
 -- What a V and a C write.
-use Rattle.std.proofs.Common.{◌≡◌, ℕ, List, [], ap, sym, ◌∙◌}
+use Rattle.std.proofs.Common.{◌≡◌, Vec, Global, ℕ, List, [], ap, sym, ◌∙◌}
 use Rattle.stil_ast.specs.Data.Places.{Origin}
 use Rattle.stil_ast.specs.Meaning.Statements.{Assign}
 use Rattle.stil_ast.specs.Meaning.Dealing.{deal, takers, mark_of}
@@ -7,11 +7,19 @@ use Rattle.stil_ast.specs.Meaning.Flat.{Flat, done, cycle}
 use Rattle.stil_ast.specs.Meaning.Flattening.{joined, cycle_piece, gifts_piece}
 use Rattle.stil_ast.specs.Meaning.Running.{Setting}
 use Rattle.stil_ast.specs.Faults.AssignmentFaults.{Walked, Checked}
+use Rattle.macro_expand.specs.declared.pairing.Pair.{Pair}
 use Rattle.macro_expand.specs.declared.walk.Walk.{Walk}
 use Rattle.macro_expand.specs.Placing.{Writes}
 use Rattle.macro_expand.specs.Stepping.{Steps}
 use Rattle.macro_expand.specs.Walks.{then_kept}
 use Rattle.macro_expand.proofs.FlatLemmas.{puts_cycle, gifts_front-joined}
+
+-- whichever pairs are at hand before and behind, the same is written
+pub writes_beside : (check : Walked → Checked) (assigns : List Assign) (before wrote : Walk) (first last : Vec Pair Global)
+    → Writes check assigns (record before { pairs = first }) wrote
+    → Writes check assigns before (record wrote { pairs = last })
+writes_beside check assigns before wrote first last w =
+    record { checked = w.checked; args = w.args; out = w.out; taken = w.taken }
 
 -- assignments are written, with nothing noted before, and then a vector
 pub vector_steps : (check : Walked → Checked) (t : Setting) (assigns : List Assign) (before wrote : Walk) (place : Origin)

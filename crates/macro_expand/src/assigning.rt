@@ -22,6 +22,7 @@ use crate::walk::Walk;
 use flat_tree::Origin;
 use pattern_args::Arguments;
 use std::alloc::Global;
+use std::mem;
 use stil_ast::{AssignmentList, AssignmentParts, StilKind};
 use text_bytes::MOST_WALKED;
 
@@ -47,11 +48,12 @@ fn walk_assignment(
         (resolved_assign names (assignment_said parts.now) ∷ []) walk.old walk.new result }
 {
     match resolved(alloc, scope.signals, s, parts) {
-        Ok(signals) => {
+        Ok(found) => {
+            let signals = found.as_slice();
             if !may_walk(walk.count, signals.len()) {
                 return Err(s.trouble(StilKind::TooLarge, parts.line));
             }
-            place(s, parts.line, signals.as_slice(), parts.runs, pairs, walk)
+            place(s, parts.line, signals, parts.runs, pairs, walk)
         }
         Err(trouble) => Err(trouble),
     }
@@ -63,15 +65,15 @@ fn walk_assignments(
     scope: &PatternScope,
     s: &Standing,
     assigns: &AssignmentList,
+    pairs: &mut Vec<Pair>,
     walk: &mut Walk,
 ) -> Result<(), Trouble>
     ensures { (names : Names) → IsNamed names scope.now → WritesOr (titles_in scope.now.titles)
         (check_assigns (scope_in names scope.now) (standing_in (scope_in names scope.now) s.now) assigns.now)
         (resolved_assigns names assigns.now) walk.old walk.new result }
 {
-    let mut pairs = Vec::new(alloc);
     for parts in assigns.cursor() {
-        match walk_assignment(alloc, scope, s, &parts, &mut pairs, walk) {
+        match walk_assignment(alloc, scope, s, &parts, pairs, walk) {
             Ok(()) => {}
             Err(trouble) => return Err(trouble),
         }
@@ -109,8 +111,10 @@ pub(crate) fn walk_vector(
         walk.old walk.new result }
 {
     walk.taken.clear();
-    match walk_assignments(alloc, scope, s, assigns, walk) {
+    let mut pairs = mem::replace(&mut walk.pairs, Vec::new(alloc));
+    match walk_assignments(alloc, scope, s, assigns, &mut pairs, walk) {
         Ok(()) => {
+            walk.pairs = pairs;
             let mark = mark(scope.scan_outs, &walk.taken, &walk.args);
             let place = Origin { body: s.body, line };
             walk.out.push_cycle(mark, place)?;
@@ -137,8 +141,12 @@ pub(crate) fn walk_condition(
 {
     let _line = line;
     walk.taken.clear();
-    match walk_assignments(alloc, scope, s, assigns, walk) {
-        Ok(()) => Ok(()),
+    let mut pairs = mem::replace(&mut walk.pairs, Vec::new(alloc));
+    match walk_assignments(alloc, scope, s, assigns, &mut pairs, walk) {
+        Ok(()) => {
+            walk.pairs = pairs;
+            Ok(())
+        }
         Err(trouble) => Err(trouble),
     }
 }

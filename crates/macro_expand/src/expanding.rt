@@ -98,6 +98,7 @@ fn walk_pattern(
         taken: SignalSet::new(alloc),
         count,
         out: FlatList::new(alloc),
+        pairs: Vec::new(alloc),
     };
     match walk_list(alloc, scope, &top, body, &mut walk) {
         Ok(()) => Ok(walk),

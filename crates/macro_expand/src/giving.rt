@@ -92,7 +92,8 @@ fn walk_argument(
         result }
 {
     match resolved(alloc, scope.signals, s, parts) {
-        Ok(signals) => {
+        Ok(found) => {
+            let signals = found.as_slice();
             if !may_walk(*count, signals.len()) {
                 return Err(s.trouble(StilKind::TooLarge, parts.line));
             }
@@ -102,7 +103,7 @@ fn walk_argument(
             if !argument_fits(signals.len(), parts.runs) {
                 return Err(s.trouble(StilKind::Width, parts.line));
             }
-            given.give(signals.as_slice(), parts.runs)?;
+            given.give(signals, parts.runs)?;
             *count += signals.len() as u32;
             Ok(())
         }

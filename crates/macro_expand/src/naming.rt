@@ -126,6 +126,7 @@ pub(crate) fn own_walk(
             taken: SignalSet::new(alloc),
             count: walked,
             out,
+            pairs: Vec::new(alloc),
         }),
         Err(trouble) => Err(trouble),
     }

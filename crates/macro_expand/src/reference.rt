@@ -1,16 +1,17 @@
 //! The signals of an assignment's reference.
 
-ghost use Rattle.std.specs.Prelude.{◌≡◌, IfOk};
+ghost use Rattle.std.specs.Prelude.{◌≡◌, None, IfSome, IfOk};
+ghost use Rattle.signal_groups.specs.Found.{signals_found};
 ghost use Rattle.signal_groups.specs.Table.{table_of};
 ghost use Rattle.stil_ast.specs.Data.Assignments.{assignment_said};
 ghost use Rattle.stil_ast.specs.Data.AssignmentCuts.{reference_of};
-ghost use Rattle.stil_ast.specs.Meaning.Members.{members};
+ghost use Rattle.stil_ast.specs.Meaning.Members.{members, reference_kind};
 ghost use Rattle.stil_ast.specs.Meaning.Signals.{Names};
 ghost use Rattle.macro_expand.specs.Referring.{IsResolved};
 
 use crate::standing::Standing;
 use crate::trouble::Trouble;
-use signal_groups::{RefFault, SignalList, SignalTable};
+use signal_groups::{FoundSignals, RefFault, SignalTable};
 use std::alloc::{AllocError, Global};
 use stil_ast::{AssignmentParts, NameRef, Quoted, RefKind, SigRef, StilKind};
 use tester_types::Text;
@@ -34,63 +35,82 @@ fn reference_of(alloc: Global, kind: RefKind, bytes: &[u8]) -> Result<SigRef, Al
 }
 
 /// The signals of a reference, or the fault of a statement on this line.
-fn resolve_in(
+fn resolve_in<'t>(
     alloc: Global,
-    signals: &SignalTable,
+    signals: &'t SignalTable,
     s: &Standing,
     line: u32,
     reference: &SigRef,
-) -> Result<SignalList, Trouble>
+) -> Result<FoundSignals<'t>, Trouble>
     ensures { (names : Names) → signals.now ≡ table_of names → IsResolved names reference.now s.now.body line result }
 {
     match signals.resolve(alloc, reference) {
-        Ok(found) => Ok(found),
+        Ok(found) => Ok(FoundSignals::Own(found)),
         Err(RefFault::NoMemory) => Err(Trouble::NoMemory),
         Err(RefFault::Shape) => Err(s.trouble(StilKind::Shape, line)),
         Err(RefFault::UnknownName) => Err(s.trouble(StilKind::UnknownName, line)),
     }
 }
 
+/// The signals that a table keeps under the reference of an assignment, which take no memory.
+fn kept<'t>(signals: &'t SignalTable, parts: &AssignmentParts) -> Option<FoundSignals<'t>>
+    ensures { (names : Names) → signals.now ≡ table_of names → IfSome result (λ found.
+        (reference_kind names (assignment_said parts.now).reference ≡ None)
+        × (signals_found found ≡ members names (assignment_said parts.now).reference)) }
+{
+    match parts.reference {
+        RefKind::Name => signals.named(parts.bytes),
+        RefKind::Indexed(_) => None,
+        RefKind::Group(_) => None,
+    }
+}
+
 /// The signals of an assignment, or the fault of its reference.
-pub(crate) fn resolved(
+pub(crate) fn resolved<'t>(
     alloc: Global,
-    signals: &SignalTable,
+    signals: &'t SignalTable,
     s: &Standing,
     parts: &AssignmentParts,
-) -> Result<SignalList, Trouble>
+) -> Result<FoundSignals<'t>, Trouble>
     ensures { (names : Names) → signals.now ≡ table_of names
         → IsResolved names (assignment_said parts.now).reference s.now.body parts.now.line result }
 {
+    if let Some(found) = kept(signals, parts) {
+        return Ok(found);
+    }
     let reference = reference_of(alloc, parts.reference, parts.bytes)?;
     resolve_in(alloc, signals, s, parts.line, &reference)
 }
 
 /// The signals of an assignment, none where its reference has a fault.
-pub(crate) fn members(
+pub(crate) fn members<'t>(
     alloc: Global,
-    signals: &SignalTable,
+    signals: &'t SignalTable,
     parts: &AssignmentParts,
-) -> Result<SignalList, AllocError>
+) -> Result<FoundSignals<'t>, AllocError>
     ensures { IfOk result (λ found. (names : Names) → signals.now ≡ table_of names
-        → found ≡ members names (assignment_said parts.now).reference) }
+        → signals_found found ≡ members names (assignment_said parts.now).reference) }
 {
+    if let Some(found) = kept(signals, parts) {
+        return Ok(found);
+    }
     let reference = reference_of(alloc, parts.reference, parts.bytes)?;
     members_in(alloc, signals, &reference)
 }
 
 /// The signals of a reference, none where it has a fault.
-fn members_in(
+fn members_in<'t>(
     alloc: Global,
-    signals: &SignalTable,
+    signals: &'t SignalTable,
     reference: &SigRef,
-) -> Result<SignalList, AllocError>
+) -> Result<FoundSignals<'t>, AllocError>
     ensures { IfOk result (λ found. (names : Names) → signals.now ≡ table_of names
-        → found ≡ members names reference.now) }
+        → signals_found found ≡ members names reference.now) }
 {
     match signals.resolve(alloc, reference) {
-        Ok(found) => Ok(found),
+        Ok(found) => Ok(FoundSignals::Own(found)),
         Err(RefFault::NoMemory) => Err(AllocError),
-        Err(RefFault::Shape) => Ok(SignalList::from_vec(Vec::new(alloc))),
-        Err(RefFault::UnknownName) => Ok(SignalList::from_vec(Vec::new(alloc))),
+        Err(RefFault::Shape) => Ok(FoundSignals::Group(&[])),
+        Err(RefFault::UnknownName) => Ok(FoundSignals::Group(&[])),
     }
 }

@@ -1,11 +1,13 @@
 //! How far a walk over statements has come.
 
+use crate::pairing::Pair;
 use crate::signal_set::SignalSet;
 use flat_tree::FlatList;
 use pattern_args::Arguments;
 
 /// What is left of the arguments, the signals that got a `#` in this pass of a Shift and in this statement, how many
-/// statements were walked and signals assigned, and the tree that was written.
+/// statements were walked and signals assigned, and the tree that was written. The pairs are those of the assignment at
+/// hand, in a list that is filled again for each.
 #[derive(Drop)]
 pub(crate) struct Walk {
     pub(crate) args: Arguments,
@@ -13,4 +15,5 @@ pub(crate) struct Walk {
     pub(crate) taken: SignalSet,
     pub(crate) count: u32,
     pub(crate) out: FlatList,
+    pub(crate) pairs: Vec<Pair>,
 }

@@ -1,7 +1,8 @@
--- Read Table first (what is known of signals and groups), then Lookup (what it answers), Lexed (how a group's text is
--- read) and Memory (how the code holds it).
+-- Read Table first (what is known of signals and groups), then Lookup (what it answers), Found (how an answer is held),
+-- Lexed (how a group's text is read) and Memory (how the code holds it).
 pub mod Table
 pub mod Lookup
+pub mod Found
 pub mod Lexed
 pub mod Memory
 pub mod Marks

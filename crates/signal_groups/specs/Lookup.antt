@@ -50,6 +50,10 @@ known_with table name (Some range) =
 abbrev pub known_in : Table → NameRef → Bool
 known_in table r = known_with table r.name r.range
 
+-- a name without indices, as a reference
+abbrev pub plain_ref : List ℕ → SigRef
+plain_ref name = Name (record { name = name; range = None })
+
 -- the fault of items, if they have one
 abbrev pub terms_kind : Table → Option (List Term) → Option StilKind
 terms_kind table None = Some Shape

@@ -5,6 +5,7 @@ mod begin;
 mod building;
 mod complete;
 mod fault;
+mod found;
 mod graph;
 mod groups;
 mod items;
@@ -20,5 +21,6 @@ mod term;
 
 pub use building::build;
 pub use fault::RefFault;
+pub use found::FoundSignals;
 pub use items::{index_at, index_count, indexed};
 pub use table::{SignalList, SignalTable};

@@ -1,15 +1,17 @@
 //! What is known of the signals and groups of a text.
 
-ghost use Rattle.std.specs.Prelude.{◌≡◌, ◌<◌, ◌≤◌, ℕ, [], None, Some, IfSome, IfOk, All, length, slice_get, slice_index_or, slice_set};
+ghost use Rattle.std.specs.Prelude.{◌≡◌, ◌<◌, ◌≤◌, ◌||◌, ℕ, [], None, Some, Ok, IfSome, IfOk, All, length, is_some, slice_get, slice_index_or, slice_set};
 ghost use Rattle.text_bytes.specs.Limits.{most_signals};
 ghost use Rattle.stil_ast.specs.Meaning.Signals.{Names};
 ghost use Rattle.stil_ast.specs.Meaning.Members.{is_based_on, reference_kind, members};
 ghost use Rattle.signal_groups.specs.Table.{IsSound, table_of, with_members};
-ghost use Rattle.signal_groups.specs.Lookup.{number_in, Resolves};
+ghost use Rattle.signal_groups.specs.Found.{signals_found};
+ghost use Rattle.signal_groups.specs.Lookup.{number_in, plain_ref, Resolves};
 ghost use Rattle.signal_groups.specs.Graph.{needed_unless};
 
 use crate::fault::RefFault;
-use crate::resolve::resolved;
+use crate::found::FoundSignals;
+use crate::resolve::{kept, resolved};
 use indexmap::IndexSet;
 use std::alloc::Global;
 use std::marker::Model;
@@ -136,6 +138,17 @@ impl SignalTable {
         ensures { IsSound self.now }
     {
         let _texts = &self.texts;
+    }
+
+    /// The signals of a name without indices that a signal or a group has, without memory.
+    pub fn named(&self, name: &[u8]) -> Option<FoundSignals<'_>>
+        ensures signals { (names : Names) → self.now ≡ table_of names → IfSome result (λ found.
+            Resolves (reference_kind names (plain_ref name.now)) (members names (plain_ref name.now))
+            (Ok (signals_found found))) }
+        ensures had { is_some result
+            ≡ (is_some (number_in self.now.texts name.now) || is_some (number_in self.now.groups name.now)) }
+    {
+        kept(self, name)
     }
 
     /// The signals for which a reference stands, in order.

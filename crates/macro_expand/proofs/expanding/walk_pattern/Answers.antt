@@ -22,6 +22,7 @@ returns-in-Ok c = λ names named.
       taken = c.new-2.result;
       count = c.args.count;
       out = c.new-3.result;
+      pairs = c.new-4.result;
     } in
     from_start names c.args.scope.now c.args.body.now c.args.count top start c.walk_list.new.walk c.none.ensures c.new.ensures c.new-3.ensures
     refl refl (c.in-Ok.ensures names named)
