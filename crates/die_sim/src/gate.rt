@@ -1,24 +1,10 @@
 //! The level that a gate gives.
 ghost use Rattle.std.specs.Prelude.{◌≡◌, ◌<◌, length};
-ghost use Rattle.die_sim.specs.Gates.{is_zero, is_one, read, level_at};
+ghost use Rattle.die_sim.specs.Gates.{read, level_at};
 ghost use Rattle.die_sim.specs.Table.{pair_of};
 
 use crate::table::{Row, looked_up};
 use tester_types::Level;
-
-/// Whether the level is 0.
-pub(crate) fn is_zero(level: Level) -> bool
-    ensures { result ≡ is_zero level }
-{
-    matches!(level, Level::Zero)
-}
-
-/// Whether the level is 1.
-pub(crate) fn is_one(level: Level) -> bool
-    ensures { result ≡ is_one level }
-{
-    matches!(level, Level::One)
-}
 
 /// A level as it is read: off is unknown.
 pub(crate) fn read(level: Level) -> Level

@@ -10,10 +10,9 @@ ghost use Rattle.die_sim.specs.Pending.{is_pending, HasPlace, SameSeats, AreSeat
 ghost use Rattle.die_sim.specs.Cells.{AreCells};
 ghost use Rattle.die_sim.specs.Readers.{AreReaderPlaces};
 ghost use Rattle.die_sim.specs.Waiting.{AreWakers, AreAtRest};
-ghost use Rattle.die_sim.specs.Walk.{same_level, is_unknown, is_off, is_flip_flop, AreTables, Puts, Waits, Refreshes, HaveLevels, HasLevel, HaveDriven, Carries, Visits};
+ghost use Rattle.die_sim.specs.Walk.{same_level, is_flip_flop, AreTables, Puts, Waits, Refreshes, HaveLevels, HasLevel, HaveDriven, Carries, Visits};
 
 use crate::cells::Cells;
-use crate::gate::{is_one, is_zero};
 use crate::image::{Bind, Binding};
 use crate::pending::Pending;
 use crate::readers::Readers;
@@ -21,30 +20,11 @@ use crate::waiting::Waiting;
 use bench_net::Netlist;
 use tester_types::{Drive, Level};
 
-/// Whether the level is unknown.
-fn is_unknown(level: Level) -> bool
-    ensures { result ≡ is_unknown level }
-{
-    matches!(level, Level::X)
-}
-
-/// Whether the level is off.
-fn is_off(level: Level) -> bool
-    ensures { result ≡ is_off level }
-{
-    matches!(level, Level::Z)
-}
-
 /// Whether two levels are one.
 fn same_level(left: Level, right: Level) -> bool
     ensures { result ≡ same_level left right }
 {
-    match left {
-        Level::Zero => is_zero(right),
-        Level::One => is_one(right),
-        Level::X => is_unknown(right),
-        Level::Z => is_off(right),
-    }
+    left as u8 == right as u8
 }
 
 /// These gates are pending.
