@@ -3,6 +3,7 @@ use Rattle.std.proofs.Common.{◌≡◌, ℕ, ◌+◌, ◌<◌, ◌≤◌, Bool,
 use Rattle.std.proofs.lemmas.Bool.{cases_lt, both_ways, or_cases, eqb-true, and_parts}
 use Rattle.std.proofs.lemmas.List.{get_or_past, get_or-set_same, get_or-set_other}
 use Rattle.std.proofs.lemmas.List.FromFn.{get_or-map-range_with_len, length-map-range_with_len}
+use Rattle.tester_types.specs.declared.wave.Look.{Look}
 use Rattle.tester_types.specs.declared.level.Level.{Level}
 use Rattle.tester_types.specs.declared.level.Level.TheVariants.{X}
 use Rattle.tester_types.specs.declared.level.Drive.{Drive}
@@ -103,6 +104,10 @@ can_sense (Some device) held moment signal wanted checked answers so =
     bound_senses device signal (sensed_is_bound device signal (ap (λ (l : List Bool). get_or l signal false) (sym checked.bound) ∙ bound))
 
 -- ---- the levels that are sensed
+
+-- some moment with these looks
+abbrev pub some_with : List (ℕ × Look) → Moment
+some_with looks = record { at = 0; drives = []; looks = looks }
 
 -- one more signal was sensed
 pub levels-more : (first now : Told) (held : Held) (moment : Moment) (i : ℕ) (levels : List Level) (level : Level)

@@ -1,4 +1,4 @@
-//! What goes along with a try: the checker, the last Down or Up of each signal, and room for a moment.
+//! What goes along with a try: the checker, the last Down or Up of each signal, and room for drives and levels.
 
 ghost use Rattle.std.specs.Prelude.{◌≡◌, ◌≤◌, [], map, length, replicate, IfOk};
 ghost use Rattle.text_bytes.specs.Limits.{most_signals};
@@ -12,17 +12,14 @@ use crate::signals::bound_signals;
 use die_sim::DieImage;
 use std::alloc::{AllocError, Global};
 use strobe_check::Checker;
-use tester_types::{Drive, Items, Level, Moment, NoMemory};
+use tester_types::{Drive, Level, NoMemory};
 
 /// What goes along with a try.
 #[derive(Drop)]
 pub struct Bench {
-    pub alloc: Global,
     pub checker: Checker,
     /// The last Down or Up of each signal, or Unknown.
     pub last: Vec<Drive>,
-    /// Room for a moment of a schedule, dated from the start of the try.
-    pub moment: Moment,
     /// Room for the drives of a moment.
     pub drives: Vec<(u16, Drive)>,
     /// A level of each signal. Those that the checker wants are those of the moment.
@@ -43,15 +40,6 @@ fn unknown_levels(alloc: Global, signals: u16) -> Result<Vec<Level>, AllocError>
     vec![in alloc; Level::X; usize::from(signals)]
 }
 
-/// A moment in which nothing stands.
-fn no_moment(alloc: Global) -> Moment {
-    Moment {
-        at: 0,
-        drives: Items::from_vec(Vec::new(alloc)),
-        looks: Items::from_vec(Vec::new(alloc)),
-    }
-}
-
 impl Bench {
     /// What goes along from the first moment on.
     pub fn new(alloc: Global, image: &DieImage, signals: u16, keep: u16) -> Result<Bench, NoMemory>
@@ -63,10 +51,8 @@ impl Bench {
     {
         let bound = bound_signals(alloc, image, signals)?;
         Ok(Bench {
-            alloc,
             checker: Checker::make(alloc, bound.as_slice(), keep)?,
             last: unknown_drives(alloc, signals)?,
-            moment: no_moment(alloc),
             drives: Vec::new(alloc),
             levels: unknown_levels(alloc, signals)?,
         })

@@ -3,7 +3,6 @@
 
 mod bench;
 mod cycle;
-mod dated;
 mod drives;
 mod moments;
 mod place;

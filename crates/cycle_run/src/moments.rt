@@ -6,10 +6,9 @@ ghost use Rattle.bench_net.specs.Circuit.{IsWhole};
 ghost use Rattle.edge_gen.specs.Moments.{later};
 ghost use Rattle.die_sim.specs.Die.{device_of};
 ghost use Rattle.cycle_run.specs.Cycle.{point_at};
-ghost use Rattle.cycle_run.specs.Step.{IsMomentOf, IsScheduled, FitsBench, IsReady, whose_at, GoesThrough, Stops, HasCause};
+ghost use Rattle.cycle_run.specs.Step.{IsScheduled, FitsBench, IsReady, whose_at, GoesThrough, Stops, HasCause};
 
 use crate::bench::Bench;
-use crate::dated::put_later;
 use crate::drives::{collect, remember};
 use crate::place::Place;
 use crate::sensing::{drive_die, sense_wanted};
@@ -17,59 +16,8 @@ use crate::stop::Stop;
 use die_sim::{Contact, DieImage, Socket};
 use tester_types::Moment;
 
-/// Makes the moment that the bench holds: drives the die, senses what the checker wants, and judges the looks.
-fn make_held<K: Socket>(
-    socket: &mut K,
-    bench: &mut Bench,
-    image: &DieImage,
-    place: Place,
-) -> Result<(), Stop>
-    requires whole { IsWhole image.now.circuit }
-    requires few { length image.now.binds ≤ most_signals }
-    requires moment { IsMomentOf (length image.now.binds) bench.old.moment }
-    requires room { FitsBench (length image.now.binds) bench.old.last.items bench.old.levels.items }
-    requires ready { IsReady (device_of image.now)
-        (point_at bench.old.checker bench.old.last.items (K.told socket.old)) }
-    ensures goes { OnOk result (GoesThrough (device_of image.now) (whose_at place) (bench.old.moment ∷ [])
-        (point_at bench.old.checker bench.old.last.items (K.told socket.old))
-        (point_at bench.new.checker bench.new.last.items (K.told socket.new))) }
-    ensures ready { OnOk result (IsReady (device_of image.now)
-        (point_at bench.new.checker bench.new.last.items (K.told socket.new))) }
-    ensures stops { IfErr result (λ stop. Stops (device_of image.now) (whose_at place) (bench.old.moment ∷ [])
-        (point_at bench.old.checker bench.old.last.items (K.told socket.old))
-        (point_at bench.new.checker bench.new.last.items (K.told socket.new)) stop) }
-    ensures room { FitsBench (length image.now.binds) bench.new.last.items bench.new.levels.items }
-    ensures loaded { (K.told socket.new).loaded ≡ (K.told socket.old).loaded }
-    ensures count { (K.told socket.old).count ≤ (K.told socket.new).count }
-    ensures cause { IfErr result (λ stop. HasCause (K.told socket.old).count (K.told socket.new).count stop) }
-{
-    collect(
-        image,
-        bench.last.as_slice(),
-        bench.moment.drives.as_slice(),
-        &mut bench.drives,
-    )?;
-    let lost = Stop::Contact(bench.moment.at);
-    match drive_die(socket, bench.moment.at, bench.drives.as_slice()) {
-        Ok(()) => {}
-        Err(Contact) => return Err(lost),
-    }
-    match sense_wanted(socket, &bench.checker, &bench.moment, &mut bench.levels) {
-        Ok(()) => {}
-        Err(Contact) => return Err(lost),
-    }
-    bench.checker.look(
-        place.exec,
-        place.number,
-        place.cycle.mark,
-        &bench.moment,
-        bench.levels.as_slice(),
-    );
-    remember(&mut bench.last, bench.moment.drives.as_slice());
-    Ok(())
-}
-
-/// Makes a moment of a schedule in the cycle of this place.
+/// Makes a moment of a schedule in the cycle of this place: drives the die, senses what the checker wants, and judges the
+/// looks.
 fn make_moment<K: Socket>(
     socket: &mut K,
     bench: &mut Bench,
@@ -98,10 +46,32 @@ fn make_moment<K: Socket>(
     ensures count { (K.told socket.old).count ≤ (K.told socket.new).count }
     ensures cause { IfErr result (λ stop. HasCause (K.told socket.old).count (K.told socket.new).count stop) }
 {
-    match put_later(bench.alloc, &mut bench.moment, moment, place.start) {
-        Ok(()) => make_held(socket, bench, image, place),
-        Err(_) => Err(Stop::NoMemory),
+    let at = place.start + moment.at;
+    let looks = moment.looks.as_slice();
+    collect(
+        image,
+        bench.last.as_slice(),
+        moment.drives.as_slice(),
+        &mut bench.drives,
+    )?;
+    match drive_die(socket, at, bench.drives.as_slice()) {
+        Ok(()) => {}
+        Err(Contact) => return Err(Stop::Contact(at)),
     }
+    match sense_wanted(socket, &bench.checker, looks, &mut bench.levels) {
+        Ok(()) => {}
+        Err(Contact) => return Err(Stop::Contact(at)),
+    }
+    bench.checker.look_at(
+        place.exec,
+        place.number,
+        place.cycle.mark,
+        at,
+        looks,
+        bench.levels.as_slice(),
+    );
+    remember(&mut bench.last, moment.drives.as_slice());
+    Ok(())
 }
 
 /// Makes moments of a schedule in the cycle of this place, one after another.

@@ -1,6 +1,7 @@
 //! The signals of a moment that are still to be asked for.
 
 ghost use Rattle.std.specs.Prelude.{◌≡◌};
+ghost use Rattle.tester_types.specs.declared.cycle.Moment.{Moment};
 ghost use Rattle.strobe_check.specs.Ahead.{Stands};
 
 use crate::run::are_sorted;
@@ -21,7 +22,14 @@ impl<'a> Ahead<'a> {
         ensures stands { Stands moment.now result }
         ensures first { result.signal ≡ 0 }
     {
-        let looks = moment.looks.as_slice();
+        Ahead::of_looks(moment.looks.as_slice())
+    }
+
+    /// From the first signal on, of a moment with these looks.
+    pub fn of_looks(looks: &'a [(u16, Look)]) -> Ahead<'a>
+        ensures stands { (moment : Moment) → moment.looks ≡ looks.now → Stands moment result }
+        ensures first { result.signal ≡ 0 }
+    {
         Ahead {
             looks,
             sorted: are_sorted(looks),

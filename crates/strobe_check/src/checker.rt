@@ -107,22 +107,48 @@ impl Checker {
             (record { exec = exec; cycle = cycle; mark = mark; moment = moment.now; levels = levels.now })
             self.old self.new }
     {
-        let mut rest = moment.looks.as_slice();
-        let sorted = are_sorted(rest);
+        self.look_at(
+            exec,
+            cycle,
+            mark,
+            moment.at,
+            moment.looks.as_slice(),
+            levels,
+        );
+    }
+
+    /// The same for a moment of this instant with these looks, whatever it drives.
+    pub fn look_at(
+        &mut self,
+        exec: u16,
+        cycle: u64,
+        mark: u32,
+        at: u128,
+        looks: &[(u16, Look)],
+        levels: &[Level],
+    )
+        requires { length self.old.bound ≤ length levels.now }
+        ensures same { self.new.bound ≡ self.old.bound }
+        ensures seen { (moment : Moment) → moment.at ≡ at → moment.looks ≡ looks.now → SeesEntry
+            (record { exec = exec; cycle = cycle; mark = mark; moment = moment; levels = levels.now })
+            self.old self.new }
+    {
+        let sorted = are_sorted(looks);
+        let mut rest = looks;
         let mut signal = next_place(&self.windows, rest, sorted, 0);
         while signal < self.windows.len() {
-            let (looks, later) = split_run(rest, sorted, signal as u16);
+            let (own, later) = split_run(rest, sorted, signal as u16);
             rest = later;
             if self.bound[signal] {
                 let sight = Sight {
                     exec,
                     cycle,
                     mark,
-                    at: moment.at,
+                    at,
                     signal: signal as u16,
                     level: levels[signal],
                 };
-                let left = judge(&mut self.tally, self.windows.get(signal), looks, &sight);
+                let left = judge(&mut self.tally, self.windows.get(signal), own, &sight);
                 self.windows.put(signal, left);
             }
             signal = next_place(&self.windows, rest, sorted, signal + 1);

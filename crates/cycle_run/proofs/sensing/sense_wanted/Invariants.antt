@@ -1,4 +1,5 @@
 use Rattle.std.proofs.Common.{◌≡◌, ◌≤◌, ◌-◌, length}
+use Rattle.tester_types.specs.declared.cycle.Moment.{Moment}
 use Rattle.strobe_check.specs.Ahead.{Stands}
 use Rattle.cycle_run.specs.Step.{AreLevels}
 use Rattle.cycle_run.proofs.sensing.sense_wanted.Given as goal
@@ -6,9 +7,10 @@ use Rattle.cycle_run.proofs.sensing.sense_wanted.Given as goal
 -- the signals that were asked about so far have the die's levels, where they are wanted
 abbrev pub invariant-loop-signal : goal.invariant-loop-signal
 invariant-loop-signal g l = record {
-  stands : Stands l.moment l.ahead;
+  stands : (moment : Moment) → moment.looks ≡ l.looks → Stands moment l.ahead;
   within : l.ahead.signal ≤ length l.checker.bound;
-  levels : AreLevels (g.K.Socket.told l.fn.socket) l.checker l.moment l.ahead.signal l.levels.items;
+  levels : (moment : Moment) → moment.looks ≡ l.looks
+      → AreLevels (g.K.Socket.told l.fn.socket) l.checker moment l.ahead.signal l.levels.items;
   state : (g.K.Socket.told l.socket).state ≡ (g.K.Socket.told l.fn.socket).state;
   tape : (g.K.Socket.told l.socket).tape ≡ (g.K.Socket.told l.fn.socket).tape;
   loaded : (g.K.Socket.told l.socket).loaded ≡ (g.K.Socket.told l.fn.socket).loaded;
