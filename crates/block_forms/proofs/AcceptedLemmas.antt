@@ -1,7 +1,7 @@
 -- What each statement with a line keeps, all keep.
 use Rattle.std.proofs.Common.{◌≡◌, Bool, true, false, cond, not, List, [], ◌∷◌, ◌++◌, Option, Some, None, Result, Ok, subst, filter}
 use Rattle.std.specs.List.{AllByRecursion, list_all}
-use Rattle.first_fault.specs.Reading.{and_then, reading, stepping}
+use Rattle.answers.specs.Reading.{and_then, reading, stepping}
 use Rattle.stil_tree.specs.Trees.{Trees, Entry, end, plain, block, entries}
 use Rattle.stil_form.specs.Setting.{Setting, lexemes_at, line_at, inner_of, unskipped}
 use Rattle.stil_form.specs.Reading.{is_skipped}

@@ -1,7 +1,7 @@
 -- What readers accept has its form: names, lines and references; and what each statement keeps, all keep.
 use Rattle.std.proofs.Common.{◌≡◌, ℕ, ◌<◌, List, [], ◌∷◌, ◌++◌, length, Result, Ok, Err, Bool, true, false, cond, nat_lt, nat_le, is_some, refl, subst, arith, length-append}
 use Rattle.std.proofs.lemmas.Bool.{ltb-true, le-leb}
-use Rattle.first_fault.specs.Reading.{and_then, reading, stepping}
+use Rattle.answers.specs.Reading.{and_then, reading, stepping}
 use Rattle.stil_tree.specs.Trees.{Entry}
 use Rattle.stil_form.specs.declared.fault.FormKind.{FormKind}
 use Rattle.stil_form.specs.Lexeme.{Lexeme, name}

@@ -19,8 +19,8 @@ use Rattle.stil_ast.specs.Meaning.Tables.{made_table}
 use Rattle.stil_ast.specs.declared.blocks.Blocks.{Blocks}
 use Rattle.stil_ast.specs.declared.blocks.BodyDef.{BodyDef}
 use Rattle.stil_ast.specs.declared.executive.ExecDecl.{ExecDecl}
-use Rattle.stil_ast.specs.declared.fault.StilRefusal.{StilRefusal}
-use Rattle.stil_ast.specs.declared.fault.StilRefusal.TheVariants as refusal
+use Rattle.stil_ast.specs.Data.Refusal.{StilRefusal}
+use Rattle.answers.specs.declared.short.Short.TheVariants as refusal
 use Rattle.stil_ast.specs.declared.timing.TableDecl.{TableDecl}
 use Rattle.tester_types.specs.declared.wave.Table.{Table}
 use Rattle.time_expr.specs.TimesOf.{times_of}

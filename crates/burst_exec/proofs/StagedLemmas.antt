@@ -13,8 +13,8 @@ use Rattle.stil_ast.specs.Meaning.Variables.{picked, variables_fault}
 use Rattle.stil_ast.specs.declared.blocks.Blocks.{Blocks}
 use Rattle.stil_ast.specs.declared.executive.ExecDecl.{ExecDecl}
 use Rattle.stil_ast.specs.declared.fault.StilFault.{StilFault}
-use Rattle.stil_ast.specs.declared.fault.StilRefusal.{StilRefusal}
-use Rattle.stil_ast.specs.declared.fault.StilRefusal.TheVariants as refusal
+use Rattle.stil_ast.specs.Data.Refusal.{StilRefusal}
+use Rattle.answers.specs.declared.short.Short.TheVariants as refusal
 use Rattle.stil_ast.proofs.FoundLemmas.{or_else-none, or_else-both}
 use Rattle.tester_types.specs.declared.wave.Table.{Table}
 use Rattle.expr_text.specs.Ratio.{Ratio}

@@ -6,7 +6,7 @@ use Rattle.stil_ast.specs.Meaning.ExecutiveData.{Tree}
 use Rattle.stil_ast.specs.Meaning.Flat.{Flat}
 use Rattle.stil_ast.specs.declared.blocks.Blocks.{Blocks}
 use Rattle.stil_ast.specs.declared.executive.ExecDecl.{ExecDecl}
-use Rattle.stil_ast.specs.declared.fault.StilRefusal.{StilRefusal}
+use Rattle.stil_ast.specs.Data.Refusal.{StilRefusal}
 use Rattle.burst_exec.specs.Booked.{AreBooked}
 use Rattle.burst_exec.specs.Held.{trees_in}
 use Rattle.burst_exec.specs.Joined.{AreJoined}

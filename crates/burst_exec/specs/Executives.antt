@@ -7,8 +7,8 @@ use Rattle.stil_ast.specs.Faults.ExecutiveFaults.{fifth_fault}
 use Rattle.stil_ast.specs.declared.blocks.Blocks.{Blocks}
 use Rattle.stil_ast.specs.declared.executive.ExecDecl.{ExecDecl}
 use Rattle.stil_ast.specs.declared.fault.StilFault.{StilFault}
-use Rattle.stil_ast.specs.declared.fault.StilRefusal.{StilRefusal}
-use Rattle.stil_ast.specs.declared.fault.StilRefusal.TheVariants as refusal
+use Rattle.stil_ast.specs.Data.Refusal.{StilRefusal}
+use Rattle.answers.specs.declared.short.Short.TheVariants as refusal
 use Rattle.time_expr.specs.TimesOf.{times_of}
 
 -- Plain data are those of an executive of a text: its tables, its chains, and for each of its patterns, in running

@@ -2,7 +2,7 @@
 use Rattle.std.specs.Prelude.{◌≡◌, Option, None, Result, Ok, Err}
 use Rattle.stil_ast.specs.Faults.Found.{IsRefusal}
 use Rattle.stil_ast.specs.declared.fault.StilFault.{StilFault}
-use Rattle.stil_ast.specs.declared.fault.StilRefusal.{StilRefusal}
+use Rattle.stil_ast.specs.Data.Refusal.{StilRefusal}
 
 -- what is wanted where there is no fault, else the fault, or want of memory
 abbrev pub Finds : {A : Type 0} → Option StilFault → (A → Type 0) → Result A StilRefusal → Type 0

@@ -9,7 +9,7 @@ ghost use Rattle.stil_ast.specs.Meaning.Resolved.{outs_of};
 ghost use Rattle.stil_ast.specs.Meaning.Signals.{names_of};
 ghost use Rattle.stil_ast.specs.declared.executive.ExecDecl.{ExecDecl};
 ghost use Rattle.stil_ast.specs.declared.fault.StilFault.{StilFault};
-ghost use Rattle.stil_ast.specs.declared.fault.StilRefusal.TheVariants as refusal;
+ghost use Rattle.answers.specs.declared.short.Short.TheVariants as refusal;
 ghost use Rattle.time_expr.specs.TimesOf.{times_of};
 ghost use Rattle.burst_exec.specs.Carried.{IsCarried, HasRun};
 ghost use Rattle.burst_exec.specs.Executives.{AreAllOf, IsExecFault};

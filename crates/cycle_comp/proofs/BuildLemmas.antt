@@ -30,8 +30,8 @@ use Rattle.instr_writer.proofs.RowLemmas.{distinct_rows-append}
 use Rattle.instr_writer.proofs.EntryLemmas.{entries-more}
 use Rattle.instr_writer.specs.Written.{HasEachOnce, IsWritten}
 use Rattle.page_meaning.specs.declared.instr.Instr.{Instr}
-use Rattle.stil_ast.specs.declared.fault.StilRefusal.{StilRefusal}
-use Rattle.stil_ast.specs.declared.fault.StilRefusal.TheVariants as refusal
+use Rattle.stil_ast.specs.Data.Refusal.{StilRefusal}
+use Rattle.answers.specs.declared.short.Short.TheVariants as refusal
 use Rattle.cycle_comp.specs.Compiled.{chain_of}
 use Rattle.cycle_comp.specs.Working.{size_fault, rows_fault, IsSized, IsInside, IsMade, AreMade, IsBuilt}
 use Rattle.cycle_comp.specs.declared.building.Building.{Building}

@@ -7,7 +7,7 @@ ghost use Rattle.stil_ast.specs.Meaning.Signals.{Names};
 ghost use Rattle.stil_ast.specs.Faults.CodeFaults.{compile_fault, compile_faults, trees_fault};
 ghost use Rattle.stil_ast.specs.Meaning.State.{start_of};
 ghost use Rattle.stil_ast.specs.declared.fault.StilFault.{StilFault};
-ghost use Rattle.stil_ast.specs.declared.fault.StilRefusal.TheVariants as refusal;
+ghost use Rattle.answers.specs.declared.short.Short.TheVariants as refusal;
 ghost use Rattle.signal_groups.specs.Table.{table_of};
 ghost use Rattle.text_bytes.specs.Limits.{most_measure};
 ghost use Rattle.page_meaning.specs.Whole.{IsWhole};

@@ -8,7 +8,7 @@ use Rattle.stil_lex.specs.declared.token.Token.{Token}
 use Rattle.stil_tree.specs.Trees.{Trees, Entry, entries, plain}
 use Rattle.stil_form.specs.Lexeme.{Lexeme, word, lexemes_of}
 use Rattle.stil_form.specs.Setting.{setting, line_at, lexemes_at, at_statement, unskipped}
-use Rattle.first_fault.specs.Reading.{and_then, stepping}
+use Rattle.answers.specs.Reading.{and_then, stepping}
 use Rattle.stil_ast.specs.Data.Bodies.{written_of}
 use Rattle.stil_ast.specs.declared.blocks.Blocks.{Blocks}
 use Rattle.stil_ast.specs.declared.blocks.Pattern.{Pattern}

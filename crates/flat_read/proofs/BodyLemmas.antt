@@ -6,7 +6,7 @@ use Rattle.text_bytes.specs.Limits.{most_passes}
 use Rattle.text_bytes.specs.Numbers.{number_by}
 use Rattle.stil_lex.specs.declared.token.Token.{Token}
 use Rattle.stil_tree.specs.Trees.{Trees, Entry, entries}
-use Rattle.first_fault.specs.Reading.{and_then}
+use Rattle.answers.specs.Reading.{and_then}
 use Rattle.stil_form.specs.declared.fault.FormFault.{FormFault}
 use Rattle.stil_form.specs.Lexeme.{word, name, lexemes_of}
 use Rattle.stil_form.specs.Words.{fits_name}

@@ -8,7 +8,7 @@ use Rattle.text_bytes.specs.Limits.{most_executives}
 use Rattle.stil_lex.specs.Pieces.{Piece}
 use Rattle.stil_lex.specs.declared.token.Token.{Token}
 use Rattle.stil_tree.specs.Trees.{Entry}
-use Rattle.first_fault.specs.Reading.{and_then, stepping}
+use Rattle.answers.specs.Reading.{and_then, stepping}
 use Rattle.stil_form.specs.declared.fault.FormFault.{FormFault}
 use Rattle.stil_form.specs.declared.fault.FormFault.TheVariants.{Refused}
 use Rattle.stil_form.specs.declared.fault.FormKind.TheVariants.{OutOfRange}

@@ -7,7 +7,7 @@ use Rattle.std.proofs.lemmas.Bool.{and_parts, or_from, cases_Bool, eqb-true, fal
 use Rattle.text_bytes.specs.Bytes.{is_character, is_printable}
 use Rattle.stil_lex.specs.declared.token.Token.{Token}
 use Rattle.stil_tree.specs.Trees.{Entry, entries}
-use Rattle.first_fault.specs.Reading.{and_then, reading}
+use Rattle.answers.specs.Reading.{and_then, reading}
 use Rattle.stil_form.specs.declared.fault.FormFault.{FormFault}
 use Rattle.stil_form.specs.declared.fault.FormKind.{FormKind}
 use Rattle.stil_form.specs.declared.fault.FormKind.TheVariants.{Twice}

@@ -5,7 +5,7 @@ use Rattle.tester_types.specs.declared.signal.Direction.{Direction}
 use Rattle.tester_types.specs.declared.signal.Direction.TheVariants as direction
 use Rattle.stil_lex.specs.declared.token.Token.{Token}
 use Rattle.stil_tree.specs.Trees.{Entry, entries}
-use Rattle.first_fault.specs.Reading.{and_then, reading}
+use Rattle.answers.specs.Reading.{and_then, reading}
 use Rattle.stil_form.specs.declared.fault.FormKind.{FormKind}
 use Rattle.stil_form.specs.Lexeme.{Lexeme, word}
 use Rattle.stil_form.specs.Words.{fits_name}

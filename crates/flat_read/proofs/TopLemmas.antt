@@ -3,7 +3,7 @@ use Rattle.std.proofs.Common.{◌≡◌, ℕ, ◌+◌, ◌<◌, Bool, true, List
 use Rattle.std.specs.List.{AllByRecursion, range_with_len}
 use Rattle.stil_lex.specs.declared.token.Token.{Token}
 use Rattle.stil_tree.specs.Trees.{Entry, entries}
-use Rattle.first_fault.specs.Reading.{and_then}
+use Rattle.answers.specs.Reading.{and_then}
 use Rattle.stil_form.specs.declared.fault.FormFault.{FormFault}
 use Rattle.stil_form.specs.Lexeme.{Lexeme}
 use Rattle.stil_form.specs.Words.{fits_name}

@@ -1,7 +1,7 @@
 -- An assignment of one character to a signal is read.
 use Rattle.std.proofs.Common.{◌≡◌, ℕ, false, List, [], ◌∷◌, length, take, drop, Option, Some, None, Result, Ok, refl, ap, ◌∙◌, arith}
 use Rattle.stil_lex.specs.declared.token.Token.{Token}
-use Rattle.first_fault.specs.Reading.{and_then}
+use Rattle.answers.specs.Reading.{and_then}
 use Rattle.stil_form.specs.declared.fault.FormKind.{FormKind}
 use Rattle.stil_form.specs.declared.part.SignKind.TheVariants.{Equals}
 use Rattle.stil_form.specs.Lexeme.{Lexeme, word, sign, lexeme_at, lexemes_of}

@@ -7,7 +7,7 @@ use Rattle.std.specs.Str.{bytes_eq}
 use Rattle.text_bytes.specs.Bytes.{is_printing}
 use Rattle.text_bytes.specs.Limits.{longest_label}
 use Rattle.text_bytes.specs.Numbers.{is_within}
-use Rattle.first_fault.specs.Reading.{reading, and_then}
+use Rattle.answers.specs.Reading.{reading, and_then}
 use Rattle.plan_rows.specs.declared.row.Row.{Row}
 use Rattle.plan_rows.specs.declared.row.Row.TheVariants as row
 use Rattle.plan_rows.specs.declared.row.DieRow.{DieRow}

@@ -13,8 +13,8 @@ use Rattle.stil_ast.specs.Meaning.Signals.{Names, Signal}
 use Rattle.stil_ast.specs.Faults.AssignmentFaults.{Walked, Checked, fine, refused}
 use Rattle.stil_ast.specs.Faults.PatternFaults.{on_top}
 use Rattle.stil_ast.specs.declared.fault.StilFault.{StilFault}
-use Rattle.stil_ast.specs.declared.fault.StilRefusal.{StilRefusal}
-use Rattle.stil_ast.specs.declared.fault.StilRefusal.TheVariants as refusal
+use Rattle.stil_ast.specs.Data.Refusal.{StilRefusal}
+use Rattle.answers.specs.declared.short.Short.TheVariants as refusal
 use Rattle.stil_ast.proofs.SteadyLemmas.{checked_tree_agrees}
 use Rattle.flat_tree.specs.Kept.{kept}
 use Rattle.flat_tree.specs.Lean.{IsLean}

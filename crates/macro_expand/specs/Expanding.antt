@@ -14,8 +14,8 @@ use Rattle.stil_ast.specs.Meaning.Statements.{Statements}
 use Rattle.stil_ast.specs.Faults.AssignmentFaults.{Walked, Checked, fine, refused}
 use Rattle.stil_ast.specs.Faults.PatternFaults.{check_pattern}
 use Rattle.stil_ast.specs.declared.fault.StilFault.{StilFault}
-use Rattle.stil_ast.specs.declared.fault.StilRefusal.{StilRefusal}
-use Rattle.stil_ast.specs.declared.fault.StilRefusal.TheVariants as refusal
+use Rattle.stil_ast.specs.Data.Refusal.{StilRefusal}
+use Rattle.answers.specs.declared.short.Short.TheVariants as refusal
 use Rattle.flat_tree.specs.Kept.{kept}
 use Rattle.flat_tree.specs.Lean.{IsLean}
 use Rattle.macro_expand.specs.Recursing.{setting_in}

@@ -4,7 +4,7 @@ ghost use Rattle.std.specs.Prelude.{◌≡◌, ◌⊎◌, OnErr, IfOk, IfErr, Ma
 ghost use Rattle.stil_ast.specs.Meaning.Signals.{Names};
 ghost use Rattle.stil_ast.specs.Faults.AssignmentFaults.{Walked, fine, refused};
 ghost use Rattle.stil_ast.specs.declared.fault.StilFault.{StilFault};
-ghost use Rattle.stil_ast.specs.declared.fault.StilRefusal.TheVariants as refusal;
+ghost use Rattle.answers.specs.declared.short.Short.TheVariants as refusal;
 ghost use Rattle.macro_expand.specs.Expanding.{pattern_check, IsTreeOf, Expands, IsPatternFault, WalksOr, ExpandsOr};
 ghost use Rattle.macro_expand.specs.Scopes.{IsNamed};
 

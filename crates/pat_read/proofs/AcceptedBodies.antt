@@ -4,7 +4,7 @@ use Rattle.std.specs.List.{list_all}
 use Rattle.std.proofs.lemmas.Bool.{and_parts, and_from}
 use Rattle.text_bytes.specs.Numbers.{number_by, is_within}
 use Rattle.text_bytes.specs.Limits.{most_passes}
-use Rattle.first_fault.specs.Reading.{and_then}
+use Rattle.answers.specs.Reading.{and_then}
 use Rattle.stil_lex.specs.declared.token.Token.{Token}
 use Rattle.stil_tree.specs.Trees.{Trees, Entry, end, plain, block}
 use Rattle.stil_form.specs.declared.fault.FormFault.{FormFault}

@@ -8,7 +8,7 @@ use Rattle.stil_ast.specs.Meaning.Statements.{Item}
 use Rattle.pat_read.specs.declared.data.Awaited.{Awaited}
 use Rattle.pat_read.specs.declared.fault.DataFault.{DataFault}
 use Rattle.pat_read.specs.declared.fault.DataFault.TheVariants.{NoMemory, Shape, LeftOut, OutOfRange}
-use Rattle.first_fault.specs.Reading.{and_then}
+use Rattle.answers.specs.Reading.{and_then}
 use Rattle.pat_read.specs.Fault.{DataAnswers}
 use Rattle.pat_read.specs.Data.{said_by, behind, data_from, said_behind}
 

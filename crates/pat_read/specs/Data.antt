@@ -13,7 +13,7 @@ use Rattle.pat_read.specs.declared.fault.DataFault.{DataFault}
 use Rattle.pat_read.specs.declared.fault.DataFault.TheVariants as fault
 use Rattle.pat_read.specs.declared.data.Awaited.{Awaited}
 use Rattle.pat_read.specs.declared.data.Awaited.TheVariants as awaited
-use Rattle.first_fault.specs.Reading.{and_then}
+use Rattle.answers.specs.Reading.{and_then}
 
 -- a word has a `_`, which is no character of data
 abbrev pub has_underscore : List ℕ → Bool

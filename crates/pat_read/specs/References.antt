@@ -14,7 +14,7 @@ use Rattle.stil_ast.specs.declared.name.SigRef.TheVariants as ref
 use Rattle.stil_ast.specs.Data.AssignmentCuts.{reference_of}
 use Rattle.stil_ast.specs.declared.assignment_list.RefKind.{RefKind}
 use Rattle.stil_ast.specs.declared.body.Assignment.{Assignment}
-use Rattle.first_fault.specs.Reading.{and_then}
+use Rattle.answers.specs.Reading.{and_then}
 use Rattle.pat_read.specs.Data.{data_of}
 
 -- the last tokens, so many of them

@@ -8,7 +8,7 @@ use Rattle.stil_form.specs.Lexeme.{Lexeme, word, sign}
 use Rattle.text_bytes.specs.Numbers.{number_by}
 use Rattle.text_bytes.specs.Limits.{most_passes}
 use Rattle.stil_form.specs.Words.{is_keyword, named_by}
-use Rattle.first_fault.specs.Reading.{and_then}
+use Rattle.answers.specs.Reading.{and_then}
 use Rattle.pat_read.specs.declared.outline.Keyword.{Keyword}
 use Rattle.pat_read.specs.declared.outline.Keyword.TheVariants as keyword
 use Rattle.pat_read.specs.declared.outline.Plain.{Plain}

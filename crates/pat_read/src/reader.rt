@@ -4,8 +4,8 @@ ghost use Rattle.std.specs.Prelude.{◌≡◌, ◌⊎◌, false, [], map, is_som
 ghost use Rattle.stil_tree.specs.Trees.{entry_of, trees_from, trees};
 ghost use Rattle.stil_form.specs.Reading.{Answers, AnswersBy};
 ghost use Rattle.stil_ast.specs.Data.Written.{Written};
-ghost use Rattle.stil_ast.specs.declared.fault.StilRefusal.{StilRefusal};
-ghost use Rattle.stil_ast.specs.declared.fault.StilRefusal.TheVariants as refusal;
+ghost use Rattle.stil_ast.specs.Data.Refusal.{StilRefusal};
+ghost use Rattle.answers.specs.declared.short.Short.TheVariants as refusal;
 ghost use Rattle.stil_form.specs.Setting.{Setting, setting, setting_of, line_at, at_statement, inner_of};
 ghost use Rattle.pat_read.specs.Body.{assignment_with, outline_at, judge_assignment, assignments_of, step_of, action_of, judge_statement, body_from, body_of};
 ghost use Rattle.pat_read.specs.Refusal.{IsBodyFault, BodyAnswers};

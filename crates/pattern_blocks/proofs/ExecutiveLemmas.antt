@@ -14,7 +14,7 @@ use Rattle.stil_ast.specs.declared.executive.ExecDecl.{ExecDecl}
 use Rattle.pattern_blocks.specs.declared.executive.ExecWord.{ExecWord}
 use Rattle.pattern_blocks.specs.declared.executive.ExecWord.TheVariants as word
 use Rattle.pattern_blocks.specs.declared.executive.ExecParts.{ExecParts}
-use Rattle.first_fault.specs.Reading.{stepping}
+use Rattle.answers.specs.Reading.{stepping}
 use Rattle.block_forms.specs.Heads.{titled_block}
 use Rattle.block_forms.specs.Named.{named_on}
 use Rattle.block_forms.specs.Keywords.{meaning}

@@ -4,7 +4,7 @@ use Rattle.stil_tree.specs.Trees.{Entry}
 use Rattle.stil_form.specs.declared.fault.FormFault.{FormFault}
 use Rattle.stil_form.specs.declared.fault.FormKind.{FormKind}
 use Rattle.stil_form.specs.declared.fault.FormKind.TheVariants.{Twice}
-use Rattle.first_fault.specs.Reading.{and_then, reading}
+use Rattle.answers.specs.Reading.{and_then, reading}
 use Rattle.stil_form.specs.Setting.{Setting, lexemes_at, at_statement, inner_of, unskipped}
 use Rattle.stil_ast.specs.Data.Written.{Written}
 use Rattle.stil_ast.specs.declared.blocks.BodyDef.{BodyDef}

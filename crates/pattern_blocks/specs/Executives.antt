@@ -5,7 +5,7 @@ use Rattle.stil_form.specs.declared.fault.FormFault.{FormFault}
 use Rattle.stil_form.specs.declared.fault.FormKind.{FormKind}
 use Rattle.stil_form.specs.declared.fault.FormKind.TheVariants.{Shape, LeftOut, Twice}
 use Rattle.stil_form.specs.Lexeme.{Lexeme}
-use Rattle.first_fault.specs.Reading.{and_then, stepping}
+use Rattle.answers.specs.Reading.{and_then, stepping}
 use Rattle.stil_form.specs.Setting.{Setting, lexemes_at, at_statement, line_at, inner_of, unskipped}
 use Rattle.stil_ast.specs.declared.name.Named.{Named}
 use Rattle.stil_ast.specs.declared.executive.ExecDecl.{ExecDecl}

@@ -1,7 +1,7 @@
 //! PatternExec blocks (IEEE 1450-1999, clause 16).
 
 ghost use Rattle.std.specs.Prelude.{◌≡◌, [], ◌∷◌, ◌++◌, Ok, is_some, map};
-ghost use Rattle.first_fault.specs.Reading.{stepping};
+ghost use Rattle.answers.specs.Reading.{stepping};
 ghost use Rattle.stil_tree.specs.Trees.{entry_of};
 ghost use Rattle.stil_form.specs.Reading.{Answers, AnswersBy};
 ghost use Rattle.stil_form.specs.Setting.{setting_of, lexemes_at, at_statement, unskipped};

@@ -13,7 +13,7 @@ use Rattle.stil_ast.specs.declared.executive.Burst.{Burst}
 use Rattle.stil_ast.specs.declared.executive.BurstItem.{BurstItem}
 use Rattle.stil_ast.specs.declared.fault.StilFault.{StilFault}
 use Rattle.stil_ast.specs.declared.fault.StilKind.TheVariants.{UnknownName}
-use Rattle.stil_ast.specs.declared.fault.StilRefusal.{StilRefusal}
+use Rattle.stil_ast.specs.Data.Refusal.{StilRefusal}
 use Rattle.signal_groups.specs.Begun.{FirstTells}
 use Rattle.pattern_order.specs.Walk.{Met, met_within, mention_of, names_of, met_by}
 use Rattle.pattern_order.specs.Numbers.{IsNumbered, meaning_of}

@@ -6,7 +6,7 @@ ghost use Rattle.stil_ast.specs.Faults.BurstFaults.{exec_names_fault};
 ghost use Rattle.stil_ast.specs.declared.executive.Burst.{Burst};
 ghost use Rattle.stil_ast.specs.declared.executive.ExecDecl.{ExecDecl};
 ghost use Rattle.stil_ast.specs.declared.fault.StilFault.{StilFault};
-ghost use Rattle.stil_ast.specs.declared.fault.StilRefusal.TheVariants as refusal;
+ghost use Rattle.answers.specs.declared.short.Short.TheVariants as refusal;
 ghost use Rattle.pattern_order.specs.Numbers.{IsFirst};
 ghost use Rattle.pattern_order.specs.Answer.{inner_fault, Orders, IsNamesFault};
 

@@ -6,7 +6,7 @@ use Rattle.std.proofs.Math.Nat.{mul-le-mul_right}
 use Rattle.std.proofs.lemmas.Bool.{and_parts, and_from, le-leb, leb-true, ne_eqb, false_from_ne_true}
 use Rattle.std.proofs.lemmas.List.{length-map}
 use Rattle.text_bytes.specs.Numbers.{is_within}
-use Rattle.first_fault.specs.Reading.{and_then}
+use Rattle.answers.specs.Reading.{and_then}
 use Rattle.plan_rows.specs.Rows.{AreKept, one, each_of, as_lot, dies_of, dies_at, lot_of}
 use Rattle.plan_rows.specs.Forms.{Written, a_lot, a_clock, a_bind, a_die, a_fault, a_stop, a_bin, a_skew, written_of}
 use Rattle.plan_rows.specs.Judging.{is_lot, stands, lot_fits, die_fits, tries_fit, ending_fits, number_at, of_die, within, row_of, says_again, placed, once, row_at, judge}

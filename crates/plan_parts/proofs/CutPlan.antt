@@ -9,7 +9,7 @@ use Rattle.std.specs.Prelude.{codes}
 use Rattle.std.specs.List.{list_any}
 use Rattle.csv.specs.declared.parser.State.TheVariants as st
 use Rattle.csv.proofs.RoundTrip.{read-write-many}
-use Rattle.first_fault.specs.Reading.{and_then, reading}
+use Rattle.answers.specs.Reading.{and_then, reading}
 use Rattle.plan_rows.specs.Rows.{AreKept, one, each_of, as_lot}
 use Rattle.plan_rows.specs.Forms.{Written, written_of}
 use Rattle.plan_rows.specs.Judging.{judge, plan_of}

@@ -5,7 +5,7 @@ use Rattle.std.proofs.lemmas.Bool.{eq-eqb, ne_eqb, cases_eq, lt-ltb, or_left, or
 use Rattle.std.proofs.lemmas.List.{map-append}
 use Rattle.std.proofs.lemmas.List.Elements.{filter-append}
 use Rattle.text_bytes.specs.Numbers.{is_within}
-use Rattle.first_fault.specs.Reading.{and_then, reading}
+use Rattle.answers.specs.Reading.{and_then, reading}
 use Rattle.plan_rows.specs.Rows.{one, dies_at}
 use Rattle.plan_rows.specs.Forms.{Written, a_lot, a_clock, a_bind, a_die, a_fault, a_stop, a_bin, a_skew}
 use Rattle.plan_rows.specs.Judging.{judge, row_of, number_at, die_fits, tries_fit}

@@ -9,8 +9,8 @@ use Rattle.csv.specs.declared.parser.State.{State}
 use Rattle.csv.specs.declared.parser.State.TheVariants as st
 use Rattle.csv.specs.declared.reader.Trim.TheVariants as trim
 use Rattle.csv.proofs.ReadFacts.{rows-end, rows-more}
-use Rattle.first_fault.specs.Reading.{and_then, reading}
-use Rattle.first_fault.proofs.ReadingLemmas.{length-reading}
+use Rattle.answers.specs.Reading.{and_then, reading}
+use Rattle.answers.proofs.ReadingLemmas.{length-reading}
 use Rattle.plan_rows.specs.Rows.{one}
 use Rattle.plan_rows.specs.Forms.{Written, written_of}
 use Rattle.plan_rows.specs.Judging.{judge, plan_of, placed, row_of, row_at, once}

@@ -1,7 +1,7 @@
 -- A fault is that of the first refused record.
 use Rattle.std.proofs.Common.{◌≡◌, ℕ, List, [], ◌∷◌, ◌++◌, Err, refl, sym, ap, ◌∙◌, inl, inr}
-use Rattle.first_fault.specs.Reading.{reading}
-use Rattle.first_fault.proofs.ReadingLemmas.{first_is, is_first}
+use Rattle.answers.specs.Reading.{reading}
+use Rattle.answers.proofs.ReadingLemmas.{first_is, is_first}
 use Rattle.plan_rows.specs.Judging.{judge, plan_of}
 use Rattle.plan_rows.specs.Plan.{IsFaultOf}
 use Rattle.plan_rows.specs.declared.fault.PlanFault.{PlanFault}

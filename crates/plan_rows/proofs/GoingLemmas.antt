@@ -5,8 +5,8 @@ use Rattle.csv.specs.declared.reader.Reader.{Reader}
 use Rattle.csv.specs.declared.parser.State.TheVariants as st
 use Rattle.csv.specs.declared.reader.Trim.TheVariants as trim
 use Rattle.csv.proofs.ReadFacts.{rows-end, rows-more}
-use Rattle.first_fault.specs.Reading.{reading}
-use Rattle.first_fault.proofs.ReadingLemmas.{reading-one, length-reading}
+use Rattle.answers.specs.Reading.{reading}
+use Rattle.answers.proofs.ReadingLemmas.{reading-one, length-reading}
 use Rattle.plan_rows.specs.Judging.{judge}
 use Rattle.plan_rows.specs.Plan.{IsFault}
 use Rattle.plan_rows.specs.Inside.{IsWhole}

@@ -8,7 +8,7 @@ use Rattle.std.proofs.lemmas.List.Quantifiers.{position-Some}
 use Rattle.text_bytes.specs.Numbers.{is_within}
 use Rattle.plan_rows.specs.Rows.{dies_of, dies_at, IsLot}
 use Rattle.plan_rows.specs.Forms.{Written, a_lot, a_clock, a_bind, a_die, a_fault, a_stop, a_bin, a_skew, written_of}
-use Rattle.first_fault.specs.Reading.{and_then}
+use Rattle.answers.specs.Reading.{and_then}
 use Rattle.plan_rows.specs.Subjects.{subject_of}
 use Rattle.plan_rows.specs.Judging.{is_lot, stands, lot_fits, die_fits, tries_fit, ending_fits, names_at, number_at, of_die, within, row_of, says_again, placed, once, row_at, judge_at, judge}
 use Rattle.plan_rows.specs.Inside.{Suits, IsNext, key_of}

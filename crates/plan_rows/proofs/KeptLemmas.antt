@@ -8,8 +8,8 @@ use Rattle.std.proofs.lemmas.List.{append-nil}
 use Rattle.std.proofs.lemmas.List.Elements.{All-append, filter-append, filter_passes}
 use Rattle.std.proofs.lemmas.List.Folds.{list_any_at}
 use Rattle.plan_rows.specs.Rows.{one, each_of, as_lot, as_clock, as_die, as_fault, as_stop, as_bin, dies_of, dies_at, faults_at, lot_of, IsLot, HasDie, AreApart, AreKept}
-use Rattle.first_fault.specs.Reading.{and_then, reading}
-use Rattle.first_fault.proofs.ReadingLemmas.{length-reading}
+use Rattle.answers.specs.Reading.{and_then, reading}
+use Rattle.answers.proofs.ReadingLemmas.{length-reading}
 use Rattle.plan_rows.specs.Words.{is_name}
 use Rattle.plan_rows.specs.Judging.{judge, plan_of, says_again}
 use Rattle.plan_rows.specs.Subjects.{Subject, subject_of, same_subject}

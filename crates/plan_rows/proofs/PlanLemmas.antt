@@ -3,8 +3,8 @@ use Rattle.std.proofs.Common.{◌≡◌, ℕ, ◌<◌, List, [], ◌∷◌, ◌+
 use Rattle.csv.specs.Reading.{Reached, default_config, strip_bom}
 use Rattle.csv.specs.declared.parser.State.{State}
 use Rattle.csv.specs.declared.parser.State.TheVariants as st
-use Rattle.first_fault.specs.Reading.{and_then, reading}
-use Rattle.first_fault.proofs.ReadingLemmas.{reading-append, length-reading}
+use Rattle.answers.specs.Reading.{and_then, reading}
+use Rattle.answers.proofs.ReadingLemmas.{reading-append, length-reading}
 use Rattle.plan_rows.specs.Judging.{judge, plan_of}
 use Rattle.plan_rows.specs.Plan.{HasRecords, IsPlan, IsFault}
 use Rattle.plan_rows.specs.declared.row.Row.{Row}

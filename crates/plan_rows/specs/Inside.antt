@@ -2,7 +2,7 @@
 use Rattle.std.specs.Prelude.{◌≡◌, ℕ, ◌+◌, ◌*◌, false, ◌<◌, ◌≤◌, ◌⊎◌, List, [], ◌∷◌, ◌++◌, length, map, slice_index_or, slice_set, Result, Ok, Err, true}
 use Rattle.text_bytes.specs.Texts.{key_texts, added}
 use Rattle.plan_rows.specs.Rows.{dies_of, dies_at, lot_of, IsLot}
-use Rattle.first_fault.specs.Reading.{reading}
+use Rattle.answers.specs.Reading.{reading}
 use Rattle.plan_rows.specs.Limits.{last_site, most_dies, most_kept, last_bin}
 use Rattle.plan_rows.specs.Words.{is_name}
 use Rattle.plan_rows.specs.Judging.{names_at, says_again, judge}

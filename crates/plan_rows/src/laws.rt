@@ -1,7 +1,7 @@
 //! Laws of plans: what a text says is one thing.
 
 ghost use Rattle.std.specs.Prelude.{◌≡◌, ◌↔◌, ℕ, List, [], length, Ok, Err};
-ghost use Rattle.first_fault.specs.Reading.{reading};
+ghost use Rattle.answers.specs.Reading.{reading};
 ghost use Rattle.plan_rows.specs.Plan.{HasRecords, IsPlan, IsFault, IsFaultOf};
 ghost use Rattle.plan_rows.specs.Judging.{judge, plan_of};
 ghost use Rattle.plan_rows.specs.declared.row.Row.{Row};

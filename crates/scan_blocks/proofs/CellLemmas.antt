@@ -4,7 +4,7 @@ use Rattle.std.specs.List.{AllByRecursion, list_all}
 use Rattle.std.specs.Cmp.Derive.{both_true}
 use Rattle.std.proofs.lemmas.Bool.{and_parts, leb-true, le-leb}
 use Rattle.std.proofs.lemmas.List.Sums.{sum_by_push}
-use Rattle.first_fault.specs.Reading.{stepping}
+use Rattle.answers.specs.Reading.{stepping}
 use Rattle.stil_form.specs.declared.front.Span.{Span}
 use Rattle.stil_form.specs.declared.part.SignKind.TheVariants as mark
 use Rattle.stil_form.specs.Lexeme.{Lexeme, sign}

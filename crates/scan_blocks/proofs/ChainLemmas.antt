@@ -10,7 +10,7 @@ use Rattle.std.proofs.lemmas.List.{map-append, append_assoc, append-nil}
 use Rattle.std.proofs.lemmas.List.Folds.{list_any-append}
 use Rattle.text_bytes.proofs.ListLemmas.{list_any-map}
 use Rattle.stil_tree.specs.Trees.{Entry}
-use Rattle.first_fault.specs.Reading.{and_then}
+use Rattle.answers.specs.Reading.{and_then}
 use Rattle.stil_form.specs.declared.fault.FormKind.{FormKind}
 use Rattle.stil_form.specs.declared.fault.FormKind.TheVariants.{OutOfRange, Twice}
 use Rattle.stil_form.specs.Setting.{Setting, lexemes_at, at_statement, inner_of, unskipped}

@@ -8,7 +8,7 @@ use Rattle.stil_form.specs.Lexeme.{Lexeme, sign}
 use Rattle.stil_form.specs.Words.{named_by}
 use Rattle.stil_form.specs.Fronts.{index_by, indices_of}
 use Rattle.stil_form.specs.Setting.{at_statement}
-use Rattle.first_fault.specs.Reading.{and_then, stepping}
+use Rattle.answers.specs.Reading.{and_then, stepping}
 use Rattle.text_bytes.specs.Limits.{most_cells}
 use Rattle.stil_ast.specs.Data.BlockForms.{cell_size}
 use Rattle.stil_ast.specs.declared.name.IndexRange.{IndexRange}

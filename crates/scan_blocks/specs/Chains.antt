@@ -8,7 +8,7 @@ use Rattle.stil_form.specs.declared.fault.FormKind.{FormKind}
 use Rattle.stil_form.specs.declared.fault.FormKind.TheVariants.{Shape, LeftOut, OutOfRange, Twice}
 use Rattle.stil_form.specs.Lexeme.{Lexeme}
 use Rattle.stil_form.specs.Fronts.{index_by}
-use Rattle.first_fault.specs.Reading.{and_then, reading, stepping}
+use Rattle.answers.specs.Reading.{and_then, reading, stepping}
 use Rattle.stil_form.specs.Setting.{Setting, lexemes_at, line_at, at_statement, inner_of, unskipped}
 use Rattle.text_bytes.specs.Limits.{most_chains, most_cells}
 use Rattle.stil_ast.specs.declared.scan.ChainDecl.{ChainDecl}

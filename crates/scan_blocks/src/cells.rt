@@ -1,7 +1,7 @@
 //! The cells of a ScanCells statement (IEEE 1450-1999, clause 20).
 
 ghost use Rattle.std.specs.Prelude.{◌≡◌, ◌∷◌, ◌++◌, [], Ok, IfOk};
-ghost use Rattle.first_fault.specs.Reading.{stepping};
+ghost use Rattle.answers.specs.Reading.{stepping};
 ghost use Rattle.stil_form.specs.Reading.{Answers};
 ghost use Rattle.stil_form.specs.Setting.{at_statement};
 ghost use Rattle.stil_form.specs.Lexeme.{lexeme_of, lexemes};

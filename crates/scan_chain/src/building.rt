@@ -6,7 +6,7 @@ ghost use Rattle.stil_ast.specs.Meaning.Bursts.{exec_scans};
 ghost use Rattle.stil_ast.specs.Meaning.Executive.{chain_list};
 ghost use Rattle.stil_ast.specs.declared.executive.ExecDecl.{ExecDecl};
 ghost use Rattle.stil_ast.specs.declared.fault.StilFault.{StilFault};
-ghost use Rattle.stil_ast.specs.declared.fault.StilRefusal.TheVariants as refusal;
+ghost use Rattle.answers.specs.declared.short.Short.TheVariants as refusal;
 ghost use Rattle.signal_groups.specs.Table.{table_of};
 ghost use Rattle.scan_chain.specs.Fault.{chain_list_fault, IsChainFault, Scans};
 

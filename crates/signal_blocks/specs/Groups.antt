@@ -1,7 +1,7 @@
 -- SignalGroups blocks (IEEE 1450-1999, clause 15).
 use Rattle.std.specs.Prelude.{ℕ, ◌+◌, List, [], Result, Ok}
 use Rattle.stil_tree.specs.Trees.{Entry}
-use Rattle.first_fault.specs.Reading.{and_then, reading}
+use Rattle.answers.specs.Reading.{and_then, reading}
 use Rattle.stil_form.specs.declared.fault.FormFault.{FormFault}
 use Rattle.stil_form.specs.Setting.{Setting, line_at, inner_of, unskipped}
 use Rattle.stil_ast.specs.declared.signal.GroupDecl.{GroupDecl}

@@ -8,7 +8,7 @@ use Rattle.std.proofs.lemmas.Bool.{ltb-true}
 use Rattle.std.proofs.lemmas.List.{map-append, length-map, length-replicate, append-nil}
 use Rattle.text_bytes.specs.Texts.{key_texts}
 use Rattle.text_bytes.proofs.ListLemmas.{list_any-map}
-use Rattle.first_fault.specs.Reading.{and_then, stepping}
+use Rattle.answers.specs.Reading.{and_then, stepping}
 use Rattle.stil_ast.specs.Data.Texts.{same}
 use Rattle.stil_ast.specs.Faults.Found.{fault_at, unless, refuse_if, IsRefusal}
 use Rattle.stil_ast.specs.Faults.SignalFaults.{signals_fault, groups_fault}
@@ -16,8 +16,8 @@ use Rattle.stil_ast.specs.Meaning.Signals.{Signal, Group, declared}
 use Rattle.stil_ast.specs.declared.fault.StilFault.{StilFault}
 use Rattle.stil_ast.specs.declared.fault.StilKind.TheVariants.{Twice, OutOfRange}
 use Rattle.stil_ast.specs.declared.signal.SignalDecl.{SignalDecl}
-use Rattle.stil_ast.specs.declared.fault.StilRefusal.{StilRefusal}
-use Rattle.stil_ast.specs.declared.fault.StilRefusal.TheVariants as refusal
+use Rattle.stil_ast.specs.Data.Refusal.{StilRefusal}
+use Rattle.answers.specs.declared.short.Short.TheVariants as refusal
 use Rattle.signal_groups.specs.declared.table.Declared.{Declared}
 use Rattle.signal_groups.specs.Table.{IsSound}
 use Rattle.signal_groups.specs.Begun.{Begun, Tells, begun_in, begun_of, with_signal, signal_said, group_said, decl_said}

@@ -6,8 +6,8 @@ use Rattle.stil_ast.specs.Faults.SignalFaults.{signals_fault, groups_fault, grou
 use Rattle.stil_ast.specs.Meaning.Signals.{Group, Names, names_of}
 use Rattle.stil_ast.specs.declared.blocks.Blocks.{Blocks}
 use Rattle.stil_ast.specs.declared.fault.StilFault.{StilFault}
-use Rattle.stil_ast.specs.declared.fault.StilRefusal.{StilRefusal}
-use Rattle.stil_ast.specs.declared.fault.StilRefusal.TheVariants as refusal
+use Rattle.stil_ast.specs.Data.Refusal.{StilRefusal}
+use Rattle.answers.specs.declared.short.Short.TheVariants as refusal
 use Rattle.stil_ast.proofs.FoundLemmas.{not_both, one_fault}
 use Rattle.signal_groups.specs.Table.{Table, table_of}
 use Rattle.signal_groups.specs.Fault.{IsFourth, Fourth}

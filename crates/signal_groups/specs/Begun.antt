@@ -4,14 +4,14 @@ use Rattle.std.specs.List.{list_any}
 use Rattle.std.specs.declared.alloc.Global.{Global}
 use Rattle.text_bytes.specs.Limits.{longest_name, most_signals}
 use Rattle.text_bytes.specs.Texts.{key_texts}
-use Rattle.first_fault.specs.Reading.{stepping}
+use Rattle.answers.specs.Reading.{stepping}
 use Rattle.stil_ast.specs.Data.Texts.{same}
 use Rattle.stil_ast.specs.Faults.Found.{fault_at}
 use Rattle.stil_ast.specs.Meaning.Signals.{Signal, Group, signals_place, declared}
 use Rattle.stil_ast.specs.declared.fault.StilFault.{StilFault}
 use Rattle.stil_ast.specs.declared.fault.StilKind.TheVariants.{Twice, OutOfRange}
-use Rattle.stil_ast.specs.declared.fault.StilRefusal.{StilRefusal}
-use Rattle.stil_ast.specs.declared.fault.StilRefusal.TheVariants as refusal
+use Rattle.stil_ast.specs.Data.Refusal.{StilRefusal}
+use Rattle.answers.specs.declared.short.Short.TheVariants as refusal
 use Rattle.stil_ast.specs.declared.signal.SignalDecl.{SignalDecl}
 use Rattle.tester_types.specs.declared.signal.Direction.{Direction}
 use Rattle.signal_groups.specs.declared.table.Declared.{Declared}

@@ -2,8 +2,8 @@
 use Rattle.std.specs.Prelude.{◌≡◌, ℕ, Bool, List, [], Some, None, Result, Ok, Err, map}
 use Rattle.stil_ast.specs.Faults.SignalFaults.{groups_fault, group_fault}
 use Rattle.stil_ast.specs.Faults.Found.{first_in}
-use Rattle.stil_ast.specs.declared.fault.StilRefusal.{StilRefusal}
-use Rattle.stil_ast.specs.declared.fault.StilRefusal.TheVariants as refusal
+use Rattle.stil_ast.specs.Data.Refusal.{StilRefusal}
+use Rattle.answers.specs.declared.short.Short.TheVariants as refusal
 use Rattle.stil_ast.specs.Meaning.GroupReading.{terms_of}
 use Rattle.stil_ast.specs.Meaning.Members.{combined_text}
 use Rattle.stil_ast.specs.Meaning.Signals.{Signal, Group, Names}

@@ -4,7 +4,7 @@ ghost use Rattle.std.specs.Prelude.{◌≡◌, ◌⊎◌, None, Some, IfOk, IfEr
 ghost use Rattle.stil_ast.specs.Meaning.Signals.{names_of};
 ghost use Rattle.stil_ast.specs.Faults.SignalFaults.{fourth_fault};
 ghost use Rattle.stil_ast.specs.declared.fault.StilFault.{StilFault};
-ghost use Rattle.stil_ast.specs.declared.fault.StilRefusal.TheVariants as refusal;
+ghost use Rattle.answers.specs.declared.short.Short.TheVariants as refusal;
 ghost use Rattle.signal_groups.specs.Table.{table_of};
 ghost use Rattle.signal_groups.specs.Fault.{IsFourth, Fourth};
 

@@ -3,7 +3,7 @@
 ghost use Rattle.std.specs.Prelude.{◌≡◌, ◌∷◌, [], ◌++◌, ℕ, List, Err, false, map, codes, IfOk, OnOk};
 ghost use Rattle.std.specs.List.{list_any, flat_map};
 ghost use Rattle.text_bytes.specs.Texts.{key_texts};
-ghost use Rattle.first_fault.specs.Reading.{stepping};
+ghost use Rattle.answers.specs.Reading.{stepping};
 ghost use Rattle.stil_ast.specs.Data.Texts.{same};
 ghost use Rattle.stil_ast.specs.Faults.Found.{fault_at};
 ghost use Rattle.stil_ast.specs.Meaning.Signals.{grouped, groups_place};

@@ -11,7 +11,7 @@ use Rattle.text_bytes.specs.Numbers.{number_by}
 use Rattle.text_bytes.specs.Limits.{most_repeats}
 use Rattle.stil_ast.specs.Meaning.Statements.{Item, letter, hash, percent}
 use Rattle.stil_ast.proofs.GroupItems.{none_is_some}
-use Rattle.first_fault.specs.Reading.{and_then}
+use Rattle.answers.specs.Reading.{and_then}
 use Rattle.pat_read.specs.Data as words
 use Rattle.pat_read.proofs.DataLemmas.{behind-append}
 use Rattle.pat_read.specs.Data.{has_underscore, times_by, unit_of, item_said, word_behind, repeat_said, unit_said, behind, data_from, data_of}

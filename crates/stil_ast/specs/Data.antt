@@ -9,7 +9,7 @@ pub mod WrittenCode
 pub mod Bodies
 pub mod BodiesFall
 pub mod KindName
-pub mod RefusalText
+pub mod Refusal
 pub mod Forms
 pub mod BlockForms
 pub mod OneText

@@ -2,10 +2,8 @@
 
 ghost use Rattle.std.specs.Prelude.{◌≡◌};
 ghost use Rattle.stil_ast.specs.Data.KindName.{kind_name};
-ghost use Rattle.stil_ast.specs.declared.fault.StilRefusal.TheVariants.{NoMemory};
 
-use std::alloc::{AllocError, AllocFailed};
-use std::error::Error;
+use answers::Short;
 use std::fmt;
 use tester_types::Text;
 
@@ -103,41 +101,16 @@ pub struct StilFault {
     pub line: u32,
 }
 
-/// Why a reader gave up.
-#[derive(Debug, Drop)]
-pub enum StilRefusal {
-    NoMemory,
-    Fault(StilFault),
-}
-
-impl fmt::Display for StilRefusal {
+impl fmt::Display for StilFault {
     ghost use Rattle.std.specs.Prelude.{Some};
-    ghost use Rattle.stil_ast.specs.Data.RefusalText.{refusal_text};
+    ghost use Rattle.stil_ast.specs.Data.Refusal.{fault_text};
 
-    ghost output = { λ refusal. Some (refusal_text refusal) };
+    ghost output = { λ fault. Some (fault_text fault) };
 
     fn fmt<W: fmt::Write>(&self, f: &mut fmt::Formatter<W>) -> fmt::Result {
-        match self {
-            StilRefusal::NoMemory => write!(f, "out of memory"),
-            StilRefusal::Fault(fault) => write!(f, "{} at line {}", fault.kind, fault.line),
-        }
+        write!(f, "{} at line {}", self.kind, self.line)
     }
 }
 
-impl Error for StilRefusal {}
-
-impl From<AllocError> for StilRefusal {
-    ghost from_gives = { λ _ refusal. refusal ≡ NoMemory };
-
-    fn from(_error: AllocError) -> StilRefusal {
-        StilRefusal::NoMemory
-    }
-}
-
-impl<T: Drop> From<AllocFailed<T>> for StilRefusal {
-    ghost from_gives = { λ _ refusal. refusal ≡ NoMemory };
-
-    fn from(_error: AllocFailed<T>) -> StilRefusal {
-        StilRefusal::NoMemory
-    }
-}
+/// Why a reader gave up.
+pub type StilRefusal = Short<StilFault>;

@@ -1,7 +1,7 @@
 -- The loop that reads statements one after another, and its first fault.
 use Rattle.std.proofs.Common.{◌≡◌, ℕ, ◌+◌, ◌<◌, List, [], ◌∷◌, ◌++◌, length, drop, map, get_or, Result, Err, sym, refl, ap, ◌∙◌, Bool, true, false, not, cond}
 use Rattle.text_bytes.proofs.ListLemmas.{drop-item}
-use Rattle.first_fault.specs.Reading.{and_then, reading}
+use Rattle.answers.specs.Reading.{and_then, reading}
 use Rattle.stil_tree.specs.Trees.{Entry}
 use Rattle.stil_form.specs.declared.fault.FormFault.{FormFault}
 use Rattle.stil_form.specs.declared.fault.FormFault.TheVariants.{NoMemory, Refused}

@@ -1,7 +1,7 @@
 -- What a reader of statements answers, and which statements it skips. How statements are read one after another, up to
 -- the first fault in text order, is first_fault's.
 use Rattle.std.specs.Prelude.{◌≡◌, ℕ, Bool, false, List, [], ◌∷◌, Result, Ok, Err}
-pub use Rattle.first_fault.specs.Reading.{and_then, reading, stepping, IsFirst}
+pub use Rattle.answers.specs.Reading.{and_then, reading, stepping, IsFirst}
 use Rattle.stil_form.specs.Lexeme.{Lexeme, word, name, text, sign}
 use Rattle.stil_form.specs.Skipping.{is_listed}
 use Rattle.stil_form.specs.declared.fault.FormFault.{FormFault}

@@ -2,7 +2,7 @@
 
 ghost use Rattle.std.specs.Prelude.{◌≡◌, List, [], Result, map};
 ghost use Rattle.stil_tree.specs.Trees.{Entry, entry_of};
-ghost use Rattle.first_fault.specs.Reading.{reading};
+ghost use Rattle.answers.specs.Reading.{reading};
 ghost use Rattle.stil_form.specs.Reading.{Answers, AnswersBy};
 ghost use Rattle.stil_form.specs.Setting.{setting_of, unskipped};
 ghost use Rattle.stil_form.specs.declared.fault.FormFault.{FormFault};

@@ -1,7 +1,7 @@
 //! The loop that reads statements by a form whose steps move a state on, up to the first fault in text order.
 
 ghost use Rattle.std.specs.Prelude.{◌≡◌, Result, map};
-ghost use Rattle.first_fault.specs.Reading.{stepping};
+ghost use Rattle.answers.specs.Reading.{stepping};
 ghost use Rattle.stil_tree.specs.Trees.{Entry, entry_of};
 ghost use Rattle.stil_form.specs.Reading.{Answers};
 ghost use Rattle.stil_form.specs.Setting.{setting_of, unskipped};

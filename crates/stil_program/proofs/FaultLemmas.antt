@@ -10,8 +10,8 @@ use Rattle.stil_ast.specs.Meaning.ExecutiveData.{Executive}
 use Rattle.stil_ast.specs.Meaning.Signals.{names_of}
 use Rattle.stil_ast.specs.declared.blocks.Blocks.{Blocks}
 use Rattle.stil_ast.specs.declared.fault.StilFault.{StilFault}
-use Rattle.stil_ast.specs.declared.fault.StilRefusal.{StilRefusal}
-use Rattle.stil_ast.specs.declared.fault.StilRefusal.TheVariants as refusal
+use Rattle.stil_ast.specs.Data.Refusal.{StilRefusal}
+use Rattle.answers.specs.declared.short.Short.TheVariants as refusal
 use Rattle.signal_groups.specs.Fault.{IsFourth}
 use Rattle.packed_code.specs.Program.{Program}
 use Rattle.text_front.proofs.FrontLemmas.{one_front}

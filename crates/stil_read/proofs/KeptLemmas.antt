@@ -1,6 +1,6 @@
 -- What the statements of a text are taken into: no words, no blocks, and then what stands behind them.
 use Rattle.std.proofs.Common.{◌≡◌, ℕ, List, [], Result, ap, subst, ◌∙◌}
-use Rattle.first_fault.specs.Reading.{stepping}
+use Rattle.answers.specs.Reading.{stepping}
 use Rattle.stil_lex.specs.declared.token.Token.{Token}
 use Rattle.stil_tree.specs.Trees.{Entry}
 use Rattle.stil_form.specs.declared.fault.FormFault.{FormFault}

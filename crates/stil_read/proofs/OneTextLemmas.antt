@@ -5,7 +5,7 @@ use Rattle.std.proofs.lemmas.Bool.{and_from, ltb-true}
 use Rattle.std.proofs.lemmas.List.{append_assoc, length-map}
 use Rattle.std.proofs.lemmas.List.Folds.{list_all-append}
 use Rattle.text_bytes.specs.Limits.{most_bytes, most_executives}
-use Rattle.first_fault.specs.Reading.{and_then, stepping}
+use Rattle.answers.specs.Reading.{and_then, stepping}
 use Rattle.stil_lex.specs.declared.token.Token.{Token}
 use Rattle.stil_lex.specs.Tokens.{Reads}
 use Rattle.stil_tree.specs.Trees.{Trees, Entry, end, plain, block, entries}

@@ -1,6 +1,6 @@
 -- A text has one answer: its blocks, or what is told of its first fault.
 use Rattle.std.proofs.Common.{◌≡◌, ◌⊎◌, ℕ, List, [], ◌∷◌, Bool, true, false, Result, Ok, Err, MatchResult, refl, sym, ap, subst, ◌∙◌, inl, inr}
-use Rattle.first_fault.specs.Reading.{stepping}
+use Rattle.answers.specs.Reading.{stepping}
 use Rattle.stil_lex.specs.declared.token.Token.{Token}
 use Rattle.stil_tree.specs.Trees.{Entry}
 use Rattle.stil_form.specs.declared.fault.FormKind.TheVariants as kind
@@ -11,8 +11,8 @@ use Rattle.stil_form.specs.Setting.{setting, lexemes_at}
 use Rattle.stil_ast.specs.declared.blocks.Blocks.{Blocks}
 use Rattle.stil_ast.specs.declared.executive.ExecDecl.{ExecDecl}
 use Rattle.stil_ast.specs.declared.fault.StilFault.{StilFault}
-use Rattle.stil_ast.specs.declared.fault.StilRefusal.{StilRefusal}
-use Rattle.stil_ast.specs.declared.fault.StilRefusal.TheVariants.{NoMemory, Fault}
+use Rattle.stil_ast.specs.Data.Refusal.{StilRefusal}
+use Rattle.answers.specs.declared.short.Short.TheVariants.{NoMemory, Fault}
 use Rattle.pat_read.specs.Refusal.{Tells}
 use Rattle.pat_read.proofs.ToldLemmas.{told_once}
 use Rattle.stil_read.specs.Top.{Top, TextFault, in_statement, nowhere, top_step, start, is_stil_1_0, with_executive, finished, behind_header, blocks_of}

@@ -9,8 +9,8 @@ use Rattle.stil_form.specs.declared.fault.FormFault.TheVariants as form
 use Rattle.stil_ast.specs.declared.blocks.Blocks.{Blocks}
 use Rattle.stil_ast.specs.declared.executive.ExecDecl.{ExecDecl}
 use Rattle.stil_ast.specs.declared.fault.StilFault.{StilFault}
-use Rattle.stil_ast.specs.declared.fault.StilRefusal.{StilRefusal}
-use Rattle.stil_ast.specs.declared.fault.StilRefusal.TheVariants.{NoMemory, Fault}
+use Rattle.stil_ast.specs.Data.Refusal.{StilRefusal}
+use Rattle.answers.specs.declared.short.Short.TheVariants.{NoMemory, Fault}
 use Rattle.pat_read.specs.Refusal.{stil_kind, IsTold}
 use Rattle.stil_read.specs.Top.{TextFault, in_statement, nowhere, blocks_of}
 

@@ -3,8 +3,8 @@
 ghost use Rattle.std.specs.Prelude.{◌≡◌, ◌⊎◌, [], ◌∷◌, map, Ok, IfOk, IfErr, MatchResult};
 ghost use Rattle.stil_tree.specs.Trees.{entries, entry_of, trees};
 ghost use Rattle.stil_ast.specs.declared.blocks.Blocks.{Blocks};
-ghost use Rattle.stil_ast.specs.declared.fault.StilRefusal.{StilRefusal};
-ghost use Rattle.stil_ast.specs.declared.fault.StilRefusal.TheVariants as refusal;
+ghost use Rattle.stil_ast.specs.Data.Refusal.{StilRefusal};
+ghost use Rattle.answers.specs.declared.short.Short.TheVariants as refusal;
 ghost use Rattle.stil_read.specs.Reads.{blocks_by};
 ghost use Rattle.stil_read.specs.Top.{blocks_of};
 ghost use Rattle.stil_read.specs.Text.{IsTextFault, TextAnswers, ended_with};

@@ -1,7 +1,7 @@
 //! The statements at the top level (IEEE 1450-1999, clauses 8 to 13).
 
 ghost use Rattle.std.specs.Prelude.{◌≡◌, ℕ, List, map, OnOk};
-ghost use Rattle.first_fault.specs.Reading.{stepping};
+ghost use Rattle.answers.specs.Reading.{stepping};
 ghost use Rattle.stil_tree.specs.Trees.{entry_of};
 ghost use Rattle.stil_form.specs.declared.fault.FormFault.TheVariants.{Refused};
 ghost use Rattle.stil_form.specs.Lexeme.{lexeme_at, lexemes};

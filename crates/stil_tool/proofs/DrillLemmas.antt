@@ -14,8 +14,8 @@ use Rattle.lot_plan.specs.Refusal.{refusal}
 use Rattle.die_sim.specs.Socket.{Told}
 use Rattle.drill_texts.specs.Texts.{stil_text, net_text, plan_text}
 use Rattle.stil_ast.specs.declared.fault.StilFault.{StilFault}
-use Rattle.stil_ast.specs.declared.fault.StilRefusal.{StilRefusal}
-use Rattle.stil_ast.specs.declared.fault.StilRefusal.TheVariants as stil
+use Rattle.stil_ast.specs.Data.Refusal.{StilRefusal}
+use Rattle.answers.specs.declared.short.Short.TheVariants as stil
 use Rattle.stil_program.specs.Program.{IsTextFault, IsRefusal}
 use Rattle.tool_inputs.specs.declared.status.Status.{Status}
 use Rattle.tool_inputs.specs.declared.status.Status.TheVariants.{Done, Usage, ReadFault, WriteFault, RefusedStil, RefusedNet, RefusedPlan, TooFewSockets, OutOfMemory, TooLong, RefusedSaved, TooFlat, NoDie, TapeTooLong}

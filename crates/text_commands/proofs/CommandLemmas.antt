@@ -5,8 +5,8 @@ use Rattle.tester_types.specs.Outside.{gained, GainsFront}
 use Rattle.tester_types.proofs.OutsideLemmas.{gained-gained, front_behind}
 use Rattle.stil_ast.specs.Meaning.Signals.{Signal, names_of as text_names}
 use Rattle.stil_ast.specs.declared.executive.ExecDecl.{ExecDecl}
-use Rattle.stil_ast.specs.declared.fault.StilRefusal.{StilRefusal}
-use Rattle.stil_ast.specs.declared.fault.StilRefusal.TheVariants.{NoMemory, Fault}
+use Rattle.stil_ast.specs.Data.Refusal.{StilRefusal}
+use Rattle.answers.specs.declared.short.Short.TheVariants.{NoMemory, Fault}
 use Rattle.packed_code.specs.Program.{Program}
 use Rattle.packed_code.specs.declared.parts.CodeSignal.{CodeSignal}
 use Rattle.cycle_comp.specs.Compiled.{signal_of}

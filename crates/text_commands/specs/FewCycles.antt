@@ -4,8 +4,8 @@ use Rattle.stil_ast.specs.Faults.Found.{fault_at}
 use Rattle.stil_ast.specs.Faults.BurstFaults.{exec_place}
 use Rattle.stil_ast.specs.declared.blocks.Blocks.{Blocks}
 use Rattle.stil_ast.specs.declared.fault.StilKind.TheVariants.{TooManyCycles}
-use Rattle.stil_ast.specs.declared.fault.StilRefusal.{StilRefusal}
-use Rattle.stil_ast.specs.declared.fault.StilRefusal.TheVariants.{NoMemory, Fault}
+use Rattle.stil_ast.specs.Data.Refusal.{StilRefusal}
+use Rattle.answers.specs.declared.short.Short.TheVariants.{NoMemory, Fault}
 use Rattle.packed_code.specs.Program.{Program}
 use Rattle.packed_code.specs.Cycles.{exec_of}
 use Rattle.code_listing.specs.Listing.{listing_of, cycles_in}

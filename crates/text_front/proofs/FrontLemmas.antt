@@ -18,8 +18,8 @@ use Rattle.stil_tree.proofs.Spots.{one_start}
 use Rattle.stil_ast.specs.declared.blocks.Blocks.{Blocks}
 use Rattle.stil_ast.specs.declared.fault.StilKind.{StilKind}
 use Rattle.stil_ast.specs.declared.fault.StilFault.{StilFault}
-use Rattle.stil_ast.specs.declared.fault.StilRefusal.{StilRefusal}
-use Rattle.stil_ast.specs.declared.fault.StilRefusal.TheVariants.{NoMemory, Fault}
+use Rattle.stil_ast.specs.Data.Refusal.{StilRefusal}
+use Rattle.answers.specs.declared.short.Short.TheVariants.{NoMemory, Fault}
 use Rattle.stil_ast.specs.Faults.FrontFaults.{Front, refused_by, read_as}
 use Rattle.pat_read.specs.Refusal.{text_at}
 use Rattle.stil_read.specs.Top.{blocks_of}

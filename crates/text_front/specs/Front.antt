@@ -7,8 +7,8 @@ use Rattle.stil_tree.specs.Trees.{Trees, entries}
 use Rattle.stil_tree.specs.Grammar.{Parses}
 use Rattle.stil_ast.specs.declared.blocks.Blocks.{Blocks}
 use Rattle.stil_ast.specs.declared.fault.StilFault.{StilFault}
-use Rattle.stil_ast.specs.declared.fault.StilRefusal.{StilRefusal}
-use Rattle.stil_ast.specs.declared.fault.StilRefusal.TheVariants.{NoMemory, Fault}
+use Rattle.stil_ast.specs.Data.Refusal.{StilRefusal}
+use Rattle.answers.specs.declared.short.Short.TheVariants.{NoMemory, Fault}
 use Rattle.stil_ast.specs.Faults.FrontFaults.{Front, refused_by, read_as}
 use Rattle.stil_read.specs.Top.{blocks_of}
 use Rattle.stil_read.specs.Text.{IsFaultOf}

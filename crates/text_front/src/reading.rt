@@ -5,7 +5,7 @@ ghost use Rattle.text_bytes.specs.Limits.{most_bytes};
 ghost use Rattle.stil_lex.specs.Tokens.{Reads};
 ghost use Rattle.stil_ast.specs.declared.blocks.Blocks.{Blocks};
 ghost use Rattle.stil_ast.specs.declared.fault.StilFault.{StilFault};
-ghost use Rattle.stil_ast.specs.declared.fault.StilRefusal.TheVariants as refusal;
+ghost use Rattle.answers.specs.declared.short.Short.TheVariants as refusal;
 ghost use Rattle.stil_ast.specs.Data.OneText.{AreOfOneText};
 ghost use Rattle.stil_ast.specs.Faults.FrontFaults.{read_as, refused_by};
 ghost use Rattle.text_front.specs.Front.{IsFront, IsRefusedFor, FrontAnswers};

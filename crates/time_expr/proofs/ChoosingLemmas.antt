@@ -9,8 +9,8 @@ use Rattle.stil_ast.specs.Meaning.Variables.{Variable, value_of, value_of_found,
 use Rattle.stil_ast.specs.Data.Texts.{same}
 use Rattle.stil_ast.specs.Faults.Found.{fault_at, first_in, or_else, IsRefusal}
 use Rattle.stil_ast.specs.declared.fault.StilFault.{StilFault}
-use Rattle.stil_ast.specs.declared.fault.StilRefusal.{StilRefusal}
-use Rattle.stil_ast.specs.declared.fault.StilRefusal.TheVariants as refusal
+use Rattle.stil_ast.specs.Data.Refusal.{StilRefusal}
+use Rattle.answers.specs.declared.short.Short.TheVariants as refusal
 use Rattle.stil_ast.specs.declared.fault.StilKind.TheVariants.{UnknownName}
 use Rattle.expr_text.specs.Ratio.{Ratio}
 use Rattle.expr_text.specs.Vars.{value_of_name, with_value}

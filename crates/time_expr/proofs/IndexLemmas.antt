@@ -17,7 +17,7 @@ use Rattle.stil_ast.specs.Data.Texts.{same}
 use Rattle.stil_ast.specs.Faults.Found.{fault_at, unless, refuse_if, IsRefusal}
 use Rattle.text_bytes.specs.Limits.{most_variables}
 use Rattle.stil_ast.specs.declared.fault.StilFault.{StilFault}
-use Rattle.stil_ast.specs.declared.fault.StilRefusal.{StilRefusal}
+use Rattle.stil_ast.specs.Data.Refusal.{StilRefusal}
 use Rattle.stil_ast.specs.declared.fault.StilKind.TheVariants.{OutOfRange, Twice}
 use Rattle.time_expr.specs.Picked.{variable_of, variables_of}
 use Rattle.time_expr.specs.Choosing.{variable_named, variable_at, variable_in, next_fault, Keeps}

@@ -8,7 +8,7 @@ use Rattle.stil_ast.specs.Faults.Found.{IsRefusal}
 use Rattle.indexmap.specs.IndexSet.{IndexSet, keys}
 use Rattle.stil_ast.specs.Data.Places.{Place}
 use Rattle.stil_ast.specs.Meaning.Variables.{Variable, value_of, value_fault}
-use Rattle.stil_ast.specs.declared.fault.StilRefusal.{StilRefusal}
+use Rattle.stil_ast.specs.Data.Refusal.{StilRefusal}
 use Rattle.expr_text.specs.Ratio.{Ratio}
 use Rattle.time_expr.specs.TimesOf.{times_of}
 use Rattle.text_bytes.specs.Texts.{is_among}

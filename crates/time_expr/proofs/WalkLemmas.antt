@@ -9,8 +9,8 @@ use Rattle.stil_ast.specs.Meaning.Times.{Met, in_text}
 use Rattle.stil_ast.specs.Meaning.Variables.{Variable, value_within, value_of_found, value_of, value_fault}
 use Rattle.stil_ast.specs.Data.Texts.{same, has_name}
 use Rattle.stil_ast.specs.declared.fault.StilFault.{StilFault}
-use Rattle.stil_ast.specs.declared.fault.StilRefusal.{StilRefusal}
-use Rattle.stil_ast.specs.declared.fault.StilRefusal.TheVariants as refusal
+use Rattle.stil_ast.specs.Data.Refusal.{StilRefusal}
+use Rattle.answers.specs.declared.short.Short.TheVariants as refusal
 use Rattle.stil_ast.specs.declared.fault.StilKind.TheVariants.{UnknownName}
 use Rattle.expr_text.specs.Ratio.{Ratio}
 use Rattle.expr_text.specs.Vars.{value_of_name}

@@ -12,8 +12,8 @@ use Rattle.text_bytes.specs.Limits.{most_variables}
 use Rattle.stil_ast.specs.Data.Texts.{same, has_name}
 use Rattle.stil_ast.specs.declared.fault.StilFault.{StilFault}
 use Rattle.stil_ast.specs.declared.fault.StilKind.TheVariants.{UnknownName, OutOfRange, Twice}
-use Rattle.stil_ast.specs.declared.fault.StilRefusal.{StilRefusal}
-use Rattle.stil_ast.specs.declared.fault.StilRefusal.TheVariants as refusal
+use Rattle.stil_ast.specs.Data.Refusal.{StilRefusal}
+use Rattle.answers.specs.declared.short.Short.TheVariants as refusal
 use Rattle.expr_text.specs.Ratio.{Ratio}
 use Rattle.expr_text.specs.Vars.{value_of_name}
 use Rattle.time_expr.specs.TimesOf.{times_of}

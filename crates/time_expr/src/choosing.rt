@@ -6,7 +6,7 @@ ghost use Rattle.stil_ast.specs.Meaning.Executive.{exec_value};
 ghost use Rattle.stil_ast.specs.Meaning.Variables.{picked, value_of, value_fault, variables_fault};
 ghost use Rattle.stil_ast.specs.declared.executive.ExecDecl.{ExecDecl};
 ghost use Rattle.stil_ast.specs.declared.fault.StilFault.{StilFault};
-ghost use Rattle.stil_ast.specs.declared.fault.StilRefusal.TheVariants as refusal;
+ghost use Rattle.answers.specs.declared.short.Short.TheVariants as refusal;
 ghost use Rattle.time_expr.specs.TimesOf.{times_of};
 ghost use Rattle.time_expr.specs.TimeIn.{AreNames};
 ghost use Rattle.expr_text.specs.Vars.{value_of_name};

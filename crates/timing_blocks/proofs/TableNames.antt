@@ -1,7 +1,7 @@
 -- Behind each Timing block the names of tables differ under each title, and there are at most 64.
 use Rattle.std.proofs.Common.{◌≡◌, ℕ, arith, List, [], ◌∷◌, ◌++◌, Ok, refl, sym, subst, append-nil}
 use Rattle.text_bytes.specs.Limits.{most_tables}
-use Rattle.first_fault.specs.Reading.{reading}
+use Rattle.answers.specs.Reading.{reading}
 use Rattle.stil_tree.specs.Trees.{Entry}
 use Rattle.stil_form.specs.Setting.{Setting, line_at, inner_of, unskipped}
 use Rattle.stil_ast.specs.declared.timing.TableDecl.{TableDecl}

@@ -1,7 +1,7 @@
 -- A token that doesn't fit refuses the acts of an event.
 use Rattle.std.proofs.Common.{◌≡◌, ℕ, suc, ◌<◌, List, ◌∷◌, length, drop, get_or, Result, Ok, Err, sym, ap, ◌∙◌, subst, Bool, not}
 use Rattle.std.proofs.Math.Seq.{drop-cons}
-use Rattle.first_fault.specs.Reading.{and_then}
+use Rattle.answers.specs.Reading.{and_then}
 use Rattle.tester_types.specs.declared.wave.Act.{Act}
 use Rattle.stil_lex.specs.declared.token.Token.{Token}
 use Rattle.stil_form.specs.Lexeme.{Lexeme, lexeme_at, lexemes_of}

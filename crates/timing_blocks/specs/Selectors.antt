@@ -2,7 +2,7 @@
 use Rattle.std.specs.Prelude.{ℕ, not, Bool, List, [], ◌∷◌, ◌++◌, map, is_some, Result, Ok, Err, if◌then◌else◌}
 use Rattle.std.specs.List.{list_any}
 use Rattle.stil_tree.specs.Trees.{Entry}
-use Rattle.first_fault.specs.Reading.{and_then, stepping}
+use Rattle.answers.specs.Reading.{and_then, stepping}
 use Rattle.stil_form.specs.declared.fault.FormFault.{FormFault}
 use Rattle.stil_form.specs.declared.fault.FormFault.TheVariants.{Refused}
 use Rattle.stil_form.specs.declared.fault.FormKind.{FormKind}

@@ -1,7 +1,7 @@
 -- Timing blocks and their waveform tables (IEEE 1450-1999, clause 18).
 use Rattle.std.specs.Prelude.{ℕ, suc, not, nat_lt, Bool, List, [], ◌∷◌, ◌++◌, map, codes, Option, Some, None, is_some, Result, Ok, Err, if◌then◌else◌}
 use Rattle.text_bytes.specs.Limits.{most_tables}
-use Rattle.first_fault.specs.Reading.{and_then, reading, stepping}
+use Rattle.answers.specs.Reading.{and_then, reading, stepping}
 use Rattle.stil_tree.specs.Trees.{Entry}
 use Rattle.stil_form.specs.declared.fault.FormFault.{FormFault}
 use Rattle.stil_form.specs.declared.fault.FormFault.TheVariants.{Refused}

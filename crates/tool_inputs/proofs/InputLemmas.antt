@@ -15,8 +15,8 @@ use Rattle.page_code.specs.Reading.{load_of}
 use Rattle.page_code.specs.Saved.{Saved}
 use Rattle.stil_program.specs.Program.{IsTextFault, IsProgramOf, IsRefusal}
 use Rattle.stil_ast.specs.declared.fault.StilFault.{StilFault}
-use Rattle.stil_ast.specs.declared.fault.StilRefusal.{StilRefusal}
-use Rattle.stil_ast.specs.declared.fault.StilRefusal.TheVariants as stil
+use Rattle.stil_ast.specs.Data.Refusal.{StilRefusal}
+use Rattle.answers.specs.declared.short.Short.TheVariants as stil
 use Rattle.std.specs.Prelude.{IfOk, IfErr}
 use Rattle.tool_inputs.specs.declared.status.Status.{Status}
 use Rattle.tool_inputs.specs.declared.refusal.Refusal.{Refusal}

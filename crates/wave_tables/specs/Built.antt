@@ -4,7 +4,7 @@ use Rattle.stil_ast.specs.Faults.Found.{IsRefusal}
 use Rattle.stil_ast.specs.Meaning.Tables.{made_tables}
 use Rattle.stil_ast.specs.Faults.TableFaults.{Timed, tables_fault}
 use Rattle.stil_ast.specs.declared.fault.StilFault.{StilFault}
-use Rattle.stil_ast.specs.declared.fault.StilRefusal.{StilRefusal}
+use Rattle.stil_ast.specs.Data.Refusal.{StilRefusal}
 use Rattle.tester_types.specs.declared.wave.Table.{Table}
 use Rattle.expr_text.specs.Ratio.{Ratio}
 use Rattle.wave_tables.specs.declared.trouble.Trouble.{Trouble}

@@ -10,7 +10,7 @@ ghost use Rattle.stil_ast.specs.Meaning.Executive.{exec_tables, exec_value, tabl
 ghost use Rattle.stil_ast.specs.Meaning.Signals.{names_of};
 ghost use Rattle.stil_ast.specs.declared.executive.ExecDecl.{ExecDecl};
 ghost use Rattle.stil_ast.specs.declared.fault.StilFault.{StilFault};
-ghost use Rattle.stil_ast.specs.declared.fault.StilRefusal.TheVariants as refusal;
+ghost use Rattle.answers.specs.declared.short.Short.TheVariants as refusal;
 ghost use Rattle.time_expr.specs.TimeIn.{AreNames};
 ghost use Rattle.time_expr.specs.TimesOf.{times_of};
 ghost use Rattle.wave_tables.specs.Letters.{are_lettered};

@@ -1,6 +1,6 @@
 use Rattle.std.proofs.Common.{[], arith}
 use Rattle.plan_rows.specs.Judging.{judge}
-use Rattle.first_fault.proofs.ReadingLemmas.{length-reading}
+use Rattle.answers.proofs.ReadingLemmas.{length-reading}
 use Rattle.plan_rows.proofs.FirstLemmas.{fault_is, is_fault}
 use Rattle.plan_rows.proofs.laws.first_refused.Goals as goal
 

@@ -1,6 +1,6 @@
 use Rattle.std.proofs.Common.{◌≡◌, ◌++◌, map, drop}
 use Rattle.stil_tree.specs.Trees.{entry_of}
-use Rattle.first_fault.specs.Reading.{reading}
+use Rattle.answers.specs.Reading.{reading}
 use Rattle.stil_form.specs.Setting.{setting_of, unskipped}
 use Rattle.block_forms.specs.Heads.{under}
 use Rattle.scan_blocks.specs.Chains.{judge_chain, names_of, chains_in}

@@ -1,6 +1,6 @@
 use Rattle.std.proofs.Common.{◌≡◌, map, drop}
 use Rattle.text_bytes.specs.Texts.{key_texts}
-use Rattle.first_fault.specs.Reading.{stepping}
+use Rattle.answers.specs.Reading.{stepping}
 use Rattle.signal_groups.specs.Begun.{group_said}
 use Rattle.signal_groups.specs.Located.{group_at}
 use Rattle.signal_groups.proofs.groups.take_names.Given as goal

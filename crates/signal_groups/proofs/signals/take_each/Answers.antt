@@ -1,5 +1,5 @@
 use Rattle.std.proofs.Common.{◌≡◌, ℕ, ◌+◌, ◌<◌, List, Result, Ok, length, get_or, drop, sym, ap, ◌∙◌}
-use Rattle.first_fault.specs.Reading.{and_then, stepping}
+use Rattle.answers.specs.Reading.{and_then, stepping}
 use Rattle.signal_groups.specs.Begun.{begun_in, decl_said}
 use Rattle.signal_groups.proofs.LexedLemmas.{drop-at}
 use Rattle.signal_groups.proofs.signals.take_each.Goals as goal

@@ -1,5 +1,5 @@
 use Rattle.std.proofs.Common.{◌≡◌, drop}
-use Rattle.first_fault.specs.Reading.{stepping}
+use Rattle.answers.specs.Reading.{stepping}
 use Rattle.signal_groups.specs.Begun.{begun_in, decl_said}
 use Rattle.signal_groups.proofs.signals.take_each.Given as goal
 

@@ -1,5 +1,5 @@
 use Rattle.std.proofs.Common.{◌≡◌, Some, map, drop}
-use Rattle.first_fault.specs.Reading.{stepping}
+use Rattle.answers.specs.Reading.{stepping}
 use Rattle.stil_ast.specs.Data.Texts.{indices, indexed}
 use Rattle.stil_ast.specs.Meaning.Signals.{declared_as}
 use Rattle.signal_groups.specs.Begun.{begun_in, signal_said, signal_as}

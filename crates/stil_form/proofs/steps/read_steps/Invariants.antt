@@ -1,6 +1,6 @@
 use Rattle.std.proofs.Common.{◌≡◌, map, drop}
 use Rattle.stil_tree.specs.Trees.{entry_of}
-use Rattle.first_fault.specs.Reading.{stepping}
+use Rattle.answers.specs.Reading.{stepping}
 use Rattle.stil_form.proofs.steps.read_steps.Given as goal
 
 -- the state, and the rest, are the whole

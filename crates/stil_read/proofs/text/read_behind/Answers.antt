@@ -4,7 +4,7 @@ use Rattle.stil_form.specs.declared.fault.FormKind.TheVariants as kind
 use Rattle.stil_form.specs.declared.fault.FormFault.TheVariants as form
 use Rattle.stil_form.specs.Setting.{setting, lexemes_at}
 use Rattle.stil_ast.specs.declared.blocks.Blocks.{Blocks}
-use Rattle.stil_ast.specs.declared.fault.StilRefusal.{StilRefusal}
+use Rattle.stil_ast.specs.Data.Refusal.{StilRefusal}
 use Rattle.pat_read.specs.Refusal.{Tells}
 use Rattle.stil_read.specs.Top.{is_stil_1_0}
 use Rattle.stil_read.specs.Text.{TextAnswers}

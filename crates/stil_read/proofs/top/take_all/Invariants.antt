@@ -1,5 +1,5 @@
 use Rattle.std.proofs.Common.{◌≡◌, map, drop}
-use Rattle.first_fault.specs.Reading.{stepping}
+use Rattle.answers.specs.Reading.{stepping}
 use Rattle.stil_tree.specs.Trees.{entry_of}
 use Rattle.stil_read.specs.Reads.{top_by, AreNames}
 use Rattle.stil_read.specs.Top.{top_step}

@@ -1,6 +1,6 @@
 use Rattle.std.proofs.Common.{List, [], map, Ok, sym, ap, ◌∙◌}
 use Rattle.stil_tree.specs.Trees.{entry_of}
-use Rattle.first_fault.specs.Reading.{stepping}
+use Rattle.answers.specs.Reading.{stepping}
 use Rattle.stil_ast.specs.declared.variable.Selection.{Selection}
 use Rattle.stil_form.specs.Setting.{setting_of, unskipped}
 use Rattle.timing_blocks.specs.Selectors.{selection_step}

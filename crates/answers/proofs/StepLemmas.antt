@@ -1,6 +1,6 @@
 -- A fault is that of the first step that is refused.
 use Rattle.std.proofs.Common.{◌≡◌, List, [], ◌∷◌, ◌++◌, Result, Ok, Err, refl, ap, ◌∙◌}
-use Rattle.first_fault.specs.Reading.{and_then, stepping, IsFirstStep}
+use Rattle.answers.specs.Reading.{and_then, stepping, IsFirstStep}
 
 -- what stands behind one step
 stepped_on : {S E F : Type 0} (step : S → E → Result S F) (reached : S) (front es : List E) (r : Result S F)

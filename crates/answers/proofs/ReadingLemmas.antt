@@ -1,6 +1,6 @@
 -- A fault is that of the first refused item.
 use Rattle.std.proofs.Common.{◌≡◌, suc, ◌+◌, List, [], ◌∷◌, ◌++◌, length, Result, Ok, Err, refl, ap, ◌∙◌, arith, length-append}
-use Rattle.first_fault.specs.Reading.{and_then, reading, IsFirst}
+use Rattle.answers.specs.Reading.{and_then, reading, IsFirst}
 
 -- reading what was met at one item
 read_on : {X E F : Type 0} (judge : List X → E → Result X F) (before read : List X) (front es : List E) (r : Result X F)

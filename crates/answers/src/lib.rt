@@ -1,8 +1,13 @@
-//! Items read one after another, up to the first fault in their order: the law that all readers share.
+//! What a pass answers: its value, or its first fault, or want of memory; and items read one after another up to the first fault in
+//! their order: the law that all readers share.
 #![tactic(auto)]
 
 ghost use Rattle.std.specs.Prelude.{◌≡◌, ◌↔◌, List, Result, Err};
-ghost use Rattle.first_fault.specs.Reading.{reading, stepping, IsFirst, IsFirstStep};
+ghost use Rattle.answers.specs.Reading.{reading, stepping, IsFirst, IsFirstStep};
+
+mod short;
+
+pub use short::Short;
 
 /// Items are refused with a fault exactly where a first refused item has it: those before it are read.
 pub fn first_refused<T, E, F>()
