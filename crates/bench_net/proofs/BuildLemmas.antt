@@ -1,14 +1,14 @@
 -- The net list that is built is the one that the lines name.
 use Rattle.std.proofs.Common.{◌≡◌, ℕ, zero, suc, ◌<◌, ◌≤◌, Bool, true, false, not, cond, List, [], ◌∷◌, length, get_or, map, Option, Some, None, refl, sym, ap, ◌∙◌, subst, arith, inl, inr, eqb, ltb}
 use Rattle.std.specs.Prelude.{All, slice_index, MatchOption, count_by}
-use Rattle.std.specs.List.{list_any, filter_map, find, cons_option, AllZip}
+use Rattle.std.specs.List.{list_any, list_all, filter_map, find, cons_option, AllZip}
 use Rattle.std.specs.Option.{option_map_or}
 use Rattle.std.specs.Str.{bytes_eq}
 use Rattle.std.specs.Str.Lines.{lines}
 use Rattle.std.specs.Cmp.Lexicographic.{bytes_decides}
 use Rattle.std.proofs.lemmas.List.{length-map}
 use Rattle.std.proofs.lemmas.List.Elements.{All-nil, All-cons, All-head, All-tail, All-map}
-use Rattle.std.proofs.lemmas.Bool.{cases_Bool, eqb-true, eqb-false, ltb-false, both_ways, not-false, not-true}
+use Rattle.std.proofs.lemmas.Bool.{and_parts, cases_Bool, eqb-true, eqb-false, ltb-false, both_ways, not-false, not-true}
 use Rattle.bench_net.specs.declared.gate.GateKind.{GateKind}
 use Rattle.bench_net.specs.declared.gate.Function.TheVariants.{Logic, Register}
 use Rattle.bench_net.specs.declared.gate.Driver.{Driver}
@@ -16,12 +16,12 @@ use Rattle.bench_net.specs.declared.gate.Driver.TheVariants.{Input, Dff, Gate}
 use Rattle.bench_net.specs.Wiring.{driver_at, gate_at, pins_at, is_gate, pins_of, is_single, is_settled, IsWired, IsReached, AreReaders}
 use Rattle.bench_net.specs.Circuit.{Net, IsWhole, number}
 use Rattle.bench_net.specs.Line.{Form, nothing, input, output, gate, Says}
-use Rattle.bench_net.specs.Net.{Reads, named, names, driven, shown, drives, driver_of, driver_for, net_of, takes_not, wrong_arity, head_of, arity_fault, IsDriven}
+use Rattle.bench_net.specs.Net.{Reads, named, names, shown, drives, driver_of, driver_for, net_of, takes_not, wrong_arity, head_of, arity_fault, IsDriven}
 use Rattle.bench_net.specs.Fault.{IsReachedLine, IsLoopLine, IsFirstLoop}
-use Rattle.bench_net.specs.Givers.{HasPins, IsNetOf, AreShown, places_from, given_driver, looped, loop_fault}
+use Rattle.bench_net.specs.Givers.{HasPins, IsNetOf, AreShown, looped, loop_fault}
 use Rattle.bench_net.specs.Sorting.{AreWithin, IsSorted}
 use Rattle.bench_net.proofs.SortLemmas.{gate_within, pins_none}
-use Rattle.bench_net.proofs.NamesLemmas.{numbers_within, number-within, AreApart-names, given-driver_for}
+use Rattle.bench_net.proofs.NamesLemmas.{numbers_within, number-within, AreApart-names}
 use Rattle.bench_net.proofs.OrderLemmas.{reached_from_sorted, unreached_from_sorted, IsOrder-sorted}
 
 -- a line that has a form reads one net at least
@@ -221,6 +221,25 @@ left_zero : (left : List ℕ) (i : ℕ) (n : List ℕ)
 left_zero left i n e = eqb-true (slice_index left i) 0
     (not-false (eqb (slice_index left i) 0) (none_cond (not (eqb (slice_index left i) 0)) n e))
 
+-- where nothing waits, no line does
+looped-none : (all : List (List ℕ)) (left : List ℕ) (f : Form) → ((n : ℕ) → slice_index left n ≡ 0) → looped all left f ≡ None
+looped-none all left nothing h = refl
+looped-none all left (input n) h = refl
+looped-none all left (output n) h = refl
+looped-none all left (gate n f pins) h = ap (λ k. cond (not (eqb k 0)) (Some n) None) (h (number all n))
+
+all_zero : (left : List ℕ) → list_all (λ k. eqb k 0) left ≡ true → (n : ℕ) → slice_index left n ≡ 0
+all_zero [] h n = refl
+all_zero (k ∷ ks) h zero = eqb-true k 0 (and_parts (eqb k 0) (list_all (λ j. eqb j 0) ks) h).0
+all_zero (k ∷ ks) h (suc n) = all_zero ks (and_parts (eqb k 0) (list_all (λ j. eqb j 0) ks) h).1 n
+
+pub loop_fault-none : (all : List (List ℕ)) (left : List ℕ) (forms : List Form) → list_all (λ k. eqb k 0) left ≡ true
+    → loop_fault all left forms ≡ None
+loop_fault-none all left [] h = refl
+loop_fault-none all left (f ∷ fs) h =
+    ap (λ o. head_of (cons_option o (filter_map (looped all left) fs))) (looped-none all left f (all_zero left h))
+    ∙ loop_fault-none all left fs h
+
 some_cond : (b : Bool) (n name : List ℕ) → cond b (Some n) None ≡ Some name → (name ≡ n)
     × (b ≡ true)
 some_cond true n name e = (some_same n name e, refl)
@@ -392,17 +411,7 @@ pub same_net : (forms : List Form) (all : List (List ℕ)) (drivers : List Drive
     ≡ net_of forms)
 same_net forms all drivers outputs a d o = λ i. record { names = a i; drivers = d i; outputs = o i }
 
--- what tables of the net are
-pub drivers-given : (forms : List Form) (all nets : List (List ℕ)) (places : List ℕ) → all
-    ≡ names forms → nets ≡ filter_map driven forms → places ≡ places_from 0 forms
-    → map (given_driver all forms nets places) all ≡ (net_of forms).drivers
-drivers-given forms all nets places a n p =
-    ap (λ (x : List (List ℕ)). map (given_driver x forms nets places) x) a
-    ∙ ap (λ (x : List (List ℕ)). map (given_driver (names forms) forms x places) (names forms)) n
-    ∙ ap (λ (x : List ℕ). map (given_driver (names forms) forms (filter_map driven forms) x)
-    (names forms)) p
-    ∙ (λ i. map (λ name. given-driver_for forms name i) (names forms))
-
+-- what outputs of the net are
 pub outputs-shown : (forms : List Form) (all nets : List (List ℕ)) → all ≡ names forms
     → AreShown forms nets → map (λ name. list_any (bytes_eq name) nets) all ≡ (net_of forms).outputs
 outputs-shown forms all nets a s =

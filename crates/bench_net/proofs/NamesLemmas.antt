@@ -16,7 +16,7 @@ use Rattle.bench_net.specs.declared.gate.Driver.TheVariants.{Input}
 use Rattle.bench_net.specs.Line.{Form, nothing, input, output, gate}
 use Rattle.bench_net.specs.Circuit.{number}
 use Rattle.bench_net.specs.Net.{named, names, driven, drives, driver_of, driver_for}
-use Rattle.bench_net.specs.Givers.{places_from, given_driver}
+use Rattle.bench_net.specs.Givers.{places_from, line_driver}
 
 number_there : (ks : List (List ℕ)) (n : List ℕ) → list_any (bytes_eq n) ks ≡ true
     → number ks n < length ks
@@ -71,18 +71,18 @@ fold_stays [] ks m h = h
 fold_stays (x ∷ xs) ks m h = fold_stays xs (added ks x) m (added_stays ks x m h)
 
 -- each of the mentions is among the names
-fold_there : (xs ks : List (List ℕ)) → All (λ m. list_any (bytes_eq m) (fold added ks xs) ≡ true) xs
+pub fold_there : (xs ks : List (List ℕ)) → All (λ m. list_any (bytes_eq m) (fold added ks xs) ≡ true) xs
 fold_there [] ks = All-nil (λ m. list_any (bytes_eq m) ks ≡ true)
 fold_there (x ∷ xs) ks =
     All-cons (λ m. list_any (bytes_eq m) (fold added (added ks x) xs)
     ≡ true) x xs (fold_stays xs (added ks x) x (added_there ks x)) (fold_there xs (added ks x))
 
-All-left : (P : List ℕ → Type 0) (xs ys : List (List ℕ)) → All P (xs ++ ys) → All P xs
+pub All-left : (P : List ℕ → Type 0) (xs ys : List (List ℕ)) → All P (xs ++ ys) → All P xs
 All-left P [] ys h = All-nil P
 All-left P (x ∷ xs) ys h = All-cons P x xs (All-head P x (xs ++ ys) h)
     (All-left P xs ys (All-tail P x (xs ++ ys) h))
 
-All-right : (P : List ℕ → Type 0) (xs ys : List (List ℕ)) → All P (xs ++ ys) → All P ys
+pub All-right : (P : List ℕ → Type 0) (xs ys : List (List ℕ)) → All P (xs ++ ys) → All P ys
 All-right P [] ys h = h
 All-right P (x ∷ xs) ys h = All-right P xs ys (All-tail P x (xs ++ ys) h)
 
@@ -217,7 +217,8 @@ place_by_number ps xs name e =
 
 -- the driver that is looked up is the one that the lines give
 pub given-driver_for : (forms : List Form) (name : List ℕ)
-    → given_driver (names forms) forms (filter_map driven forms) (places_from 0 forms) name
+    → option_map_or (line_driver (names forms) forms)
+    (option_and_then (slice_get (places_from 0 forms)) (position (bytes_eq name) (filter_map driven forms))) Input
     ≡ driver_for forms name
 given-driver_for forms name =
     ap (at_place (driver_of (names forms)) forms)

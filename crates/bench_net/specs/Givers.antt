@@ -1,16 +1,15 @@
 -- What the code knows of the nets that have a driver; no public clause cites it.
-use Rattle.std.specs.Prelude.{◌≡◌, ℕ, suc, cond, slice_index, slice_index_or, length, ◌<◌, ◌==◌, if◌then◌else◌, Option, Bool, not, ◌||◌, List, [], ◌∷◌, ◌++◌, is_some, slice_get, Some, None}
+use Rattle.std.specs.Prelude.{◌≡◌, ℕ, suc, cond, slice_index, slice_index_or, length, ◌<◌, ◌==◌, if◌then◌else◌, Option, Bool, not, ◌||◌, List, [], ◌∷◌, ◌++◌, map, is_some, slice_get, unwrap_or, Some, None}
 use Rattle.std.specs.List.{filter_map, list_any, position}
-use Rattle.std.specs.Option.{option_map_or, option_and_then}
+use Rattle.std.specs.Option.{option_and_then}
 use Rattle.std.specs.Str.{bytes_eq}
 use Rattle.bench_net.specs.declared.fault.NetFault.{NetFault}
 use Rattle.bench_net.specs.declared.fault.NetFault.TheVariants.{Twice}
 use Rattle.bench_net.specs.declared.gate.Driver.{Driver}
 use Rattle.bench_net.specs.Circuit.{Net, number}
 use Rattle.bench_net.specs.Wiring.{IsReached}
-use Rattle.bench_net.specs.declared.gate.Driver.TheVariants.{Input}
 use Rattle.bench_net.specs.Line.{Form, nothing, input, output, gate}
-use Rattle.bench_net.specs.Net.{driven, driver_of, head_of, net_of, IsDriven, shown, first_repeat, twice_fault}
+use Rattle.bench_net.specs.Net.{names, driven, driver_of, head_of, net_of, IsDriven, shown, first_repeat, twice_fault}
 
 -- whether the line gives a net a driver
 abbrev pub is_giver : Form → Bool
@@ -66,12 +65,15 @@ pub record AreShown (forms : List Form) (nets : List (List ℕ)) : Type 0 where
   pub same : (name : List ℕ) → list_any (bytes_eq name) nets
       ≡ list_any (bytes_eq name) (filter_map shown forms)
 
--- the driver of a net by the lines that give one: the net's place among those that have one is its
--- line's
-abbrev pub given_driver : List (List ℕ) → List Form → List (List ℕ) → List ℕ → List ℕ → Driver
-given_driver all forms nets places name = option_map_or
-    (λ at. driver_of all (slice_index_or forms at nothing))
-    (option_and_then (slice_get places) (position (bytes_eq name) nets)) Input
+-- the place of the line that gives a net its driver, or this number where no line does: the net stands among those that
+-- have a driver where that place stands among the places
+abbrev pub given_place : List (List ℕ) → List ℕ → ℕ → List ℕ → ℕ
+given_place nets places none name =
+    unwrap_or (option_and_then (slice_get places) (position (bytes_eq name) nets)) none
+
+-- the driver that the line at a place gives
+abbrev pub line_driver : List (List ℕ) → List Form → ℕ → Driver
+line_driver all forms place = driver_of all (slice_index_or forms place nothing)
 
 -- the net of a line whose function waits for a gate
 abbrev pub looped : List (List ℕ) → List ℕ → Form → Option (List ℕ)
@@ -98,9 +100,7 @@ pub record IsNetOf (forms : List Form) (net : Net) : Type 0 where
   pub net_is : net ≡ net_of forms
   pub reached : (n : ℕ) → n < length net.names → IsReached net.drivers n
 
--- each net has one driver, of as many nets as it takes; these are the nets, and the places of the
--- lines that drive them
-pub record IsChecked (forms : List Form) (nets : List (List ℕ)) (places : List ℕ) : Type 0 where
+-- each net has one driver, of as many nets as it takes; these are the places of the lines that drive the nets
+pub record IsChecked (forms : List Form) (given : List ℕ) : Type 0 where
   pub driven_once : IsDriven forms
-  pub nets_are : nets ≡ filter_map driven forms
-  pub places_are : places ≡ places_from 0 forms
+  pub given_are : given ≡ map (given_place (filter_map driven forms) (places_from 0 forms) (length forms)) (names forms)

@@ -1,7 +1,7 @@
 //! The nets of a text's lines, and what is wrong with them.
 ghost use Rattle.std.specs.Prelude.{◌≡◌, ◌==◌, ℕ, not, slice_index, ◌<◌, ◌≤◌, ◌⊎◌, None, Some, true, false, List, [], ◌∷◌, ◌++◌, map, fold, length, filter, is_some, OnOk, IfOk, IfErr, nat_eq};
 ghost use Rattle.std.specs.Option.{option_map};
-ghost use Rattle.std.specs.List.{find, filter_map, list_any, flat_map};
+ghost use Rattle.std.specs.List.{find, filter_map, list_any, list_all, flat_map};
 ghost use Rattle.std.specs.Str.{bytes_eq};
 ghost use Rattle.text_bytes.specs.Texts.{added, key_texts};
 ghost use Rattle.text_bytes.specs.Limits.{most_nets};
@@ -149,11 +149,11 @@ fn give<'a>(alloc: Global, nets: &mut IndexSet<&'a [u8]>, net: &'a [u8]) -> Resu
     ensures fault { IfErr result (λ e. (e ≡ NoMemory)
         ⊎ ((e ≡ Twice net.now) × (list_any (bytes_eq net.now) (texts nets.old.keys) ≡ true))) }
 {
-    if is_among(nets, net) {
-        return Err(NetFault::Twice(NetName::from_slice(alloc, net)?));
+    let is_new = nets.insert(net)?;
+    if is_new {
+        return Ok(());
     }
-    nets.insert(net)?;
-    Ok(())
+    Err(NetFault::Twice(NetName::from_slice(alloc, net)?))
 }
 
 /// Puts the net of a line behind those that have a driver, and the line's place behind those of the
@@ -225,7 +225,7 @@ fn missing_use<'a>(nets: &IndexSet<&[u8]>, line: &Line<'a>) -> Option<&'a [u8]>
 
 /// The first net, in text order, that is used and has no driver.
 #[tactic(auto, using(crate::proofs::KeyLemmas::find_append_some, crate::proofs::KeyLemmas::find_append_none))]
-pub(crate) fn first_missing<'a>(nets: &IndexSet<&[u8]>, lines: &[Line<'a>]) -> Option<&'a [u8]>
+fn first_missing<'a>(nets: &IndexSet<&[u8]>, lines: &[Line<'a>]) -> Option<&'a [u8]>
     ensures { option_map (λ n. n.now) result
         ≡ find (is_no (texts nets.now.keys)) (flat_map used (map form_of lines.now)) }
 {
@@ -237,6 +237,26 @@ pub(crate) fn first_missing<'a>(nets: &IndexSet<&[u8]>, lines: &[Line<'a>]) -> O
         }
     }
     None
+}
+
+/// The first net, in text order, that is used and has no driver. By the places of the lines that give the nets their drivers,
+/// `none` where there is none, it is known whether there is one; no line is looked at where there isn't.
+pub(crate) fn missing<'a>(
+    nets: &IndexSet<&[u8]>,
+    lines: &[Line<'a>],
+    given: &[usize],
+    none: usize,
+) -> Option<&'a [u8]>
+    requires { list_any (λ place. place == none) given.now ≡ false
+        → find (is_no (texts nets.now.keys)) (flat_map used (map form_of lines.now)) ≡ None }
+    ensures { option_map (λ n. n.now) result
+        ≡ find (is_no (texts nets.now.keys)) (flat_map used (map form_of lines.now)) }
+{
+    if given.contains(&none) {
+        first_missing(nets, lines)
+    } else {
+        None
+    }
 }
 
 /// Puts the output of a line among these.
@@ -286,7 +306,14 @@ fn waits(names: &IndexSet<Vec<u8>>, left: &[usize], net: &[u8]) -> bool
     place < left.len() && left[place] != 0
 }
 
-/// The net of the first line whose gate waits for a gate in the end.
+/// Whether no gate waits for a gate.
+fn none_waits(left: &[usize]) -> bool
+    ensures { result ≡ list_all (λ count. count == 0) left.now }
+{
+    left.iter().all(|count| *count == 0)
+}
+
+/// The net of the first line whose gate waits for a gate in the end. No line is looked at where none waits.
 pub(crate) fn first_loop<'a>(
     names: &IndexSet<Vec<u8>>,
     left: &[usize],
@@ -296,6 +323,9 @@ pub(crate) fn first_loop<'a>(
     ensures { option_map (λ n. n.now) result
         ≡ loop_fault (key_texts names.now.keys) left.now (map form_of lines.now) }
 {
+    if none_waits(left) {
+        return None;
+    }
     let mut rest = lines;
     while let [line, more @ ..] = rest {
         if let Some(net) = looped(names, left, line) {

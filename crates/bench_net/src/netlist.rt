@@ -7,19 +7,19 @@ ghost use Rattle.bench_net.specs.Circuit.{Circuit, Net, IsWhole};
 ghost use Rattle.bench_net.specs.Net.{names, net_of, IsDriven, IsNet};
 ghost use Rattle.bench_net.specs.Fault.{IsFault, IsRefusal};
 ghost use Rattle.bench_net.specs.Givers.{HasPins, IsNetOf, IsChecked};
-ghost use Rattle.bench_net.specs.Views.{form_of, texts};
+ghost use Rattle.bench_net.specs.Views.{form_of};
 ghost use Rattle.bench_net.specs.declared.gate.Driver.{Driver};
 ghost use Rattle.bench_net.specs.declared.gate.Driver.TheVariants.{Input};
 ghost use Rattle.bench_net.specs.declared.fault.NetFault.{NetFault};
 ghost use Rattle.bench_net.specs.declared.fault.NetFault.TheVariants.{NoMemory};
 
-use crate::build::{first_loop, first_missing, first_wrong_arity, givers, names_of, shown_nets};
+use crate::build::{first_loop, first_wrong_arity, givers, missing, names_of, shown_nets};
 use crate::fault::{NetFault, NetName};
 use crate::gate::Driver;
 use crate::line::Line;
 use crate::nets::Nets;
 use crate::order::{readers, sorted};
-use crate::table::{drivers, outputs};
+use crate::table::{drivers, outputs, places_of};
 use crate::text::read_lines;
 use indexmap::IndexSet;
 use std::alloc::{AllocError, Global};
@@ -149,8 +149,8 @@ fn netlist_of(alloc: Global, lines: &[Line<'_>]) -> Result<Netlist, NetFault>
     ensures fault { IfErr result (λ e. (e ≡ NoMemory) ⊎ IsRefusal (map form_of lines.now) e) }
 {
     let names = names_of(alloc, lines)?;
-    let (nets, places) = checked(alloc, &names, lines)?;
-    let (drivers, outputs) = tables(alloc, &names, lines, &nets, places.as_slice())?;
+    let given = checked(alloc, &names, lines)?;
+    let (drivers, outputs) = tables(alloc, &names, lines, given.as_slice())?;
     ordered(alloc, names, lines, drivers, outputs)
 }
 
@@ -159,15 +159,14 @@ fn tables(
     alloc: Global,
     all: &IndexSet<Vec<u8>>,
     lines: &[Line<'_>],
-    nets: &IndexSet<&[u8]>,
-    places: &[usize],
+    given: &[usize],
 ) -> Result<(Vec<Driver>, Vec<bool>), AllocError>
     requires names { key_texts all.now.keys ≡ names (map form_of lines.now) }
-    requires checked { IsChecked (map form_of lines.now) (texts nets.now.keys) places.now }
+    requires checked { IsChecked (map form_of lines.now) given.now }
     ensures drivers { IfOk result (λ made. made.0.items ≡ (net_of (map form_of lines.now)).drivers) }
     ensures outputs { IfOk result (λ made. made.1.items ≡ (net_of (map form_of lines.now)).outputs) }
 {
-    let drivers = drivers(alloc, all, lines, nets, places)?;
+    let drivers = drivers(alloc, all, lines, given)?;
     let shown = shown_nets(alloc, lines)?;
     let outputs = outputs(alloc, all, &shown)?;
     Ok((drivers, outputs))
@@ -203,15 +202,14 @@ fn ordered(
     }
 }
 
-/// The nets that the lines give a driver and the places of the lines that do, where each net has
-/// one, of as many nets as it takes.
-fn checked<'a>(
+/// The places of the lines that give the nets their drivers, where each net has one, of as many nets as it takes.
+fn checked(
     alloc: Global,
     all: &IndexSet<Vec<u8>>,
-    lines: &[Line<'a>],
-) -> Result<(IndexSet<&'a [u8]>, Vec<usize>), NetFault>
+    lines: &[Line<'_>],
+) -> Result<Vec<usize>, NetFault>
     requires { key_texts all.now.keys ≡ names (map form_of lines.now) }
-    ensures found { IfOk result (λ given. IsChecked (map form_of lines.now) (texts given.0.keys) given.1.items) }
+    ensures found { IfOk result (λ given. IsChecked (map form_of lines.now) given.items) }
     ensures fault { IfErr result (λ e. (e ≡ NoMemory) ⊎ IsRefusal (map form_of lines.now) e) }
 {
     if all.len() > MOST_NETS {
@@ -221,8 +219,10 @@ fn checked<'a>(
         return Err(NetFault::Arity(NetName::from_slice(alloc, net)?));
     }
     let (nets, places) = givers(alloc, lines)?;
-    if let Some(net) = first_missing(&nets, lines) {
+    let none = lines.len();
+    let given = places_of(alloc, all, &nets, places.as_slice(), none)?;
+    if let Some(net) = missing(&nets, lines, given.as_slice(), none) {
         return Err(NetFault::Missing(NetName::from_slice(alloc, net)?));
     }
-    Ok((nets, places))
+    Ok(given)
 }

@@ -1,13 +1,12 @@
 //! What drives each net, by the nets' numbers.
-ghost use Rattle.std.specs.Prelude.{◌≡◌, ℕ, ◌<◌, ◌≤◌, None, Some, List, map, length, IfOk, IfSome, unwrap_or, slice_get};
-ghost use Rattle.std.specs.Option.{option_and_then};
+ghost use Rattle.std.specs.Prelude.{◌≡◌, ℕ, ◌<◌, ◌≤◌, None, Some, List, map, length, IfOk, IfSome};
 ghost use Rattle.std.specs.List.{position, list_any};
 ghost use Rattle.std.specs.Str.{bytes_eq};
 ghost use Rattle.text_bytes.specs.Texts.{key_texts};
 ghost use Rattle.text_bytes.specs.Limits.{most_nets};
 ghost use Rattle.bench_net.specs.Circuit.{number};
 ghost use Rattle.bench_net.specs.Net.{function_driver, driver_of};
-ghost use Rattle.bench_net.specs.Givers.{given_driver};
+ghost use Rattle.bench_net.specs.Givers.{given_place, line_driver};
 ghost use Rattle.bench_net.specs.declared.gate.Function.TheVariants.{Register};
 ghost use Rattle.bench_net.specs.Views.{form_of, texts};
 
@@ -89,33 +88,10 @@ fn driver_of(
     }
 }
 
-/// The driver that the lines give a net: `nets` are those that they give one, and `places` those of
-/// the lines that do.
-fn driver_for(
-    alloc: Global,
-    names: &IndexSet<Vec<u8>>,
-    lines: &[Line<'_>],
-    nets: &IndexSet<&[u8]>,
-    places: &[usize],
-    name: &[u8],
-) -> Result<Driver, AllocError>
-    requires { length names.now.keys ≤ most_nets }
-    ensures { IfOk result (λ driver. driver
-        ≡ given_driver (key_texts names.now.keys) (map form_of lines.now)
-        (texts nets.now.keys) places.now name.now) }
-{
-    let place = place_of(nets, places, name, lines.len());
-    if place < lines.len() {
-        driver_of(alloc, names, &lines[place])
-    } else {
-        Ok(Driver::Input)
-    }
-}
-
-/// The place of the line that gives a net its driver, or `none` where there is none.
+/// The place of the line that gives a net its driver, or `none` where there is none: `nets` are those that the lines give one,
+/// and `places` those of the lines that do.
 fn place_of(nets: &IndexSet<&[u8]>, places: &[usize], name: &[u8], none: usize) -> usize
-    ensures { result ≡ unwrap_or (option_and_then (slice_get places.now)
-        (position (bytes_eq name.now) (texts nets.now.keys))) none }
+    ensures { result ≡ given_place (texts nets.now.keys) places.now none name.now }
 {
     match place_among(nets, name) {
         Some(place) => places.get(place).copied().unwrap_or(none),
@@ -123,22 +99,56 @@ fn place_of(nets: &IndexSet<&[u8]>, places: &[usize], name: &[u8], none: usize) 
     }
 }
 
-/// The drivers of all nets, in the order of their names.
+/// The places of the lines that give the nets their drivers, in the order of the nets' names.
+pub(crate) fn places_of(
+    alloc: Global,
+    names: &IndexSet<Vec<u8>>,
+    nets: &IndexSet<&[u8]>,
+    places: &[usize],
+    none: usize,
+) -> Result<Vec<usize>, AllocError>
+    ensures { IfOk result (λ given. given.items
+        ≡ map (given_place (texts nets.now.keys) places.now none) (key_texts names.now.keys)) }
+{
+    let mut given = Vec::new(alloc);
+    for name in names.iter() {
+        given.push(place_of(nets, places, name.as_slice(), none))?;
+    }
+    Ok(given)
+}
+
+/// The driver that the line at a place gives.
+fn driver_at(
+    alloc: Global,
+    names: &IndexSet<Vec<u8>>,
+    lines: &[Line<'_>],
+    place: usize,
+) -> Result<Driver, AllocError>
+    requires { length names.now.keys ≤ most_nets }
+    ensures { IfOk result (λ driver. driver
+        ≡ line_driver (key_texts names.now.keys) (map form_of lines.now) place) }
+{
+    if place < lines.len() {
+        driver_of(alloc, names, &lines[place])
+    } else {
+        Ok(Driver::Input)
+    }
+}
+
+/// The drivers that the lines at these places give.
 pub(crate) fn drivers(
     alloc: Global,
     names: &IndexSet<Vec<u8>>,
     lines: &[Line<'_>],
-    nets: &IndexSet<&[u8]>,
-    places: &[usize],
+    given: &[usize],
 ) -> Result<Vec<Driver>, AllocError>
     requires { length names.now.keys ≤ most_nets }
     ensures { IfOk result (λ drivers. drivers.items
-        ≡ map (given_driver (key_texts names.now.keys) (map form_of lines.now)
-        (texts nets.now.keys) places.now) (key_texts names.now.keys)) }
+        ≡ map (line_driver (key_texts names.now.keys) (map form_of lines.now)) given.now) }
 {
     let mut drivers = Vec::new(alloc);
-    for name in names.iter() {
-        let driver = driver_for(alloc, names, lines, nets, places, name.as_slice())?;
+    for place in given {
+        let driver = driver_at(alloc, names, lines, *place)?;
         drivers.push(driver)?;
     }
     Ok(drivers)

@@ -1,11 +1,14 @@
 //! Why a STIL text is refused.
 
-ghost use Rattle.std.specs.Prelude.{◌≡◌};
+ghost use Rattle.std.specs.Prelude.{◌≡◌, Some, IfOk};
+ghost use Rattle.answers.specs.Answers.{Blames};
 ghost use Rattle.stil_ast.specs.Data.KindName.{kind_name};
+ghost use Rattle.stil_ast.specs.Faults.Found.{fault_at};
 
 use answers::Short;
+use std::alloc::{AllocError, Global};
 use std::fmt;
-use tester_types::Text;
+use tester_types::{Items, Text};
 
 /// The kind of a fault of a STIL text.
 #[derive(Clone, Copy, Debug, PartialEq, Eq)]
@@ -114,3 +117,32 @@ impl fmt::Display for StilFault {
 
 /// Why a reader gave up.
 pub type StilRefusal = Short<StilFault>;
+
+/// A fault of this kind on a line of a top-level statement, as it is to be told.
+fn fault_of(
+    alloc: Global,
+    block: &[u8],
+    name: &[u8],
+    line: u32,
+    kind: StilKind,
+) -> Result<StilFault, AllocError>
+    ensures { IfOk result (λ fault. fault ≡ fault_at (record { block = block.now; name = name.now; line = line }) kind) }
+{
+    Ok(StilFault {
+        kind,
+        block: Items::from_slice(alloc, block)?,
+        name: Items::from_slice(alloc, name)?,
+        line,
+    })
+}
+
+/// The refusal for a fault of this kind on a line of a top-level statement, whose keyword and name are given; want of memory where
+/// there is none for them.
+pub fn told(alloc: Global, block: &[u8], name: &[u8], line: u32, kind: StilKind) -> StilRefusal
+    ensures { Blames (Some (fault_at (record { block = block.now; name = name.now; line = line }) kind)) result }
+{
+    match fault_of(alloc, block, name, line, kind) {
+        Ok(fault) => Short::Fault(fault),
+        Err(_) => Short::NoMemory,
+    }
+}

@@ -23,7 +23,7 @@ pub use data::{ItemRun, VecItem, VecText};
 pub use executive::{
     Burst, BurstItem, BurstItemList, BurstList, BurstWord, ExecDecl, ExecDeclList,
 };
-pub use fault::{StilFault, StilKind, StilRefusal};
+pub use fault::{StilFault, StilKind, StilRefusal, told};
 pub use laws::{
     call_gives_back, checked_is_steady, checked_tree_agrees, consumed_is_walked, cycles_follow,
     flat_tree_agrees, group_texts_are_spelled, lineage_follows, loop_splits, macro_is_its_body,
