@@ -6,7 +6,7 @@ use Rattle.tester_types.specs.Printing.{printed_name, printed_title}
 use Rattle.tester_types.specs.declared.wave.Table.{Table}
 use Rattle.tester_types.specs.declared.cycle.Cycle.{Cycle}
 use Rattle.tester_types.specs.declared.cycle.Moment.{Moment}
-use Rattle.page_meaning.specs.Meaning.{Means}
+use Rattle.packed_code.specs.Meaning.{Means}
 use Rattle.edge_gen.specs.Signals.{no_skews, is_inside, keeps_inside}
 use Rattle.edge_gen.specs.Moments.{moments_of}
 use Rattle.packed_code.specs.Program.{Exec, Program}
@@ -15,7 +15,7 @@ use Rattle.packed_code.proofs.Lists.{behind_at}
 use Rattle.std.proofs.lemmas.Option.{get_or_from_slice_get, slice_get_within}
 use Rattle.std.proofs.lemmas.List.Sums.{list_all-from_AllPass}
 use Rattle.edge_gen.proofs.InsideLemmas.{unmoved_inside}
-use Rattle.page_meaning.proofs.CountLemmas.{cycle_count-length}
+use Rattle.packed_code.proofs.CountLemmas.{cycle_count-length}
 use Rattle.std.proofs.lemmas.Bool.{cases_order}
 use Rattle.std.proofs.lemmas.List.{append-nil, append_assoc, length-append, length-map, take_all}
 use Rattle.std.proofs.lemmas.List.FromFn.{length-enumerate_from}

@@ -5,7 +5,7 @@ use Rattle.tester_types.specs.Printing.{printed_name, printed_title}
 use Rattle.tester_types.specs.declared.cycle.Moment.{Moment}
 use Rattle.tester_types.specs.declared.wave.Push.{Push}
 use Rattle.tester_types.specs.declared.wave.Look.{Look}
-use Rattle.page_meaning.specs.Meaning.{Means}
+use Rattle.packed_code.specs.Meaning.{Means}
 use Rattle.packed_code.specs.Program.{Exec, Program}
 use Rattle.packed_code.specs.Cycles.{pages_of}
 use Rattle.edge_gen.specs.Signals.{no_skews}

@@ -16,20 +16,20 @@ use Rattle.stil_ast.specs.Meaning.ExecutiveData.{Tree, Executive, tree_run, tree
 use Rattle.stil_ast.specs.declared.fault.StilFault.{StilFault}
 use Rattle.stil_ast.specs.declared.fault.StilKind.TheVariants.{TooLarge, TooManyCycles}
 use Rattle.stil_ast.specs.Data.Texts.{has_name}
-use Rattle.page_meaning.specs.Meaning.{Means}
+use Rattle.packed_code.specs.Meaning.{Means}
 use Rattle.stil_ast.specs.Meaning.State.{State, start_of}
 use Rattle.stil_ast.specs.Meaning.Flat.{Flat}
 use Rattle.stil_ast.specs.Meaning.Running.{Made, outside}
 use Rattle.packed_code.specs.Program.{Exec}
-use Rattle.instr_writer.specs.Counting.{vector_count}
-use Rattle.instr_writer.specs.Working.{flats_measure}
-use Rattle.instr_writer.proofs.CountLemmas.{run-count}
-use Rattle.instr_writer.proofs.TreeLemmas.{measure_flats}
-use Rattle.instr_writer.proofs.NumberLemmas.{distinct_rows-once, nothing_twice}
-use Rattle.instr_writer.proofs.RowLemmas.{distinct_rows-append}
-use Rattle.instr_writer.proofs.EntryLemmas.{entries-more}
-use Rattle.instr_writer.specs.Written.{HasEachOnce, IsWritten}
-use Rattle.page_meaning.specs.declared.instr.Instr.{Instr}
+use Rattle.cycle_comp.specs.Counting.{vector_count}
+use Rattle.cycle_comp.specs.Writing.{flats_measure}
+use Rattle.cycle_comp.proofs.CountLemmas.{run-count}
+use Rattle.cycle_comp.proofs.TreeLemmas.{measure_flats}
+use Rattle.cycle_comp.proofs.NumberLemmas.{distinct_rows-once, nothing_twice}
+use Rattle.cycle_comp.proofs.RowsOnce.{distinct_rows-append}
+use Rattle.cycle_comp.proofs.EntryLemmas.{entries-more}
+use Rattle.cycle_comp.specs.Written.{HasEachOnce, IsWritten}
+use Rattle.packed_code.specs.declared.instr.Instr.{Instr}
 use Rattle.stil_ast.specs.Data.Refusal.{StilRefusal}
 use Rattle.answers.specs.declared.short.Short.TheVariants as refusal
 use Rattle.cycle_comp.specs.Compiled.{chain_of}

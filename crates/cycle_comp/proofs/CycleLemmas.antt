@@ -12,10 +12,10 @@ use Rattle.tester_types.specs.declared.wave.Table.{Table}
 use Rattle.stil_ast.specs.Meaning.State.{Vector}
 use Rattle.stil_ast.specs.Meaning.Cycles.{Dated, dated, starts_at}
 use Rattle.stil_ast.specs.Meaning.ExecutiveData.{row_of, period_at, table_at, vector_period}
-use Rattle.page_meaning.specs.declared.instr.Entry.{Entry}
+use Rattle.packed_code.specs.declared.instr.Entry.{Entry}
 use Rattle.packed_code.specs.Conditions.{letters_of}
 use Rattle.packed_code.specs.Cycles.{period_of, timed}
-use Rattle.instr_writer.specs.Entries.{IsEntry, AreEntries}
+use Rattle.cycle_comp.specs.Entries.{IsEntry, AreEntries}
 use Rattle.cycle_comp.specs.Compiled.{letter_of, table_in, read_cycle}
 use Rattle.cycle_comp.proofs.VectorLemmas.{IsLetter}
 

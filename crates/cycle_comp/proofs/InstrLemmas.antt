@@ -3,13 +3,13 @@ use Rattle.std.proofs.Common.{◌≡◌, ℕ, zero, suc, ◌-◌, ◌<◌, Bool,
 use Rattle.std.specs.List.{AllByRecursion}
 use Rattle.text_bytes.proofs.ListLemmas.{all_append}
 use Rattle.stil_ast.specs.Meaning.State.{Vector}
-use Rattle.page_meaning.specs.declared.instr.Entry.{Entry}
-use Rattle.page_meaning.specs.declared.instr.Instr.{Instr}
-use Rattle.page_meaning.specs.declared.instr.Instr.TheVariants.{Run, Loop, End, Done}
-use Rattle.page_meaning.specs.Meaning.{repeated, on_top, closed, bodies, top, Means}
-use Rattle.page_meaning.specs.Whole.{IsRest, IsWhole}
-use Rattle.page_meaning.proofs.BodyLemmas.{length-bodies, one_body, two_bodies}
-use Rattle.instr_writer.specs.Entries.{IsEntry, AreEntries}
+use Rattle.packed_code.specs.declared.instr.Entry.{Entry}
+use Rattle.packed_code.specs.declared.instr.Instr.{Instr}
+use Rattle.packed_code.specs.declared.instr.Instr.TheVariants.{Run, Loop, End, Done}
+use Rattle.packed_code.specs.Meaning.{repeated, on_top, closed, bodies, top, Means}
+use Rattle.packed_code.specs.Whole.{IsRest, IsWhole}
+use Rattle.packed_code.proofs.BodyLemmas.{length-bodies, one_body, two_bodies}
+use Rattle.cycle_comp.specs.Entries.{IsEntry, AreEntries}
 
 -- the first of two lists
 all_first : {A : Type 0} (P : A → Type 0) (xs ys : List A) → AllByRecursion P (xs ++ ys) → AllByRecursion P xs

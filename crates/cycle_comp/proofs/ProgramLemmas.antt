@@ -13,10 +13,10 @@ use Rattle.stil_ast.specs.Meaning.State.{Vector}
 use Rattle.stil_ast.specs.Meaning.ExecutiveData.{Executive, vectors_of, measure_of, tables_of, row_of}
 use Rattle.scan_chain.specs.Short.{is_short}
 use Rattle.tester_types.specs.declared.cycle.Cycle.{Cycle}
-use Rattle.page_meaning.specs.declared.instr.Entry.{Entry}
-use Rattle.page_meaning.specs.declared.instr.Instr.{Instr}
-use Rattle.page_meaning.specs.declared.instr.Instr.TheVariants.{Run, Loop, End, Done}
-use Rattle.page_meaning.specs.Meaning.{Means}
+use Rattle.packed_code.specs.declared.instr.Entry.{Entry}
+use Rattle.packed_code.specs.declared.instr.Instr.{Instr}
+use Rattle.packed_code.specs.declared.instr.Instr.TheVariants.{Run, Loop, End, Done}
+use Rattle.packed_code.specs.Meaning.{Means}
 use Rattle.packed_code.specs.declared.parts.CodeChain.{CodeChain}
 use Rattle.packed_code.specs.Program.{Exec, Program}
 use Rattle.packed_code.specs.Cycles.{timed, period_of, exec_of}
@@ -24,7 +24,7 @@ use Rattle.packed_code.specs.Conditions.{IsText, IsChain, IsInstr, IsExec, has_w
 use Rattle.packed_code.proofs.Lists.{all_each}
 use Rattle.wave_tables.specs.Waves.{AreInOrder}
 use Rattle.wave_tables.proofs.TableLemmas.{within_at}
-use Rattle.instr_writer.specs.Entries.{IsEntry}
+use Rattle.cycle_comp.specs.Entries.{IsEntry}
 use Rattle.cycle_comp.specs.Compiled.{chain_of, least_of, read_cycle, IsExecOf}
 use Rattle.cycle_comp.specs.Working.{IsInside, IsMade, AreMade}
 use Rattle.cycle_comp.proofs.EachLemmas.{all_weaker, all_map, all_cut, all_both}

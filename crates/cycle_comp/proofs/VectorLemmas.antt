@@ -22,7 +22,7 @@ use Rattle.stil_ast.specs.declared.fault.StilKind.TheVariants.{NoWave}
 use Rattle.stil_ast.proofs.FoundLemmas.{or_else-none}
 use Rattle.packed_code.specs.Conditions.{has_wave, has_waves}
 use Rattle.packed_code.specs.Letters.{is_place}
-use Rattle.instr_writer.proofs.EffectLemmas.{run-length}
+use Rattle.cycle_comp.proofs.EffectLemmas.{run-length}
 use Rattle.cycle_comp.proofs.EachLemmas.{all_map}
 use Rattle.burst_exec.proofs.WaveLemmas.{passed}
 use Rattle.cycle_comp.proofs.WaveLemmas.{IsGoodWave}

@@ -10,12 +10,12 @@ use Rattle.stil_ast.specs.Faults.CodeFaults.{trees_fault}
 use Rattle.stil_ast.specs.declared.fault.StilFault.{StilFault}
 use Rattle.stil_ast.specs.declared.fault.StilKind.TheVariants.{TooLarge, TooManyCycles}
 use Rattle.scan_chain.specs.Short.{is_short}
-use Rattle.page_meaning.specs.declared.instr.Instr.{Instr}
-use Rattle.page_meaning.specs.declared.instr.Instr.TheVariants.{Run, Loop, End, Done}
-use Rattle.page_meaning.specs.Meaning.{Means}
-use Rattle.page_meaning.specs.Whole.{IsWhole}
+use Rattle.packed_code.specs.declared.instr.Instr.{Instr}
+use Rattle.packed_code.specs.declared.instr.Instr.TheVariants.{Run, Loop, End, Done}
+use Rattle.packed_code.specs.Meaning.{Means}
+use Rattle.packed_code.specs.Whole.{IsWhole}
 use Rattle.packed_code.specs.Program.{Exec}
-use Rattle.instr_writer.specs.Entries.{AreEntries}
+use Rattle.cycle_comp.specs.Entries.{AreEntries}
 use Rattle.cycle_comp.specs.Compiled.{chain_of, least_of}
 use Rattle.cycle_comp.specs.declared.building.Building.{Building}
 

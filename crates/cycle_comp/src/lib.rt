@@ -5,10 +5,21 @@
 mod building;
 mod chains;
 mod compiling;
+mod counting;
+mod fault;
 mod inside;
+mod output;
 mod refusing;
 mod signals;
 mod sizes;
+mod state;
 mod tables;
+mod trees;
+mod trouble;
+mod waves;
+mod writing;
 
 pub use compiling::compile;
+pub use counting::cycles;
+pub use fault::{VectorFault, WriteError};
+pub use trees::write;

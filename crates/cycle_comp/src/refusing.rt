@@ -6,10 +6,10 @@ ghost use Rattle.stil_ast.specs.Faults.BurstFaults.{exec_place};
 ghost use Rattle.stil_ast.specs.Faults.CodeFaults.{trees_fault};
 ghost use Rattle.stil_ast.specs.Meaning.State.{start_of};
 ghost use Rattle.stil_ast.specs.declared.fault.StilFault.{StilFault};
-ghost use Rattle.instr_writer.specs.Written.{IsTold, IsFaulty};
+ghost use Rattle.cycle_comp.specs.Written.{IsTold, IsFaulty};
 
+use crate::fault::{VectorFault, WriteError};
 use burst_exec::Exec;
-use instr_writer::{VectorFault, WriteError};
 use macro_expand::fault_of;
 use std::alloc::{AllocError, Global};
 use stil_ast::{StilFault, StilKind, StilRefusal};

@@ -2,16 +2,16 @@
 
 ghost use Rattle.std.specs.Prelude.{◌≡◌, ◌+◌, ◌≤◌, min, length, sum_by};
 ghost use Rattle.text_bytes.specs.Limits.{most_measure, most_cycles};
-ghost use Rattle.page_meaning.specs.Count.{capped};
-ghost use Rattle.instr_writer.specs.Counting.{vector_count};
-ghost use Rattle.instr_writer.specs.Working.{flats_measure};
+ghost use Rattle.packed_code.specs.Count.{capped};
+ghost use Rattle.cycle_comp.specs.Counting.{vector_count};
+ghost use Rattle.cycle_comp.specs.Writing.{flats_measure};
 ghost use Rattle.burst_exec.specs.Finding.{Finds};
 ghost use Rattle.cycle_comp.specs.Working.{size_fault, IsSized};
 
+use crate::counting::cycles;
 use crate::refusing::exec_refusal;
 use burst_exec::Exec;
 use flat_tree::FlatList;
-use instr_writer::cycles;
 use std::alloc::Global;
 use stil_ast::{StilKind, StilRefusal};
 use text_bytes::{MOST_CYCLES, MOST_MEASURE};

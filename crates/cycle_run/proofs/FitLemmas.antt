@@ -10,7 +10,7 @@ use Rattle.packed_code.specs.Conditions.{IsProgram}
 use Rattle.packed_code.specs.Cycles.{exec_of, cycles_of}
 use Rattle.packed_code.specs.Program.{Program}
 use Rattle.packed_code.specs.declared.parts.CodeSignal.{CodeSignal}
-use Rattle.page_meaning.proofs.CountLemmas.{cycle_count-length}
+use Rattle.packed_code.proofs.CountLemmas.{cycle_count-length}
 use Rattle.plan_rows.specs.Rows.{skews_at}
 use Rattle.site_meaning.proofs.PartLemmas.{skews_in-part_of}
 use Rattle.site_meaning.proofs.SkewLemmas.{accepted_part}

@@ -14,7 +14,7 @@ use Rattle.stil_ast.specs.Meaning.Resolved.{Scope, resolved}
 use Rattle.stil_ast.specs.Meaning.Running.{stops}
 use Rattle.stil_ast.specs.Faults.AssignmentFaults.{Walked, Checked, fine, Standing, may_walk, check_assign}
 use Rattle.stil_ast.specs.Faults.PatternFaults.{on_top, counted, check_step, check_list, check_calls, check_pattern}
-use Rattle.drill_texts.specs.Texts.{driven_bit}
+use Rattle.drill_fine.specs.Texts.{driven_bit}
 use Rattle.drill_fine.specs.Said.{bit_byte, look_byte}
 use Rattle.drill_fine.specs.Blocks.{drill_signals, blocks_with}
 use Rattle.line_texts.proofs.AssignmentLemmas.{gives}

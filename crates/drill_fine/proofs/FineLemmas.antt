@@ -12,9 +12,9 @@ use Rattle.stil_ast.specs.Faults.ExecutiveFaults.{fifth_fault}
 use Rattle.stil_ast.specs.Faults.CodeFaults.{sixth_fault}
 use Rattle.stil_ast.specs.Faults.TextFaults.{blocks_fault}
 use Rattle.stil_ast.specs.Faults.FrontFaults.{read_as, IsFaultOf}
-use Rattle.text_front.specs.Front.{IsFront}
+use Rattle.stil_program.specs.Front.{IsFront}
 use Rattle.time_expr.specs.TimesOf.{times_of}
-use Rattle.drill_texts.specs.Texts.{vectors, stil_text}
+use Rattle.drill_fine.specs.Texts.{vectors, stil_text}
 use Rattle.drill_fine.specs.Said.{vectors_said}
 use Rattle.drill_fine.proofs.SaidLemmas.{drill_tokens}
 use Rattle.drill_fine.proofs.ReadLemmas.{stmts_from}

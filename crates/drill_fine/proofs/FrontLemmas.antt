@@ -12,8 +12,8 @@ use Rattle.stil_ast.specs.Data.Written.{Written}
 use Rattle.stil_ast.specs.declared.blocks.Blocks.{Blocks}
 use Rattle.pat_read.specs.Body.{body_from}
 use Rattle.stil_read.specs.Top.{blocks_of}
-use Rattle.text_front.specs.Front.{IsReadAs}
-use Rattle.drill_texts.specs.Texts.{vectors, stil_text}
+use Rattle.stil_program.specs.Front.{IsReadAs}
+use Rattle.drill_fine.specs.Texts.{vectors, stil_text}
 use Rattle.line_texts.specs.Said.{Said, no_more, pieces_of, trees_at, each_said}
 use Rattle.line_texts.specs.Lexemes.{lexemes_in}
 use Rattle.line_texts.proofs.PieceLemmas.{spelled-append}

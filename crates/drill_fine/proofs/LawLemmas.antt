@@ -16,9 +16,9 @@ use Rattle.stil_ast.specs.Meaning.Signals.{names_of}
 use Rattle.stil_ast.specs.Faults.FrontFaults.{Front, read_as}
 use Rattle.stil_ast.specs.declared.blocks.Blocks.{Blocks}
 use Rattle.cycle_comp.specs.Compiled.{signal_of}
-use Rattle.text_front.specs.Front.{IsFront, IsReadAs}
+use Rattle.stil_program.specs.Front.{IsFront, IsReadAs}
 use Rattle.stil_program.specs.Program.{IsProgramOf}
-use Rattle.drill_texts.specs.Texts.{stil_text, net_text, plan_text}
+use Rattle.drill_fine.specs.Texts.{stil_text, net_text, plan_text}
 use Rattle.drill_fine.specs.Bindings.{code_signals}
 use Rattle.drill_fine.specs.Rows.{drill_rows}
 use Rattle.drill_fine.specs.Laws.{NetIsAccepted, PlanIsAccepted, PlanHasFourSites, DrillIsBound}

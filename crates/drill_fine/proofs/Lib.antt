@@ -1,3 +1,6 @@
+pub mod NumberedLines
+pub mod TextLemmas
+pub mod StandardFacts
 pub mod SaidLemmas
 pub mod ReadLemmas
 pub mod BlockLemmas

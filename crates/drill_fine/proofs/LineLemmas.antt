@@ -16,7 +16,7 @@ use Rattle.bench_net.specs.Step.{Step, ends, bad, begins, delimiter_step}
 use Rattle.bench_net.specs.Line.{is_gap, is_name_byte, Lexeme, word, Spells, Form, input, output, gate, is_net, is_keyword, Says}
 use Rattle.bench_net.specs.Net.{Reads}
 use Rattle.bench_net.proofs.TextLemmas.{lines_first}
-use Rattle.drill_texts.specs.Texts.{register_line, net_head, net_text}
+use Rattle.drill_fine.specs.Texts.{register_line, net_head, net_text}
 use Rattle.drill_fine.specs.Nets.{net_at, register_with, register_form, drill_forms}
 use Rattle.line_texts.proofs.DigitLemmas.{digit_cases}
 use Rattle.drill_fine.proofs.NameLemmas.{net_all, net_length}

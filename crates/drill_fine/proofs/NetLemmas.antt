@@ -16,7 +16,7 @@ use Rattle.bench_net.specs.Wiring.{driver_at, gate_at, is_gate, IsReached, IsClo
 use Rattle.bench_net.specs.Circuit.{Net}
 use Rattle.bench_net.specs.Line.{Form}
 use Rattle.bench_net.specs.Net.{names, named, used, driven, driver_of, driver_for, drives, net_of, wrong_arity, first_repeat, head_of, is_missing, arity_fault, twice_fault, missing_fault, IsDriven, IsNet}
-use Rattle.drill_texts.specs.Texts.{net_text}
+use Rattle.drill_fine.specs.Texts.{net_text}
 use Rattle.drill_fine.specs.Nets.{net_at, register_form, drill_forms}
 use Rattle.drill_fine.proofs.NameLemmas.{net_same, net_differs}
 use Rattle.drill_fine.proofs.LineLemmas.{drill_net_reads}

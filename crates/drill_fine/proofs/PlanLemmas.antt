@@ -18,7 +18,7 @@ use Rattle.plan_rows.specs.Words.{is_text, net_of}
 use Rattle.plan_rows.specs.Judging.{judge, plan_of}
 use Rattle.plan_rows.specs.Plan.{HasRecords, IsPlan}
 use Rattle.plan_rows.specs.Rows.{sites_of}
-use Rattle.drill_texts.specs.Texts.{die_rows, plan_text}
+use Rattle.drill_fine.specs.Texts.{die_rows, plan_text}
 use Rattle.drill_fine.specs.Rows.{last_net, die_record, drill_records, drill_rows}
 use Rattle.line_texts.proofs.DigitLemmas.{decimal_all, digit_cases}
 

@@ -19,7 +19,7 @@ use Rattle.line_texts.specs.Lexemes.{lexemes_in}
 use Rattle.line_texts.proofs.AssignmentLemmas.{gives, assignment_said}
 use Rattle.line_texts.proofs.SettingLemmas.{head_behind}
 use Rattle.drill_fine.specs.Said.{bit_byte, look_byte, vector_said}
-use Rattle.drill_texts.specs.Texts.{driven_bit}
+use Rattle.drill_fine.specs.Texts.{driven_bit}
 
 -- the statement of a vector
 abbrev pub vector_stmt : List Token → ℕ → ℕ → ℕ → ℕ → ℕ → ℕ → PatStmt

@@ -10,7 +10,7 @@ use Rattle.stil_lex.specs.declared.token.Token.{Token}
 use Rattle.stil_lex.specs.Step.{mark_len}
 use Rattle.stil_lex.specs.Slow.{line_test, comment_test, annotation_test, closed_test, word_test, quoted_rest_test, comments_test, sign_byte_test}
 use Rattle.stil_tree.specs.Grammar.{Parses}
-use Rattle.drill_texts.specs.Texts.{vectors, driven_bit, vector_line, stil_head, stil_tail, stil_text}
+use Rattle.drill_fine.specs.Texts.{vectors, driven_bit, vector_line, stil_head, stil_tail, stil_text}
 use Rattle.line_texts.specs.Said.{Said, no_more, pieces_of, trees_at, each_said}
 use Rattle.line_texts.specs.Tests.{are_pieces, fits}
 use Rattle.line_texts.proofs.PieceLemmas.{are_pieces-are, spelled-append, ArePieces-append, reads_pieces}

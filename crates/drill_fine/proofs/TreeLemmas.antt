@@ -30,7 +30,7 @@ use Rattle.expr_text.specs.Range.{divisor_of, remainders}
 use Rattle.expr_text.specs.Ratio.{lowest, lowest_signed}
 use Rattle.expr_text.specs.Front.{capped, unit_front, number_front, paren_len, short_name, word_front, sign_front, front_of, lexed}
 use Rattle.time_expr.specs.TimesOf.{times_of}
-use Rattle.drill_texts.specs.Texts.{driven_bit}
+use Rattle.drill_fine.specs.Texts.{driven_bit}
 use Rattle.drill_fine.specs.Said.{bit_byte, look_byte}
 use Rattle.drill_fine.specs.Blocks.{drill_exec, drill_blocks}
 use Rattle.drill_fine.proofs.ReadLemmas.{stmts_from}

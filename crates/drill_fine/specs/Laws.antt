@@ -12,7 +12,7 @@ use Rattle.packed_code.specs.Program.{Program}
 use Rattle.lot_plan.specs.Refusal.{refusal}
 use Rattle.stil_ast.specs.declared.fault.StilFault.{StilFault}
 use Rattle.stil_program.specs.Program.{IsTextFault, IsProgramOf}
-use Rattle.drill_texts.specs.Texts.{stil_text, net_text, plan_text}
+use Rattle.drill_fine.specs.Texts.{stil_text, net_text, plan_text}
 use Rattle.drill_fine.specs.Rows.{drill_rows}
 
 -- the pattern has no fault

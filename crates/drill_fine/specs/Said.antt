@@ -3,7 +3,7 @@ use Rattle.std.specs.Prelude.{ℕ, ◌-◌, Bool, nat_lt, List, [], ◌∷◌, c
 use Rattle.std.specs.List.{range_with_len}
 use Rattle.stil_lex.specs.Pieces.{Piece, token}
 use Rattle.stil_lex.specs.declared.token.TokenKind.TheVariants.{Text}
-use Rattle.drill_texts.specs.Texts.{vectors, driven_bit}
+use Rattle.drill_fine.specs.Texts.{vectors, driven_bit}
 use Rattle.line_texts.specs.Said.{Said, no_more, statement, braced, a_sign, word, blank, spaced, next_line, each_said}
 
 -- a time

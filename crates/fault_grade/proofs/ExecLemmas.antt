@@ -4,7 +4,7 @@ use Rattle.std.proofs.lemmas.List.{append-nil, nil_from_length, take-append-drop
 use Rattle.std.proofs.Math.Seq.{take-length}
 use Rattle.tester_types.specs.declared.cycle.Cycle.{Cycle}
 use Rattle.tester_types.specs.declared.record.Fail.{Fail}
-use Rattle.page_meaning.proofs.CountLemmas.{cycle_count-length}
+use Rattle.packed_code.proofs.CountLemmas.{cycle_count-length}
 use Rattle.packed_code.specs.Program.{Program}
 use Rattle.packed_code.specs.Conditions.{IsProgram}
 use Rattle.packed_code.specs.Cycles.{exec_of, cycles_of}

@@ -3,10 +3,10 @@ use Rattle.std.proofs.Common.{◌≡◌, ℕ, ◌<◌, ◌++◌, List, [], ◌�
 use Rattle.std.specs.List.{AllZip, AllByRecursion}
 use Rattle.std.proofs.lemmas.Option.{slice_get-map, get_or_from_slice_get}
 use Rattle.text_bytes.specs.Limits.{deepest_calls}
-use Rattle.page_meaning.specs.declared.instr.Entry.{Entry}
-use Rattle.page_meaning.specs.declared.instr.Instr.TheVariants.{Done}
-use Rattle.page_meaning.specs.Meaning.{Means}
-use Rattle.page_meaning.proofs.NestingLemmas.{Means-Runs}
+use Rattle.packed_code.specs.declared.instr.Entry.{Entry}
+use Rattle.packed_code.specs.declared.instr.Instr.TheVariants.{Done}
+use Rattle.packed_code.specs.Meaning.{Means}
+use Rattle.packed_code.proofs.NestingLemmas.{Means-Runs}
 use Rattle.packed_code.specs.Program.{Program}
 use Rattle.packed_code.specs.Conditions.{IsRow, letters_of}
 use Rattle.packed_code.specs.Cycles.{exec_of}

@@ -7,9 +7,9 @@ use Rattle.std.proofs.lemmas.List.{length-map}
 use Rattle.text_bytes.specs.Limits.{deepest_calls, most_measure, most_cycles, most_row_characters}
 use Rattle.tester_types.specs.declared.wave.Wave.{Wave}
 use Rattle.tester_types.specs.declared.wave.Table.{Table}
-use Rattle.page_meaning.specs.declared.instr.Entry.{Entry}
-use Rattle.page_meaning.specs.Meaning.{Means}
-use Rattle.page_meaning.proofs.CountLemmas.{cycle_count-length}
+use Rattle.packed_code.specs.declared.instr.Entry.{Entry}
+use Rattle.packed_code.specs.Meaning.{Means}
+use Rattle.packed_code.proofs.CountLemmas.{cycle_count-length}
 use Rattle.packed_code.specs.Program.{Program}
 use Rattle.packed_code.specs.Conditions as conditions
 use Rattle.packed_code.specs.Conditions.{IsProgram, letters_of}

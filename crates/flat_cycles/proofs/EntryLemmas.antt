@@ -3,9 +3,9 @@ use Rattle.std.proofs.Common.{◌≡◌, ℕ, zero, suc, List, [], map, length, 
 use Rattle.std.specs.List.{AllZip, AllByRecursion, enumerate_from}
 use Rattle.std.proofs.lemmas.Option.{slice_get-map, slice_get-get_or, get_or_from_slice_get}
 use Rattle.tester_types.specs.declared.wave.Table.{Table}
-use Rattle.page_meaning.specs.declared.instr.Entry.{Entry}
-use Rattle.page_meaning.specs.Meaning.{Means, repeated}
-use Rattle.page_meaning.specs.Nesting.{cycle_of}
+use Rattle.packed_code.specs.declared.instr.Entry.{Entry}
+use Rattle.packed_code.specs.Meaning.{Means, repeated}
+use Rattle.packed_code.specs.Nesting.{cycle_of}
 use Rattle.packed_code.specs.Program.{Program}
 use Rattle.packed_code.specs.Conditions.{IsTable, IsProgram}
 use Rattle.packed_code.specs.Cycles.{exec_of, cycles_of}

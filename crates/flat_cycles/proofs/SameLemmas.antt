@@ -5,7 +5,7 @@ use Rattle.std.specs.Option.{option_map_or}
 use Rattle.std.proofs.lemmas.List.Sums.{sum_by_push}
 use Rattle.std.proofs.Math.Seq.{take-append_seam}
 use Rattle.tester_types.specs.declared.wave.Table.{Table}
-use Rattle.page_meaning.specs.declared.instr.Entry.{Entry}
+use Rattle.packed_code.specs.declared.instr.Entry.{Entry}
 use Rattle.packed_code.specs.Program.{Program}
 use Rattle.packed_code.specs.Conditions.{letters_of}
 use Rattle.packed_code.specs.Cycles.{period_of, timed}

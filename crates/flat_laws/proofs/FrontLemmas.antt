@@ -13,9 +13,9 @@ use Rattle.stil_ast.specs.declared.fault.StilFault.{StilFault}
 use Rattle.pat_read.specs.Refusal.{stil_kind}
 use Rattle.stil_read.specs.Top.{TextFault, in_statement, nowhere, blocks_of}
 use Rattle.stil_read.specs.Text.{IsToldOf}
-use Rattle.text_front.specs.Front.{IsReadAs, IsFirstFault, of_tokens, of_statements, of_blocks, IsFront}
-use Rattle.text_front.specs.StatementFaults.{IsStatementFault}
-use Rattle.text_front.proofs.FrontLemmas.{no_token_fault, no_statement_fault, moved}
+use Rattle.stil_program.specs.Front.{IsReadAs, IsFirstFault, of_tokens, of_statements, of_blocks, IsFront}
+use Rattle.stil_program.specs.StatementFaults.{IsStatementFault}
+use Rattle.stil_program.proofs.FrontLemmas.{no_token_fault, no_statement_fault, moved}
 use Rattle.packed_code.specs.Program.{Program}
 use Rattle.packed_code.specs.Conditions.{IsProgram}
 use Rattle.line_texts.specs.Said.{trees_at}

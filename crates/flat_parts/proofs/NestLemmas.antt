@@ -1,12 +1,12 @@
 -- Instructions that an executive may have nest.
 use Rattle.std.proofs.Common.{◌≡◌, ℕ, false, List, [], ◌∷◌, ◌++◌, refl, sym, ap, ◌∙◌}
-use Rattle.page_meaning.specs.declared.instr.Entry.{Entry}
-use Rattle.page_meaning.specs.declared.instr.Instr.{Instr}
-use Rattle.page_meaning.specs.declared.instr.Instr.TheVariants.{Run, Loop, End, Done}
-use Rattle.page_meaning.specs.Nesting as nesting
-use Rattle.page_meaning.specs.Nesting.{Runs}
-use Rattle.page_meaning.specs.Whole.{IsRest}
-use Rattle.page_meaning.proofs.NestingLemmas.{Runs-Means}
+use Rattle.packed_code.specs.declared.instr.Entry.{Entry}
+use Rattle.packed_code.specs.declared.instr.Instr.{Instr}
+use Rattle.packed_code.specs.declared.instr.Instr.TheVariants.{Run, Loop, End, Done}
+use Rattle.packed_code.specs.Nesting as nesting
+use Rattle.packed_code.specs.Nesting.{Runs}
+use Rattle.packed_code.specs.Whole.{IsRest}
+use Rattle.packed_code.proofs.NestingLemmas.{Runs-Means}
 use Rattle.flat_parts.specs.Nests.{RunLines, Nest, nothing, run, loop, instrs_in}
 
 -- no lines

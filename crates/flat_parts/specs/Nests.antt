@@ -1,7 +1,7 @@
 -- The instructions of an executive by how their loops nest, and what a flat text says in their place.
 use Rattle.std.specs.Prelude.{ℕ, nat_lt, List, [], ◌∷◌, ◌++◌, codes, decimal, if◌then◌else◌}
-use Rattle.page_meaning.specs.declared.instr.Instr.{Instr}
-use Rattle.page_meaning.specs.declared.instr.Instr.TheVariants.{Run, Loop, End}
+use Rattle.packed_code.specs.declared.instr.Instr.{Instr}
+use Rattle.packed_code.specs.declared.instr.Instr.TheVariants.{Run, Loop, End}
 use Rattle.packed_code.specs.Program.{Program}
 use Rattle.stil_ast.specs.declared.body.Step.TheVariants.{Wave, Call}
 use Rattle.stil_ast.specs.Data.Written as written

@@ -1,8 +1,8 @@
 -- The tables and rows that a flat text has, and the numbers that it gives them.
 use Rattle.std.specs.Prelude.{ℕ, Bool, not, ◌==◌, List, [], ◌∷◌}
 use Rattle.std.specs.List.{filter, flat_map, list_any, position_or_len}
-use Rattle.page_meaning.specs.declared.instr.Instr.{Instr}
-use Rattle.page_meaning.specs.declared.instr.Instr.TheVariants.{Run, Loop, End, Done}
+use Rattle.packed_code.specs.declared.instr.Instr.{Instr}
+use Rattle.packed_code.specs.declared.instr.Instr.TheVariants.{Run, Loop, End, Done}
 use Rattle.packed_code.specs.Program.{Exec, Program}
 
 -- the table that a Run names

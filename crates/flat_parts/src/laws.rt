@@ -1,9 +1,9 @@
 //! Laws of what flat texts are made of.
 
 ghost use Rattle.std.specs.Prelude.{◌≡◌, false, List, [], ◌∷◌, ◌++◌};
-ghost use Rattle.page_meaning.specs.declared.instr.Instr.{Instr};
-ghost use Rattle.page_meaning.specs.declared.instr.Instr.TheVariants.{Done};
-ghost use Rattle.page_meaning.specs.Whole.{IsRest};
+ghost use Rattle.packed_code.specs.declared.instr.Instr.{Instr};
+ghost use Rattle.packed_code.specs.declared.instr.Instr.TheVariants.{Done};
+ghost use Rattle.packed_code.specs.Whole.{IsRest};
 ghost use Rattle.flat_parts.specs.Nests.{Nest, instrs_in};
 
 /// The instructions that an executive may have nest, with a Done behind them.

@@ -19,9 +19,9 @@ use Rattle.stil_ast.specs.declared.body.Step.TheVariants as step
 use Rattle.stil_ast.specs.declared.body.PatAction.TheVariants as action
 use Rattle.stil_ast.specs.declared.body.PatStmt.{PatStmt}
 use Rattle.pat_read.specs.Body.{on_line, assignments_of, judge_statement, one_more, body_from}
-use Rattle.page_meaning.specs.declared.instr.Instr.{Instr}
-use Rattle.page_meaning.specs.declared.instr.Instr.TheVariants.{Run, Loop, End}
-use Rattle.page_meaning.specs.Whole.{IsRest}
+use Rattle.packed_code.specs.declared.instr.Instr.{Instr}
+use Rattle.packed_code.specs.declared.instr.Instr.TheVariants.{Run, Loop, End}
+use Rattle.packed_code.specs.Whole.{IsRest}
 use Rattle.packed_code.specs.Program.{Program}
 use Rattle.line_texts.specs.Said.{Said, no_more, braced, pieces_of, count_of, trees_at, spaced, next_line}
 use Rattle.line_texts.proofs.SettingLemmas.{not_skipped}

@@ -7,9 +7,9 @@ use Rattle.std.proofs.lemmas.List.Sums.{prefix_len-le-length}
 use Rattle.text_bytes.specs.Bytes.{is_printable}
 use Rattle.tester_types.specs.declared.wave.Table.{Table}
 use Rattle.stil_form.specs.Words.{fits_name}
-use Rattle.page_meaning.specs.declared.instr.Instr.{Instr}
-use Rattle.page_meaning.specs.declared.instr.Instr.TheVariants.{Run, Loop, End, Done}
-use Rattle.page_meaning.specs.Whole.{IsRest}
+use Rattle.packed_code.specs.declared.instr.Instr.{Instr}
+use Rattle.packed_code.specs.declared.instr.Instr.TheVariants.{Run, Loop, End, Done}
+use Rattle.packed_code.specs.Whole.{IsRest}
 use Rattle.packed_code.specs.Letters.{is_place}
 use Rattle.packed_code.specs.Program.{Exec, Program}
 use Rattle.packed_code.specs.Conditions.{EachBehind, IsText, IsSignal, IsWave, IsTable, IsRow, IsExec, IsProgram}

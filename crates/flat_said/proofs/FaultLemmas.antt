@@ -5,7 +5,7 @@ use Rattle.stil_tree.specs.declared.fault.TreeFault.{TreeFault}
 use Rattle.stil_tree.specs.declared.fault.TreeFault.TheVariants as tree
 use Rattle.stil_ast.specs.declared.fault.StilKind.TheVariants.{TooDeep}
 use Rattle.stil_ast.specs.declared.fault.StilFault.{StilFault}
-use Rattle.text_front.specs.StatementFaults.{IsToldOf, IsStatementFault}
+use Rattle.stil_program.specs.StatementFaults.{IsToldOf, IsStatementFault}
 use Rattle.packed_code.specs.Program.{Program}
 use Rattle.line_texts.specs.Tests.{fits}
 use Rattle.flat_parts.specs.Nests.{Nest}

@@ -4,7 +4,7 @@ use Rattle.std.specs.Prelude.{codes, decimal, nat_lt}
 use Rattle.std.specs.List.{flat_map}
 use Rattle.std.proofs.lemmas.List.Concat.{flat_map-append}
 use Rattle.text_bytes.specs.Bytes.{is_word}
-use Rattle.page_meaning.specs.declared.instr.Instr.TheVariants.{Done, End}
+use Rattle.packed_code.specs.declared.instr.Instr.TheVariants.{Done, End}
 use Rattle.packed_code.specs.Program.{Program}
 use Rattle.packed_code.specs.Cycles.{exec_of}
 use Rattle.line_texts.specs.Said.{no_more, statement, braced, spaced, next_line, word, a_name, blank}

@@ -5,7 +5,7 @@ use Rattle.std.specs.List.{AllByRecursion, flat_map}
 use Rattle.text_bytes.specs.Bytes.{is_word}
 use Rattle.stil_lex.specs.Tokens.{spelled, Reads}
 use Rattle.stil_form.specs.Lexeme.{lexemes_of}
-use Rattle.page_meaning.specs.declared.instr.Instr.TheVariants.{Done}
+use Rattle.packed_code.specs.declared.instr.Instr.TheVariants.{Done}
 use Rattle.packed_code.specs.Program.{Exec, Program}
 use Rattle.packed_code.specs.Conditions.{IsExec, IsProgram}
 use Rattle.line_texts.specs.Said.{Said, no_more, statement, a_sign, each_said, word, blank, next_line}

@@ -3,7 +3,7 @@ use Rattle.std.specs.Prelude.{◌≡◌, ℕ, ◌<◌, List, [], ◌∷◌, ◌+
 use Rattle.stil_lex.specs.Pieces.{Piece}
 use Rattle.stil_lex.specs.Tokens.{tokens_of}
 use Rattle.stil_lex.specs.declared.token.Token.{Token}
-use Rattle.page_meaning.specs.declared.instr.Instr.TheVariants.{Done}
+use Rattle.packed_code.specs.declared.instr.Instr.TheVariants.{Done}
 use Rattle.packed_code.specs.Program.{Program}
 use Rattle.packed_code.specs.Cycles.{exec_of}
 use Rattle.line_texts.specs.Said.{pieces_of}

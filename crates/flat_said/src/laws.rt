@@ -8,7 +8,7 @@ ghost use Rattle.stil_tree.specs.Trees.{Trees};
 ghost use Rattle.stil_form.specs.Lexeme.{lexemes_of};
 ghost use Rattle.stil_ast.specs.declared.fault.StilKind.TheVariants.{TooDeep};
 ghost use Rattle.stil_ast.specs.declared.fault.StilFault.{StilFault};
-ghost use Rattle.text_front.specs.StatementFaults.{IsStatementFault};
+ghost use Rattle.stil_program.specs.StatementFaults.{IsStatementFault};
 ghost use Rattle.packed_code.specs.Program.{Program};
 ghost use Rattle.packed_code.specs.Conditions.{IsProgram};
 ghost use Rattle.line_texts.specs.Said.{trees_at};

@@ -8,7 +8,7 @@ use Rattle.tester_types.specs.declared.wave.Act.TheVariants as act
 use Rattle.tester_types.specs.declared.wave.Push.TheVariants as push
 use Rattle.tester_types.specs.declared.wave.Look.TheVariants as look
 use Rattle.tester_types.specs.declared.wave.Wave.{Wave}
-use Rattle.page_meaning.specs.declared.instr.Instr.TheVariants.{Run, Loop, End, Done}
+use Rattle.packed_code.specs.declared.instr.Instr.TheVariants.{Run, Loop, End, Done}
 use Rattle.packed_code.specs.Program.{Program}
 use Rattle.flat_parts.specs.Order.{firsts, table_order, row_order}
 use Rattle.flat_parts.specs.FlatText.{block, row_text, run_line, text_of, flat_text}

@@ -6,7 +6,7 @@ use Rattle.tester_types.specs.declared.record.By.TheVariants as by
 use Rattle.tester_types.specs.declared.record.Verdict.{Verdict}
 use Rattle.tester_types.specs.declared.record.Verdict.TheVariants as verdict
 use Rattle.tester_types.specs.declared.record.Record.{Record}
-use Rattle.page_meaning.specs.Meaning.{bodies, repeated}
+use Rattle.packed_code.specs.Meaning.{bodies, repeated}
 use Rattle.edge_gen.specs.Moments.{moments_of}
 use Rattle.die_sim.specs.Stepped.{levels_through, captured_levels}
 use Rattle.strobe_check.specs.Fails.{fails}

@@ -4,9 +4,8 @@ use burst_exec::executives;
 use packed_code::Code;
 use std::alloc::{AllocError, AllocFailed, Global};
 use stil_ast::{StilFault, StilRefusal};
-use stil_program::program;
+use stil_program::{program, read_text};
 use text_bytes::MOST_BYTES;
-use text_front::read_text;
 
 /// Why a text isn't read to its end.
 #[derive(Drop)]

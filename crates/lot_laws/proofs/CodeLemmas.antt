@@ -9,7 +9,7 @@ use Rattle.tester_types.specs.declared.cycle.Cycle.{Cycle}
 use Rattle.tester_types.specs.declared.wave.Table.{Table}
 use Rattle.packed_code.specs.Program.{Exec, Program}
 use Rattle.packed_code.specs.Conditions.{letters_of}
-use Rattle.page_meaning.specs.Meaning.{Means}
+use Rattle.packed_code.specs.Meaning.{Means}
 use Rattle.packed_code.specs.Cycles.{exec_of, cycles_of, timed}
 use Rattle.page_code.specs.Saved.{Saved}
 use Rattle.page_code.proofs.LoadLemmas.{none_begins}
@@ -20,7 +20,7 @@ use Rattle.stil_ast.specs.Meaning.ExecutiveData.{Executive, vectors_of, cycles_o
 use Rattle.stil_ast.specs.Meaning.Signals.{Names, names_of}
 use Rattle.stil_ast.specs.declared.blocks.Blocks.{Blocks}
 use Rattle.stil_ast.specs.declared.executive.ExecDecl.{ExecDecl}
-use Rattle.text_front.proofs.FrontLemmas.{one_read}
+use Rattle.stil_program.proofs.FrontLemmas.{one_read}
 use Rattle.burst_exec.specs.Executives.{AreExecutives}
 use Rattle.cycle_comp.specs.Compiled.{chain_of, letter_of, table_in, read_cycle, IsExecOf, IsCodeOf}
 use Rattle.stil_program.specs.Program.{IsBlocksCode, IsProgramOf}

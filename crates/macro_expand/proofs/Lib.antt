@@ -19,3 +19,8 @@ pub mod ActionLemmas
 pub mod DeeperLemmas
 pub mod CallLemmas
 pub mod ExpandLemmas
+pub mod EveryLemmas
+pub mod EntryLemmas
+pub mod RunLemmas
+pub mod LaneLemmas
+pub mod StandardFacts

@@ -20,3 +20,6 @@ pub mod Passes
 pub mod Calling
 pub mod Actions
 pub mod Expanding
+-- Read Runs first (characters as runs), then Lanes (what is left of each signal's argument).
+pub mod Runs
+pub mod Lanes

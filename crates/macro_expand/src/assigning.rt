@@ -11,6 +11,7 @@ ghost use Rattle.macro_expand.specs.Standings.{standing_in};
 ghost use Rattle.macro_expand.specs.Stepping.{WritesOr, StepsOr, spot_on};
 ghost use Rattle.stil_ast.specs.Meaning.Flattening.{cycle_piece, gifts_piece};
 
+use crate::arguments::Arguments;
 use crate::pairing::Pair;
 use crate::placing::place;
 use crate::reference::resolved;
@@ -20,7 +21,6 @@ use crate::standing::Standing;
 use crate::trouble::Trouble;
 use crate::walk::Walk;
 use flat_tree::Origin;
-use pattern_args::Arguments;
 use std::alloc::Global;
 use std::mem;
 use stil_ast::{AssignmentList, AssignmentParts, StilKind};

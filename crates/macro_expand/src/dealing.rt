@@ -10,11 +10,11 @@ ghost use Rattle.stil_ast.specs.Meaning.Flattening.{gifts_front};
 ghost use Rattle.macro_expand.specs.Pairs.{has_take, taker_of, hash_front, hashed_in, finds, all_find, dealt_to};
 ghost use Rattle.macro_expand.specs.Walks.{Puts, Deals};
 
+use crate::arguments::Arguments;
 use crate::pairing::Pair;
 use crate::signal_set::SignalSet;
 use crate::walk::Walk;
 use flat_tree::FlatList;
-use pattern_args::Arguments;
 use std::alloc::AllocError;
 use stil_ast::{ItemRun, VecItem};
 

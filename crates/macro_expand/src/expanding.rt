@@ -8,6 +8,7 @@ ghost use Rattle.answers.specs.declared.short.Short.TheVariants as refusal;
 ghost use Rattle.macro_expand.specs.Expanding.{pattern_check, IsTreeOf, Expands, IsPatternFault, WalksOr, ExpandsOr};
 ghost use Rattle.macro_expand.specs.Scopes.{IsNamed};
 
+use crate::arguments::Arguments;
 use crate::refusing::refusal_of;
 use crate::scope::PatternScope;
 use crate::signal_set::SignalSet;
@@ -16,7 +17,6 @@ use crate::trouble::Trouble;
 use crate::walk::Walk;
 use crate::walking::walk_list;
 use flat_tree::{BodyKind, FlatList};
-use pattern_args::Arguments;
 use std::alloc::Global;
 use stil_ast::{PatBody, StilRefusal};
 

@@ -13,12 +13,12 @@ ghost use Rattle.macro_expand.specs.Giving.{has_letters, GivesOr};
 ghost use Rattle.macro_expand.specs.Scopes.{titles_in, scope_in, IsNamed};
 ghost use Rattle.macro_expand.specs.Standings.{standing_in};
 
+use crate::arguments::Arguments;
 use crate::assigning::may_walk;
 use crate::reference::resolved;
 use crate::scope::PatternScope;
 use crate::standing::Standing;
 use crate::trouble::Trouble;
-use pattern_args::Arguments;
 use std::alloc::Global;
 use stil_ast::{AssignmentList, AssignmentParts, ItemRun, StilKind, VecItem};
 

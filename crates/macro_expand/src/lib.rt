@@ -2,11 +2,14 @@
 //! clauses 21 to 24).
 #![tactic(auto)]
 
+mod arguments;
 mod assigning;
 mod bodies;
+mod characters;
 mod dealing;
 mod expanding;
 mod giving;
+mod lane;
 mod naming;
 mod pairing;
 mod placing;
@@ -22,6 +25,7 @@ mod trouble;
 mod walk;
 mod walking;
 
+pub use arguments::Arguments;
 pub use bodies::Bodies;
 pub use expanding::expand;
 pub use refusing::fault_of;

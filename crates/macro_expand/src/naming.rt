@@ -14,6 +14,7 @@ ghost use Rattle.macro_expand.specs.Scopes.{titles_in, scope_in, IsNamed};
 ghost use Rattle.macro_expand.specs.Standings.{callee_in, standing_in};
 ghost use Rattle.macro_expand.specs.Stepping.{StepsOr, spot_on};
 
+use crate::arguments::Arguments;
 use crate::giving::walk_arguments;
 use crate::rules::is_running;
 use crate::scope::PatternScope;
@@ -22,7 +23,6 @@ use crate::standing::{Callee, Standing};
 use crate::trouble::Trouble;
 use crate::walk::Walk;
 use flat_tree::{BodyKind, FlatList};
-use pattern_args::Arguments;
 use std::alloc::{AllocError, Global};
 use stil_ast::{AssignmentList, BodyDef, StilKind};
 use text_bytes::DEEPEST_CALLS;

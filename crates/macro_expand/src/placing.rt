@@ -10,13 +10,13 @@ ghost use Rattle.macro_expand.specs.Placing.{assign_of, placed};
 ghost use Rattle.macro_expand.specs.Standings.{standing_in};
 ghost use Rattle.macro_expand.specs.Stepping.{WritesOr};
 
+use crate::arguments::Arguments;
 use crate::dealing::{all_find, deal, has_hash, is_again};
 use crate::pairing::{Pair, pair_up, width_fits};
 use crate::signal_set::SignalSet;
 use crate::standing::Standing;
 use crate::trouble::Trouble;
 use crate::walk::Walk;
-use pattern_args::Arguments;
 use stil_ast::{ItemRun, StilKind};
 
 /// Whether a `#` may not stand there: in a Loop of the same body, or for a signal that has one in this Shift.

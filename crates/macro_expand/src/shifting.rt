@@ -14,6 +14,7 @@ ghost use Rattle.macro_expand.specs.Standings.{standing_in};
 ghost use Rattle.macro_expand.specs.Recursing.{stands, ShiftSteps};
 ghost use Rattle.macro_expand.specs.Passes.{PassesStep};
 
+use crate::arguments::Arguments;
 use crate::scope::PatternScope;
 use crate::signal_set::SignalSet;
 use crate::standing::Standing;
@@ -22,7 +23,6 @@ use crate::trouble::Trouble;
 use crate::walk::Walk;
 use crate::walking::walk_list;
 use flat_tree::{BodyKind, FlatList};
-use pattern_args::Arguments;
 use std::alloc::{AllocError, Global};
 use std::mem;
 use stil_ast::{PatBody, StilKind};

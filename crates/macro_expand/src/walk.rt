@@ -1,9 +1,9 @@
 //! How far a walk over statements has come.
 
+use crate::arguments::Arguments;
 use crate::pairing::Pair;
 use crate::signal_set::SignalSet;
 use flat_tree::FlatList;
-use pattern_args::Arguments;
 
 /// What is left of the arguments, the signals that got a `#` in this pass of a Shift and in this statement, how many
 /// statements were walked and signals assigned, and the tree that was written. The pairs are those of the assignment at

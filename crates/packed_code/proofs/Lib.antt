@@ -6,3 +6,8 @@ pub mod SavingLemmas
 pub mod SizeLemmas
 pub mod StandardFacts
 pub mod WalkLemmas
+pub mod BodyLemmas
+pub mod CountLemmas
+pub mod NestingLemmas
+pub mod CourseLemmas
+pub mod MeaningFacts

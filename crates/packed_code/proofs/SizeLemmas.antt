@@ -8,7 +8,7 @@ use Rattle.packed_code.proofs.PackedLemmas.{instr_size}
 use Rattle.tester_types.specs.declared.wave.Event.{Event}
 use Rattle.tester_types.specs.declared.wave.Wave.{Wave}
 use Rattle.tester_types.specs.declared.wave.Table.{Table}
-use Rattle.page_meaning.specs.declared.instr.Instr.{Instr}
+use Rattle.packed_code.specs.declared.instr.Instr.{Instr}
 use Rattle.packed_code.specs.declared.version.Version.{Version}
 use Rattle.packed_code.specs.declared.version.Version.TheVariants.{One, Two}
 use Rattle.packed_code.specs.declared.parts.CodeSignal.{CodeSignal}

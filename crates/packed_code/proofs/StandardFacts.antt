@@ -1,6 +1,6 @@
 -- Known parts and their bytes, which the definitions must give.
 use Rattle.std.proofs.Common.{◌≡◌, ℕ, List, [], ◌∷◌, Some, None, refl}
-use Rattle.page_meaning.specs.declared.instr.Instr.TheVariants.{Run}
+use Rattle.packed_code.specs.declared.instr.Instr.TheVariants.{Run}
 use Rattle.tester_types.specs.declared.wave.Act.TheVariants.{Look}
 use Rattle.tester_types.specs.declared.wave.Look.TheVariants as look
 use Rattle.packed_code.specs.declared.version.Version.TheVariants.{Two}

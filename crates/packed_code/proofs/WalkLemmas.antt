@@ -2,13 +2,13 @@
 use Rattle.std.proofs.Common.{◌≡◌, ℕ, zero, suc, ◌+◌, ◌*◌, ◌^◌, ◌<◌, ◌≤◌, List, [], ◌∷◌, length, get_or, replicate, refl, sym, ap, subst, arith}
 use Rattle.std.specs.List.{AllByRecursion}
 use Rattle.tester_types.specs.declared.wave.Table.{Table}
-use Rattle.page_meaning.specs.declared.instr.Entry.{Entry}
-use Rattle.page_meaning.specs.declared.instr.Instr.{Instr}
-use Rattle.page_meaning.specs.declared.instr.Instr.TheVariants.{Run, Loop, End, Done}
-use Rattle.page_meaning.specs.declared.course.Course.{Course}
-use Rattle.page_meaning.specs.Meaning.{repeated, top, on_top, closed, bodies, Means}
-use Rattle.page_meaning.specs.Course.{coming, IsOn}
-use Rattle.page_meaning.proofs.CountLemmas.{cycle_count-length}
+use Rattle.packed_code.specs.declared.instr.Entry.{Entry}
+use Rattle.packed_code.specs.declared.instr.Instr.{Instr}
+use Rattle.packed_code.specs.declared.instr.Instr.TheVariants.{Run, Loop, End, Done}
+use Rattle.packed_code.specs.declared.course.Course.{Course}
+use Rattle.packed_code.specs.Meaning.{repeated, top, on_top, closed, bodies, Means}
+use Rattle.packed_code.specs.Course.{coming, IsOn}
+use Rattle.packed_code.proofs.CountLemmas.{cycle_count-length}
 use Rattle.packed_code.specs.declared.walker.Walk.{Walk}
 use Rattle.packed_code.specs.Program.{Program}
 use Rattle.packed_code.specs.Conditions.{IsInstr, IsExec, IsTable, IsProgram}

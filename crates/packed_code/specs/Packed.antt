@@ -2,8 +2,8 @@
 use Rattle.std.specs.Prelude.{ℕ, Bool, List, ◌==◌, ◌&&◌, take, drop, slice_index, Option, Some, None, if◌then◌else◌}
 use Rattle.std.specs.List.{list_all}
 use Rattle.std.specs.Int.{w16, w32, w64, from_le_bytes}
-use Rattle.page_meaning.specs.declared.instr.Instr.{Instr}
-use Rattle.page_meaning.specs.declared.instr.Instr.TheVariants.{Run, Loop, End, Done}
+use Rattle.packed_code.specs.declared.instr.Instr.{Instr}
+use Rattle.packed_code.specs.declared.instr.Instr.TheVariants.{Run, Loop, End, Done}
 
 -- whether bytes are zero
 abbrev pub are_zero : List ℕ → Bool

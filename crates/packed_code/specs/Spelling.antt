@@ -5,8 +5,8 @@ use Rattle.std.specs.Int.{Width, w8, w16, w32, w64, to_le_bytes}
 use Rattle.tester_types.specs.declared.wave.Event.{Event}
 use Rattle.tester_types.specs.declared.wave.Wave.{Wave}
 use Rattle.tester_types.specs.declared.wave.Table.{Table}
-use Rattle.page_meaning.specs.declared.instr.Instr.{Instr}
-use Rattle.page_meaning.specs.declared.instr.Instr.TheVariants.{Run, Loop, End, Done}
+use Rattle.packed_code.specs.declared.instr.Instr.{Instr}
+use Rattle.packed_code.specs.declared.instr.Instr.TheVariants.{Run, Loop, End, Done}
 use Rattle.packed_code.specs.declared.version.Version.{Version}
 use Rattle.packed_code.specs.declared.version.Version.TheVariants.{One, Two}
 use Rattle.packed_code.specs.declared.parts.CodeSignal.{CodeSignal}

@@ -3,8 +3,8 @@ use Rattle.std.specs.Prelude.{◌≡◌, ℕ, ◌+◌, ◌*◌, ◌<◌, ◌≤�
 use Rattle.std.specs.List.{AllByRecursion}
 use Rattle.text_bytes.specs.Limits.{longest_period, most_cycles}
 use Rattle.tester_types.specs.declared.cycle.Cycle.{Cycle}
-use Rattle.page_meaning.specs.declared.instr.Entry.{Entry}
-use Rattle.page_meaning.specs.Course.{coming, IsOn}
+use Rattle.packed_code.specs.declared.instr.Entry.{Entry}
+use Rattle.packed_code.specs.Course.{coming, IsOn}
 use Rattle.packed_code.specs.declared.walker.Walk.{Walk}
 use Rattle.packed_code.specs.Program.{Program}
 use Rattle.packed_code.specs.Conditions.{has_waves, waves_of, letters_of}

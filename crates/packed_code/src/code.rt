@@ -4,16 +4,16 @@ ghost use Rattle.std.specs.Prelude.{◌≡◌, ◌*◌, ◌<◌, ◌≤◌, List
 ghost use Rattle.std.specs.List.{flat_map};
 ghost use Rattle.std.specs.Option.{option_map};
 ghost use Rattle.text_bytes.specs.Limits.{longest_period};
-ghost use Rattle.page_meaning.specs.Meaning.{Means, cycle_count};
+ghost use Rattle.packed_code.specs.Meaning.{Means, cycle_count};
 ghost use Rattle.packed_code.specs.Conditions.{IsProgram};
 ghost use Rattle.packed_code.specs.Program.{code_of};
 ghost use Rattle.packed_code.specs.Cycles.{exec_of, pages_of, pages_of_exec, page_count, page_of as the_page_of, offset_of};
 
 use crate::exec::{CodeExec, CodeExecList};
+use crate::instr::Instr;
 use crate::packed::PackedInstr;
 use crate::parts::{CodeChainList, CodeSignal, CodeSignalList};
 use crate::rows::RowList;
-use page_meaning::Instr;
 use std::marker::Model;
 use tester_types::{Direction, Table, TableList};
 

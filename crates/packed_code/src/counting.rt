@@ -2,11 +2,11 @@
 
 ghost use Rattle.std.specs.Prelude.{◌≡◌, ◌+◌, min, false};
 ghost use Rattle.text_bytes.specs.Limits.{most_cycles};
-ghost use Rattle.page_meaning.specs.Meaning.{cycle_count};
-ghost use Rattle.page_meaning.specs.Whole.{IsRest};
+ghost use Rattle.packed_code.specs.Meaning.{cycle_count};
+ghost use Rattle.packed_code.specs.Whole.{IsRest};
 
+use crate::cycle_sums::CycleSums;
 use crate::packed::PackedInstr;
-use page_meaning::CycleSums;
 
 /// How many cycles the instructions of an executive run, or one more than the most where they are more.
 pub fn cycles(code: &[PackedInstr]) -> u64

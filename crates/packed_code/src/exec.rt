@@ -1,8 +1,8 @@
 //! An executive of a code.
 
 ghost use Rattle.std.specs.Prelude.{◌≡◌, ◌≤◌, ◌^◌, false};
-ghost use Rattle.page_meaning.specs.Meaning.{cycle_count};
-ghost use Rattle.page_meaning.specs.Whole.{IsWhole, IsRest};
+ghost use Rattle.packed_code.specs.Meaning.{cycle_count};
+ghost use Rattle.packed_code.specs.Whole.{IsWhole, IsRest};
 
 use crate::counting::cycles;
 use crate::packed::{PackedInstr, PackedInstrList};
@@ -22,7 +22,7 @@ pub struct CodeExec {
 impl Model for CodeExec {
     ghost use Rattle.std.specs.Prelude.{◌≡◌};
     ghost use Rattle.packed_code.specs.Program.{Exec};
-    ghost use Rattle.page_meaning.specs.Meaning.{cycle_count};
+    ghost use Rattle.packed_code.specs.Meaning.{cycle_count};
 
     ghost Value = { Exec };
 

@@ -6,8 +6,8 @@ ghost use Rattle.packed_code.specs.Spelling as spell;
 ghost use Rattle.packed_code.specs.Packed.{are_zero, part, instr_of};
 ghost use Rattle.packed_code.specs.Conditions.{IsNarrow};
 
+use crate::instr::Instr;
 use crate::saving::instr_bytes;
-use page_meaning::Instr;
 use std::alloc::{AllocError, Global};
 use std::marker::Model;
 use tester_types::Items;
@@ -89,7 +89,7 @@ pub struct PackedInstr {
 
 impl Model for PackedInstr {
     ghost use Rattle.std.specs.Prelude.{◌≡◌};
-    ghost use Rattle.page_meaning.specs.declared.instr.Instr.{Instr};
+    ghost use Rattle.packed_code.specs.declared.instr.Instr.{Instr};
     ghost use Rattle.packed_code.specs.Packed.{unpacked};
     ghost use Rattle.packed_code.specs.Spelling as spell;
 

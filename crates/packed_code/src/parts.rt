@@ -1,7 +1,7 @@
 //! The parts of a code: its signals, chains and instructions.
 
+use crate::instr::Instr;
 use cell_names::CellNames;
-use page_meaning::Instr;
 use tester_types::{Direction, Items, Text};
 
 /// A signal.

@@ -12,6 +12,7 @@ ghost use Rattle.packed_code.specs.declared.version.Version.TheVariants.{One, Tw
 
 use crate::code::Code;
 use crate::exec::CodeExec;
+use crate::instr::Instr;
 use crate::packed::PackedInstr;
 use crate::parts::{CodeChain, CodeSignal};
 use crate::saving_rows::Rows;
@@ -19,7 +20,6 @@ use crate::spelled::{
     Byte, Bytes, Count8, Count16, Count32, Each, Number16, Number32, Number64, Spelled, Then,
 };
 use crate::version::Version;
-use page_meaning::Instr;
 use tester_types::{
     Act, Direction, Event, Look, Push, Sink, SinkFault, Table, Text, Wave, put_all,
 };

@@ -1,13 +1,14 @@
 //! A walk over the cycles of an executive.
 
 ghost use Rattle.std.specs.Prelude.{◌≡◌, ◌^◌, ◌<◌, ◌++◌, [], IfNone, IfSome, option_to_list, length};
-ghost use Rattle.page_meaning.specs.Course.{coming, IsOn};
+ghost use Rattle.packed_code.specs.Course.{coming, IsOn};
 ghost use Rattle.packed_code.specs.Walk.{IsOf, IsOver, cycles_left};
 ghost use Rattle.packed_code.specs.Cycles.{cycles_of};
 
 use crate::code::Code;
+use crate::course::{Course, CourseStep};
+use crate::instr::Entry;
 use crate::packed::PackedInstr;
-use page_meaning::{Course, Entry, Step};
 use tester_types::Cycle;
 
 /// A place in the cycles of an executive. It keeps its open loops, at most 64, in place.
@@ -62,11 +63,11 @@ fn next_entry(course: &mut Course, code: &[PackedInstr]) -> Option<Entry>
     ensures none { IfNone result (coming code.now course.new ≡ []) }
 {
     let mut step = course.step(code[course.place()].instr());
-    while matches!(step, Step::Moved) {
+    while matches!(step, CourseStep::Moved) {
         step = course.step(code[course.place()].instr());
     }
     match step {
-        Step::Gave(entry) => Some(entry),
+        CourseStep::Gave(entry) => Some(entry),
         _ => None,
     }
 }

@@ -4,10 +4,10 @@ use Rattle.std.specs.List.{AllByRecursion}
 use Rattle.std.proofs.lemmas.Bool.{and_parts, and_from, not-true, not_from_false, ltb-true, leb-true, eqb-true, lt-ltb, le-leb, eq-eqb, ne_eqb}
 use Rattle.std.proofs.lemmas.List.{length-append}
 use Rattle.tester_types.specs.declared.wave.Table.{Table}
-use Rattle.page_meaning.specs.declared.instr.Instr.{Instr}
-use Rattle.page_meaning.specs.declared.instr.Instr.TheVariants.{Run, Loop, End, Done}
-use Rattle.page_meaning.specs.Meaning.{cycle_count}
-use Rattle.page_meaning.specs.Whole.{IsRest, IsWhole}
+use Rattle.packed_code.specs.declared.instr.Instr.{Instr}
+use Rattle.packed_code.specs.declared.instr.Instr.TheVariants.{Run, Loop, End, Done}
+use Rattle.packed_code.specs.Meaning.{cycle_count}
+use Rattle.packed_code.specs.Whole.{IsRest, IsWhole}
 use Rattle.page_code.specs.declared.read_instrs.Nest.{Nest}
 use Rattle.packed_code.specs.Conditions.{EachBehind, IsInstr, IsNarrow, has_waves, waves_of, letters_of}
 use Rattle.page_code.specs.Reading.{open_behind, begun_behind, follows, is_bounded, may_follow, instr_with}

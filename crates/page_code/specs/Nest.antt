@@ -1,9 +1,9 @@
 -- The loops that are open where instructions are read one after another.
 use Rattle.std.specs.Prelude.{◌≡◌, ℕ, suc, ◌-◌, ◌≤◌, Bool, true, false, List, ◌++◌}
 use Rattle.text_bytes.specs.Limits.{deepest_loops}
-use Rattle.page_meaning.specs.declared.instr.Instr.{Instr}
-use Rattle.page_meaning.specs.declared.instr.Instr.TheVariants.{Run, Loop, End, Done}
-use Rattle.page_meaning.specs.Whole.{IsRest}
+use Rattle.packed_code.specs.declared.instr.Instr.{Instr}
+use Rattle.packed_code.specs.declared.instr.Instr.TheVariants.{Run, Loop, End, Done}
+use Rattle.packed_code.specs.Whole.{IsRest}
 use Rattle.page_code.specs.declared.read_instrs.Nest.{Nest}
 use Rattle.page_code.specs.Reading.{open_behind, begun_behind}
 

@@ -8,9 +8,9 @@ use Rattle.text_bytes.specs.Bytes.{is_printable, is_character}
 use Rattle.tester_types.specs.declared.wave.Event.{Event}
 use Rattle.tester_types.specs.declared.wave.Wave.{Wave}
 use Rattle.tester_types.specs.declared.wave.Table.{Table}
-use Rattle.page_meaning.specs.declared.instr.Instr.{Instr}
-use Rattle.page_meaning.specs.declared.instr.Instr.TheVariants.{Run, Loop, End, Done}
-use Rattle.page_meaning.specs.Meaning.{cycle_count}
+use Rattle.packed_code.specs.declared.instr.Instr.{Instr}
+use Rattle.packed_code.specs.declared.instr.Instr.TheVariants.{Run, Loop, End, Done}
+use Rattle.packed_code.specs.Meaning.{cycle_count}
 use Rattle.page_code.specs.declared.fault.Refusal.{Refusal}
 use Rattle.page_code.specs.declared.fault.Refusal.TheVariants.{BadMagic, BadVersion, Torn, BadCode}
 use Rattle.page_code.specs.declared.fault.SavedFault.{SavedFault}

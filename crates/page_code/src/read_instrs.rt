@@ -6,15 +6,14 @@ ghost use Rattle.page_code.specs.Reading.{follows, is_bounded, instr_with, instr
 ghost use Rattle.packed_code.specs.Packed.{instr_of};
 ghost use Rattle.page_code.specs.Accepted.{AreAccepted};
 ghost use Rattle.packed_code.specs.Conditions.{IsNarrow};
-ghost use Rattle.page_meaning.specs.Whole.{IsRest, IsWhole};
-ghost use Rattle.page_meaning.specs.declared.instr.Instr.TheVariants.{Done};
+ghost use Rattle.packed_code.specs.Whole.{IsRest, IsWhole};
+ghost use Rattle.packed_code.specs.declared.instr.Instr.TheVariants.{Done};
 ghost use Rattle.page_code.specs.Nest.{IsNest, depth_after, begins};
 
 use crate::accepted::Accepted;
 use crate::fault::ReadError;
 use crate::fields::{bad, piece};
-use packed_code::{PackedInstr, PackedInstrList, RowList, cycles, instr_of_bytes};
-use page_meaning::Instr;
+use packed_code::{Instr, PackedInstr, PackedInstrList, RowList, cycles, instr_of_bytes};
 use std::alloc::{AllocError, Global};
 use tester_types::Table;
 use text_bytes::{DEEPEST_LOOPS, MOST_CYCLES, MOST_PASSES};

@@ -1,12 +1,12 @@
 -- A cursor stays over its code.
 use Rattle.std.proofs.Common.{◌≡◌, ℕ, ◌+◌, ◌*◌, ◌/◌, ◌^◌, ◌<◌, ◌≤◌, List, [], ◌∷◌, length, slice_get, false, Option, Some, None, sym, subst, ap, ◌∙◌, arith}
 use Rattle.std.specs.List.{AllByRecursion}
-use Rattle.page_meaning.specs.declared.instr.Entry.{Entry}
-use Rattle.page_meaning.specs.declared.instr.Instr.{Instr}
-use Rattle.page_meaning.specs.declared.course.Course.{Course}
-use Rattle.page_meaning.specs.Meaning.{Means}
-use Rattle.page_meaning.specs.Whole.{IsRest}
-use Rattle.page_meaning.specs.Course.{coming, IsOn, StandsAt}
+use Rattle.packed_code.specs.declared.instr.Entry.{Entry}
+use Rattle.packed_code.specs.declared.instr.Instr.{Instr}
+use Rattle.packed_code.specs.declared.course.Course.{Course}
+use Rattle.packed_code.specs.Meaning.{Means}
+use Rattle.packed_code.specs.Whole.{IsRest}
+use Rattle.packed_code.specs.Course.{coming, IsOn, StandsAt}
 use Rattle.packed_code.specs.declared.walker.Walk.{Walk}
 use Rattle.packed_code.specs.Program.{Program}
 use Rattle.packed_code.specs.Conditions.{IsProgram}

@@ -1,8 +1,8 @@
 -- What a cursor still gives: the cycles that a walk over the code gives from the same place on.
 use Rattle.std.specs.Prelude.{◌≡◌, ℕ, ◌<◌, List, IfSome, Option, length}
 use Rattle.tester_types.specs.declared.cycle.Cycle.{Cycle}
-use Rattle.page_meaning.specs.declared.instr.Instr.{Instr}
-use Rattle.page_meaning.specs.Course.{IsOn}
+use Rattle.packed_code.specs.declared.instr.Instr.{Instr}
+use Rattle.packed_code.specs.Course.{IsOn}
 use Rattle.packed_code.specs.declared.walker.Walk.{Walk}
 use Rattle.packed_code.specs.Program.{Program}
 use Rattle.packed_code.specs.Conditions.{IsProgram}

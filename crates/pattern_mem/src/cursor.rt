@@ -1,7 +1,7 @@
 //! Cursors: the cycles of an executive of a code in memory, one by one.
 
 ghost use Rattle.std.specs.Prelude.{◌≡◌, ◌<◌, ◌^◌, [], ◌++◌, Some, IfOk, OnOk, OnErr, IfNone, IfSome, length, option_to_list, slice_get};
-ghost use Rattle.page_meaning.specs.Course.{Steps, coming};
+ghost use Rattle.packed_code.specs.Course.{Steps, coming};
 ghost use Rattle.packed_code.specs.Cycles.{cycles_of, pages_of};
 ghost use Rattle.packed_code.specs.Walk.{IsOf};
 ghost use Rattle.pattern_mem.specs.Cursor.{instrs_of, cycles_to_come, IsPlaced, IsCursorOf, IsSameBut};
@@ -10,8 +10,7 @@ ghost use Rattle.pattern_mem.specs.Nexts.{IsNext};
 
 use crate::memory::{PatternMem, PoolPass};
 use crate::window::{PAGE, Window};
-use packed_code::{Entry, Instr};
-use page_meaning::{Course, Step};
+use packed_code::{Course, CourseStep, Entry, Instr};
 use std::alloc::Global;
 use std::sync::Wait;
 use tester_types::{Cycle, NoMemory};
@@ -99,11 +98,11 @@ impl Cursor {
             ≡ coming (instrs_of mem.now.code self.old.exec) self.old.course) }
     {
         let mut step = self.step(rt, mem, pass)?;
-        while matches!(step, Step::Moved) {
+        while matches!(step, CourseStep::Moved) {
             step = self.step(rt, mem, pass)?;
         }
         match step {
-            Step::Gave(entry) => Ok(Some(entry)),
+            CourseStep::Gave(entry) => Ok(Some(entry)),
             _ => Ok(None),
         }
     }
@@ -115,7 +114,7 @@ impl Cursor {
         rt: &R,
         mem: &PatternMem,
         pass: &mut PoolPass,
-    ) -> Result<Step, NoMemory>
+    ) -> Result<CourseStep, NoMemory>
         requires placed { IsPlaced mem.now.code self.old }
         requires pass { pass.old ≡ mem.now }
         ensures placed { IsPlaced mem.now.code self.new }

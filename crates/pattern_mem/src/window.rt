@@ -23,7 +23,7 @@ pub struct Window {
 impl Model for Window {
     ghost use Rattle.std.specs.Prelude.{ℕ, List, Option, Some, None, ◌≤◌, cond};
     ghost use Rattle.std.specs.Vec.{vec_capacity};
-    ghost use Rattle.page_meaning.specs.declared.instr.Instr.{Instr};
+    ghost use Rattle.packed_code.specs.declared.instr.Instr.{Instr};
     ghost use Rattle.pattern_mem.specs.Pool.{seen};
 
     ghost Value = { Option (ℕ × List Instr) };

@@ -6,10 +6,10 @@ use Rattle.std.proofs.lemmas.Bool.{cases_lt}
 use Rattle.std.proofs.lemmas.List.{get_or_past}
 use Rattle.std.proofs.lemmas.Option.{slice_get-get_or, get_or_from_slice_get}
 use Rattle.tester_types.specs.declared.wave.Table.{Table}
-use Rattle.page_meaning.specs.declared.instr.Entry.{Entry}
-use Rattle.page_meaning.specs.declared.course.Course.{Course}
-use Rattle.page_meaning.specs.Meaning.{Means, bodies}
-use Rattle.page_meaning.proofs.CourseLemmas.{starts_on, starts_with}
+use Rattle.packed_code.specs.declared.instr.Entry.{Entry}
+use Rattle.packed_code.specs.declared.course.Course.{Course}
+use Rattle.packed_code.specs.Meaning.{Means, bodies}
+use Rattle.packed_code.proofs.CourseLemmas.{starts_on, starts_with}
 use Rattle.packed_code.specs.Program.{Program, Exec}
 use Rattle.packed_code.specs.Conditions.{IsProgram}
 use Rattle.packed_code.specs.Cycles.{period_of, timed, exec_of, cycles_of}

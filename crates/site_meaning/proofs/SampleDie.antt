@@ -10,7 +10,7 @@ use Rattle.tester_types.specs.declared.wave.Look.TheVariants as look
 use Rattle.tester_types.specs.declared.wave.Act.{Act}
 use Rattle.tester_types.specs.declared.wave.Act.TheVariants as act
 use Rattle.tester_types.specs.declared.wave.Wave.{Wave}
-use Rattle.page_meaning.specs.declared.instr.Instr.TheVariants.{Run, Done}
+use Rattle.packed_code.specs.declared.instr.Instr.TheVariants.{Run, Done}
 use Rattle.packed_code.specs.Program.{Program}
 
 -- an input A, and Y = NOT(A)

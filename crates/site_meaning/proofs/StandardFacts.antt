@@ -16,9 +16,9 @@ use Rattle.tester_types.specs.declared.record.Fail.{Fail}
 use Rattle.tester_types.specs.declared.record.Verdict.{Verdict}
 use Rattle.tester_types.specs.declared.record.Verdict.TheVariants as verdict
 use Rattle.tester_types.specs.declared.record.Trial.{Trial}
-use Rattle.page_meaning.specs.declared.instr.Instr.{Instr}
-use Rattle.page_meaning.specs.declared.instr.Instr.TheVariants.{Run, Done}
-use Rattle.page_meaning.specs.Meaning.{bodies, repeated}
+use Rattle.packed_code.specs.declared.instr.Instr.{Instr}
+use Rattle.packed_code.specs.declared.instr.Instr.TheVariants.{Run, Done}
+use Rattle.packed_code.specs.Meaning.{bodies, repeated}
 use Rattle.packed_code.specs.Program.{Program}
 use Rattle.edge_gen.specs.Moments.{moments_of}
 use Rattle.die_sim.specs.Stepped.{levels_through, captured_levels}

@@ -5,7 +5,7 @@ use Rattle.std.specs.List.{find, range_with_len}
 use Rattle.std.proofs.lemmas.List.{append-nil}
 use Rattle.std.proofs.lemmas.Bool.{lt-ltb, le-ltb}
 use Rattle.tester_types.specs.declared.record.Fail.{Fail}
-use Rattle.page_meaning.specs.Meaning.{Means}
+use Rattle.packed_code.specs.Meaning.{Means}
 use Rattle.packed_code.specs.Program.{Program}
 use Rattle.packed_code.specs.Cycles.{exec_of, cycles_of}
 use Rattle.packed_code.proofs.WalkLemmas.{length-cycles}

@@ -9,8 +9,8 @@ use Rattle.tester_types.specs.declared.wave.Act.TheVariants as act
 use Rattle.tester_types.specs.declared.record.Trial.{Trial}
 use Rattle.tester_types.specs.declared.record.Verdict.{Verdict}
 use Rattle.tester_types.specs.declared.record.Verdict.TheVariants as verdict
-use Rattle.page_meaning.specs.declared.instr.Instr.TheVariants.{Run, Done}
-use Rattle.page_meaning.specs.Meaning.{bodies, repeated}
+use Rattle.packed_code.specs.declared.instr.Instr.TheVariants.{Run, Done}
+use Rattle.packed_code.specs.Meaning.{bodies, repeated}
 use Rattle.packed_code.specs.Program.{Program}
 use Rattle.edge_gen.specs.Moments.{moments_of}
 use Rattle.die_sim.specs.Socket.{Calls}

@@ -9,7 +9,7 @@ use Rattle.stil_ast.specs.Data.Refusal.{StilRefusal}
 use Rattle.answers.specs.declared.short.Short.TheVariants as refusal
 use Rattle.stil_ast.proofs.FoundLemmas.{not_both, one_fault}
 use Rattle.packed_code.specs.Program.{Program}
-use Rattle.text_front.specs.Front.{IsFront, IsRefusedFor}
+use Rattle.stil_program.specs.Front.{IsFront, IsRefusedFor}
 use Rattle.burst_exec.specs.Finding.{Finds}
 use Rattle.stil_program.specs.Program.{IsTextFault, IsTextOf, IsBlocksCode, IsProgramOf, IsCompiledText, IsRefusal}
 use Rattle.stil_program.specs.Working.{first_fault, IsCompiledOf, Answers}

@@ -14,7 +14,7 @@ use Rattle.stil_ast.specs.Data.Refusal.{StilRefusal}
 use Rattle.answers.specs.declared.short.Short.TheVariants as refusal
 use Rattle.signal_groups.specs.Fault.{IsFourth}
 use Rattle.packed_code.specs.Program.{Program}
-use Rattle.text_front.proofs.FrontLemmas.{one_front}
+use Rattle.stil_program.proofs.FrontLemmas.{one_front}
 use Rattle.time_expr.specs.TimesOf.{times_of}
 use Rattle.burst_exec.specs.Executives.{AreAllOf, IsExecFault}
 use Rattle.burst_exec.specs.Finding.{Finds}

@@ -3,3 +3,7 @@
 pub mod Program
 pub mod Working
 pub mod Runs
+pub mod Places
+pub mod TokenFaults
+pub mod StatementFaults
+pub mod Front

@@ -12,7 +12,7 @@ use Rattle.stil_ast.specs.Data.Refusal.{StilRefusal}
 use Rattle.answers.specs.declared.short.Short.TheVariants as refusal
 use Rattle.packed_code.specs.Program.{Program}
 use Rattle.packed_code.specs.Cycles.{exec_of}
-use Rattle.text_front.specs.Front.{IsReadAs, IsFront}
+use Rattle.stil_program.specs.Front.{IsReadAs, IsFront}
 use Rattle.time_expr.specs.TimesOf.{times_of}
 use Rattle.burst_exec.specs.Executives.{AreAllOf}
 use Rattle.cycle_comp.specs.Compiled.{least_of, IsCodeOf}

@@ -11,13 +11,13 @@ ghost use Rattle.stil_program.specs.Program.{IsTextFault, IsBlocksCode, IsProgra
 ghost use Rattle.stil_program.specs.Working.{first_fault, IsCompiledOf, Answers};
 ghost use Rattle.stil_program.specs.declared.text.CompiledText.{CompiledText};
 
+use crate::reading::read_text;
 use crate::text::CompiledText;
 use burst_exec::executives;
 use cycle_comp::compile;
 use packed_code::Code;
 use std::alloc::{AllocError, Global};
 use stil_ast::{Blocks, ExecDecl, StilRefusal};
-use text_front::read_text;
 
 /// The lines of executives.
 fn lines_of(alloc: Global, execs: &[ExecDecl]) -> Result<Vec<u32>, AllocError>

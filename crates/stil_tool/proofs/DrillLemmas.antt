@@ -12,7 +12,7 @@ use Rattle.plan_rows.specs.Rows.{sites_of}
 use Rattle.lot_plan.specs.Bound.{Bound}
 use Rattle.lot_plan.specs.Refusal.{refusal}
 use Rattle.die_sim.specs.Socket.{Told}
-use Rattle.drill_texts.specs.Texts.{stil_text, net_text, plan_text}
+use Rattle.drill_fine.specs.Texts.{stil_text, net_text, plan_text}
 use Rattle.stil_ast.specs.declared.fault.StilFault.{StilFault}
 use Rattle.stil_ast.specs.Data.Refusal.{StilRefusal}
 use Rattle.answers.specs.declared.short.Short.TheVariants as stil

@@ -19,9 +19,9 @@ use Rattle.plan_rows.specs.declared.fault.PlanFault.{PlanFault}
 use Rattle.plan_rows.specs.declared.fault.PlanFault.TheVariants as plans
 use Rattle.page_code.specs.declared.fault.SavedFault.{SavedFault}
 use Rattle.page_code.specs.declared.fault.SavedFault.TheVariants as saves
-use Rattle.text_front.proofs.FrontLemmas.{one_front}
+use Rattle.stil_program.proofs.FrontLemmas.{one_front}
 use Rattle.stil_program.proofs.FaultLemmas.{one_text_fault}
-use Rattle.drill_texts.specs.Texts.{stil_text}
+use Rattle.drill_fine.specs.Texts.{stil_text}
 use Rattle.drill_fine.proofs.FineLemmas.{text_fine}
 use Rattle.drill_fine.proofs.LawLemmas.{net_accepted, plan_accepted, four_sites, bound_fine}
 use Rattle.stil_tool.specs.Lot.{Floor, usable}

@@ -16,7 +16,7 @@ use Rattle.lot_plan.specs.Refusal.{refusal}
 use Rattle.die_sim.specs.Socket.{Told}
 use Rattle.datalog.specs.DatalogText.{bins_of, totals_text}
 use Rattle.datalog.specs.Summary.{fails_among}
-use Rattle.drill_texts.specs.Texts.{vectors, stil_text, net_text, plan_text}
+use Rattle.drill_fine.specs.Texts.{vectors, stil_text, net_text, plan_text}
 use Rattle.packed_code.specs.Program.{Program}
 use Rattle.stil_ast.specs.declared.fault.StilFault.{StilFault}
 use Rattle.stil_program.specs.Program.{IsTextFault, IsProgramOf}

@@ -2,6 +2,9 @@
 #![tactic(auto)]
 
 mod drill;
+mod drill_netlist;
+mod drill_plan;
+mod drill_program;
 mod dump;
 mod floor;
 mod grade;

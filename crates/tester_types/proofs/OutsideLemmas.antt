@@ -1,12 +1,13 @@
--- Texts that are gained one after another, and the fronts of them that a fault leaves.
-use Rattle.std.proofs.Common.{◌≡◌, ℕ, ◌+◌, ◌-◌, ◌<◌, ◌≤◌, List, [], ◌++◌, length, min, take, drop, Option, Some, None, Result, Ok, Err, sym, subst, get_or, refl, ap, ◌∙◌, arith, append_assoc}
+-- Texts that are gained one after another, the fronts of them that a fault leaves, and counts of faults.
+use Rattle.std.proofs.Common.{◌≡◌, ℕ, ◌+◌, ◌-◌, ◌<◌, ◌≤◌, List, [], ◌++◌, length, min, take, drop, Option, Some, None, Result, Ok, Err, inl, inr, sym, subst, get_or, refl, ap, ◌∙◌, ◌^◌, arith, append_assoc}
+use Rattle.std.proofs.lemmas.Bool.{cases_lt}
 use Rattle.std.proofs.lemmas.List.{take_rest, take-append-drop, take-append-le, take_min, append-nil}
 use Rattle.std.proofs.Math.Seq.{take-add, take-append-add}
 use Rattle.text_bytes.proofs.ListLemmas.{drop-item}
 use Rattle.std.proofs.lemmas.Grind.{flat_map-append}
 use Rattle.std.specs.List.{flat_map}
 use Rattle.tester_types.specs.declared.outside.SinkFault.{SinkFault}
-use Rattle.tester_types.specs.Outside.{gained, GainsFront, Puts}
+use Rattle.tester_types.specs.Outside.{HasRisen, gained, GainsFront, Puts}
 
 -- two texts, one after another
 pub gained-gained : (held : Option (List ℕ)) (a b : List ℕ) → gained (gained held a) b ≡ gained held (a ++ b)
@@ -75,7 +76,7 @@ third_ends held before between now a b c r first second last =
     puts_last held between now (a ++ b) c r (gained_both held before between a b first second) last
 
 -- a text among many: those before it, it, and those behind it
-flat_map-split : {X : Type 0} (text : X → List ℕ) (items : List X) (i : ℕ) (item : X) → i < length items →
+pub flat_map-split : {X : Type 0} (text : X → List ℕ) (items : List X) (i : ℕ) (item : X) → i < length items →
     item ≡ get_or items i item →
     flat_map text items ≡ flat_map text (take i items) ++ (text item ++ flat_map text (drop (i + 1) items))
 flat_map-split text items i item within is =
@@ -90,3 +91,10 @@ pub each_stops : {X : Type 0} (text : X → List ℕ) (held before now : Option 
 each_stops text held before now items i item within is first front =
     subst (λ (all : List ℕ). GainsFront held all now) (sym (flat_map-split text items i item within is))
     (puts_stops held before now (flat_map text (take i items)) (text item) (flat_map text (drop (i + 1) items)) first front)
+
+-- a count that has risen behind another has risen
+pub risen_behind : (before between now : ℕ) → before ≤ between → between ≤ now → HasRisen between now → HasRisen before now
+risen_behind before between now first second risen = λ room. elim (cases_lt between (2 ^ 64 - 1)) [
+  | inl below ↦ let more : between < now = risen below in omega arith
+  | inr above ↦ omega arith
+]

@@ -1,6 +1,7 @@
 pub mod ByteLemmas
 pub mod Spans
 pub mod ListLemmas
+pub mod DigitLemmas
 pub mod BoolLemmas
 pub mod MapLemmas
 pub mod StandardFacts

@@ -1,5 +1,5 @@
--- Lists of texts, owned and lent.
-use Rattle.std.specs.Prelude.{ℕ, Bool, Vec, List, [], ◌∷◌, ◌++◌, map, if◌then◌else◌}
+-- Lists of texts, owned and lent, and texts of whole lines.
+use Rattle.std.specs.Prelude.{◌≡◌, ◌⊎◌, ℕ, Bool, Vec, List, [], ◌∷◌, ◌++◌, map, if◌then◌else◌}
 use Rattle.std.specs.List.{list_any}
 use Rattle.std.specs.Str.{bytes_eq}
 use Rattle.std.specs.Borrow.{Bor}
@@ -20,3 +20,7 @@ behind references = map (λ b. b.now) references
 -- whether a text is one of those that are lent
 abbrev pub is_among : List (Bor (List ℕ)) → List ℕ → Bool
 is_among texts text = list_any (λ (b : Bor (List ℕ)). bytes_eq text b.now) texts
+
+-- whole lines: no bytes, or bytes that end with a line feed
+abbrev pub AreLines : List ℕ → Type 0
+AreLines text = (text ≡ []) ⊎ ((before : List ℕ) × (text ≡ before ++ 10 ∷ []))

@@ -8,7 +8,7 @@ use Rattle.stil_ast.specs.Faults.FrontFaults.{Front, refused_by, read_as, too_ma
 use Rattle.stil_program.specs.Program.{IsTextFault}
 use Rattle.stil_program.proofs.FaultLemmas.{one_text_fault}
 use Rattle.flat_parts.specs.FlatText.{flat_text}
-use Rattle.text_front.proofs.FrontLemmas.{one_front}
+use Rattle.stil_program.proofs.FrontLemmas.{one_front}
 use Rattle.text_commands.specs.declared.command.Command.{Command}
 use Rattle.text_commands.specs.declared.command.Command.TheVariants.{Check, Cycles, Events, Save, Flat}
 use Rattle.tool_inputs.specs.declared.status.Status.{Status}

@@ -13,7 +13,7 @@ use Rattle.stil_ast.specs.declared.blocks.Blocks.{Blocks}
 use Rattle.stil_ast.specs.declared.executive.ExecDecl.{ExecDecl}
 use Rattle.stil_ast.specs.declared.fault.StilFault.{StilFault}
 use Rattle.stil_ast.specs.declared.fault.StilKind.TheVariants.{TooManyCycles}
-use Rattle.page_meaning.specs.Meaning.{Means}
+use Rattle.packed_code.specs.Meaning.{Means}
 use Rattle.packed_code.specs.Program.{Program}
 use Rattle.packed_code.specs.Cycles.{exec_of}
 use Rattle.code_listing.specs.Text.{cycles_among}

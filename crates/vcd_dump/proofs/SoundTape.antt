@@ -2,10 +2,10 @@
 use Rattle.std.proofs.Common.{ℕ, zero, suc, ◌+◌, ◌*◌, ◌<◌, ◌≤◌, List, [], ◌∷◌, length, take, replicate, refl, sym, subst, arith, length-append}
 use Rattle.std.specs.List.{AllByRecursion, flat_map, range_with_len}
 use Rattle.tester_types.specs.declared.cycle.Cycle.{Cycle}
-use Rattle.page_meaning.specs.declared.instr.Entry.{Entry}
-use Rattle.page_meaning.specs.declared.course.Course.{Course}
-use Rattle.page_meaning.specs.Meaning.{Means}
-use Rattle.page_meaning.proofs.CourseLemmas.{starts_on, starts_with}
+use Rattle.packed_code.specs.declared.instr.Entry.{Entry}
+use Rattle.packed_code.specs.declared.course.Course.{Course}
+use Rattle.packed_code.specs.Meaning.{Means}
+use Rattle.packed_code.proofs.CourseLemmas.{starts_on, starts_with}
 use Rattle.packed_code.specs.Program.{Program}
 use Rattle.packed_code.specs.Conditions.{IsProgram}
 use Rattle.packed_code.specs.Cycles.{timed, period_of, exec_of, cycles_of}

@@ -9,8 +9,8 @@ use Rattle.tester_types.specs.declared.signal.Direction.TheVariants as direction
 use Rattle.tester_types.specs.declared.level.Drive.TheVariants as drive
 use Rattle.tester_types.specs.declared.wave.Push.TheVariants as push
 use Rattle.tester_types.specs.declared.wave.Act.TheVariants as act
-use Rattle.page_meaning.specs.declared.instr.Instr.TheVariants.{Run, Done}
-use Rattle.page_meaning.specs.Meaning.{bodies, repeated}
+use Rattle.packed_code.specs.declared.instr.Instr.TheVariants.{Run, Done}
+use Rattle.packed_code.specs.Meaning.{bodies, repeated}
 use Rattle.packed_code.specs.Program.{Program}
 use Rattle.edge_gen.specs.Moments.{moments_of}
 use Rattle.die_sim.specs.Stepped.{levels_through, captured_levels}

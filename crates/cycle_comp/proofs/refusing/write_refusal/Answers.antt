@@ -1,7 +1,7 @@
 use Rattle.std.proofs.Common.{◌∙◌, sym, ap, subst, Some}
 use Rattle.stil_ast.specs.declared.fault.StilFault.{StilFault}
-use Rattle.instr_writer.specs.Written.{IsFaulty, IsFirstFault}
-use Rattle.instr_writer.specs.declared.fault.WriteError.{WriteError}
+use Rattle.cycle_comp.specs.Written.{IsFaulty, IsFirstFault}
+use Rattle.cycle_comp.specs.declared.fault.WriteError.{WriteError}
 use Rattle.cycle_comp.proofs.refusing.write_refusal.Goals as goal
 
 pub returns-in-Ok : goal.returns-in-Ok

@@ -1,6 +1,6 @@
 use Rattle.std.proofs.Common.{◌≡◌, sum_by, take}
-use Rattle.page_meaning.specs.Count.{capped}
-use Rattle.instr_writer.specs.Counting.{vector_count}
+use Rattle.packed_code.specs.Count.{capped}
+use Rattle.cycle_comp.specs.Counting.{vector_count}
 use Rattle.cycle_comp.proofs.sizes.cycles_in.Given as goal
 
 abbrev pub invariant-loop-tree : goal.invariant-loop-tree

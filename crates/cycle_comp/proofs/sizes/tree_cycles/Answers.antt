@@ -1,7 +1,7 @@
 use Rattle.std.proofs.Common.{◌∙◌, ap, ℕ, ◌+◌, min}
 use Rattle.text_bytes.specs.Limits.{most_cycles}
 use Rattle.stil_ast.specs.Meaning.State.{State, start_of}
-use Rattle.instr_writer.proofs.CountLemmas.{run-count}
+use Rattle.cycle_comp.proofs.CountLemmas.{run-count}
 use Rattle.cycle_comp.proofs.sizes.tree_cycles.Goals as goal
 
 pub returns : goal.returns

@@ -1,7 +1,7 @@
 use Rattle.std.proofs.Common.{◌≡◌, Option, Some, None}
 use Rattle.stil_ast.specs.declared.fault.StilFault.{StilFault}
 use Rattle.stil_program.proofs.FaultLemmas.{one_text_fault}
-use Rattle.drill_texts.specs.Texts.{stil_text}
+use Rattle.drill_fine.specs.Texts.{stil_text}
 use Rattle.drill_fine.proofs.FineLemmas.{text_fine}
 use Rattle.drill_fine.proofs.laws.pattern_is_accepted.Goals as goal
 

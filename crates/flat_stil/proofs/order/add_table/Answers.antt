@@ -1,5 +1,5 @@
 use Rattle.std.proofs.Common.{ℕ, [], ◌∷◌, ◌++◌, sym, ap, ◌∙◌}
-use Rattle.page_meaning.specs.declared.instr.Instr.{Instr}
+use Rattle.packed_code.specs.declared.instr.Instr.{Instr}
 use Rattle.flat_parts.specs.Order.{run_table, firsts}
 use Rattle.flat_stil.proofs.OrderLemmas.{firsts_push}
 use Rattle.flat_stil.proofs.order.add_table.Goals as goal

@@ -1,6 +1,6 @@
 use Rattle.std.proofs.Common.{sym, ap, ◌∙◌, [], List}
 use Rattle.std.specs.List.{flat_map}
-use Rattle.page_meaning.specs.declared.instr.Instr.{Instr}
+use Rattle.packed_code.specs.declared.instr.Instr.{Instr}
 use Rattle.flat_parts.specs.Order.{run_table, firsts}
 use Rattle.flat_stil.proofs.OrderLemmas.{firsts_nothing}
 use Rattle.flat_stil.proofs.order.own_tables.Goals as goal

@@ -1,6 +1,6 @@
 use Rattle.std.proofs.Common.{sym, ap, ◌∙◌}
 use Rattle.flat_stil.specs.Working.{prints}
-use Rattle.page_meaning.specs.declared.instr.Instr.{Instr}
+use Rattle.packed_code.specs.declared.instr.Instr.{Instr}
 use Rattle.flat_parts.specs.FlatText.{instr_lines}
 use Rattle.flat_stil.proofs.SheetLemmas.{prints_nothing, lines_step}
 use Rattle.flat_stil.proofs.patterns.put_instrs.Goals as goal

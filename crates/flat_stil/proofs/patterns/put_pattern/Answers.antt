@@ -2,7 +2,7 @@ use Rattle.std.proofs.Common.{ap, ◌∙◌, ℕ, List, [], ◌∷◌}
 use Rattle.std.specs.Prelude.{codes}
 use Rattle.std.specs.List.{flat_map}
 use Rattle.flat_stil.specs.Working.{prints}
-use Rattle.page_meaning.specs.declared.instr.Instr.{Instr}
+use Rattle.packed_code.specs.declared.instr.Instr.{Instr}
 use Rattle.packed_code.specs.Cycles.{exec_of}
 use Rattle.flat_parts.specs.FlatText.{opening, instr_lines}
 use Rattle.flat_stil.proofs.SheetLemmas.{block_written}

@@ -1,10 +1,10 @@
 use Rattle.std.proofs.Common.{◌≡◌, ◌+◌, ◌-◌, ◌∷◌, ap, ◌∙◌, sym, subst, arith, refl, List, drop, map, length, ℕ}
 use Rattle.std.proofs.lemmas.List.{drop_all, get_or_read_under}
-use Rattle.page_meaning.specs.declared.instr.Instr.{Instr}
-use Rattle.page_meaning.specs.declared.instr.Instr.TheVariants.{Run}
-use Rattle.page_meaning.specs.Meaning.{body_counts}
-use Rattle.page_meaning.specs.Count.{capped, HasRoom}
-use Rattle.page_meaning.proofs.CountLemmas.{has_room, put_more, none_put, is_counted}
+use Rattle.packed_code.specs.declared.instr.Instr.{Instr}
+use Rattle.packed_code.specs.declared.instr.Instr.TheVariants.{Run}
+use Rattle.packed_code.specs.Meaning.{body_counts}
+use Rattle.packed_code.specs.Count.{capped, HasRoom}
+use Rattle.packed_code.proofs.CountLemmas.{has_room, put_more, none_put, is_counted}
 use Rattle.packed_code.proofs.counting.cycles.Goals as goal
 
 pub loop-at-init : goal.loop-at-init

@@ -1,6 +1,6 @@
 use Rattle.std.proofs.Common.{◌≡◌, ◌≤◌, length, drop, map}
-use Rattle.page_meaning.specs.Meaning.{body_counts}
-use Rattle.page_meaning.specs.Count.{capped}
+use Rattle.packed_code.specs.Meaning.{body_counts}
+use Rattle.packed_code.specs.Count.{capped}
 use Rattle.packed_code.proofs.counting.cycles.Given as goal
 
 abbrev pub invariant-loop-at : goal.invariant-loop-at

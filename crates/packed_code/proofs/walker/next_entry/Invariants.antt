@@ -1,4 +1,4 @@
-use Rattle.page_meaning.proofs.CourseLemmas.{IsWalked, still}
+use Rattle.packed_code.proofs.CourseLemmas.{IsWalked, still}
 use Rattle.packed_code.proofs.walker.next_entry.Given as goal
 
 abbrev pub invariant-loop-step : goal.invariant-loop-step

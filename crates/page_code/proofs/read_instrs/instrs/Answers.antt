@@ -1,12 +1,12 @@
 use Rattle.std.proofs.Common.{◌≡◌, ◌+◌, ◌∷◌, [], List, ℕ, Ok, eqb, ap, subst, sym, ◌∙◌, arith, length}
 use Rattle.std.proofs.lemmas.Result.{err_from_is_err_and}
 use Rattle.std.proofs.lemmas.List.{length-append}
-use Rattle.page_meaning.specs.declared.instr.Instr.{Instr}
+use Rattle.packed_code.specs.declared.instr.Instr.{Instr}
 use Rattle.page_code.specs.Fields.{Fails, items_at}
 use Rattle.page_code.specs.Reading.{instr_at, instr_with}
 use Rattle.page_code.proofs.ItemsLemmas.{goes_on, stops, is_done}
 use Rattle.page_code.proofs.NestLemmas.{read_goes_on, read_is_whole}
-use Rattle.page_meaning.specs.Whole.{IsWhole}
+use Rattle.packed_code.specs.Whole.{IsWhole}
 use Rattle.page_code.proofs.read_instrs.instrs.Goals as goal
 
 pub returns-in_err-last-clause-read : goal.returns-in_err-last-clause-read

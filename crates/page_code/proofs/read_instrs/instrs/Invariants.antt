@@ -2,7 +2,7 @@ use Rattle.std.proofs.Common.{◌≡◌, ◌-◌, ◌<◌, [], length}
 use Rattle.page_code.specs.Accepted.{AreAccepted}
 use Rattle.page_code.specs.Fields.{items_at}
 use Rattle.page_code.specs.Reading.{instr_at}
-use Rattle.page_meaning.specs.Whole.{IsWhole}
+use Rattle.packed_code.specs.Whole.{IsWhole}
 use Rattle.page_code.specs.Nest.{IsNest}
 use Rattle.page_code.proofs.read_instrs.instrs.Given as goal
 

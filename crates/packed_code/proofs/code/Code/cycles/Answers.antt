@@ -1,6 +1,6 @@
 use Rattle.std.proofs.Common.{◌∙◌, ap}
-use Rattle.page_meaning.proofs.CountLemmas.{cycle_count-length}
-use Rattle.page_meaning.specs.Meaning.{cycle_count}
+use Rattle.packed_code.proofs.CountLemmas.{cycle_count-length}
+use Rattle.packed_code.specs.Meaning.{cycle_count}
 use Rattle.packed_code.specs.Program.{Exec}
 use Rattle.packed_code.proofs.code.Code.cycles.Goals as goal
 

@@ -1,6 +1,6 @@
 use Rattle.std.proofs.Common.{◌≤◌, ◌∷◌, ◌≡◌, subst, sym, ℕ, List}
-use Rattle.page_meaning.specs.declared.instr.Instr.{Instr}
-use Rattle.page_meaning.specs.Course.{IsOn, coming}
+use Rattle.packed_code.specs.declared.instr.Instr.{Instr}
+use Rattle.packed_code.specs.Course.{IsOn, coming}
 use Rattle.packed_code.proofs.WalkLemmas.{goes_on_over}
 use Rattle.packed_code.proofs.walker.Walk.next.Goals as goal
 

@@ -1,5 +1,5 @@
 use Rattle.std.proofs.Common.{◌≡◌}
-use Rattle.page_meaning.proofs.CourseLemmas.{IsWalked, still}
+use Rattle.packed_code.proofs.CourseLemmas.{IsWalked, still}
 use Rattle.pattern_mem.specs.Cursor.{instrs_of, IsPlaced, IsSameBut}
 use Rattle.pattern_mem.proofs.cursor.Cursor.entry.Given as goal
 

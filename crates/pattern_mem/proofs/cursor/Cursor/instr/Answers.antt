@@ -1,5 +1,5 @@
 use Rattle.std.proofs.Common.{◌%◌, ◌<◌, ◌∙◌, ℕ, List, length, slice_get, arith, ap, sym, subst}
-use Rattle.page_meaning.specs.declared.instr.Instr.{Instr}
+use Rattle.packed_code.specs.declared.instr.Instr.{Instr}
 use Rattle.packed_code.specs.Cycles.{pages_of}
 use Rattle.pattern_mem.specs.Pool.{page_at}
 use Rattle.pattern_mem.specs.Cursor.{instrs_of}

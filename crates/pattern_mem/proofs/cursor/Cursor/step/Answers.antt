@@ -1,6 +1,6 @@
 use Rattle.std.proofs.Common.{ℕ, subst, sym}
-use Rattle.page_meaning.specs.declared.course.Course.{Course}
-use Rattle.page_meaning.specs.Course.{Steps, IsOn}
+use Rattle.packed_code.specs.declared.course.Course.{Course}
+use Rattle.packed_code.specs.Course.{Steps, IsOn}
 use Rattle.pattern_mem.specs.Cursor.{instrs_of}
 use Rattle.pattern_mem.proofs.CursorLemmas.{stands_at, placed_on}
 use Rattle.pattern_mem.proofs.cursor.Cursor.step.Goals as goal

@@ -2,7 +2,7 @@ use Rattle.std.proofs.Common.{◌∙◌, ℕ, ap, sym, subst, List}
 use Rattle.std.specs.Arc.{arc_value}
 use Rattle.text_bytes.proofs.OptionLemmas.{on_err}
 use Rattle.lru.specs.LruCache.{LruCache}
-use Rattle.page_meaning.specs.declared.instr.Instr.{Instr}
+use Rattle.packed_code.specs.declared.instr.Instr.{Instr}
 use Rattle.pattern_mem.specs.Pool.{Pool, pool_of, IsPool, asked}
 use Rattle.pattern_mem.proofs.PoolLemmas.{promoted-asked, put-asked, pool_promoted, pool_put, nothing_moved, put_first, page_made}
 use Rattle.pattern_mem.proofs.pool.PoolState.hold.Goals as goal

@@ -1,8 +1,0 @@
-use Rattle.std.proofs.Common.{◌≡◌}
-use Rattle.call_tests.proofs.board_calls.poll_until_asked.Given as goal
-
-abbrev pub invariant-loop : goal.invariant-loop
-invariant-loop l = record {
-  board : l.seat.board ≡ l.initial.seat.board;
-  finished : l.seat.finished ≡ l.initial.seat.finished;
-}

@@ -1,0 +1,35 @@
+use Rattle.std.proofs.Common.{refl, ap}
+use Rattle.stil_ast.specs.Meaning.State.{start_of}
+use Rattle.stil_ast.specs.Meaning.Flat.{flat_run}
+use Rattle.cycle_comp.specs.Known.{Known}
+use Rattle.cycle_comp.proofs.KnownLemmas.{known-nothing}
+use Rattle.cycle_comp.proofs.WalkedLemmas.{walked-still}
+use Rattle.cycle_comp.proofs.ListLemmas.{walked-tree}
+use Rattle.cycle_comp.proofs.ExactLemmas.{exact-tree}
+use Rattle.cycle_comp.proofs.trees.write_trees.Goals as goal
+
+pub loop-number-init : goal.loop-number-init
+loop-number-init c = (
+  walked-still c.args.source.now.tables.now c.args.source.now.first 0 c.args.code.now.items c.args.rows.now
+      (start_of c.args.signals) c.in_ok-state.state.told (ap (λ (k : Known). k.told) c.in_ok-state.ensures),
+  known-nothing c.args.source.now.tables.now c.args.rows.now (start_of c.args.signals) c.in_ok-state.state
+      c.in_ok-state.ensures,
+  λ all on. refl,
+)
+
+pub loop-number-preserved : goal.loop-number-preserved
+loop-number-preserved c = (
+  walked-tree c.args.source.now.tables.now c.args.source.now.first c.args.trees.now c.loop-number.number
+      c.index-trees-number.result c.in_ok-outside.outside.told (start_of c.args.signals) c.args.code.now.items
+      c.loop-number.code.items c.write_list.new.code.items c.args.rows.now c.loop-number.rows c.write_list.new.rows
+      c.loop-number.state.told c.write_list.new.state.told c.index-trees-number.is c.loop-number-test.true
+      (ap (λ (k : Known). k.told) c.in_ok-outside.ensures) c.loop-number.invariant.0 c.in-Ok.ensures.done,
+  c.in-Ok.ensures.known,
+  exact-tree c.args.source.now.first c.args.trees.now c.loop-number.number c.index-trees-number.result
+      c.in_ok-outside.outside.told (start_of c.args.signals) c.args.code.now.items c.loop-number.code.items
+      c.write_list.new.code.items
+      (flat_run c.index-trees-number.result c.in_ok-outside.outside.told c.loop-number.state.told).made
+      c.loop-number.rows c.write_list.new.rows c.loop-number.state.told c.index-trees-number.is
+      c.loop-number-test.true (ap (λ (k : Known). k.told) c.in_ok-outside.ensures)
+      c.loop-number.invariant.0.here_is c.in-Ok.ensures.done.wrote.rows c.loop-number.invariant.2 c.in-Ok.ensures.exact,
+)

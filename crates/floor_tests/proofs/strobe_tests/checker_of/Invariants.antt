@@ -1,6 +1,0 @@
-use Rattle.std.proofs.Common.{◌≤◌, length}
-use Rattle.floor_tests.proofs.strobe_tests.checker_of.Given as goal
-
--- there is a level for each signal
-abbrev pub invariant-loop-at : goal.invariant-loop-at
-invariant-loop-at l = length l.checker.bound ≤ 3

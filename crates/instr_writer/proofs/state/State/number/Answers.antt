@@ -1,9 +1,0 @@
-use Rattle.std.proofs.Common.{sym}
-use Rattle.instr_writer.specs.Known.{row_of_letters}
-use Rattle.instr_writer.proofs.RowLemmas.{numbered-adds_none}
-use Rattle.instr_writer.proofs.state.State.number.Goals as goal
-
-pub returns-in-Some-clause-rows : goal.returns-in-Some-clause-rows
-returns-in-Some-clause-rows c =
-    sym (numbered-adds_none c.args.rows.now c.in-Some.row (row_of_letters c.args.self.now.told.letters)
-    (c.in-Some.ensures c.args.rows.now c.requires))

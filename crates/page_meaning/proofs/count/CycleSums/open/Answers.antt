@@ -1,5 +1,0 @@
-use Rattle.page_meaning.proofs.CountLemmas.{opens}
-use Rattle.page_meaning.proofs.count.CycleSums.open.Goals as goal
-
-pub returns : goal.returns
-returns c = opens c.self.inside.height c.self.inside.sums c.args.self.now c.self.view_is c.requires c.self.invariant.1

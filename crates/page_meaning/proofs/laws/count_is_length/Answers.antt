@@ -1,5 +1,0 @@
-use Rattle.page_meaning.proofs.CountLemmas.{cycle_count-length}
-use Rattle.page_meaning.proofs.laws.count_is_length.Goals as goal
-
-pub returns : goal.returns
-returns c = λ code. cycle_count-length code

@@ -1,8 +1,0 @@
-use Rattle.page_meaning.proofs.NestingLemmas.{Means-Runs, Runs-Means}
-use Rattle.page_meaning.proofs.laws.meaning_is_nesting.Goals as goal
-
-pub returns-clause-is : goal.returns-clause-is
-returns-clause-is c = Means-Runs
-
-pub returns-clause-has : goal.returns-clause-has
-returns-clause-has c = Runs-Means

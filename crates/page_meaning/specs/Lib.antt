@@ -1,5 +1,0 @@
-pub mod Meaning
-pub mod Nesting
-pub mod Whole
-pub mod Count
-pub mod Course

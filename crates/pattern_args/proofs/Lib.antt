@@ -1,5 +1,0 @@
-pub mod EveryLemmas
-pub mod EntryLemmas
-pub mod RunLemmas
-pub mod LaneLemmas
-pub mod StandardFacts

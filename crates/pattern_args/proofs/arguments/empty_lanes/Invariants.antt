@@ -1,7 +1,0 @@
-use Rattle.std.proofs.Common.{◌≡◌}
-use Rattle.std.specs.Prelude.{replicate}
-use Rattle.pattern_args.specs.Lanes.{no_lane}
-use Rattle.pattern_args.proofs.arguments.empty_lanes.Given as goal
-
-abbrev pub invariant-loop : goal.invariant-loop
-invariant-loop l = l.lanes.items ≡ replicate l.counter no_lane

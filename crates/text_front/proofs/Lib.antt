@@ -1,3 +1,0 @@
-pub mod TokenLemmas
-pub mod FrontLemmas
-pub mod AnswerLemmas

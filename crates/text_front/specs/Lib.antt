@@ -1,4 +1,0 @@
-pub mod Places
-pub mod TokenFaults
-pub mod StatementFaults
-pub mod Front
