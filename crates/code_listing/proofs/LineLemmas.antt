@@ -1,15 +1,16 @@
 -- Texts that end their last line, and what a sink holds where one of several isn't put whole.
-use Rattle.std.proofs.Common.{◌≡◌, ◌⊎◌, ℕ, List, [], ◌∷◌, ◌++◌, Option, Result, Ok, Err, inl, inr, refl, sym, ap, ◌∙◌, subst, append_assoc}
-use Rattle.std.proofs.lemmas.List.{append-nil}
-use Rattle.std.specs.Prelude.{map}
+use Rattle.std.proofs.Common.{◌≡◌, ℕ, List, [], ◌∷◌, ◌++◌, Option, Result, Ok, Err, inl, refl, sym, ap, ◌∙◌, subst, append_assoc, ◌⊎◌}
 use Rattle.std.specs.List.{flat_map}
-use Rattle.tester_types.specs.Outside.{HasRisen, gained, GainsFront, Puts}
+use Rattle.std.specs.Prelude.{map}
+use Rattle.text_bytes.specs.Texts.{AreLines}
+use Rattle.text_bytes.proofs.TextLemmas.{lines_behind}
+use Rattle.tester_types.specs.Outside.{gained, GainsFront, HasRisen, Puts}
 use Rattle.tester_types.specs.declared.outside.SinkFault.{SinkFault}
-use Rattle.tester_types.proofs.OutsideLemmas.{gained-gained, gained-none, gained_both, front_more, front_behind, puts_stops}
 use Rattle.tester_types.specs.declared.cycle.Moment.{Moment}
+use Rattle.tester_types.proofs.OutsideLemmas.{gained-gained, gained-none, front_more, front_behind, puts_stops, gained_both}
 use Rattle.code_listing.specs.declared.fault.ListFault.{ListFault}
 use Rattle.code_listing.specs.declared.fault.ListFault.TheVariants.{NoMemory, Sink}
-use Rattle.code_listing.specs.Lines.{AreLines, AreFirstLines, GainsLines, Lists, ListsWhole, IsFor, HasRoom}
+use Rattle.code_listing.specs.Lines.{GainsLines, Lists, ListsWhole, HasRoom, AreFirstLines, IsFor}
 
 -- ---- whole lines
 
@@ -17,15 +18,10 @@ use Rattle.code_listing.specs.Lines.{AreLines, AreFirstLines, GainsLines, Lists,
 pub ends_behind : (a b : List ℕ) → ((front : List ℕ) × (b ≡ front ++ 10 ∷ [])) → (front : List ℕ) × (a ++ b ≡ front ++ 10 ∷ [])
 ends_behind a b (front, is) = (a ++ front, ap (λ t. a ++ t) is ∙ sym (append_assoc a front (10 ∷ [])))
 
--- whole lines behind whole lines
-pub lines_both : (a b : List ℕ) → AreLines a → AreLines b → AreLines (a ++ b)
-lines_both a b first (inr ends) = inr (ends_behind a b ends)
-lines_both a b first (inl none) = subst AreLines (sym (ap (λ t. a ++ t) none ∙ append-nil a)) first
-
 -- texts that are each whole lines
 pub lines_all : {X : Type 0} (text : X → List ℕ) (items : List X) → ((x : X) → AreLines (text x)) → AreLines (flat_map text items)
 lines_all text [] each = inl refl
-lines_all text (x ∷ items) each = lines_both (text x) (flat_map text items) (each x) (lines_all text items each)
+lines_all text (x ∷ items) each = lines_behind (text x) (flat_map text items) (each x) (lines_all text items each)
 
 -- ---- texts that are put one after another
 
@@ -42,14 +38,14 @@ lines_more held now a b (lines, first, is) = (
 )
 
 -- whole lines, and the first lines of what comes behind them
-lines_behind : (held before now : Option (List ℕ)) (a b : List ℕ) → AreLines a → before ≡ gained held a → GainsLines before b now
+gains_behind : (held before now : Option (List ℕ)) (a b : List ℕ) → AreLines a → before ≡ gained held a → GainsLines before b now
     → GainsLines held (a ++ b) now
-lines_behind held before now a b whole so_far (lines, first, is) = (
+gains_behind held before now a b whole so_far (lines, first, is) = (
   a ++ lines,
   record {
     rest = first.rest;
     is = ap (λ t. a ++ t) first.is ∙ sym (append_assoc a lines first.rest);
-    whole = lines_both a lines whole first.whole;
+    whole = lines_behind a lines whole first.whole;
   },
   is ∙ ap (λ was. gained was lines) so_far ∙ gained-gained held a lines,
 )
@@ -60,7 +56,7 @@ pub lists_last : {A : Type 0} (held before now : Option (List ℕ)) (a b : List 
 lists_last held before now a b (Ok done) whole so_far is = is ∙ ap (λ was. gained was b) so_far ∙ gained-gained held a b
 lists_last held before now a b (Err (Sink fault)) whole so_far front =
     front_behind held now a b (subst (λ (was : Option (List ℕ)). GainsFront was b now) so_far front)
-lists_last held before now a b (Err NoMemory) whole so_far lines = lines_behind held before now a b whole so_far lines
+lists_last held before now a b (Err NoMemory) whole so_far lines = gains_behind held before now a b whole so_far lines
 
 -- a text that isn't put whole, before another
 pub lists_more : (A B : Type 0) (held now : Option (List ℕ)) (a b : List ℕ) (e : ListFault) → Lists {A = A} held a (Err e) now
@@ -76,7 +72,7 @@ lists_stops A B held before now whole done text rest (Sink fault) is lines so_fa
     subst (λ (all : List ℕ). GainsFront held all now) (sym is) (puts_stops held before now done text rest so_far front)
 lists_stops A B held before now whole done text rest NoMemory is lines so_far got =
     subst (λ (all : List ℕ). GainsLines held all now) (sym is)
-    (lines_behind held before now done (text ++ rest) lines so_far (lines_more before now text rest got))
+    (gains_behind held before now done (text ++ rest) lines so_far (lines_more before now text rest got))
 
 -- what a put of a sink is, as a listing
 pub puts_lists : (A : Type 0) (held now : Option (List ℕ)) (text : List ℕ) (fault : SinkFault) → GainsFront held text now

@@ -22,14 +22,15 @@ use Rattle.std.proofs.lemmas.List.FromFn.{length-enumerate_from}
 use Rattle.std.proofs.Math.Seq.{get_or-append_seam}
 use Rattle.std.proofs.Math.ListN.{get_or-eq_default}
 use Rattle.std.proofs.lemmas.List.Sums.{sum_by_more, sum_by-append}
+use Rattle.text_bytes.specs.Texts.{AreLines}
+use Rattle.text_bytes.proofs.TextLemmas.{lines_behind}
 use Rattle.packed_code.specs.Cycles.{cycles_of, exec_of}
 use Rattle.code_listing.specs.declared.listing.Form.{Form}
 use Rattle.code_listing.specs.declared.listing.Form.TheVariants.{Cycles, Events}
 use Rattle.code_listing.specs.Listing.{Listed, ListedExec, no_table, listed, listed_exec, listing_of, cycles_in, time_of}
-use Rattle.code_listing.specs.Lines.{AreLines}
 use Rattle.code_listing.specs.Room.{text_of}
 use Rattle.code_listing.specs.Text.{names_of, exec_line, exec_text, execs_text, cycle_line, moment_line, moments_head, moments_text, instant_words, acts_words, cycles_among, instrs_among}
-use Rattle.code_listing.proofs.LineLemmas.{ends_behind, lines_both, lines_all}
+use Rattle.code_listing.proofs.LineLemmas.{ends_behind, lines_all}
 use Rattle.packed_code.proofs.WalkLemmas.{exec_is, length-cycles}
 
 -- ---- each text is whole lines
@@ -50,7 +51,7 @@ head_lines c = inr (ends_behind
 -- of a cycle, in both forms
 pub text_lines : (form : Form) (code : Program) (c : Listed) → AreLines (text_of form code c)
 text_lines Cycles code c = cycle_lines c
-text_lines Events code c = lines_both (moments_head c) _ (head_lines c) (lines_all (moment_line (names_of code)) _ (moment_lines (names_of code)))
+text_lines Events code c = lines_behind (moments_head c) _ (head_lines c) (lines_all (moment_line (names_of code)) _ (moment_lines (names_of code)))
 
 -- of an executive's first line
 pub exec_lines : (e : ListedExec) → AreLines (exec_line e)
@@ -267,7 +268,7 @@ none-after exec n not = by (cases_order exec n)
 
 -- the text of an executive is whole lines
 pub exec-text-lines : (form : Form) (code : Program) (e : ListedExec) → AreLines (exec_text (text_of form code) e)
-exec-text-lines form code e = lines_both (exec_line e) (flat_map (text_of form code) e.cycles) (exec_lines e) (lines_all (text_of form code) e.cycles (text_lines form code))
+exec-text-lines form code e = lines_behind (exec_line e) (flat_map (text_of form code) e.cycles) (exec_lines e) (lines_all (text_of form code) e.cycles (text_lines form code))
 
 pub execs-text-lines : (form : Form) (code : Program) (es : List ListedExec) → AreLines (execs_text (text_of form code) es)
 execs-text-lines form code es = lines_all (exec_text (text_of form code)) es (exec-text-lines form code)

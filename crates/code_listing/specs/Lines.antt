@@ -1,12 +1,9 @@
 -- What a sink holds where a text was put into it in whole lines, or a fault or want of memory came before its end.
-use Rattle.std.specs.Prelude.{◌≡◌, ◌⊎◌, ℕ, List, [], ◌∷◌, ◌++◌, Option, Result, Ok, Err}
+use Rattle.std.specs.Prelude.{◌≡◌, ℕ, List, ◌++◌, Option, Result, Ok, Err}
+use Rattle.text_bytes.specs.Texts.{AreLines}
 use Rattle.tester_types.specs.Outside.{HasRisen, gained, GainsFront}
 use Rattle.code_listing.specs.declared.fault.ListFault.{ListFault}
 use Rattle.code_listing.specs.declared.fault.ListFault.TheVariants.{NoMemory, Sink}
-
--- a text is whole lines: it is empty, or ends with a line feed
-abbrev pub AreLines : List ℕ → Type 0
-AreLines text = (text ≡ []) ⊎ ((front : List ℕ) × (text ≡ front ++ 10 ∷ []))
 
 -- whole lines are a front of a text
 pub record AreFirstLines (text lines : List ℕ) : Type 0 where

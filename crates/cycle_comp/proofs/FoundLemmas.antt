@@ -1,11 +1,9 @@
 -- What is found among items that are each as they should be, and what their numbers are.
 use Rattle.std.proofs.Common.{◌≡◌, ℕ, zero, suc, ◌+◌, ◌<◌, ◌≤◌, ◌==◌, Bool, true, cond, List, [], ◌∷◌, ◌++◌, length, Option, Some, None, refl, sym, ap, subst, ◌∙◌, append_assoc, arith, inl, inr}
-use Rattle.std.specs.Prelude.{find, reverse, slice_get}
+use Rattle.std.specs.Prelude.{find, slice_get}
 use Rattle.std.specs.List.{list_any, filter_map, cons_option, enumerate_from, AllByRecursion}
 use Rattle.std.proofs.lemmas.Bool.{cases_Bool, eqb-true, or_cases, or_left, or_right}
-use Rattle.std.proofs.lemmas.List.{reverse-append}
 use Rattle.std.proofs.lemmas.Option.{none-some}
-use Rattle.text_bytes.proofs.ListLemmas.{all_append}
 use Rattle.stil_ast.specs.Data.Texts.{upwards}
 use Rattle.stil_ast.specs.Faults.Found.{first_in}
 use Rattle.stil_ast.specs.declared.fault.StilFault.{StilFault}
@@ -31,13 +29,6 @@ found_all {A} P test (y ∷ ys) x all is =
       | inr other ↦
           found_all P test ys x all.1 (ap (λ (b : Bool). cond b (Some y) (find test ys)) (sym other) ∙ is)
     ]
-
--- items the other way round
-pub reverse_all : {A : Type 0} (P : A → Type 0) (xs : List A) → AllByRecursion P xs → AllByRecursion P (reverse xs)
-reverse_all P [] all = tt
-reverse_all {A} P (x ∷ xs) all =
-    subst (λ (l : List A). AllByRecursion P l) (sym (reverse-append (x ∷ []) xs))
-    (all_append P (reverse xs) (x ∷ []) (reverse_all P xs all.1) (all.0, tt))
 
 -- one that is equal to an item passes its test
 pub any_at : (f : ℕ → Bool) (a : ℕ) (xs : List ℕ) → list_any (λ (x : ℕ). x == a) xs ≡ true → f a ≡ true
@@ -75,12 +66,6 @@ pub numbered_at : {A : Type 0} (items : List A)
     → AllByRecursion (λ (p : ℕ × A). slice_get items p.0 ≡ Some p.1) (enumerate_from 0 items)
 numbered_at items = enumerate_at [] items
 
--- what holds of items holds of them with numbers
-pub all_numbered : {A : Type 0} (P : A → Type 0) (n : ℕ) (xs : List A) → AllByRecursion P xs
-    → AllByRecursion (λ (p : ℕ × A). P p.1) (enumerate_from n xs)
-all_numbered P n [] all = tt
-all_numbered P n (x ∷ xs) all = (all.0, all_numbered P (n + 1) xs all.1)
-
 -- what holds of all items with their numbers holds of the one under a number
 pub all_under : {A : Type 0} (P : ℕ → A → Type 0) (n : ℕ) (xs : List A) (i : ℕ) (x : A)
     → AllByRecursion (λ (p : ℕ × A). P p.0 p.1) (enumerate_from n xs) → slice_get xs i ≡ Some x → P (n + i) x
@@ -92,13 +77,6 @@ all_under {A} P n (y ∷ ys) zero x all at =
 all_under P n (y ∷ ys) (suc i) x all at =
     let moved : n + suc i ≡ n + 1 + i = omega arith in
     subst (λ (m : ℕ). P m x) (sym moved) (all_under P (n + 1) ys i x all.1 at)
-
--- what holds of all holds of the one at a place
-pub all_got : {A : Type 0} (P : A → Type 0) (xs : List A) (i : ℕ) (x : A) → AllByRecursion P xs
-    → slice_get xs i ≡ Some x → P x
-all_got P [] i x all at = absurd (none-some x at)
-all_got P (y ∷ ys) zero x all at = let same : y ≡ x = cc in subst P same all.0
-all_got P (y ∷ ys) (suc i) x all at = all_got P ys i x all.1 at
 
 -- consecutive numbers are below their end
 pub all_below : (from count : ℕ) → AllByRecursion (λ (s : ℕ). s < from + count) (upwards from count)

@@ -1,7 +1,7 @@
 -- Each Run of whole instructions stands for a cycle of theirs.
 use Rattle.std.proofs.Common.{◌≡◌, ℕ, zero, suc, ◌-◌, ◌<◌, Bool, true, false, List, [], ◌∷◌, ◌++◌, length, replicate, append_assoc, refl, sym, ap, subst, ◌∙◌, arith}
 use Rattle.std.specs.List.{AllByRecursion}
-use Rattle.text_bytes.proofs.ListLemmas.{all_append}
+use Rattle.text_bytes.proofs.ListLemmas.{all_append, all_front, all_back}
 use Rattle.stil_ast.specs.Meaning.State.{Vector}
 use Rattle.packed_code.specs.declared.instr.Entry.{Entry}
 use Rattle.packed_code.specs.declared.instr.Instr.{Instr}
@@ -10,15 +10,6 @@ use Rattle.packed_code.specs.Meaning.{repeated, on_top, closed, bodies, top, Mea
 use Rattle.packed_code.specs.Whole.{IsRest, IsWhole}
 use Rattle.packed_code.proofs.BodyLemmas.{length-bodies, one_body, two_bodies}
 use Rattle.cycle_comp.specs.Entries.{IsEntry, AreEntries}
-
--- the first of two lists
-all_first : {A : Type 0} (P : A → Type 0) (xs ys : List A) → AllByRecursion P (xs ++ ys) → AllByRecursion P xs
-all_first P [] ys all = tt
-all_first P (x ∷ xs) ys all = (all.0, all_first P xs ys all.1)
-
-all_second : {A : Type 0} (P : A → Type 0) (xs ys : List A) → AllByRecursion P (xs ++ ys) → AllByRecursion P ys
-all_second P [] ys all = all
-all_second P (x ∷ xs) ys all = all_second P xs ys all.1
 
 module _ (P : Entry → Type 0) where
   -- what holds of the cycle for which a Run stands
@@ -35,7 +26,7 @@ module _ (P : Entry → Type 0) where
   of_loop : (times : ℕ) (body : List Entry) → 0 < times → AllByRecursion P (repeated times body) → AllByRecursion P body
   unfolding repeated
   of_loop zero body some all = absurd (omega (arith, some))
-  of_loop (suc n) body some all = all_first P body (repeated n body) all
+  of_loop (suc n) body some all = all_front P body (repeated n body) all
 
   -- what holds of all cycles of all bodies holds of each Run
   runs_all : (depth : ℕ) (begun : Bool) (code : List Instr) → IsRest depth begun code
@@ -46,10 +37,10 @@ module _ (P : Entry → Type 0) where
       let e : Entry = record { table = table; row = row; mark = mark } in
       let one = one_body depth (bodies code) (length-bodies depth false code rest.2) in
       let whole = subst (λ (bs : List (List Entry)). AllByRecursion (AllByRecursion P) (on_top (replicate times e) bs)) one.are all in (
-        of_run times e rest.0 (all_first P (replicate times e) one.body whole.0),
+        of_run times e rest.0 (all_front P (replicate times e) one.body whole.0),
         runs_all depth false code rest.2
             (subst (λ (bs : List (List Entry)). AllByRecursion (AllByRecursion P) bs) (sym one.are)
-            (all_second P (replicate times e) one.body whole.0, whole.1)),
+            (all_back P (replicate times e) one.body whole.0, whole.1)),
       )
   runs_all depth begun (Loop times ∷ code) rest all =
       let two = two_bodies depth (bodies code) (length-bodies (suc depth) true code rest.3) in
@@ -57,8 +48,8 @@ module _ (P : Entry → Type 0) where
         tt,
         runs_all (suc depth) true code rest.3
             (subst (λ (bs : List (List Entry)). AllByRecursion (AllByRecursion P) bs) (sym two.are) (
-              of_loop times two.body rest.0 (all_first P (repeated times two.body) two.after whole.0),
-              (all_second P (repeated times two.body) two.after whole.0, whole.1),
+              of_loop times two.body rest.0 (all_front P (repeated times two.body) two.after whole.0),
+              (all_back P (repeated times two.body) two.after whole.0, whole.1),
             )),
       )
   runs_all depth begun (End ∷ code) rest all = (tt, runs_all (depth - 1) false code rest.2 all.1)

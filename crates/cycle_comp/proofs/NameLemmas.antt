@@ -10,12 +10,13 @@ use Rattle.std.proofs.lemmas.List.{length-append}
 use Rattle.std.proofs.lemmas.List.Folds.{list_all-append}
 use Rattle.text_bytes.specs.Bytes.{is_printable}
 use Rattle.text_bytes.specs.Limits.{longest_name}
+use Rattle.text_bytes.proofs.ListLemmas.{all_reverse}
 use Rattle.stil_ast.specs.Data.Forms.{is_optional_name, is_absent_or, is_range}
 use Rattle.stil_ast.specs.Data.Texts.{is_name, upwards, indices, indexed, names_with}
 use Rattle.stil_ast.specs.declared.name.IndexRange.{IndexRange}
 use Rattle.packed_code.specs.Conditions.{IsText, IsName}
 use Rattle.cycle_comp.proofs.EachLemmas.{all_weaker, all_map}
-use Rattle.cycle_comp.proofs.FoundLemmas.{all_below, reverse_all}
+use Rattle.cycle_comp.proofs.FoundLemmas.{all_below}
 
 -- a name has a byte at least, not too many, and each can be printed
 pub name_is : (name : List ℕ) → is_name name ≡ true → IsName name
@@ -100,7 +101,7 @@ indices_small r h =
       | inr down ↦
           subst (λ (b : Bool). AllByRecursion (λ (i : ℕ). i < 2 ^ 64) (cond b (upwards r.first (suc (r.last - r.first)))
           (reverse (upwards r.last (suc (r.first - r.last)))))) (sym down)
-          (reverse_all (λ (i : ℕ). i < 2 ^ 64) (upwards r.last (suc (r.first - r.last)))
+          (all_reverse (λ (i : ℕ). i < 2 ^ 64) (upwards r.last (suc (r.first - r.last)))
           (all_small r.last (suc (r.first - r.last)) (omega arith)))
     ]
 

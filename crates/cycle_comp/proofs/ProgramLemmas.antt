@@ -4,9 +4,9 @@ use Rattle.std.specs.Prelude.{slice_get, unwrap_or}
 use Rattle.std.specs.List.{flat_map, list_all, enumerate_from, AllByRecursion}
 use Rattle.std.specs.Option.{option_map_or}
 use Rattle.std.proofs.lemmas.List.{length-map, length-append, append-nil}
-use Rattle.std.proofs.lemmas.Option.{get_or_from_slice_get}
+use Rattle.std.proofs.lemmas.Option.{get_or_from_slice_get, slice_get_within}
 use Rattle.std.proofs.lemmas.Grind.{flat_map-append}
-use Rattle.text_bytes.proofs.ListLemmas.{all_append}
+use Rattle.text_bytes.proofs.ListLemmas.{all_append, all_got}
 use Rattle.tester_types.specs.declared.wave.Wave.{Wave}
 use Rattle.tester_types.specs.declared.wave.Table.{Table}
 use Rattle.stil_ast.specs.Meaning.State.{Vector}
@@ -23,12 +23,10 @@ use Rattle.packed_code.specs.Cycles.{timed, period_of, exec_of}
 use Rattle.packed_code.specs.Conditions.{IsText, IsChain, IsInstr, IsExec, has_waves, waves_of, letters_of}
 use Rattle.packed_code.proofs.Lists.{all_each}
 use Rattle.wave_tables.specs.Waves.{AreInOrder}
-use Rattle.wave_tables.proofs.TableLemmas.{within_at}
 use Rattle.cycle_comp.specs.Entries.{IsEntry}
 use Rattle.cycle_comp.specs.Compiled.{chain_of, least_of, read_cycle, IsExecOf}
 use Rattle.cycle_comp.specs.Working.{IsInside, IsMade, AreMade}
 use Rattle.cycle_comp.proofs.EachLemmas.{all_weaker, all_map, all_cut, all_both}
-use Rattle.cycle_comp.proofs.FoundLemmas.{all_got}
 use Rattle.cycle_comp.proofs.TableLemmas.{IsGoodTable}
 use Rattle.cycle_comp.proofs.ChainLemmas.{IsGoodChain, code_chains}
 use Rattle.cycle_comp.proofs.RowLemmas.{IsGoodRow}
@@ -125,7 +123,7 @@ module _ (signals : ℕ) (tables : List Table) (rows : List (List ℕ)) where
         ap (waves_of tables) table
         ∙ ap (λ (o : Option Table). option_map_or (λ (t : Table). t.waves) o []) (stands is.runs.table is.low)
         ∙ of_table (slice_get e.tables is.runs.table) in (
-          within_at rows entry.row (row_of v) run.row,
+          slice_get_within rows entry.row (row_of v) run.row,
           ap (λ (ws : List Wave). has_waves ws 0 (letters_of rows entry.row)) waves
               ∙ ap (has_waves (waves_in (slice_get e.tables is.runs.table)) 0) row
               ∙ row_has (slice_get e.tables is.runs.table) 0 v.letters is.runs.waves,

@@ -5,6 +5,7 @@ use Rattle.std.specs.List.{list_all, enumerate_from, AllByRecursion}
 use Rattle.std.proofs.lemmas.Bool.{and_parts, leb-true}
 use Rattle.std.proofs.lemmas.Option.{none-some}
 use Rattle.text_bytes.specs.Limits.{most_waves, longest_period}
+use Rattle.text_bytes.proofs.ListLemmas.{all_got}
 use Rattle.stil_ast.specs.Data.BlockForms.{is_signal_waves, is_table_decl}
 use Rattle.stil_ast.specs.Data.Forms.{is_absent_or, is_line, is_named, is_quoted}
 use Rattle.stil_ast.specs.Data.Texts.{is_name}
@@ -22,7 +23,7 @@ use Rattle.packed_code.specs.Conditions.{IsName}
 use Rattle.cycle_comp.proofs.EachLemmas.{all_weaker, all_map, all_flat_map, all_both}
 use Rattle.burst_exec.proofs.WaveLemmas.{passed}
 use Rattle.cycle_comp.proofs.EventLemmas.{timed}
-use Rattle.cycle_comp.proofs.FoundLemmas.{first_all, all_under, all_got, numbered_at}
+use Rattle.cycle_comp.proofs.FoundLemmas.{first_all, all_under, numbered_at}
 use Rattle.cycle_comp.proofs.WaveLemmas.{IsGoodWave, IsOwn, IsJudged, own_are, waves_are}
 use Rattle.cycle_comp.proofs.NameLemmas.{name_is}
 

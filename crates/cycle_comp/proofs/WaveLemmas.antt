@@ -6,6 +6,7 @@ use Rattle.std.proofs.lemmas.Bool.{and_parts, and_from, cases_Bool, eqb-true, eq
 use Rattle.std.proofs.lemmas.Option.{none-some}
 use Rattle.text_bytes.specs.Bytes.{is_character}
 use Rattle.text_bytes.specs.Limits.{most_events}
+use Rattle.text_bytes.proofs.ListLemmas.{all_reverse, all_numbered}
 use Rattle.stil_ast.specs.Data.BlockForms.{is_wave_decl, is_event, is_signal_waves}
 use Rattle.stil_ast.specs.Data.Forms.{is_sig_ref, is_line}
 use Rattle.stil_ast.specs.Data.Texts.{upwards}
@@ -25,7 +26,7 @@ use Rattle.packed_code.specs.Conditions.{EachBehind, IsEvent}
 use Rattle.cycle_comp.proofs.EachLemmas.{all_map, all_flat_map, all_filter_map, all_passing, all_both}
 use Rattle.burst_exec.proofs.WaveLemmas.{passed}
 use Rattle.cycle_comp.proofs.EventLemmas.{timed, events_each}
-use Rattle.cycle_comp.proofs.FoundLemmas.{first_all, found_all, reverse_all, any_at, all_numbered, all_below, fewer}
+use Rattle.cycle_comp.proofs.FoundLemmas.{first_all, found_all, any_at, all_below, fewer}
 
 -- a wave of so many signals whose events a period holds
 pub record IsGoodWave (signals period : ℕ) (w : Wave) : Type 0 where
@@ -140,7 +141,7 @@ module _ {V : Type 0} (t : Timed V) where
         let made : Wave = record { signal = s; letter = c; events = events_of t.times t.vars t.place c w } in
         let same : made ≡ wave = cc in
         let here = found_all (IsJudged table period all) (defines s c) (reverse all) w
-        (reverse_all (IsJudged table period all) all judged) found in
+        (all_reverse (IsJudged table period all) all judged) found in
         let timely = in_time w s c here.0 found here.1 in
         subst (IsGoodWave signals (nat_abs period)) same (record {
           signal = low;

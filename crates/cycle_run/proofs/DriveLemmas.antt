@@ -3,6 +3,7 @@ use Rattle.std.proofs.Common.{◌≡◌, ℕ, zero, suc, ◌+◌, ◌<◌, Bool,
 use Rattle.std.specs.Prelude.{◌⊎◌}
 use Rattle.std.specs.List.{AllByRecursion}
 use Rattle.std.proofs.lemmas.Bool.{or_cases}
+use Rattle.text_bytes.proofs.ListLemmas.{all_filter}
 use Rattle.tester_types.specs.declared.wave.Push.{Push}
 use Rattle.tester_types.specs.declared.level.Drive.{Drive}
 use Rattle.tester_types.specs.declared.cycle.Moment.{Moment}
@@ -13,7 +14,6 @@ use Rattle.die_sim.specs.Moment.{AreDrives, IsInputBind}
 use Rattle.die_sim.specs.Socket.{CanDrive}
 use Rattle.site_meaning.specs.Playing.{handed, is_driven, driven}
 use Rattle.cycle_run.specs.Step.{Rises, IsMomentOf}
-use Rattle.site_meaning.proofs.AllLemmas.{All-filter}
 
 -- ---- elements of lists
 
@@ -38,7 +38,7 @@ rises_filtered p [] rises = tt
 rises_filtered {A} p (x ∷ xs) rises = by (p x) (rises_filtered p xs rises.1)
   where
     by : (b : Bool) → Rises (filter p xs) → Rises (cond b (x ∷ filter p xs) (filter p xs))
-    by true rest = (All-filter (λ (next : ℕ × A). x.0 < next.0) p xs rises.0, rest)
+    by true rest = (all_filter (λ (next : ℕ × A). x.0 < next.0) p xs rises.0, rest)
     by false rest = rest
 
 one_more : (k : ℕ) → suc k + 1 ≡ suc (k + 1)

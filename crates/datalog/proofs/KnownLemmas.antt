@@ -15,11 +15,11 @@ use Rattle.strobe_check.specs.Entry.{Entry, fail_at}
 use Rattle.strobe_check.specs.Extent.{Extent, extents}
 use Rattle.strobe_check.specs.Fails.{meets, fail_of, fails_of, at_place, bound_signals, fails}
 use Rattle.strobe_check.proofs.PlaceLemmas.{bound_from-below}
-use Rattle.text_bytes.proofs.ListLemmas.{all_append}
+use Rattle.text_bytes.proofs.ListLemmas.{all_append, all_from}
 use Rattle.site_meaning.specs.Playing.{Stand, Going, Along, Whose, PlayedMoment, PlayedCycle, is_bound, bound_of, along_of, after_moment, entry_of, entries_in, moments_in, moments_played, whose_next, played_cycle, after_cycle, starting}
 use Rattle.site_meaning.specs.Part.{Part, lot_in, order_in, stand_for}
 use Rattle.site_meaning.specs.Trials.{Batch, Cut, uncut, live, touch, Lost, Outcome, played, after_cycles, fails_in, has_fails, in_first, pieces, of_exec, tried, execs_of, more_in, batches_of, cycles_in, ended, blamed, before_order, by_plan, comes_first, is_hit, behind_cycle, lost_at, reached, touched, with_cut, trial}
-use Rattle.site_meaning.proofs.AllLemmas.{All-weaker, All-of_any, All-map, All-flat_map, All-take}
+use Rattle.site_meaning.proofs.AllLemmas.{All-of_any, All-map, All-flat_map, All-take}
 
 -- ---- the fails of a cycle
 
@@ -53,7 +53,7 @@ place_fails : (signals place signal : ℕ) (entries : List Entry) → signal < s
     → AllByRecursion (λ (fail : Fail). fail.signal < signals) (at_place place (fails_of signal entries))
 place_fails signals place signal entries low =
     all_at_place (λ (fail : Fail). fail.signal < signals) place (fails_of signal entries)
-    (All-weaker (λ (fail : ℕ × Fail). fail.1.signal ≡ signal) (λ (fail : ℕ × Fail). fail.1.signal < signals)
+    (all_from (λ (fail : ℕ × Fail). fail.1.signal ≡ signal) (λ (fail : ℕ × Fail). fail.1.signal < signals)
     (λ fail is. omega (arith, is, low)) (fails_of signal entries)
     (signal_fails signal (extents signal (enumerate_from 0 entries))))
 
@@ -65,7 +65,7 @@ fails_known bound entries =
     All-flat_map IsLow at (range_with_len 0 (length entries))
     (All-of_any (λ (place : ℕ). AllByRecursion IsLow (at place)) (range_with_len 0 (length entries))
     (λ place. All-flat_map IsLow (λ (signal : ℕ). at_place place (fails_of signal entries)) (bound_signals bound)
-    (All-weaker (λ (signal : ℕ). signal < length bound)
+    (all_from (λ (signal : ℕ). signal < length bound)
     (λ (signal : ℕ). AllByRecursion IsLow (at_place place (fails_of signal entries)))
     (λ signal low. place_fails (length bound) place signal entries low) (bound_signals bound) low_signals)))
   where
@@ -195,7 +195,7 @@ ended_known : (device : Device) (batches : List Batch) → AllByRecursion (IsKno
 unfolding fails_in
 ended_known device batches all =
     All-flat_map (λ (fail : Fail). fail.signal < length device.binds) (λ (cycle : PlayedCycle). cycle.fails) (cycles_in batches)
-    (All-weaker (IsKnownCycle device) (λ (cycle : PlayedCycle). AreKnown device cycle.fails) (λ cycle known. known.fails_are)
+    (all_from (IsKnownCycle device) (λ (cycle : PlayedCycle). AreKnown device cycle.fails) (λ cycle known. known.fails_are)
     (cycles_in batches) (cycles_known device batches all))
 
 -- those of a try that no contact or live stop cut short

@@ -2,6 +2,7 @@
 use Rattle.std.proofs.Common.{◌≡◌, ℕ, ◌<◌, List, [], ◌∷◌, length, All, sym, ap, ◌∙◌, subst, arith}
 use Rattle.std.specs.List.{AllByRecursion}
 use Rattle.std.proofs.lemmas.List.{length-map, get_or-map}
+use Rattle.text_bytes.proofs.ListLemmas.{all_from}
 use Rattle.tester_types.specs.declared.record.Fail.{Fail}
 use Rattle.tester_types.specs.declared.record.Record.{Record}
 use Rattle.tester_types.specs.declared.record.Trial.{Trial}
@@ -9,14 +10,13 @@ use Rattle.tester_types.specs.Records.{SiteRecords, records_of}
 use Rattle.packed_code.proofs.Lists.{all_at}
 use Rattle.die_sim.specs.Die.{Image}
 use Rattle.plan_rows.specs.Rows.{sites_of, dies_at}
+use Rattle.plan_rows.proofs.RowLemmas.{sites_of-within}
 use Rattle.lot_plan.specs.Bound.{Bound}
 use Rattle.lot_plan.specs.Refusal.{IsBound}
-use Rattle.lot_plan.proofs.PlanLemmas.{sites_of-within}
 use Rattle.lot_plan.proofs.GroupLemmas.{site-below}
 use Rattle.site_meaning.specs.Part.{part_of, stand_for}
 use Rattle.site_meaning.specs.Trials.{cut_of, trial}
 use Rattle.site_meaning.specs.Records.{IsTrue, Sound, EndsSo}
-use Rattle.site_meaning.proofs.AllLemmas.{All-weaker}
 use Rattle.site_meaning.proofs.PartLemmas.{dies_in-part_of, image_in-part_of}
 use Rattle.floor_core.specs.Book.{at_site, empty_site}
 use Rattle.datalog.specs.Printable.{AreSound, IsKnownTrial, IsPrintable, IsPrintableAt, ArePrintable}
@@ -66,7 +66,7 @@ printable plan site entry bound there sound = record {
     die = subst (λ (n : ℕ). entry.die < length (dies_at n plan.rows)) (sym own) planned;
     tried = some_tries _ entry.trials sound.ending;
     known = λ k d within. all_at (IsKnownTrial plan.program) entry.trials k d
-        (All-weaker (IsTrue (part_of plan site) entry.die) (IsKnownTrial plan.program)
+        (all_from (IsTrue (part_of plan site) entry.die) (IsKnownTrial plan.program)
         (λ t true_try. known_try plan site entry.die t bound planned true_try) entry.trials sound.each) within;
   };
 }
@@ -84,7 +84,7 @@ site_printable : (plan : Bound) (site : ℕ) (entries : List Record) → IsBound
     → AllByRecursion (Sound (part_of plan site)) entries → All (IsPrintableAt plan.program plan site) entries
 site_printable plan site entries bound there each k d within =
     all_at (IsPrintableAt plan.program plan site) entries k d
-    (All-weaker (Sound (part_of plan site)) (IsPrintableAt plan.program plan site)
+    (all_from (Sound (part_of plan site)) (IsPrintableAt plan.program plan site)
     (λ entry sound. printable plan site entry bound there sound) entries each) within
 
 -- alone, at the site that it names

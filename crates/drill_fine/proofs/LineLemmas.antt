@@ -12,13 +12,13 @@ use Rattle.std.proofs.lemmas.List.Elements.{All-nil, All-cons}
 use Rattle.std.proofs.lemmas.List.Splits.{slice_split_at, length-slice_split}
 use Rattle.std.proofs.lemmas.List.Sums.{AllPass-from_list_all}
 use Rattle.text_bytes.specs.Limits.{longest_name}
+use Rattle.text_bytes.proofs.DigitLemmas.{digit_cases}
 use Rattle.bench_net.specs.Step.{Step, ends, bad, begins, delimiter_step}
 use Rattle.bench_net.specs.Line.{is_gap, is_name_byte, Lexeme, word, Spells, Form, input, output, gate, is_net, is_keyword, Says}
 use Rattle.bench_net.specs.Net.{Reads}
 use Rattle.bench_net.proofs.TextLemmas.{lines_first}
 use Rattle.drill_fine.specs.Texts.{register_line, net_head, net_text}
 use Rattle.drill_fine.specs.Nets.{net_at, register_with, register_form, drill_forms}
-use Rattle.line_texts.proofs.DigitLemmas.{digit_cases}
 use Rattle.drill_fine.proofs.NameLemmas.{net_all, net_length}
 
 -- the bytes of names are bytes of names

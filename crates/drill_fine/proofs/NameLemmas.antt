@@ -6,7 +6,7 @@ use Rattle.std.specs.Str.{bytes_eq}
 use Rattle.std.proofs.lemmas.Bool.{cases_Bool, and_from}
 use Rattle.std.proofs.lemmas.Fmt.{decimal_injective, length-decimal-le}
 use Rattle.std.proofs.lemmas.Slice.Eq.{bytes_eq-Decides}
-use Rattle.line_texts.proofs.DigitLemmas.{decimal_all}
+use Rattle.text_bytes.proofs.DigitLemmas.{decimal_all}
 use Rattle.drill_fine.specs.Nets.{net_at}
 
 -- what holds of `d`, `f` and each digit holds of the bytes of a net's name

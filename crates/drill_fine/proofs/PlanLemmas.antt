@@ -14,13 +14,13 @@ use Rattle.text_bytes.specs.Bytes.{is_digit, is_printing, is_printable}
 use Rattle.text_bytes.specs.Numbers.{are_digits, number_of}
 use Rattle.text_bytes.specs.Limits.{longest_name}
 use Rattle.text_bytes.proofs.Spans.{list_any-not}
+use Rattle.text_bytes.proofs.DigitLemmas.{decimal_all, digit_cases}
 use Rattle.plan_rows.specs.Words.{is_text, net_of}
 use Rattle.plan_rows.specs.Judging.{judge, plan_of}
 use Rattle.plan_rows.specs.Plan.{HasRecords, IsPlan}
 use Rattle.plan_rows.specs.Rows.{sites_of}
 use Rattle.drill_fine.specs.Texts.{die_rows, plan_text}
 use Rattle.drill_fine.specs.Rows.{last_net, die_record, drill_records, drill_rows}
-use Rattle.line_texts.proofs.DigitLemmas.{decimal_all, digit_cases}
 
 -- a number needs no quotes
 digits_plain : (n : ℕ) → n ≤ 1000 → list_any (needs_byte default_writer) (decimal n) ≡ false

@@ -3,6 +3,7 @@ use Rattle.std.proofs.Common.{◌≡◌, ℕ, ◌<◌, ◌++◌, List, [], ◌�
 use Rattle.std.specs.List.{AllZip, AllByRecursion}
 use Rattle.std.proofs.lemmas.Option.{slice_get-map, get_or_from_slice_get}
 use Rattle.text_bytes.specs.Limits.{deepest_calls}
+use Rattle.text_bytes.proofs.ListLemmas.{all_front}
 use Rattle.packed_code.specs.declared.instr.Entry.{Entry}
 use Rattle.packed_code.specs.declared.instr.Instr.TheVariants.{Done}
 use Rattle.packed_code.specs.Meaning.{Means}
@@ -35,7 +36,6 @@ use Rattle.flat_fine.proofs.SignalLemmas.{names_are, signal_count, reference_mem
 use Rattle.flat_fine.proofs.ExecLemmas.{each_so, few_rows}
 use Rattle.flat_fine.proofs.LookupLemmas.{numbered_only}
 use Rattle.flat_fine.proofs.ScopeLemmas.{procedures_are}
-use Rattle.flat_cycles.proofs.ListLemmas.{all_front}
 use Rattle.flat_cycles.proofs.FitLemmas.{IsRun, runs_fit}
 use Rattle.flat_cycles.proofs.PlayLemmas.{IsTextExec, own, own_play, exec_less, one_part, unmarked}
 use Rattle.flat_cycles.proofs.RowLemmas.{letters_or_none, AreKnown, body_makes}

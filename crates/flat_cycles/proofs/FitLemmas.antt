@@ -1,7 +1,7 @@
 -- What is known of each Run of an executive.
-use Rattle.std.proofs.Common.{◌≡◌, ℕ, suc, ◌-◌, ◌<◌, Bool, true, false, ◌==◌, List, [], ◌∷◌, length, slice_get, Some, refl}
+use Rattle.std.proofs.Common.{◌≡◌, ℕ, suc, ◌-◌, ◌<◌, Bool, true, false, List, [], ◌∷◌, length, slice_get, Some}
 use Rattle.std.specs.List.{AllByRecursion}
-use Rattle.std.proofs.lemmas.Bool.{eq-eqb, or_left}
+use Rattle.text_bytes.proofs.ListLemmas.{all_got}
 use Rattle.packed_code.specs.declared.instr.Instr.{Instr}
 use Rattle.packed_code.specs.declared.instr.Instr.TheVariants.{Run, Loop, End, Done}
 use Rattle.packed_code.specs.Whole.{IsRest}
@@ -10,10 +10,9 @@ use Rattle.packed_code.specs.Conditions.{IsInstr, IsProgram, has_waves, waves_of
 use Rattle.packed_code.specs.Cycles.{exec_of}
 use Rattle.packed_code.proofs.Lists.{each_all}
 use Rattle.flat_parts.specs.Order.{run_table, run_row, tables_in, is_in, table_order, row_order}
-use Rattle.flat_parts.proofs.OrderLemmas.{in_part}
+use Rattle.flat_parts.proofs.OrderLemmas.{in_part, is_in-itself}
 use Rattle.flat_fine.proofs.ExecLemmas.{exec_fits, table_is_in, row_is_in}
 use Rattle.flat_fine.proofs.ScopeLemmas.{each_at}
-use Rattle.flat_cycles.proofs.ListLemmas.{all_there}
 use Rattle.flat_cycles.proofs.RunLemmas.{OfRun}
 
 -- a Run of an executive runs once at least, and names a table and a row of the code, each character of which has a wave
@@ -39,21 +38,17 @@ rest_times depth begun (End ∷ code) rest = (tt, rest_times (depth - 1) false c
 rest_times depth begun (Done ∷ []) rest = (tt, tt)
 rest_times depth begun (Done ∷ i ∷ code) rest = absurd (let e = rest.1 in cc)
 
--- a number alone
-itself : (n : ℕ) → is_in (n ∷ []) n ≡ true
-itself n = or_left (n == n) false (eq-eqb n n refl)
-
 module _ (code : Program) (exec : ℕ) (program : IsProgram code) (less : exec < length code.execs) where
   run_fits : (i : ℕ) (x : Instr) → slice_get (exec_of code exec).instrs i ≡ Some x → IsInstr code.tables code.rows x → SomeTimes x
       → OfRun (IsRun code exec) x
   run_fits i (Run table row mark times) at fits some =
       let instrs = (exec_of code exec).instrs in
-      let table_own = in_part run_table instrs i (Run table row mark times) table at (itself table) in
+      let table_own = in_part run_table instrs i (Run table row mark times) table at (is_in-itself table) in
       record {
         some = some;
         table_own = table_own;
         table_ordered = table_is_in code program exec less table table_own;
-        row_ordered = row_is_in code program exec less row (in_part run_row instrs i (Run table row mark times) row at (itself row));
+        row_ordered = row_is_in code program exec less row (in_part run_row instrs i (Run table row mark times) row at (is_in-itself row));
         has_table = fits.0;
         has_row = fits.1;
         waves = fits.3;
@@ -70,4 +65,4 @@ module _ (code : Program) (exec : ℕ) (program : IsProgram code) (less : exec <
       let fits = each_all (IsInstr code.tables code.rows) [] instrs exec_is.instrs in
       let some = rest_times 0 false instrs exec_is.whole.rest in
       each_at (OfRun (IsRun code exec)) instrs
-      (λ i x at. run_fits i x at (all_there (IsInstr code.tables code.rows) instrs i x fits at) (all_there SomeTimes instrs i x some at))
+      (λ i x at. run_fits i x at (all_got (IsInstr code.tables code.rows) instrs i x fits at) (all_got SomeTimes instrs i x some at))

@@ -1,5 +1,5 @@
--- Two lists item by item, what holds of all items, and the place of an item.
-use Rattle.std.proofs.Common.{◌≡◌, ℕ, zero, suc, ◌+◌, Bool, not, cond, List, [], ◌∷◌, ◌++◌, map, slice_get, Some, refl, ap, subst, ◌∙◌, arith}
+-- Two lists item by item, and the place of an item.
+use Rattle.std.proofs.Common.{◌≡◌, ℕ, zero, suc, ◌+◌, Bool, not, cond, List, [], ◌∷◌, map, slice_get, Some, refl, ap, ◌∙◌, arith}
 use Rattle.std.specs.List.{AllZip, AllByRecursion, enumerate_from, position_or_len}
 use Rattle.flat_fine.proofs.ListLemmas.{no_item, one_item}
 
@@ -28,22 +28,6 @@ same_place P R one two (x ∷ xs) [] so of all = absurd all
 same_place P R one two (x ∷ xs) (y ∷ ys) so of all =
     ap (λ (b : Bool). cond (not b) (1 + position_or_len two ys) 0) (so x y of.0 all.0)
     ∙ ap (λ (n : ℕ). cond (not (one x)) (1 + n) 0) (same_place P R one two xs ys so of.1 all.1)
-
--- ---- what holds of all items
-
-pub all_front : {A : Type 0} (P : A → Type 0) (xs ys : List A) → AllByRecursion P (xs ++ ys) → AllByRecursion P xs
-all_front P [] ys all = tt
-all_front P (x ∷ xs) ys all = (all.0, all_front P xs ys all.1)
-
-pub all_behind : {A : Type 0} (P : A → Type 0) (xs ys : List A) → AllByRecursion P (xs ++ ys) → AllByRecursion P ys
-all_behind P [] ys all = all
-all_behind P (x ∷ xs) ys all = all_behind P xs ys all.1
-
--- what holds of all holds of the one at a place
-pub all_there : {A : Type 0} (P : A → Type 0) (xs : List A) (i : ℕ) (x : A) → AllByRecursion P xs → slice_get xs i ≡ Some x → P x
-all_there P [] i x all e = absurd (no_item x e)
-all_there P (y ∷ xs) zero x all e = subst P (one_item y x e) all.0
-all_there P (y ∷ xs) (suc i) x all e = all_there P xs i x all.1 e
 
 -- ---- items with their numbers
 

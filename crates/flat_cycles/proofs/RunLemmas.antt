@@ -3,6 +3,7 @@ use Rattle.std.proofs.Common.{◌≡◌, ℕ, zero, suc, ◌<◌, ◌≤◌, Boo
 use Rattle.std.specs.List.{AllByRecursion}
 use Rattle.std.proofs.lemmas.Bool.{ltb-false}
 use Rattle.std.proofs.lemmas.List.{map-append}
+use Rattle.text_bytes.proofs.ListLemmas.{all_front, all_back}
 use Rattle.packed_code.specs.declared.instr.Entry.{Entry}
 use Rattle.packed_code.specs.declared.instr.Instr.{Instr}
 use Rattle.packed_code.specs.declared.instr.Instr.TheVariants.{Run, Loop, End, Done}
@@ -20,7 +21,6 @@ use Rattle.stil_ast.specs.Meaning.Resolved.{Scope, table_number, body_number, re
 use Rattle.stil_ast.specs.Meaning.Running as running
 use Rattle.stil_ast.specs.Meaning.Running.{Setting, Made, Ran, Here, then_run, pass_at, from_call, at_place, at_table, in_call, run_list}
 use Rattle.flat_parts.specs.Nests.{RunLines, Nest, nothing, run, loop, instrs_in, table_name, row_name, written_in}
-use Rattle.flat_cycles.proofs.ListLemmas.{all_front, all_behind}
 
 -- the cycles that instructions run, by how they nest
 abbrev pub nest_cycles : Nest → List Entry
@@ -60,7 +60,7 @@ of_nest P nothing all = tt
 of_nest P (run lines table row mark times rest) all = (all.0, of_nest P rest all.1)
 of_nest P (loop line times body rest) all = (
   of_nest P body (all_front (OfRun P) (instrs_in body) (End ∷ instrs_in rest) all.1),
-  of_nest P rest (all_behind (OfRun P) (instrs_in body) (End ∷ instrs_in rest) all.1).1,
+  of_nest P rest (all_back (OfRun P) (instrs_in body) (End ∷ instrs_in rest) all.1).1,
 )
 
 -- the vectors that were made

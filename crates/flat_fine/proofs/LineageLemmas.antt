@@ -3,8 +3,8 @@ use Rattle.std.proofs.Common.{◌≡◌, ℕ, suc, ℤ, ◌+◌, Bool, true, fal
 use Rattle.std.specs.Prelude.{◌==◌, slice_get, reverse, find}
 use Rattle.std.specs.List.{AllByRecursion, enumerate_from, flat_map, list_any}
 use Rattle.std.proofs.lemmas.Bool.{cases_Bool, ne_eqb, eq-eqb, and_left, or_from, false≢true}
-use Rattle.std.proofs.lemmas.List.{append-nil, reverse-append}
-use Rattle.text_bytes.proofs.ListLemmas.{all_append}
+use Rattle.std.proofs.lemmas.List.{append-nil}
+use Rattle.text_bytes.proofs.ListLemmas.{all_append, all_reverse, all_numbered}
 use Rattle.stil_ast.specs.Meaning.Signals.{Names}
 use Rattle.stil_ast.specs.Meaning.Members.{members}
 use Rattle.stil_ast.specs.Meaning.Tables.{Waveform, unnumbered, numbered, own_waveforms, inherited_by, inherited, put_in, lineage, own_of, waveforms, defines, waveform_of, later, last_of, own_period, period_text}
@@ -19,23 +19,10 @@ use Rattle.flat_fine.proofs.LookupLemmas.{above}
 use Rattle.flat_fine.proofs.ExecLemmas.{each_is}
 use Rattle.flat_fine.proofs.FaultLemmas.{none_first}
 
--- each in another order
-pub each_reverse : {A : Type 0} (P : A → Type 0) (xs : List A) → AllByRecursion P xs → AllByRecursion P (reverse xs)
-each_reverse P [] each = tt
-each_reverse P (x ∷ xs) each =
-    subst (AllByRecursion P) (sym (reverse-append (x ∷ []) xs))
-    (all_append P (reverse xs) (x ∷ []) (each_reverse P xs each.1) (each.0, tt))
-
 -- each that a function gives
 pub each_map : {A B : Type 0} (P : B → Type 0) (f : A → B) (xs : List A) → AllByRecursion (λ x. P (f x)) xs → AllByRecursion P (map f xs)
 each_map P f [] each = tt
 each_map P f (x ∷ xs) each = (each.0, each_map P f xs each.1)
-
--- each with its number
-pub each_counted : {A : Type 0} (P : A → Type 0) (from : ℕ) (xs : List A) → AllByRecursion P xs
-    → AllByRecursion (λ (p : ℕ × A). P p.1) (enumerate_from from xs)
-each_counted P from [] each = tt
-each_counted P from (x ∷ xs) each = (each.0, each_counted P (from + 1) xs each.1)
 
 each_from : {A : Type 0} (P : ℕ × A → Type 0) (from : ℕ) (xs : List A)
     → ((number : ℕ) (x : A) → slice_get xs number ≡ Some x → P (number + from, x)) → AllByRecursion P (enumerate_from from xs)
@@ -94,7 +81,7 @@ bare_of names k (s ∷ declarations) =
 pub own_of_table : (names : Names) (k : ℕ) (d : TableDecl) → AllByRecursion (IsOf k) (own_waveforms names k d)
 own_of_table names k d =
     each_map (IsOf k) numbered (enumerate_from 0 (unnumbered names k d))
-    (each_counted (IsOf k) 0 (unnumbered names k d) (bare_of names k d.waveforms))
+    (all_numbered (IsOf k) 0 (unnumbered names k d) (bare_of names k d.waveforms))
 
 -- what is found has what each has
 abbrev Found : (Waveform → Type 0) → Option Waveform → Type 0
@@ -125,7 +112,7 @@ other_stands k all w each other =
     none_any (λ (signal : ℕ). list_any (λ (letter : ℕ). is_waveform w (waveform_of all signal letter)) w.letters) w.signals (λ signal.
     none_any (λ (letter : ℕ). is_waveform w (waveform_of all signal letter)) w.letters (λ letter.
     other_waveform k w (waveform_of all signal letter) other
-    (found_has (IsOf k) (defines signal letter) (reverse all) (each_reverse (IsOf k) all each))))
+    (found_has (IsOf k) (defines signal letter) (reverse all) (all_reverse (IsOf k) all each))))
 
 module _ {V : Type 0} (t : Timed V) (period : ℤ) (k : ℕ) (all : List Waveform) (each : AllByRecursion (IsOf k) all) where
   -- no waveform is late in a table that has none of others

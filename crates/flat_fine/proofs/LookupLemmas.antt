@@ -21,11 +21,11 @@ use Rattle.stil_ast.specs.declared.executive.Burst.{Burst}
 use Rattle.stil_ast.specs.declared.executive.ExecDecl.{ExecDecl}
 use Rattle.stil_ast.specs.declared.fault.StilKind.TheVariants.{TooLarge, UnknownName}
 use Rattle.stil_ast.proofs.TextLemmas.{same-refl}
+use Rattle.flat_fine.proofs.FaultLemmas.{none_both}
 use Rattle.flat_parts.specs.FlatText.{executives}
 use Rattle.flat_parts.specs.FlatBlocks.{numbered, IsTiming, IsPattern, IsBurst, IsExecDecl, AreFlatBlocks}
 use Rattle.flat_fine.proofs.ListLemmas.{IsOnly, only_first, first_found, only_has, beside, besides, within, range_at, at_range, some_passes}
 use Rattle.flat_fine.proofs.NumberLemmas.{numbered_differ}
-use Rattle.flat_fine.proofs.FaultLemmas.{none_both}
 
 -- what is numbered is the only one of its name
 pub numbered_only : {A : Type 0} (R : ℕ → A → Type 0) (of : A → List ℕ) (front : List ℕ) (count : ℕ) (items : List A) (n : ℕ)

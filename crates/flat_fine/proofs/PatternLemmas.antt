@@ -3,6 +3,7 @@ use Rattle.std.proofs.Common.{◌≡◌, ℕ, ◌+◌, Bool, true, false, List, 
 use Rattle.std.specs.Prelude.{nat_lt, slice_get}
 use Rattle.std.specs.List.{AllByRecursion, list_any}
 use Rattle.text_bytes.specs.Limits.{deepest_calls, deepest_loops}
+use Rattle.text_bytes.proofs.ListLemmas.{all_front, all_back}
 use Rattle.packed_code.specs.declared.instr.Instr.{Instr}
 use Rattle.packed_code.specs.declared.instr.Instr.TheVariants.{Run, Loop, End, Done}
 use Rattle.packed_code.specs.Program.{Program}
@@ -35,23 +36,14 @@ RunsFit Fits nothing = Unit {0}
 RunsFit Fits (run lines table row mark times rest) = Fits table row × RunsFit Fits rest
 RunsFit Fits (loop line times body rest) = RunsFit Fits body × RunsFit Fits rest
 
--- each of the first of two lists, and of the second
-each_left : {A : Type 0} (P : A → Type 0) (xs ys : List A) → AllByRecursion P (xs ++ ys) → AllByRecursion P xs
-each_left P [] ys each = tt
-each_left P (x ∷ xs) ys each = (each.0, each_left P xs ys each.1)
-
-each_right : {A : Type 0} (P : A → Type 0) (xs ys : List A) → AllByRecursion P (xs ++ ys) → AllByRecursion P ys
-each_right P [] ys each = each
-each_right P (x ∷ xs) ys each = each_right P xs ys each.1
-
 -- what holds of each instruction holds where they nest
 pub nest_fits : (Fits : ℕ → ℕ → Type 0) (nest : Nest) (behind : List Instr) → AllByRecursion (RunFits Fits) (instrs_in nest ++ behind)
     → RunsFit Fits nest
 nest_fits Fits nothing behind each = tt
 nest_fits Fits (run lines table row mark times rest) behind each = (each.0, nest_fits Fits rest behind each.1)
 nest_fits Fits (loop line times body rest) behind each =
-    let inside = each_left (RunFits Fits) (instrs_in body ++ End ∷ instrs_in rest) behind each.1 in
-    let after : AllByRecursion (RunFits Fits) (End ∷ instrs_in rest) = each_right (RunFits Fits) (instrs_in body)
+    let inside = all_front (RunFits Fits) (instrs_in body ++ End ∷ instrs_in rest) behind each.1 in
+    let after : AllByRecursion (RunFits Fits) (End ∷ instrs_in rest) = all_back (RunFits Fits) (instrs_in body)
     (End ∷ instrs_in rest) inside in (
       nest_fits Fits body (End ∷ instrs_in rest) inside,
       nest_fits Fits rest [] (each_more (instrs_in rest) after.1),

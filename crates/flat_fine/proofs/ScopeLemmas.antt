@@ -1,8 +1,7 @@
 -- What the names in a pattern of a flat text mean: its signals, the tables of its Timing, and the rows' procedures.
 use Rattle.std.proofs.Common.{◌≡◌, ℕ, zero, suc, ◌<◌, true, List, [], ◌∷◌, length, take, map, Some, refl, ap, ◌∙◌, arith}
-use Rattle.std.specs.Prelude.{◌==◌, option_map, codes, slice_get}
+use Rattle.std.specs.Prelude.{option_map, codes, slice_get}
 use Rattle.std.specs.List.{AllByRecursion}
-use Rattle.std.proofs.lemmas.Bool.{eq-eqb, or_left}
 use Rattle.std.proofs.lemmas.List.{append-nil}
 use Rattle.std.proofs.lemmas.Option.{get_or_from_slice_get}
 use Rattle.text_bytes.proofs.ListLemmas.{slice_get-there}
@@ -23,7 +22,7 @@ use Rattle.stil_ast.proofs.TextLemmas.{same-refl}
 use Rattle.flat_parts.specs.Order.{run_table, run_row, tables_in, rows_in, is_in, table_order, row_order, number_in}
 use Rattle.flat_parts.specs.Nests.{table_name, row_name}
 use Rattle.flat_parts.specs.FlatBlocks.{IsNumberedTable, own_numbers, IsRowBody, AreFlatBlocks}
-use Rattle.flat_parts.proofs.OrderLemmas.{place_within, at_place, in_part}
+use Rattle.flat_parts.proofs.OrderLemmas.{place_within, at_place, in_part, is_in-itself}
 use Rattle.flat_fine.proofs.ListLemmas.{no_item, only_first, first_number, fits_behind, besides, some_passes}
 use Rattle.flat_fine.proofs.ExecLemmas.{few_rows, table_is_in, row_is_there, row_is_in, own_at}
 use Rattle.flat_fine.proofs.LookupLemmas.{numbered_only, IsFlatExec, tables_are, as_played}
@@ -41,10 +40,6 @@ pub each_at : {A : Type 0} (P : A → Type 0) (xs : List A) → ((number : ℕ) 
     → AllByRecursion P xs
 each_at P [] each = tt
 each_at P (x ∷ xs) each = (each 0 x refl, each_at P xs (λ number y at. each (suc number) y at))
-
--- the number alone
-itself : (n : ℕ) → is_in (n ∷ []) n ≡ true
-itself n = or_left (n == n) _ (eq-eqb n n refl)
 
 -- the rows' procedures
 pub procedures_are : (code : Program) (blocks : Blocks) (flat : AreFlatBlocks code blocks)
@@ -104,8 +99,8 @@ module _ (code : Program) (blocks : Blocks) (exec : ℕ) (e : ExecDecl) (program
       known : (number : ℕ) (i : Instr) → slice_get (exec_of code exec).instrs number ≡ Some i → RunFits (IsRunKnown scope code) i
       known number (Run table row mark times) at = record {
         table_known = table_known table (in_part run_table (exec_of code exec).instrs number (Run table row mark times) table at
-            (itself table));
-        row_known = row_known row (in_part run_row (exec_of code exec).instrs number (Run table row mark times) row at (itself row));
+            (is_in-itself table));
+        row_known = row_known row (in_part run_row (exec_of code exec).instrs number (Run table row mark times) row at (is_in-itself row));
       }
       known number (Loop times) at = tt
       known number End at = tt

@@ -25,12 +25,12 @@ use Rattle.stil_ast.specs.declared.timing.SignalWaves.{SignalWaves}
 use Rattle.stil_ast.specs.declared.timing.TableDecl.{TableDecl}
 use Rattle.stil_ast.specs.declared.fault.StilFault.{StilFault}
 use Rattle.stil_ast.specs.declared.fault.StilKind.TheVariants.{EventOutside, EventOrder}
+use Rattle.flat_fine.proofs.FaultLemmas.{none_both}
 use Rattle.expr_text.specs.Ratio.{Ratio}
 use Rattle.time_expr.specs.TimesOf.{times_of}
 use Rattle.flat_parts.specs.FlatBlocks.{time_text, IsEventDecl, IsSignalWaves}
 use Rattle.flat_fine.proofs.TimeLemmas.{time_is}
 use Rattle.flat_fine.proofs.SignalLemmas.{AreNames, reference_known}
-use Rattle.flat_fine.proofs.FaultLemmas.{none_both}
 
 -- what tables are judged with
 abbrev pub timed : (List ℕ → Result Ratio Met) → Names → Place → List TableDecl → Timed Ratio

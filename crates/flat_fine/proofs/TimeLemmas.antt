@@ -3,13 +3,12 @@ use Rattle.std.proofs.Common.{◌≡◌, ℕ, ℤ, pos, ◌*ℤ◌, unsigned_abs
 use Rattle.std.specs.Prelude.{decimal, nat_lt, if◌then◌else◌}
 use Rattle.std.specs.List.{list_all}
 use Rattle.std.proofs.lemmas.Bool.{lt-ltb, and_from}
-use Rattle.std.proofs.lemmas.Bool.Decides.{nat_tests}
 use Rattle.std.proofs.Math.Nat.{div-one}
 use Rattle.std.proofs.lemmas.Fmt.{decimal_by_steps, decimal_nonempty}
 use Rattle.std.proofs.lemmas.List.{append-nil}
-use Rattle.std.proofs.lemmas.List.Folds.{list_all-append}
 use Rattle.text_bytes.specs.Bytes.{is_digit}
 use Rattle.text_bytes.specs.Limits.{longest_period}
+use Rattle.text_bytes.proofs.DigitLemmas.{digit_is, decimal_all}
 use Rattle.stil_ast.specs.Data.Places.{Place}
 use Rattle.stil_ast.specs.Faults.Found.{on_line}
 use Rattle.stil_ast.specs.Meaning.Times.{Met, whole_at, time_at}
@@ -28,20 +27,9 @@ use Rattle.expr_text.proofs.ReadLemmas.{so_is_read}
 use Rattle.expr_text.proofs.ValueLemmas.{unit_value}
 use Rattle.flat_parts.specs.FlatBlocks.{time_text}
 
--- a digit of a number
-digit_is : (d : ℕ) → d < 10 → is_digit (48 + d) ≡ true
-unfolding is_digit
-digit_is d l = grind (arith, nat_tests)
-
 -- a number is written in digits
-pub are_digits : (n : ℕ) → n < 2 ^ 64 → list_all is_digit (decimal n) ≡ true
-are_digits n small =
-    decimal_by_steps (λ m ds. list_all is_digit ds ≡ true)
-    (λ m l. and_from (is_digit (48 + m)) true (digit_is m l) refl)
-    (λ m ds l h. list_all-append is_digit ds ((48 + m % 10) ∷ [])
-    ∙ and_from (list_all is_digit ds) (list_all is_digit ((48 + m % 10) ∷ [])) h
-    (and_from (is_digit (48 + m % 10)) true (digit_is (m % 10) (omega arith)) refl))
-    n small
+pub are_digits : (n : ℕ) → list_all is_digit (decimal n) ≡ true
+are_digits n = decimal_all is_digit digit_is n
 
 -- its digits spell it
 pub digits_spell : (n : ℕ) → n < 2 ^ 64 → digits_from 0 (decimal n) ≡ n
@@ -70,7 +58,7 @@ time_is_number n small = record {
   unit = Femtoseconds;
   spelled = refl;
   some = decimal_nonempty n small;
-  are_digits = are_digits n small;
+  are_digits = are_digits n;
   are_decimals = refl;
   is = refl;
 }

@@ -6,6 +6,7 @@ use Rattle.std.proofs.lemmas.Bool.{eqb-true, eqb-false, eq-eqb, ne_eqb, or_left,
 use Rattle.std.proofs.lemmas.List.Folds.{list_any-append}
 use Rattle.std.proofs.lemmas.List.Sums.{passes_at_first}
 use Rattle.std.proofs.lemmas.Option.{slice_get-get_or}
+use Rattle.text_bytes.proofs.ListLemmas.{length-filter-le}
 use Rattle.flat_parts.specs.Order.{is_in, firsts, number_in}
 
 -- ---- each number once
@@ -20,6 +21,10 @@ others_step : (same : Bool) (k m n : ℕ) (rest ns : List ℕ) → (k == m) ≡ 
 others_step true k m n rest ns e h so =
     so ∙ ap (λ (b : Bool). b || is_in ns n) (sym (ap (λ (x : ℕ). x == n) (eqb-true k m e) ∙ h))
 others_step false k m n rest ns e h so = ap (λ (b : Bool). (k == n) || b) so
+
+-- a number alone
+pub is_in-itself : (n : ℕ) → is_in (n ∷ []) n ≡ true
+is_in-itself n = or_left (n == n) false (eq-eqb n n refl)
 
 -- a number stays where another is taken out
 is_in-others : (ns : List ℕ) (m n : ℕ) → (m == n) ≡ false → is_in (filter (λ k. not (k == m)) ns) n ≡ is_in ns n
@@ -40,22 +45,12 @@ is_in-firsts (m ∷ ns) n = in_by (m == n) m n (firsts ns) ns refl (is_in-firsts
 
 -- ---- how many
 
-filter_by : {A : Type 0} (b : Bool) (x : A) (some xs : List A) → length some ≤ length xs
-    → length (cond b (x ∷ some) some) ≤ length (x ∷ xs)
-filter_by true x some xs h = omega (arith, h)
-filter_by false x some xs h = omega (arith, h)
-
--- no more pass a test than there are
-pub filter_shorter : {A : Type 0} (test : A → Bool) (xs : List A) → length (filter test xs) ≤ length xs
-filter_shorter test [] = omega arith
-filter_shorter test (x ∷ xs) = filter_by (test x) x (filter test xs) xs (filter_shorter test xs)
-
--- and no more come first
+-- no more come first than there are
 pub firsts_shorter : (ns : List ℕ) → length (firsts ns) ≤ length ns
 unfolding firsts
 firsts_shorter [] = omega arith
 firsts_shorter (n ∷ ns) =
-    omega (arith, filter_shorter (λ k. not (k == n)) (firsts ns), firsts_shorter ns)
+    omega (arith, length-filter-le (λ k. not (k == n)) (firsts ns), firsts_shorter ns)
 
 -- ---- places
 

@@ -11,12 +11,12 @@ use Rattle.std.proofs.lemmas.Slice.Eq.{bytes_eq-Decides}
 use Rattle.text_bytes.specs.Bytes.{is_digit, is_printable}
 use Rattle.text_bytes.specs.Limits.{longest_name}
 use Rattle.text_bytes.specs.Numbers.{with_digit, number_of, number_by}
+use Rattle.text_bytes.proofs.DigitLemmas.{decimal_all, digit_is}
 use Rattle.stil_form.specs.Lexeme.{name}
 use Rattle.stil_form.specs.Words.{fits_name, named_by}
 use Rattle.stil_ast.specs.Data.Texts.{same}
 use Rattle.block_forms.specs.Heads.{is_declared, count_under, under}
 use Rattle.packed_code.specs.Conditions.{IsText, IsName}
-use Rattle.line_texts.proofs.DigitLemmas.{decimal_all}
 
 -- a name in quotes that fits is that name
 pub named_is : (called : List ℕ) → fits_name called ≡ true → named_by (name called) ≡ Some called
@@ -78,12 +78,6 @@ number_of-decimal n small =
     fold-append with_digit 0 ds ((48 + m % 10) ∷ [])
     ∙ ap (λ k. with_digit k (48 + m % 10)) (read (omega (arith, wide))) ∙ digit_read m wide)
     n small small
-
--- and they are digits
-digit_is : (d : ℕ) → d < 10 → is_digit (48 + d) ≡ true
-unfolding is_digit
-digit_is d few =
-    and_from (nat_le 48 (48 + d)) (nat_le (48 + d) 57) (le-leb 48 (48 + d) (omega arith)) (le-leb (48 + d) 57 (omega (arith, few)))
 
 pub number_by-decimal : (n : ℕ) → n < 2 ^ 64 → number_by (decimal n) ≡ Some n
 number_by-decimal n small =

@@ -11,6 +11,7 @@ use Rattle.flat_parts.specs.FlatBlocks.{numbered}
 use Rattle.flat_said.specs.FlatSaid.{burst_said, title_pieces, exec_said}
 use Rattle.flat_said.proofs.SaysLemmas.{Says, says_as, says_then, says_statement, says_braced, says_space, says_line, heads_nil, heads_name_blank, heads_word_blank, heads_last_name, IsQuotable, IsPlainWord, plain_word_is}
 use Rattle.flat_said.proofs.WordLemmas.{t_is, b_is, p_is}
+use Rattle.flat_said.proofs.TimingLemmas.{timing_word}
 
 -- ---- words
 
@@ -25,10 +26,6 @@ list_word = plain_word_is (codes "PatList") refl
 exec_word : IsPlainWord (codes "PatternExec")
 unfolding is_word
 exec_word = plain_word_is (codes "PatternExec") refl
-
-timing_word : IsPlainWord (codes "Timing")
-unfolding is_word
-timing_word = plain_word_is (codes "Timing") refl
 
 -- ---- bursts
 

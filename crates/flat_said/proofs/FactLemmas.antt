@@ -5,6 +5,7 @@ use Rattle.std.specs.List.{AllByRecursion, list_all, flat_map, slice_get, range_
 use Rattle.std.specs.Option.{option_map_or}
 use Rattle.std.proofs.lemmas.Bool.{and_parts}
 use Rattle.text_bytes.specs.Bytes.{is_printable}
+use Rattle.text_bytes.proofs.ListLemmas.{all_from, all_filter}
 use Rattle.tester_types.specs.declared.wave.Table.{Table}
 use Rattle.packed_code.specs.declared.instr.Instr.{Instr}
 use Rattle.packed_code.specs.declared.instr.Instr.TheVariants.{Run, Loop, End, Done}
@@ -14,10 +15,11 @@ use Rattle.packed_code.specs.Letters.{is_place}
 use Rattle.packed_code.specs.Program.{Exec, Program}
 use Rattle.packed_code.specs.Cycles.{exec_of}
 use Rattle.packed_code.specs.Conditions.{IsSignal, IsWave, IsTable, IsRow, IsInstr, IsExec, IsProgram}
+use Rattle.packed_code.proofs.Lists.{all_at}
 use Rattle.flat_parts.specs.Order.{run_table, tables_in, firsts, table_order, row_order}
 use Rattle.flat_parts.specs.FlatText.{name_of, is_plain, has_plain_names}
 use Rattle.flat_parts.specs.FlatBlocks.{no_table, table_numbered}
-use Rattle.flat_said.proofs.ListLemmas.{all_from, all_flat, all_filter, all_at, all_or, all_behind, all_both, all_tested, all_range}
+use Rattle.flat_said.proofs.ListLemmas.{all_flat, all_or, all_behind, all_both, all_tested, all_range}
 use Rattle.flat_said.proofs.SaysLemmas.{IsQuotable}
 use Rattle.flat_said.proofs.WordLemmas.{name_is}
 use Rattle.flat_said.proofs.TimingLemmas.{IsSayableWave, IsSayableTable}

@@ -1,47 +1,22 @@
 -- Lists whose items are each as they should be, and what is made of each item in turn.
-use Rattle.std.proofs.Common.{◌≡◌, ℕ, zero, suc, ◌+◌, ◌<◌, Bool, true, false, not, cond, List, [], ◌∷◌, ◌++◌, length, get_or, Some, refl, ap, ◌∙◌, arith}
-use Rattle.std.specs.List.{AllByRecursion, list_all, list_any, filter, flat_map, range_with_len, slice_get}
-use Rattle.std.proofs.lemmas.Bool.{and_parts, and_from, not-true, or_from}
+use Rattle.std.proofs.Common.{◌≡◌, ℕ, zero, suc, ◌+◌, ◌<◌, Bool, true, false, not, cond, List, [], ◌∷◌, ◌++◌, get_or, refl, ap, ◌∙◌, arith}
+use Rattle.std.specs.List.{AllByRecursion, list_all, list_any, filter, flat_map, range_with_len}
+use Rattle.std.proofs.lemmas.Bool.{and_parts, not-true, or_from}
+use Rattle.text_bytes.proofs.ListLemmas.{all_append}
 use Rattle.packed_code.specs.Conditions.{EachBehind}
 
 -- ---- what holds of each item
-
--- what follows for each
-pub all_from : {X : Type 0} (P Q : X → Type 0) → ((x : X) → P x → Q x) → (xs : List X) → AllByRecursion P xs → AllByRecursion Q xs
-all_from P Q each [] all = tt
-all_from P Q each (x ∷ xs) all = (each x all.0, all_from P Q each xs all.1)
 
 -- what holds of any
 pub all_any : {X : Type 0} (Q : X → Type 0) → ((x : X) → Q x) → (xs : List X) → AllByRecursion Q xs
 all_any Q each [] = tt
 all_any Q each (x ∷ xs) = (each x, all_any Q each xs)
 
--- one behind another
-pub all_append : {X : Type 0} (P : X → Type 0) (xs ys : List X) → AllByRecursion P xs → AllByRecursion P ys → AllByRecursion P (xs ++ ys)
-all_append P [] ys a b = b
-all_append P (x ∷ xs) ys a b = (a.0, all_append P xs ys a.1 b)
-
 -- what is made of each item
 pub all_flat : {X Y : Type 0} (P : Y → Type 0) (f : X → List Y) (xs : List X) → AllByRecursion (λ x. AllByRecursion P (f x)) xs
     → AllByRecursion P (flat_map f xs)
 all_flat P f [] all = tt
 all_flat P f (x ∷ xs) all = all_append P (f x) (flat_map f xs) all.0 (all_flat P f xs all.1)
-
-all_kept : {X : Type 0} (P : X → Type 0) (b : Bool) (x : X) (xs : List X) → P x → AllByRecursion P xs
-    → AllByRecursion P (cond b (x ∷ xs) xs)
-all_kept P true x xs one all = (one, all)
-all_kept P false x xs one all = all
-
--- those that are kept
-pub all_filter : {X : Type 0} (P : X → Type 0) (test : X → Bool) (xs : List X) → AllByRecursion P xs → AllByRecursion P (filter test xs)
-all_filter P test [] all = tt
-all_filter P test (x ∷ xs) all = all_kept P (test x) x (filter test xs) all.0 (all_filter P test xs all.1)
-
--- the item at an index
-pub all_at : {X : Type 0} (P : X → Type 0) (xs : List X) (i : ℕ) (d : X) → AllByRecursion P xs → i < length xs → P (get_or xs i d)
-all_at P [] i d all lt = absurd (omega arith)
-all_at P (x ∷ xs) zero d all lt = all.0
-all_at P (x ∷ xs) (suc i) d all lt = all_at P xs i d all.1 (omega arith)
 
 -- the item at an index, or the default
 pub all_or : {X : Type 0} (P : X → Type 0) (xs : List X) (i : ℕ) (d : X) → AllByRecursion P xs → P d → P (get_or xs i d)
@@ -80,14 +55,6 @@ none_passes test (x ∷ xs) h =
     let parts = and_parts (not (test x)) (list_all (λ y. not (test y)) xs) h in
     or_from (test x) (list_any test xs) (not-true (test x) parts.0) (none_passes test xs parts.1)
 
--- a weaker test
-pub passes_from : {X : Type 0} (p q : X → Bool) → ((x : X) → p x ≡ true → q x ≡ true) → (xs : List X) → list_all p xs ≡ true
-    → list_all q xs ≡ true
-passes_from p q each [] h = refl
-passes_from p q each (x ∷ xs) h =
-    let parts = and_parts (p x) (list_all p xs) h in
-    and_from (q x) (list_all q xs) (each x parts.0) (passes_from p q each xs parts.1)
-
 -- ---- what is made of each item
 
 -- the same of each, the same in all
@@ -106,9 +73,3 @@ pub flat_kept : {X Y : Type 0} (f : X → List Y) (test : X → Bool) (xs : List
 flat_kept f test [] = refl
 flat_kept f test (x ∷ xs) =
     ap (λ ys. cond (test x) (f x) [] ++ ys) (flat_kept f test xs) ∙ kept_by f (test x) x (filter test xs)
-
--- an item that is there
-pub get_there : {X : Type 0} (xs : List X) (i : ℕ) (d : X) → i < length xs → slice_get xs i ≡ Some (get_or xs i d)
-get_there [] i d lt = absurd (omega arith)
-get_there (x ∷ xs) zero d lt = refl
-get_there (x ∷ xs) (suc i) d lt = get_there xs i d (omega arith)

@@ -5,6 +5,7 @@ use Rattle.std.specs.List.{AllByRecursion, flat_map, list_all, range_with_len}
 use Rattle.std.proofs.lemmas.Bool.{and_parts, or_cases, both_ways}
 use Rattle.std.proofs.lemmas.List.{drop_more, drop_all, get_or_past, length-drop}
 use Rattle.text_bytes.specs.Bytes.{is_word, is_character}
+use Rattle.text_bytes.proofs.ListLemmas.{all_from}
 use Rattle.tester_types.specs.Printing.{quoted}
 use Rattle.stil_lex.specs.Bytes.{double_quote}
 use Rattle.packed_code.specs.Letters.{is_place}
@@ -13,7 +14,7 @@ use Rattle.flat_parts.specs.Order.{row_order}
 use Rattle.flat_parts.specs.FlatText.{with_feed, text_of, name_of, letter_item, signal_item, letter_items, row_line, row_lines}
 use Rattle.flat_parts.specs.FlatBlocks.{Given, given_from, row_numbered}
 use Rattle.flat_said.specs.FlatSaid.{gift_said, row_said, rows_said}
-use Rattle.flat_said.proofs.ListLemmas.{all_from, all_any}
+use Rattle.flat_said.proofs.ListLemmas.{all_any}
 use Rattle.flat_said.proofs.SaysLemmas.{Says, says_as, says_then, says_each, says_statement, says_braced, says_space, says_line, heads_nil, heads_name, heads_sign, equals_is, heads_name_blank, heads_word_blank, heads_last_word, IsQuotable, IsPlainWord, plain_word_is}
 use Rattle.flat_said.proofs.WordLemmas.{character_is, r_is}
 use Rattle.flat_said.proofs.BlockLemmas.{says_lines, says_line_each}

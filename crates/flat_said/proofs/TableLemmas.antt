@@ -3,6 +3,7 @@ use Rattle.std.proofs.Common.{◌≡◌, ℕ, true, List, [], ◌∷◌, ◌++�
 use Rattle.std.specs.Prelude.{codes, decimal}
 use Rattle.std.specs.List.{AllByRecursion, flat_map}
 use Rattle.text_bytes.specs.Bytes.{is_word, is_character}
+use Rattle.text_bytes.proofs.ListLemmas.{all_from}
 use Rattle.tester_types.specs.declared.wave.Event.{Event}
 use Rattle.tester_types.specs.declared.wave.Wave.{Wave}
 use Rattle.stil_lex.specs.Bytes.{double_quote}
@@ -11,7 +12,7 @@ use Rattle.packed_code.specs.Program.{Program}
 use Rattle.line_texts.specs.Said.{each_said}
 use Rattle.flat_parts.specs.FlatText.{with_feed, text_of, name_of, direction_word, act_letter, signal_line, signal_lines, event_item, wave_line}
 use Rattle.flat_said.specs.FlatSaid.{signal_said, signals_said, event_said, wave_said}
-use Rattle.flat_said.proofs.ListLemmas.{all_from, all_any}
+use Rattle.flat_said.proofs.ListLemmas.{all_any}
 use Rattle.flat_said.proofs.SaysLemmas.{Says, says_as, says_then, says_each, says_statement, says_braced, says_space, says_line, heads_nil, heads_blank, heads_text, heads_name_blank, heads_word_blank, heads_last_word, IsQuotable, IsPlainWord, plain_word_is}
 use Rattle.flat_said.proofs.WordLemmas.{direction_is, act_is, character_is, time_is}
 use Rattle.flat_said.proofs.BlockLemmas.{says_lines, says_line_each}

@@ -3,6 +3,7 @@ use Rattle.std.proofs.Common.{◌≡◌, ℕ, zero, suc, ◌<◌, true, List, []
 use Rattle.std.specs.Prelude.{codes}
 use Rattle.std.specs.List.{AllByRecursion, flat_map}
 use Rattle.text_bytes.specs.Bytes.{is_word}
+use Rattle.text_bytes.proofs.ListLemmas.{all_from}
 use Rattle.stil_lex.specs.Tokens.{spelled, Reads}
 use Rattle.stil_form.specs.Lexeme.{lexemes_of}
 use Rattle.packed_code.specs.declared.instr.Instr.TheVariants.{Done}
@@ -17,7 +18,7 @@ use Rattle.flat_parts.specs.Nests.{Nest, nothing, instrs_in}
 use Rattle.flat_parts.proofs.NestLemmas.{IsRest-nests}
 use Rattle.flat_said.specs.FlatSaid.{signals_said, timing_said, rows_said, pattern_said, burst_said, exec_said}
 use Rattle.flat_said.specs.Laws.{AreNests, flat_pieces, flat_tokens}
-use Rattle.flat_said.proofs.ListLemmas.{all_from, all_any, all_behind, all_range}
+use Rattle.flat_said.proofs.ListLemmas.{all_any, all_behind, all_range}
 use Rattle.flat_said.proofs.SaysLemmas.{Says, says_as, says_then, says_statement, says_line, Heads, heads_word, heads_word_blank, heads_sign, heads_last_word, dot_is, IsPlainWord, plain_word_is}
 use Rattle.flat_said.proofs.BlockLemmas.{text_of-cons, text_of-append, says_line_each, says_lines_each}
 use Rattle.flat_said.proofs.TableLemmas.{signals_say}

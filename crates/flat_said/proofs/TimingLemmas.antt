@@ -3,7 +3,9 @@ use Rattle.std.proofs.Common.{◌≡◌, ℕ, ◌<◌, Bool, true, false, cond, 
 use Rattle.std.specs.Prelude.{codes, decimal}
 use Rattle.std.specs.List.{AllByRecursion, flat_map, range_with_len}
 use Rattle.std.specs.Option.{option_map_or}
+use Rattle.std.proofs.lemmas.Option.{slice_get-get_or}
 use Rattle.text_bytes.specs.Bytes.{is_word, is_character}
+use Rattle.text_bytes.proofs.ListLemmas.{all_from, all_filter}
 use Rattle.tester_types.specs.declared.wave.Wave.{Wave}
 use Rattle.tester_types.specs.declared.wave.Table.{Table}
 use Rattle.stil_lex.specs.Bytes.{double_quote}
@@ -13,7 +15,7 @@ use Rattle.flat_parts.specs.Order.{is_in, tables_in, table_order}
 use Rattle.flat_parts.specs.FlatText.{text_of, name_of, opening, period_line, wave_line, waveform_lines, table_lines, own_table, timing_lines}
 use Rattle.flat_parts.specs.FlatBlocks.{no_table, table_numbered, own_numbers}
 use Rattle.flat_said.specs.FlatSaid.{wave_said, table_said, timing_said}
-use Rattle.flat_said.proofs.ListLemmas.{all_from, all_filter, flat_same, flat_kept, get_there}
+use Rattle.flat_said.proofs.ListLemmas.{flat_same, flat_kept}
 use Rattle.flat_said.proofs.SaysLemmas.{Says, says_as, says_then, says_each, says_statement, says_line, heads_nil, heads_text, heads_name_blank, heads_word_blank, IsQuotable, IsPlainWord, plain_word_is}
 use Rattle.flat_said.proofs.WordLemmas.{time_is, w_is, t_is}
 use Rattle.flat_said.proofs.BlockLemmas.{text_of-cons, text_of-nil, text_of-flat, says_lines, says_line_each}
@@ -31,7 +33,7 @@ table_word : IsPlainWord (codes "WaveformTable")
 unfolding is_word
 table_word = plain_word_is (codes "WaveformTable") refl
 
-timing_word : IsPlainWord (codes "Timing")
+pub timing_word : IsPlainWord (codes "Timing")
 unfolding is_word
 timing_word = plain_word_is (codes "Timing") refl
 
@@ -94,7 +96,7 @@ own_is : (code : Program) (exec number : ℕ) → get_or (table_order code) numb
 own_is code exec number there =
     own_by (names_it code exec number) (table_lines code number (table_numbered code number)) _
     (ap (λ table. option_map_or (table_lines code number) table [])
-    (get_there code.tables (get_or (table_order code) number 0) no_table there))
+    (slice_get-get_or code.tables (get_or (table_order code) number 0) no_table there))
 
 -- the Timing of an executive
 pub timing_says : (code : Program) (exec : ℕ)

@@ -5,6 +5,8 @@ use Rattle.std.specs.List.{list_all}
 use Rattle.std.proofs.lemmas.Bool.{and_from, or_left, false≢true}
 use Rattle.std.proofs.lemmas.List.Folds.{list_all-append}
 use Rattle.text_bytes.specs.Bytes.{is_blank, is_word, is_digit, is_character, is_printable}
+use Rattle.text_bytes.proofs.ListLemmas.{passes_from}
+use Rattle.text_bytes.proofs.DigitLemmas.{decimal_passes, decimal_some}
 use Rattle.tester_types.specs.declared.signal.Direction.{Direction}
 use Rattle.tester_types.specs.declared.signal.Direction.TheVariants as direction
 use Rattle.tester_types.specs.declared.wave.Act.{Act}
@@ -17,8 +19,6 @@ use Rattle.stil_lex.specs.Bytes.{may_be_quoted, double_quote, single_quote}
 use Rattle.code_listing.specs.Letters.{push_letter, look_letter}
 use Rattle.flat_parts.specs.FlatText.{direction_word, act_letter, is_plain}
 use Rattle.flat_parts.specs.FlatBlocks.{numbered, time_text}
-use Rattle.flat_said.proofs.ListLemmas.{passes_from}
-use Rattle.line_texts.proofs.DigitLemmas.{decimal_passes, decimal_some}
 use Rattle.flat_said.proofs.SaysLemmas.{IsQuotable, IsPlainWord, plain_word_is}
 
 -- ---- words

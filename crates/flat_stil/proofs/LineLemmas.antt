@@ -12,9 +12,9 @@ use Rattle.packed_code.specs.Program.{Program}
 use Rattle.packed_code.specs.Cycles.{exec_of}
 use Rattle.flat_parts.specs.Order.{is_in, firsts, tables_in, table_order}
 use Rattle.flat_parts.specs.FlatText.{letter_item, title, instr_lines, table_lines, numbered_table, table_among, own_table}
+use Rattle.flat_parts.proofs.OrderLemmas.{is_in-firsts}
 use Rattle.flat_stil.specs.Working.{Written, wrote, prints}
 use Rattle.flat_stil.proofs.SheetLemmas.{wrote_nothing, prints_nothing}
-use Rattle.flat_stil.proofs.OrderLemmas.{is_in-firsts}
 
 -- a signal without a character
 pub no_letter : (name : List ℕ) (letter : ℕ) (s : Option Written) → letter ≡ 0 → s ≡ wrote s (letter_item name letter)

@@ -2,42 +2,15 @@
 use Rattle.std.proofs.Common.{◌≡◌, ℕ, suc, ◌+◌, ◌<◌, ◌≤◌, Bool, true, false, not, ◌||◌, cond, List, [], ◌∷◌, ◌++◌, length, get_or, set, Option, Some, None, inl, inr, refl, sym, ap, subst, ◌∙◌, arith, append-nil}
 use Rattle.std.specs.Prelude.{◌==◌}
 use Rattle.std.specs.List.{filter}
-use Rattle.std.proofs.lemmas.Bool.{eqb-true, eqb-false, eq-eqb, ne_eqb, cases_eq}
+use Rattle.std.proofs.lemmas.Bool.{eq-eqb, ne_eqb, cases_eq}
 use Rattle.std.proofs.lemmas.List.{get_or-set_same, get_or-set_other, get_or_past}
 use Rattle.std.proofs.lemmas.List.Folds.{list_any-append}
 use Rattle.std.proofs.lemmas.List.Elements.{filter-append}
 use Rattle.flat_parts.specs.Order.{is_in, firsts, number_in}
+use Rattle.flat_parts.proofs.OrderLemmas.{swapped, is_in-firsts}
 use Rattle.flat_stil.specs.Working.{IsPlace}
 
 -- ---- each number once
-
--- equality from the other side
-swapped : (m n : ℕ) (b : Bool) → (m == n) ≡ b → (n == m) ≡ b
-swapped m n true e = eq-eqb n m (sym (eqb-true m n e))
-swapped m n false e = ne_eqb n m (λ is. eqb-false m n e (sym is))
-
-others_step : (same : Bool) (k m n : ℕ) (rest ns : List ℕ) → (k == m) ≡ same → (m == n) ≡ false → is_in rest n ≡ is_in ns n
-    → is_in (cond (not same) (k ∷ rest) rest) n ≡ ((k == n) || is_in ns n)
-others_step true k m n rest ns e h so =
-    so ∙ ap (λ (b : Bool). b || is_in ns n) (sym (ap (λ (x : ℕ). x == n) (eqb-true k m e) ∙ h))
-others_step false k m n rest ns e h so = ap (λ (b : Bool). (k == n) || b) so
-
--- a number stays where another is taken out
-is_in-others : (ns : List ℕ) (m n : ℕ) → (m == n) ≡ false → is_in (filter (λ k. not (k == m)) ns) n ≡ is_in ns n
-is_in-others [] m n h = refl
-is_in-others (k ∷ ns) m n h =
-    others_step (k == m) k m n (filter (λ j. not (j == m)) ns) ns refl h (is_in-others ns m n h)
-
-in_by : (same : Bool) (m n : ℕ) (first ns : List ℕ) → (m == n) ≡ same → is_in first n ≡ is_in ns n
-    → (same || is_in (filter (λ k. not (k == m)) first) n) ≡ (same || is_in ns n)
-in_by true m n first ns e so = refl
-in_by false m n first ns e so = is_in-others first m n e ∙ so
-
--- the same numbers are in both
-pub is_in-firsts : (ns : List ℕ) (n : ℕ) → is_in (firsts ns) n ≡ is_in ns n
-unfolding firsts
-is_in-firsts [] n = refl
-is_in-firsts (m ∷ ns) n = in_by (m == n) m n (firsts ns) ns refl (is_in-firsts ns n)
 
 -- a number alone, where it isn't taken out, and where it is
 alone : (same : Bool) (m n : ℕ) → (n == m) ≡ same → filter (λ k. not (k == m)) (n ∷ []) ≡ cond (not same) (n ∷ []) []

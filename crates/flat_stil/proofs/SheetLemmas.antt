@@ -1,11 +1,12 @@
 -- Texts and lines that are written one after another on a sheet.
-use Rattle.std.proofs.Common.{◌≡◌, ℕ, zero, suc, ◌+◌, ◌-◌, ◌<◌, Bool, true, false, cond, List, [], ◌∷◌, ◌++◌, length, map, take, get_or, Option, Some, None, refl, sym, ap, ◌∙◌, arith, append_assoc, append-nil, length-append}
+use Rattle.std.proofs.Common.{◌≡◌, ℕ, ◌+◌, ◌-◌, ◌<◌, Bool, true, false, cond, List, [], ◌∷◌, ◌++◌, length, map, take, get_or, Option, Some, None, refl, sym, ap, ◌∙◌, arith, append_assoc, append-nil, length-append}
 use Rattle.std.specs.Prelude.{codes, nat_le}
 use Rattle.std.specs.List.{flat_map, range_with_len}
 use Rattle.std.proofs.lemmas.List.{take_more, map-append}
 use Rattle.std.proofs.lemmas.Grind.{flat_map-append}
 use Rattle.std.proofs.lemmas.Bool.{le-leb}
 use Rattle.std.proofs.lemmas.Bool.Decides.{nat_tests}
+use Rattle.text_bytes.proofs.ListLemmas.{range-more}
 use Rattle.flat_parts.specs.FlatText.{with_feed, text_of, block}
 use Rattle.flat_stil.specs.Working.{Written, wrote, prints}
 
@@ -127,18 +128,6 @@ text_more {X = X} text s items i other item within is =
 
 -- ---- one more of many numbers
 
--- a number behind those before it
-range_push : (first n : ℕ) → range_with_len first (suc n) ≡ range_with_len first n ++ (first + n) ∷ []
-range_push first zero = let e : first ≡ first + 0 = omega arith in ap (λ (k : ℕ). k ∷ []) e
-range_push first (suc n) =
-    let e : first + 1 + n ≡ first + suc n = omega arith in
-    ap (λ (ns : List ℕ). first ∷ ns) (range_push (first + 1) n ∙ ap (λ (k : ℕ). range_with_len (first + 1) n ++ k ∷ []) e)
-
-range_more : (n : ℕ) → range_with_len 0 (n + 1) ≡ range_with_len 0 n ++ n ∷ []
-range_more n =
-    let e : n + 1 ≡ suc n = omega arith in let z : 0 + n ≡ n = omega arith in
-    ap (range_with_len 0) e ∙ range_push 0 n ∙ ap (λ (k : ℕ). range_with_len 0 n ++ k ∷ []) z
-
 -- the lines of a number
 pub lines_next : (lines : ℕ → List (List ℕ)) (s : Option Written) (n : ℕ)
     → prints (prints s (flat_map lines (range_with_len 0 n))) (lines n) ≡ prints s (flat_map lines (range_with_len 0 (n + 1)))
@@ -146,7 +135,7 @@ lines_next lines s n =
     sym (prints-append s (flat_map lines (range_with_len 0 n)) (lines n))
     ∙ ap (λ (ls : List (List ℕ)). prints s (flat_map lines (range_with_len 0 n) ++ ls)) (sym (append-nil (lines n)))
     ∙ ap (prints s) (sym (flat_map-append lines (range_with_len 0 n) (n ∷ [])))
-    ∙ ap (λ (ns : List ℕ). prints s (flat_map lines ns)) (sym (range_more n))
+    ∙ ap (λ (ns : List ℕ). prints s (flat_map lines ns)) (sym (range-more n))
 
 -- the line of a number
 pub line_next : (line : ℕ → List ℕ) (s : Option Written) (n : ℕ)
@@ -154,7 +143,7 @@ pub line_next : (line : ℕ → List ℕ) (s : Option Written) (n : ℕ)
 line_next line s n =
     sym (prints-append s (map line (range_with_len 0 n)) (line n ∷ []))
     ∙ ap (prints s) (sym (map-append line (range_with_len 0 n) (n ∷ [])))
-    ∙ ap (λ (ns : List ℕ). prints s (map line ns)) (sym (range_more n))
+    ∙ ap (λ (ns : List ℕ). prints s (map line ns)) (sym (range-more n))
 
 -- the text of a number
 pub text_next : (text : ℕ → List ℕ) (s : Option Written) (n : ℕ)
@@ -163,7 +152,7 @@ text_next text s n =
     sym (wrote-append s (flat_map text (range_with_len 0 n)) (text n))
     ∙ ap (λ (t : List ℕ). wrote s (flat_map text (range_with_len 0 n) ++ t)) (sym (append-nil (text n)))
     ∙ ap (wrote s) (sym (flat_map-append text (range_with_len 0 n) (n ∷ [])))
-    ∙ ap (λ (ns : List ℕ). wrote s (flat_map text ns)) (sym (range_more n))
+    ∙ ap (λ (ns : List ℕ). wrote s (flat_map text ns)) (sym (range-more n))
 
 -- ---- the same of sheets on the way
 

@@ -1,5 +1,5 @@
 -- How a flat tree lies in two lists.
-use Rattle.std.proofs.Common.{◌≡◌, ℕ, ◌+◌, ◌≤◌, zero, suc, ◌<◌, List, [], ◌∷◌, ◌++◌, refl, ap, sym, ◌∙◌, length, drop, get_or, length-append, arith}
+use Rattle.std.proofs.Common.{◌≡◌, ℕ, ◌+◌, ◌*◌, ◌≤◌, zero, suc, ◌<◌, Bool, true, ◌||◌, List, [], ◌∷◌, ◌++◌, refl, ap, sym, ◌∙◌, length, drop, get_or, length-append, arith}
 use Rattle.std.proofs.lemmas.List.{append-nil, drop_more}
 use Rattle.stil_ast.specs.Meaning.Flat.{Flat, done, table, character, back, repeat, measure}
 use Rattle.stil_ast.specs.Meaning.Flattening.{joined}
@@ -69,87 +69,50 @@ slots_flat-count (Next ∷ slots) (whole ∷ wholes) e =
 
 -- ---- what passes over assignments
 
--- what is asked of a flat tree says nothing of the assignments at its top
-pub record PassesOver {A : Type 0} (ask : Flat → A) : Type 0 where
-  pub over_table : (t : ℕ) (rest : Flat) → ask (table t rest) ≡ ask rest
-  pub over_character : (signal c : ℕ) (rest : Flat) → ask (character signal c rest) ≡ ask rest
-  pub over_back : (signal : ℕ) (rest : Flat) → ask (back signal rest) ≡ ask rest
-  pub over_whole : (whole : Whole) (a b : Flat) → ask a ≡ ask b → ask (whole_front whole a) ≡ ask (whole_front whole b)
+-- what says nothing of the assignments at the top of a flat tree: its bodies, its measure, its vectors and its loops
+abbrev Asked : Type 0
+Asked = ℕ × ℕ × Bool × Flat
+
+abbrev asked : Flat → Asked
+asked f = (body_count f, measure f, has_vector f, loops_in f)
+
+-- a whole in front changes it alike
+over_whole : (whole : Whole) (a b : Flat) → asked a ≡ asked b → asked (whole_front whole a) ≡ asked (whole_front whole b)
+over_whole (Cycle mark place) a b e = ap (λ (x : Asked). (x.0, 1 + x.1, true, x.3)) e
+over_whole (Repeat count body) a b e =
+    let f = body.value in
+    ap (λ (x : Asked). (body_count f + 1 + x.0, 2 * measure f + 2 + x.1, has_vector f || x.2, repeat count (loops_in f) x.3)) e
+over_whole (Save putting body) a b e =
+    let f = body.value in
+    ap (λ (x : Asked). (body_count f + 1 + x.0, measure f + x.1, has_vector f || x.2, joined (loops_in f) x.3)) e
 
 -- it can be asked of the wholes alone
-wholes_alone : {A : Type 0} (ask : Flat → A) → PassesOver ask → (slots : List Slot) (wholes : List Whole)
-    → wholes_in slots ≡ length wholes → ask (slots_flat slots wholes) ≡ ask (wholes_flat wholes)
-wholes_alone ask p [] [] e = refl
-wholes_alone ask p [] (whole ∷ wholes) e = absurd (omega (arith, e))
-wholes_alone ask p (Table t ∷ slots) wholes e =
-    p.over_table t (slots_flat slots wholes) ∙ wholes_alone ask p slots wholes (omega (arith, e))
-wholes_alone ask p (Character c signal ∷ slots) wholes e =
-    p.over_character signal c (slots_flat slots wholes) ∙ wholes_alone ask p slots wholes (omega (arith, e))
-wholes_alone ask p (Back signal ∷ slots) wholes e =
-    p.over_back signal (slots_flat slots wholes) ∙ wholes_alone ask p slots wholes (omega (arith, e))
-wholes_alone ask p (Next ∷ slots) [] e = absurd (omega (arith, e))
-wholes_alone ask p (Next ∷ slots) (whole ∷ wholes) e =
-    p.over_whole whole (slots_flat slots wholes) (wholes_flat wholes) (wholes_alone ask p slots wholes (omega (arith, e)))
+wholes_alone : (slots : List Slot) (wholes : List Whole) → wholes_in slots ≡ length wholes
+    → asked (slots_flat slots wholes) ≡ asked (wholes_flat wholes)
+wholes_alone [] [] e = refl
+wholes_alone [] (whole ∷ wholes) e = absurd (omega (arith, e))
+wholes_alone (Table t ∷ slots) wholes e = wholes_alone slots wholes (omega (arith, e))
+wholes_alone (Character c signal ∷ slots) wholes e = wholes_alone slots wholes (omega (arith, e))
+wholes_alone (Back signal ∷ slots) wholes e = wholes_alone slots wholes (omega (arith, e))
+wholes_alone (Next ∷ slots) [] e = absurd (omega (arith, e))
+wholes_alone (Next ∷ slots) (whole ∷ wholes) e =
+    over_whole whole (slots_flat slots wholes) (wholes_flat wholes) (wholes_alone slots wholes (omega (arith, e)))
 
 pub bodies_alone : (slots : List Slot) (wholes : List Whole) → wholes_in slots ≡ length wholes
     → body_count (slots_flat slots wholes) ≡ body_count (wholes_flat wholes)
-bodies_alone = wholes_alone body_count (record {
-  over_table = λ t rest. refl;
-  over_character = λ signal c rest. refl;
-  over_back = λ signal rest. refl;
-  over_whole = over;
-})
-  where
-    over : (whole : Whole) (a b : Flat) → body_count a ≡ body_count b
-        → body_count (whole_front whole a) ≡ body_count (whole_front whole b)
-    over (Cycle mark place) a b e = e
-    over (Repeat count body) a b e = omega (arith, e)
-    over (Save putting body) a b e = omega (arith, e)
+bodies_alone slots wholes e = ap (λ (x : Asked). x.0) (wholes_alone slots wholes e)
 
 pub measure_alone : (slots : List Slot) (wholes : List Whole) → wholes_in slots ≡ length wholes
     → measure (slots_flat slots wholes) ≡ measure (wholes_flat wholes)
-measure_alone = wholes_alone measure (record {
-  over_table = λ t rest. refl;
-  over_character = λ signal c rest. refl;
-  over_back = λ signal rest. refl;
-  over_whole = over;
-})
-  where
-    over : (whole : Whole) (a b : Flat) → measure a ≡ measure b
-        → measure (whole_front whole a) ≡ measure (whole_front whole b)
-    over (Cycle mark place) a b e = omega (arith, e)
-    over (Repeat count body) a b e = omega (arith, e)
-    over (Save putting body) a b e = omega (arith, e)
+measure_alone slots wholes e = ap (λ (x : Asked). x.1) (wholes_alone slots wholes e)
 
 pub vector_alone : (slots : List Slot) (wholes : List Whole) → wholes_in slots ≡ length wholes
     → has_vector (slots_flat slots wholes) ≡ has_vector (wholes_flat wholes)
-vector_alone = wholes_alone has_vector (record {
-  over_table = λ t rest. refl;
-  over_character = λ signal c rest. refl;
-  over_back = λ signal rest. refl;
-  over_whole = over;
-})
-  where
-    over : (whole : Whole) (a b : Flat) → has_vector a ≡ has_vector b
-        → has_vector (whole_front whole a) ≡ has_vector (whole_front whole b)
-    over (Cycle mark place) a b e = refl
-    over (Repeat count body) a b e = cc
-    over (Save putting body) a b e = cc
+vector_alone slots wholes e = ap (λ (x : Asked). x.2) (wholes_alone slots wholes e)
 
 pub loops_alone : (slots : List Slot) (wholes : List Whole) → wholes_in slots ≡ length wholes
     → loops_in (slots_flat slots wholes) ≡ loops_in (wholes_flat wholes)
-loops_alone = wholes_alone loops_in (record {
-  over_table = λ t rest. refl;
-  over_character = λ signal c rest. refl;
-  over_back = λ signal rest. refl;
-  over_whole = over;
-})
-  where
-    over : (whole : Whole) (a b : Flat) → loops_in a ≡ loops_in b
-        → loops_in (whole_front whole a) ≡ loops_in (whole_front whole b)
-    over (Cycle mark place) a b e = e
-    over (Repeat count body) a b e = ap (repeat count (loops_in body.value)) e
-    over (Save putting body) a b e = ap (joined (loops_in body.value)) e
+loops_alone slots wholes e = ap (λ (x : Asked). x.3) (wholes_alone slots wholes e)
 
 -- ---- wholes one after another
 

@@ -8,6 +8,7 @@ use Rattle.std.specs.Option.{option_to_list}
 use Rattle.std.proofs.lemmas.List.{append-nil}
 use Rattle.std.proofs.lemmas.List.Sums.{sum_by_push}
 use Rattle.std.proofs.lemmas.Grind.{flat_map-append}
+use Rattle.text_bytes.proofs.ListLemmas.{all_from}
 use Rattle.tester_types.specs.declared.record.Trial.{Trial}
 use Rattle.tester_types.specs.declared.record.Record.{Record}
 use Rattle.site_meaning.specs.Part.{Part, part_of}
@@ -15,7 +16,7 @@ use Rattle.site_meaning.specs.Records.{Sound}
 use Rattle.site_meaning.specs.Polls.{Seat, first_seat, try_now, with_word, with_none_waiting, poll, Arises, first, asked, polled, filed, live_numbers, Climbs, TellsContact, GoesOn, Ends}
 use Rattle.floor_core.specs.World.{World, Event, Floor, Ask, Poll, File, named, contact_at, contact_now, moved_by, filed_by, happens, after, at_site_of}
 use Rattle.floor_core.specs.Interleavings.{TellsItsContact, told_at, asks}
-use Rattle.site_meaning.proofs.AllLemmas.{All-push, All-weaker}
+use Rattle.site_meaning.proofs.AllLemmas.{All-push}
 use Rattle.floor_core.proofs.WorldLemmas.{after_each, seat_here, seat_elsewhere, EachWaitsAt, each_waits_at, journal_here, journal_elsewhere}
 
 -- the dies of records come one after another, from this one up to the one before that
@@ -131,7 +132,7 @@ module _ (world : World) (site : ℕ) where
             ∙ sym (flat_map-append live_numbers told (e.entry ∷ []))) lives;
         sound = All-push (Sound own_part) told e.entry h.sound e.sound;
         contacts = All-push HasContacts told e.entry h.contacts
-            (All-weaker (TellsContact (contact_now world site seat) (try_now seat)) (TellsItsContact world.contacts site e.entry.die)
+            (all_from (TellsContact (contact_now world site seat) (try_now seat)) (TellsItsContact world.contacts site e.entry.die)
             (λ trial. own_contact seat e.entry.die trial e.of_die) e.entry.trials e.contacts);
       }
 

@@ -3,13 +3,14 @@ use Rattle.std.proofs.Common.{◌≡◌, ℕ, zero, suc, ◌+◌, ◌<◌, true,
 use Rattle.std.specs.List.{AllByRecursion, AllPairs}
 use Rattle.std.specs.Option.{option_to_list}
 use Rattle.std.proofs.lemmas.List.Kept.{AllPairs-cons}
+use Rattle.text_bytes.proofs.ListLemmas.{all_from}
 use Rattle.tester_types.specs.declared.record.Record.{Record}
 use Rattle.packed_code.specs.Conditions.{IsProgram}
 use Rattle.lot_plan.specs.Bound.{Bound}
 use Rattle.lot_plan.specs.Refusal.{IsBound}
 use Rattle.site_meaning.specs.Part.{part_of}
 use Rattle.site_meaning.specs.Records.{Sound}
-use Rattle.site_meaning.proofs.AllLemmas.{All-weaker, all_parts}
+use Rattle.site_meaning.proofs.AllLemmas.{all_parts}
 use Rattle.site_meaning.proofs.SeatLemmas.{polls_are_true}
 use Rattle.site_meaning.proofs.SkewLemmas.{accepted_part}
 use Rattle.floor_core.specs.World.{World, Event, Floor, after, is_at, at_site_of}
@@ -111,7 +112,7 @@ filed_are_told world events floor site h =
 each_record : (world : World) (events : List Event) (floor : Floor) → Histories world events floor
     → AllByRecursion (IsRecordIn world) floor.journal
 each_record world events floor h =
-    All-weaker (λ entry. IsToldAt world entry.site entry) (IsRecordIn world) (λ entry told. record { sound = told.0; contacts = told.1 }) floor.journal
+    all_from (λ entry. IsToldAt world entry.site entry) (IsRecordIn world) (λ entry told. record { sound = told.0; contacts = told.1 }) floor.journal
     (lift_each (IsToldAt world) floor.journal (λ site. filed_are_told world events floor site h))
 
 -- the dies of a site's records follow one another

@@ -4,13 +4,13 @@ use mathlib.Core.Logic.{dite}
 use native.Mathlib.Decide.{ℕ_discrete}
 use Rattle.std.specs.List.{AllByRecursion, count_by, flat_map, range_with_len}
 use Rattle.std.proofs.lemmas.List.Sums.{sum_by-append, sum_by-cons}
+use Rattle.text_bytes.proofs.ListLemmas.{all_from}
 use Rattle.tester_types.specs.declared.record.Record.{Record}
 use Rattle.plan_rows.specs.Rows.{sites_of, dies_at}
 use Rattle.lot_plan.proofs.GroupLemmas.{site-below}
 use Rattle.floor_core.specs.World.{World, Event, after, is_at, at_site_of}
 use Rattle.floor_core.specs.Interleavings.{IsRecordIn, IsJournal, AreTotals}
 use Rattle.floor_core.proofs.ListLemmas.{filter-yes, filter-no}
-use Rattle.site_meaning.proofs.AllLemmas.{All-weaker}
 use Rattle.site_meaning.proofs.PartLemmas.{dies_in-part_of}
 use Rattle.floor_core.proofs.HistoryLemmas.{Follow, Histories}
 use Rattle.floor_core.proofs.JournalLemmas.{IsToldAt, filed_are_told, filed_follow}
@@ -106,7 +106,7 @@ pub planned_dies : (world : World) (events : List Event) → Histories world eve
     → (to : ℕ) × Follow 0 (at_site_of site (after world events).journal) to × (to ≤ length (dies_at site world.plan.rows))
 planned_dies world events all site =
     let follows = filed_follow world events (after world events) all site in
-    let below = All-weaker (IsToldAt world site) (λ r. r.die < length (dies_at site world.plan.rows))
+    let below = all_from (IsToldAt world site) (λ r. r.die < length (dies_at site world.plan.rows))
     (λ r told. let sound = told.0 in omega (arith, sound.die, dies_in-part_of world.plan site)) (at_site_of site (after world events).journal)
     (filed_are_told world events (after world events) site all) in (
       follows.0,
@@ -118,6 +118,6 @@ pub totals_are_counts : (world : World) (events : List Event) → Histories worl
     → (counts : Record → Bool) → AreTotals world events counts
 totals_are_counts world events all is counts = record {
   records = over_sites-all counts (after world events).journal (sites_of world.plan.rows)
-      (All-weaker (IsRecordIn world) (λ entry. entry.site < sites_of world.plan.rows) (sites_inside world) (after world events).journal is.each);
+      (all_from (IsRecordIn world) (λ entry. entry.site < sites_of world.plan.rows) (sites_inside world) (after world events).journal is.each);
   dies = count_is_dies counts world.plan (after world events).journal (planned_dies world events all);
 }

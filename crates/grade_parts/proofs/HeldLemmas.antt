@@ -3,15 +3,13 @@ use Rattle.std.proofs.Common.{◌≡◌, ℕ, ◌+◌, ◌≤◌, Bool, true, fa
 use Rattle.std.specs.Prelude.{codes, decimal, Option, Some, None}
 use denote.Ref.{Bor}
 use Rattle.std.specs.List.{flat_map}
-use Rattle.std.specs.Str.{bytes_eq}
 use Rattle.std.proofs.lemmas.Bool.{and_from}
-use Rattle.std.proofs.lemmas.Bool.Decides.{same_from_decides}
-use Rattle.std.proofs.lemmas.Slice.Eq.{bytes_eq-Decides}
 use Rattle.std.proofs.lemmas.List.{append-nil, append_cancel_left, take_at}
 use Rattle.std.proofs.lemmas.List.Sums.{sum_by_push}
 use Rattle.std.proofs.Math.Seq.{take-add}
 use Rattle.std.proofs.lemmas.Grind.{flat_map-append}
 use Rattle.text_bytes.proofs.ListLemmas.{all_append}
+use Rattle.text_bytes.proofs.TextLemmas.{bytes_eq-comm}
 use Rattle.part_lines.specs.Lines.{is_one_line, ended, begins_so}
 use Rattle.grade_parts.specs.Log.{ends_none, found_in}
 use Rattle.grade_parts.specs.Held.{is_good, is_fault, AreFaults, onto_first, lines_of, AreHeld}
@@ -49,26 +47,19 @@ held_lines lines text all hits are is count found =
 
 -- ---- words in front of lines
 
--- two bytes are compared alike from both sides
-eq-swapped : (a b : List ℕ) → bytes_eq a b ≡ bytes_eq b a
-eq-swapped a b =
-    let one = bytes_eq-Decides a b in
-    let other = bytes_eq-Decides b a in
-    same_from_decides (bytes_eq a b) (bytes_eq b a) one (λ e. sym (other.0 e), λ e. other.1 (sym e))
-
 pub is_good-opens : (line : List ℕ) → opens (codes "good ") line ≡ true → is_one_line line ≡ true → is_good line ≡ true
 is_good-opens line e one =
-    and_from (begins_so (codes "good") line) (is_one_line line) (eq-swapped (take 5 line) (codes "good ") ∙ e) one
+    and_from (begins_so (codes "good") line) (is_one_line line) (bytes_eq-comm (take 5 line) (codes "good ") ∙ e) one
 
 pub is_fault-opens : (line : List ℕ) → opens (codes "fault ") line ≡ true → is_one_line line ≡ true → is_fault line ≡ true
 is_fault-opens line e one =
-    and_from (begins_so (codes "fault") line) (is_one_line line) (eq-swapped (take 6 line) (codes "fault ") ∙ e) one
+    and_from (begins_so (codes "fault") line) (is_one_line line) (bytes_eq-comm (take 6 line) (codes "fault ") ∙ e) one
 
 pub not_good : (line : List ℕ) → opens (codes "good ") line ≡ false → is_good line ≡ false
-not_good line e = ap (λ (x : Bool). x && is_one_line line) (eq-swapped (take 5 line) (codes "good ") ∙ e)
+not_good line e = ap (λ (x : Bool). x && is_one_line line) (bytes_eq-comm (take 5 line) (codes "good ") ∙ e)
 
 pub not_fault : (line : List ℕ) → opens (codes "fault ") line ≡ false → is_fault line ≡ false
-not_fault line e = ap (λ (x : Bool). x && is_one_line line) (eq-swapped (take 6 line) (codes "fault ") ∙ e)
+not_fault line e = ap (λ (x : Bool). x && is_one_line line) (bytes_eq-comm (take 6 line) (codes "fault ") ∙ e)
 
 -- ---- one more line
 

@@ -1,6 +1,5 @@
 mod StandardFacts
 pub mod LineLemmas
-pub mod DigitLemmas
 pub mod LogLemmas
 pub mod HeldLemmas
 pub mod ReadLemmas

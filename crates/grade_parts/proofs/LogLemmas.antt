@@ -1,15 +1,13 @@
 -- The lines of a grade's text are fixed by it, line by line.
-use Rattle.std.proofs.Common.{◌≡◌, ℕ, Bool, true, false, not, ◌||◌, List, [], ◌∷◌, ◌++◌, length, refl, sym, ap, ◌∙◌, append_assoc}
+use Rattle.std.proofs.Common.{◌≡◌, ℕ, true, false, List, [], ◌∷◌, ◌++◌, length, refl, sym, ap, ◌∙◌, append_assoc}
 use Rattle.std.specs.Prelude.{codes, decimal}
-use Rattle.std.specs.List.{flat_map, list_any}
-use Rattle.std.proofs.lemmas.Bool.{and_parts, not-true}
+use Rattle.std.specs.List.{flat_map}
+use Rattle.std.proofs.lemmas.Bool.{and_parts}
 use Rattle.std.proofs.lemmas.List.{append-nil}
-use Rattle.std.proofs.lemmas.List.Folds.{list_any-append}
-use Rattle.part_lines.specs.Lines.{is_feed, is_one_line, ended, begins_so}
+use Rattle.part_lines.specs.Lines.{is_one_line, ended, begins_so}
 use Rattle.grade_parts.specs.Log.{GradeLog, counts_line, found_in, log_text, IsLog}
 use Rattle.grade_parts.specs.Held.{is_good, is_fault, AreFaults}
-use Rattle.grade_parts.proofs.DigitLemmas.{decimal_feedless}
-use Rattle.part_lines.proofs.LineLemmas.{one_reading}
+use Rattle.part_lines.proofs.LineLemmas.{one_reading, one_append, one_decimal}
 
 -- ---- the line of the counts
 
@@ -17,18 +15,13 @@ use Rattle.part_lines.proofs.LineLemmas.{one_reading}
 abbrev pub counts_body : List (List ℕ) → List ℕ
 counts_body faults = codes "faults " ++ decimal (length faults) ++ codes " found " ++ decimal (found_in faults)
 
--- two texts without line feeds are one without
-pub one_both : (a b : List ℕ) → is_one_line a ≡ true → is_one_line b ≡ true → is_one_line (a ++ b) ≡ true
-one_both a b one other =
-    ap not (list_any-append is_feed a b ∙ ap (λ (x : Bool). x || list_any is_feed b) (not-true _ one) ∙ not-true _ other)
-
 pub counts_one : (faults : List (List ℕ)) → is_one_line (counts_body faults) ≡ true
 counts_one faults =
     let n = decimal (length faults) in
     let m = decimal (found_in faults) in
-    one_both (codes "faults " ++ n ++ codes " found ") m
-    (one_both (codes "faults " ++ n) (codes " found ") (one_both (codes "faults ") n refl (decimal_feedless (length faults))) refl)
-    (decimal_feedless (found_in faults))
+    one_append (codes "faults " ++ n ++ codes " found ") m
+    (one_append (codes "faults " ++ n) (codes " found ") (one_append (codes "faults ") n refl (one_decimal (length faults))) refl)
+    (one_decimal (found_in faults))
 
 -- it is no line of a fault
 pub counts_no_fault : (faults : List (List ℕ)) → is_fault (counts_body faults) ≡ false

@@ -1,31 +1,25 @@
 -- The printed text of a grade is that of its lines.
 use Rattle.std.proofs.Common.{◌≡◌, ℕ, zero, suc, ◌+◌, ◌-◌, ◌<◌, Bool, true, false, not, ◌||◌, cond, inl, inr, List, [], ◌∷◌, ◌++◌, length, map, take, drop, refl, sym, ap, ◌∙◌, arith, append_assoc, length-append}
 use Rattle.std.specs.Prelude.{codes, decimal, Option, Some, None, ◌==◌, count_by, slice_index_or}
-use Rattle.std.specs.List.{flat_map, list_any, list_all}
-use Rattle.std.proofs.lemmas.Bool.{cond_both, cases_Bool, ne_eqb, eq-eqb}
+use Rattle.std.specs.List.{flat_map, list_any}
+use Rattle.std.proofs.lemmas.Bool.{cases_Bool, ne_eqb, eq-eqb}
 use Rattle.std.proofs.lemmas.List.{length-map, drop_at, take-append-drop}
 use Rattle.std.proofs.lemmas.List.Folds.{list_any-append}
 use Rattle.std.proofs.lemmas.List.Sums.{sum_by-cons}
 use Rattle.std.proofs.lemmas.Slice.Eq.{bytes_eq-Decides}
-use Rattle.tester_types.specs.Printing.{is_bare, quoted, printed_name}
+use Rattle.tester_types.specs.Printing.{printed_name}
 use Rattle.text_bytes.proofs.Spans.{list_any-not}
+use Rattle.text_bytes.proofs.DigitLemmas.{decimal_all, decimal_some}
 use Rattle.fault_grade.specs.declared.graded.Grade.{Grade}
 use Rattle.fault_grade.specs.declared.graded.Graded.{Graded}
 use Rattle.grade_listing.specs.GradeText.{cycle_text, value_text, fault_line, is_found, grade_text}
 use Rattle.part_lines.specs.Lines.{is_one_line, ended}
+use Rattle.part_lines.proofs.LineLemmas.{one_append, one_decimal, one_printed}
 use Rattle.grade_parts.specs.Log.{ends_none, found_in, log_text, IsLog}
 use Rattle.grade_parts.specs.Held.{AreFaults}
 use Rattle.grade_parts.specs.Printed.{AreOneLine, said_fault, said_by}
-use Rattle.grade_parts.proofs.DigitLemmas.{decimal_all, decimal_some, decimal_feedless}
-use Rattle.grade_parts.proofs.LogLemmas.{one_both}
 
 -- ---- no line feed
-
-name_one : (name : List ℕ) → is_one_line name ≡ true → is_one_line (printed_name name) ≡ true
-name_one [] one = refl
-name_one (b ∷ bs) one =
-    cond_both (list_all is_bare (b ∷ bs)) (b ∷ bs) (quoted (b ∷ bs)) (λ (l : List ℕ). is_one_line l ≡ true) (λ _. one)
-    (λ _. one_both (34 ∷ []) ((b ∷ bs) ++ 34 ∷ []) refl (one_both (b ∷ bs) (34 ∷ []) one refl))
 
 named_one : (names : List (List ℕ)) (n : ℕ) → AreOneLine names → is_one_line (slice_index_or names n []) ≡ true
 named_one [] n are = refl
@@ -38,14 +32,14 @@ value_one false = refl
 
 cycle_one : (cycle : Option ℕ) → is_one_line (cycle_text cycle) ≡ true
 cycle_one None = refl
-cycle_one (Some n) = decimal_feedless n
+cycle_one (Some n) = one_decimal n
 
 fault_is_one : (names : List (List ℕ)) (graded : Graded) → AreOneLine names → is_one_line (said_fault names graded) ≡ true
 fault_is_one names graded are =
     let name = printed_name (slice_index_or names graded.net []) in
-    one_both (codes "fault " ++ name ++ value_text graded.value) (cycle_text graded.first)
-    (one_both (codes "fault " ++ name) (value_text graded.value)
-    (one_both (codes "fault ") name refl (name_one (slice_index_or names graded.net []) (named_one names graded.net are)))
+    one_append (codes "fault " ++ name ++ value_text graded.value) (cycle_text graded.first)
+    (one_append (codes "fault " ++ name) (value_text graded.value)
+    (one_append (codes "fault ") name refl (one_printed (slice_index_or names graded.net []) (named_one names graded.net are)))
     (value_one graded.value)) (cycle_one graded.first)
 
 faults_are : (names : List (List ℕ)) (faults : List Graded) → AreOneLine names → AreFaults (map (said_fault names) faults)
@@ -133,7 +127,7 @@ pub text_is_said : (names : List (List ℕ)) (grade : Grade) → AreOneLine name
 unfolding log_text
 text_is_said names grade are = record {
   are = record {
-    good = one_both (codes "good ") (cycle_text grade.good) refl (cycle_one grade.good);
+    good = one_append (codes "good ") (cycle_text grade.good) refl (cycle_one grade.good);
     faults = faults_are names grade.faults are;
   };
   is = λ i. (ended (codes "good " ++ cycle_text grade.good) ++ lines-said names grade.faults i)

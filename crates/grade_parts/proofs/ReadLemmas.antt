@@ -3,12 +3,14 @@ use Rattle.std.proofs.Common.{◌≡◌, ℕ, ◌+◌, ◌<◌, true, false, Lis
 use Rattle.std.specs.Prelude.{codes}
 use Rattle.std.specs.List.{flat_map}
 use Rattle.std.proofs.lemmas.List.{append-nil, take-append-drop}
-use Rattle.part_lines.specs.Lines.{is_one_line, ended, lines_in, AreLines}
+use Rattle.text_bytes.specs.Texts.{AreLines}
+use Rattle.text_bytes.proofs.TextLemmas.{lines_behind}
+use Rattle.part_lines.specs.Lines.{is_one_line, ended, lines_in}
 use Rattle.part_lines.specs.LineFault.{NoLine, wrong, unended, short, IsLineFault}
 use Rattle.grade_parts.specs.Log.{GradeLog, counts_line, log_text, IsLog, IsLogOf, IsLogWith}
 use Rattle.grade_parts.specs.Held.{is_good, is_fault, AreFaults, lines_of, AreHeld}
 use Rattle.grade_parts.specs.Step.{IsFirst, LacksLine, AreFront, counts_text}
-use Rattle.part_lines.proofs.LineLemmas.{one_reading, lines_behind, ended_not_empty}
+use Rattle.part_lines.proofs.LineLemmas.{one_reading, ended_not_empty, lines_ended}
 use Rattle.part_lines.proofs.FaultLemmas.{no_fault_where_whole}
 use Rattle.grade_parts.proofs.LineLemmas.{one_first, Opening, empty, open_end, begins, opening_of, count-line}
 use Rattle.grade_parts.proofs.LogLemmas.{counts_body, counts_one, counts_no_fault, fault_one, good_one, log_front}
@@ -48,13 +50,8 @@ goes_on good xs rest text fits are log e =
     let found = log_front good xs rest text log.0 fits are log.1 (e ∙ append_assoc (ended good) (flat_map ended xs) rest) in
     (found.1.0, log.0.faults, found.1.2, found.1.1, found.1.3)
 
--- whole lines
-faults_lines : (xs : List (List ℕ)) → AreLines (flat_map ended xs)
-faults_lines [] = inl refl
-faults_lines (x ∷ xs) = lines_behind (ended x) (flat_map ended xs) (inr (x, refl)) (faults_lines xs)
-
 front_lines : (good : List ℕ) (xs : List (List ℕ)) → AreLines (front_of good xs)
-front_lines good xs = lines_behind (ended good) (flat_map ended xs) (inr (good, refl)) (faults_lines xs)
+front_lines good xs = lines_behind (ended good) (flat_map ended xs) (inr (good, refl)) (lines_ended xs)
 
 count-faults : (xs : List (List ℕ)) → AreFaults xs → (rest : List ℕ) → lines_in (flat_map ended xs ++ rest) ≡ lines_in rest + length xs
 count-faults [] are rest = omega arith

@@ -4,5 +4,4 @@ pub mod EachLemmas
 pub mod LexemeLemmas
 pub mod SettingLemmas
 pub mod StandingLemmas
-pub mod DigitLemmas
 pub mod AssignmentLemmas

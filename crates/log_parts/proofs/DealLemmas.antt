@@ -4,8 +4,8 @@ use Rattle.std.specs.List.{count_by, range_with_len}
 use Rattle.std.proofs.lemmas.Bool.{cases_eq, cases_lt, eq-eqb, ne_eqb}
 use Rattle.std.proofs.lemmas.Nat.{div-mul-add, mod-mul-add}
 use Rattle.std.proofs.lemmas.List.Sums.{length-filter, sum_by-append, sum_by-cons}
+use Rattle.text_bytes.proofs.ListLemmas.{range-append}
 use Rattle.plan_parts.specs.Cut.{sites_in_part}
-use Rattle.log_parts.proofs.TotalLemmas.{range_cut}
 
 -- ---- sums
 
@@ -75,7 +75,7 @@ part-more parts part rank =
     let test : ℕ → Bool = λ r. r % parts == part in
     let weight : ℕ → ℕ = λ r. cond {A = ℕ} (r % parts == part) 1 0 in
     let whole = length-filter test (range_with_len 0 (rank + 1)) in
-    let cut = ap (count_by test) (range_cut 0 rank 1) in
+    let cut = ap (count_by test) (range-append 0 rank 1) in
     let sum = sum_by-append weight (range_with_len 0 rank) (range_with_len (0 + rank) 1) in
     let front = length-filter test (range_with_len 0 rank) in
     let one = sum_by-cons weight (0 + rank) [] in

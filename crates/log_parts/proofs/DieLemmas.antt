@@ -2,12 +2,14 @@
 use Rattle.std.proofs.Common.{◌≡◌, ℕ, ◌+◌, ◌≤◌, true, false, List, [], ◌∷◌, ◌++◌, refl, sym, ap, subst, ◌∙◌, ◌⊎◌, inl, inr, arith, append_assoc}
 use Rattle.std.specs.List.{flat_map}
 use Rattle.std.proofs.lemmas.List.{append-nil}
+use Rattle.text_bytes.specs.Texts.{AreLines}
+use Rattle.text_bytes.proofs.TextLemmas.{lines_behind}
 use Rattle.plan_rows.specs.Limits.{last_bin}
 use Rattle.datalog.specs.DatalogText.{die_line, bin_line}
-use Rattle.part_lines.specs.Lines.{ended, AreLines}
+use Rattle.part_lines.specs.Lines.{ended}
 use Rattle.part_lines.specs.LineFault.{IsLineFault}
 use Rattle.part_lines.specs.Reading.{IsNext, GoesOn}
-use Rattle.part_lines.proofs.LineLemmas.{one_reading, lines_more, lines_behind, no_lines}
+use Rattle.part_lines.proofs.LineLemmas.{one_reading, lines_more, no_lines}
 use Rattle.part_lines.proofs.FaultLemmas.{goes_on_at_once, goes_on_more, first_line_fault}
 use Rattle.log_parts.specs.Log.{DieLog, IsDieLog, is_body_line, die_text, dies_text, AreDieLogs}
 use Rattle.log_parts.specs.Step.{die_bins, IsRest, IsDieRest, bin_words, IsBinLine, AreBody}
@@ -129,12 +131,7 @@ goes_dies (name ∷ front) (log ∷ logs) back number later bins are =
 
 -- ---- whole lines
 
--- lines that end are whole lines
-pub lines_body : (body : List (List ℕ)) → AreLines (flat_map ended body)
-lines_body [] = no_lines
-lines_body (line ∷ body) = lines_behind (ended line) (flat_map ended body) (lines_more [] line) (lines_body body)
-
--- so are those of a die
+-- the lines of a die are whole
 pub lines_die : (name : List ℕ) (log : DieLog) → AreLines (die_text name log)
 lines_die name log =
     lines_more (die_line name ++ flat_map ended log.body) (bin_words log.bin)

@@ -1,4 +1,3 @@
-pub mod DigitLemmas
 pub mod WordLemmas
 pub mod RestLemmas
 pub mod DieLemmas

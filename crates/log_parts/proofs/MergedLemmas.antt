@@ -1,12 +1,13 @@
 -- The datalog of a plan is what is put of its parts.
-use Rattle.std.proofs.Common.{◌≡◌, ◌==◌, ℕ, zero, suc, ◌+◌, ◌*◌, ◌/◌, ◌%◌, ◌<◌, cond, List, [], ◌∷◌, ◌++◌, length, map, get_or, refl, sym, ap, ◌∙◌, arith}
+use Rattle.std.proofs.Common.{◌≡◌, ℕ, zero, suc, ◌+◌, ◌*◌, ◌/◌, ◌%◌, ◌<◌, List, [], ◌∷◌, ◌++◌, length, map, get_or, refl, sym, ap, ◌∙◌, arith}
 use Rattle.std.specs.List.{flat_map, range_with_len}
 use Rattle.std.proofs.lemmas.List.FromFn.{length-map-range_with_len, get_or-map-range_with_len}
-use Rattle.std.proofs.lemmas.List.Sums.{sum_by-append, sum_by-cons}
+use Rattle.std.proofs.lemmas.List.Sums.{sum_by-cons}
 use Rattle.plan_rows.specs.declared.row.Row.{Row}
 use Rattle.plan_rows.specs.Judging.{names_at}
 use Rattle.plan_parts.specs.Cut.{sites_with_dies, sites_in_part, site_at}
 use Rattle.datalog.specs.DatalogText.{site_line, total_line, dies_in, totals_text}
+use Rattle.datalog.proofs.CountLemmas.{dies_in-append}
 use Rattle.log_parts.specs.Log.{DieLog, dies_text, bins_of, AreLogs}
 use Rattle.log_parts.specs.Slices.{SlicedLog, site_texts}
 use Rattle.log_parts.specs.Merged.{names_in, log_of_rank, dealt, merged_sites, merged_text, no_log, AreOfPlan}
@@ -15,10 +16,6 @@ use Rattle.log_parts.specs.Dealt.{text_of_rank, dealt_site, dealt_text, dies_of,
 use Rattle.log_parts.proofs.DealLemmas.{total, total-same, total-front, total-dealt, number_within}
 
 -- ---- dies in bins
-
--- dies of two lists
-dies_in-append : (bin : ℕ) (xs ys : List ℕ) → dies_in bin (xs ++ ys) ≡ dies_in bin xs + dies_in bin ys
-dies_in-append bin xs ys = sum_by-append (λ x. cond {A = ℕ} (x == bin) 1 0) xs ys
 
 -- the dies of sites that are numbered
 dies_in-numbered : (bin : ℕ) (f : ℕ → List DieLog) (k n : ℕ) →

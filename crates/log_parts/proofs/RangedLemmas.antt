@@ -1,10 +1,9 @@
 -- Texts that are put for the numbers of a range, one by one.
-use Rattle.std.proofs.Common.{◌≡◌, ℕ, zero, suc, ◌+◌, ◌-◌, ◌^◌, ◌<◌, ◌≤◌, List, ◌++◌, take, Option, inl, inr, sym, ap, ◌∙◌, arith, append_assoc}
+use Rattle.std.proofs.Common.{◌≡◌, ℕ, zero, suc, ◌+◌, ◌-◌, ◌<◌, ◌≤◌, List, ◌++◌, take, Option, sym, ap, ◌∙◌, arith, append_assoc}
 use Rattle.std.specs.List.{flat_map, range_with_len}
-use Rattle.std.proofs.lemmas.Bool.{cases_lt}
 use Rattle.std.proofs.lemmas.List.{append-nil, take_all}
 use Rattle.std.proofs.lemmas.List.FromFn.{length-range_with_len, get_or-range_with_len}
-use Rattle.tester_types.specs.Outside.{gained, GainsFront, HasRisen}
+use Rattle.tester_types.specs.Outside.{gained, GainsFront}
 use Rattle.tester_types.proofs.OutsideLemmas.{gained_both, each_stops}
 
 -- one number more
@@ -37,10 +36,3 @@ ranged_stops f a n i x held before now within is first front =
 -- all texts were gained
 pub ranged_all : (f : ℕ → List ℕ) (a n i : ℕ) → n ≤ i → flat_map f (take i (range_with_len a n)) ≡ flat_map f (range_with_len a n)
 ranged_all f a n i all = ap (flat_map f) (take_all i (range_with_len a n) (let size = length-range_with_len a n in omega arith))
-
--- a count that has risen behind another has risen
-pub risen_behind : (before between now : ℕ) → before ≤ between → between ≤ now → HasRisen between now → HasRisen before now
-risen_behind before between now first second risen = λ room. elim (cases_lt between (2 ^ 64 - 1)) [
-  | inl below ↦ let more : between < now = risen below in omega arith
-  | inr above ↦ omega arith
-]

@@ -3,20 +3,21 @@ use Rattle.std.proofs.Common.{◌≡◌, ℕ, zero, suc, ◌+◌, ◌<◌, ◌�
 use Rattle.std.specs.List.{flat_map}
 use Rattle.std.proofs.lemmas.List.{append-nil, map_more}
 use Rattle.text_bytes.proofs.ListLemmas.{all_append}
+use Rattle.text_bytes.proofs.TextLemmas.{lines_behind}
 use Rattle.tester_types.specs.Printing.{printed_name}
 use Rattle.datalog.specs.DatalogText.{die_line, bin_line}
 use Rattle.part_lines.specs.Lines.{is_one_line, ended, lines_in}
 use Rattle.part_lines.specs.Reading.{Reading, IsNext, HasRead, FaultFrom}
 use Rattle.part_lines.specs.declared.fault.LineFault.{LineFault}
 use Rattle.part_lines.specs.declared.fault.LineFault.TheVariants.{NoMemory, Line}
-use Rattle.part_lines.proofs.LineLemmas.{lines_more, lines_behind}
+use Rattle.part_lines.proofs.LineLemmas.{lines_more, lines_ended}
 use Rattle.part_lines.proofs.FaultLemmas.{goes_on_more}
 use Rattle.part_lines.proofs.HasReadLemmas.{read_none, read_more, read_as, fault_from_behind, fault_here}
 use Rattle.log_parts.specs.Log.{DieLog, IsDieLog, is_body_line, die_text, dies_text}
 use Rattle.log_parts.specs.Slices.{lent}
 use Rattle.log_parts.specs.Step.{die_bins, IsRest, IsDieRest, bin_words, AreBody, AreOneLine, AreRead}
 use Rattle.log_parts.proofs.RestLemmas.{goes_into_die, die_fault}
-use Rattle.log_parts.proofs.DieLemmas.{goes_body, goes_dies, bin_fault, lines_body, lines_dies}
+use Rattle.log_parts.proofs.DieLemmas.{goes_body, goes_dies, bin_fault, lines_dies}
 
 -- ---- a die
 
@@ -59,7 +60,7 @@ bin_stops name a b c body e are first second no_body is no_bin names number late
     let W = IsRest (name ∷ names) number later before in
     let D = IsDieRest names number later before in
     fault_from_behind W D a c (die_line name ++ flat_map ended body) e
-    (lines_behind (die_line name) (flat_map ended body) (lines_more [] (codes "die " ++ printed_name name)) (lines_body body))
+    (lines_behind (die_line name) (flat_map ended body) (lines_more [] (codes "die " ++ printed_name name)) (lines_ended body))
     (read_more a b c (die_line name) (flat_map ended body) first second)
     (goes_on_more W D D (die_line name) (flat_map ended body) (goes_into_die name names number later before) (goes_body body names number later before are))
     (fault_here D c e is (bin_fault names number later before c.rest no_body no_bin))

@@ -4,13 +4,15 @@ use Rattle.std.specs.declared.alloc.Global.{Global}
 use Rattle.std.specs.Prelude.{decimal, ◌==◌}
 use Rattle.std.proofs.lemmas.Bool.{false≢true}
 use Rattle.std.proofs.lemmas.List.{append-nil, map_more, take_at}
+use Rattle.text_bytes.specs.Texts.{AreLines}
+use Rattle.text_bytes.proofs.TextLemmas.{lines_behind}
 use Rattle.datalog.specs.DatalogText.{site_line, total_line, dies_in, totals_text}
-use Rattle.part_lines.specs.Lines.{ended, lines_in, AreLines}
+use Rattle.part_lines.specs.Lines.{ended, lines_in}
 use Rattle.part_lines.specs.LineFault.{IsLineFault}
 use Rattle.part_lines.specs.Reading.{Reading, IsNext, GoesOn, HasRead, FaultFrom}
 use Rattle.part_lines.specs.declared.fault.LineFault.{LineFault}
 use Rattle.part_lines.specs.declared.fault.LineFault.TheVariants.{NoMemory, Line}
-use Rattle.part_lines.proofs.LineLemmas.{lines_more, lines_behind, no_lines}
+use Rattle.part_lines.proofs.LineLemmas.{lines_more, no_lines}
 use Rattle.part_lines.proofs.FaultLemmas.{goes_on_more, one_fault, no_fault_where_whole}
 use Rattle.part_lines.proofs.HasReadLemmas.{read_none, read_more, read_as, fault_from_behind, fault_here}
 use Rattle.log_parts.specs.Log.{DieLog, IsLogOf, dies_text, sites_text, bins_of, AreDieLogs, AreLogs, log_text}

@@ -1,11 +1,12 @@
 -- How the sites of a datalog go on, up to the totals.
 use Rattle.std.proofs.Common.{◌≡◌, ℕ, ◌+◌, List, [], ◌∷◌, ◌++◌, length, refl, sym, ap, subst, ◌∙◌, arith, append_assoc}
 use Rattle.std.proofs.lemmas.List.{append_cancel_left, append-nil}
+use Rattle.text_bytes.specs.Texts.{AreLines}
+use Rattle.text_bytes.proofs.TextLemmas.{lines_behind}
 use Rattle.datalog.specs.DatalogText.{site_line, totals_text}
-use Rattle.part_lines.specs.Lines.{AreLines}
 use Rattle.part_lines.specs.LineFault.{IsLineFault}
 use Rattle.part_lines.specs.Reading.{IsNext, GoesOn}
-use Rattle.part_lines.proofs.LineLemmas.{lines_more, lines_behind, no_lines}
+use Rattle.part_lines.proofs.LineLemmas.{lines_more, no_lines}
 use Rattle.part_lines.proofs.FaultLemmas.{goes_on_at_once, goes_on_more, first_line_fault}
 use Rattle.log_parts.specs.Log.{DieLog, dies_text, sites_text, bins_of, AreDieLogs, AreLogs, log_text, IsLog, IsLogOf}
 use Rattle.log_parts.specs.Step.{die_bins, IsRest, IsText, site_words}

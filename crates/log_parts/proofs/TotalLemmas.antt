@@ -3,11 +3,14 @@ use Rattle.std.proofs.Common.{◌≡◌, ℕ, zero, suc, ◌+◌, ◌-◌, ◌�
 use Rattle.std.specs.List.{flat_map, range_with_len}
 use Rattle.std.proofs.lemmas.List.{append_cancel_left, append-nil}
 use Rattle.std.proofs.lemmas.Grind.{flat_map-append}
+use Rattle.text_bytes.specs.Texts.{AreLines}
+use Rattle.text_bytes.proofs.TextLemmas.{lines_behind}
+use Rattle.text_bytes.proofs.ListLemmas.{range-append}
 use Rattle.datalog.specs.DatalogText.{total_line, dies_in, totals_text}
-use Rattle.part_lines.specs.Lines.{is_one_line, ended, AreLines}
+use Rattle.part_lines.specs.Lines.{is_one_line, ended}
 use Rattle.part_lines.specs.LineFault.{IsLineFault}
 use Rattle.part_lines.specs.Reading.{IsNext, GoesOn}
-use Rattle.part_lines.proofs.LineLemmas.{lines_more, lines_behind, no_lines}
+use Rattle.part_lines.proofs.LineLemmas.{lines_more, no_lines}
 use Rattle.part_lines.proofs.FaultLemmas.{first_line_fault, end_fault}
 use Rattle.log_parts.specs.Step.{IsText, total_words, totals_from}
 
@@ -30,18 +33,10 @@ text_fault line back text one none =
 pub behind_end : (text : List ℕ) → (text ≡ [] → ⊥) → IsLineFault (IsText []) text 1
 behind_end text more = end_fault (IsText []) text refl (λ whole is. is) more
 
--- a range is cut anywhere
-pub range_cut : (a m n : ℕ) → range_with_len a (m + n) ≡ range_with_len a m ++ range_with_len (a + m) n
-range_cut a zero n = ap (range_with_len a) (let e : 0 + n ≡ n = omega arith in e) ∙ ap (λ b. range_with_len b n) (let e : a ≡ a + 0 = omega arith in e)
-range_cut a (suc m) n =
-    ap (range_with_len a) (let e : suc m + n ≡ suc (m + n) = omega arith in e)
-    ∙ ap (λ t. a ∷ t) (range_cut (a + 1) m n)
-    ∙ ap (λ b. a ∷ (range_with_len (a + 1) m ++ range_with_len b n)) (let e : a + 1 + m ≡ a + suc m = omega arith in e)
-
 -- the totals of bins are cut before any bin
 pub totals_cut : (bins : List ℕ) (a m n : ℕ) → totals_from bins a (m + n) ≡ totals_from bins a m ++ totals_from bins (a + m) n
 totals_cut bins a m n =
-    ap (flat_map (λ bin. total_line bin (dies_in bin bins))) (range_cut a m n)
+    ap (flat_map (λ bin. total_line bin (dies_in bin bins))) (range-append a m n)
     ∙ flat_map-append (λ bin. total_line bin (dies_in bin bins)) (range_with_len a m) (range_with_len (a + m) n)
 
 -- the totals up to a bin, and one more

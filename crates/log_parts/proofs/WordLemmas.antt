@@ -1,24 +1,15 @@
 -- The words of the lines of a datalog: each is one line, and tells what it is.
-use Rattle.std.proofs.Common.{cond, inl, inr, ◌≡◌, ℕ, ◌+◌, ◌≤◌, Bool, true, false, List, [], ◌∷◌, ◌++◌, refl, sym, ap, ◌∙◌, arith, codes}
-use Rattle.std.specs.Prelude.{decimal, ◌&&◌, ◌||◌, ◌==◌}
-use Rattle.std.specs.Str.{bytes_eq}
-use Rattle.std.proofs.lemmas.Bool.{and_parts, false≢true, cases_eq, eq-eqb, ne_eqb}
+use Rattle.std.proofs.Common.{◌≡◌, ℕ, ◌+◌, ◌≤◌, Bool, true, false, List, ◌++◌, refl, sym, ap, ◌∙◌, arith, codes}
+use Rattle.std.specs.Prelude.{decimal, ◌&&◌, ◌||◌}
+use Rattle.std.proofs.lemmas.Bool.{and_parts, false≢true}
 use Rattle.std.proofs.lemmas.Fmt.{decimal_injective}
 use Rattle.std.proofs.lemmas.List.{append_cancel_left}
-use Rattle.tester_types.specs.Printing.{printed_name, quoted}
+use Rattle.tester_types.specs.Printing.{printed_name}
 use Rattle.plan_rows.specs.Limits.{last_bin}
 use Rattle.part_lines.specs.Lines.{is_one_line, begins_so}
-use Rattle.part_lines.proofs.LineLemmas.{line_more, line_parts}
+use Rattle.part_lines.proofs.LineLemmas.{one_append, one_decimal, one_printed}
 use Rattle.log_parts.specs.Log.{is_body_line}
 use Rattle.log_parts.specs.Step.{site_words, bin_words, IsBinLine}
-use Rattle.log_parts.proofs.DigitLemmas.{one_decimal}
-
--- two texts in one line
-pub one_append : (a b : List ℕ) → is_one_line a ≡ true → is_one_line b ≡ true → is_one_line (a ++ b) ≡ true
-one_append [] b p q = q
-one_append (x ∷ a) b p q =
-    let parts = line_parts x a p in
-    line_more x (a ++ b) parts.0 (one_append a b parts.1 q)
 
 -- the line of a site
 pub one_site : (number : ℕ) → is_one_line (site_words number) ≡ true
@@ -27,19 +18,6 @@ one_site number = one_append (codes "site ") (decimal number) refl (one_decimal 
 -- the line of a bin
 pub one_bin : (bin : ℕ) → is_one_line (bin_words bin) ≡ true
 one_bin bin = one_append (codes "bin ") (decimal bin) refl (one_decimal bin)
-
--- a name in quotes
-one_quoted : (name : List ℕ) → is_one_line name ≡ true → is_one_line (quoted name) ≡ true
-one_quoted name one = line_more 34 (name ++ 34 ∷ []) refl (one_append name (34 ∷ []) one refl)
-
-by_choice : (bare : Bool) (a b : List ℕ) → is_one_line a ≡ true → is_one_line b ≡ true → is_one_line (cond bare a b) ≡ true
-by_choice true a b p q = p
-by_choice false a b p q = q
-
--- a name as it is printed
-one_printed : (name : List ℕ) → is_one_line name ≡ true → is_one_line (printed_name name) ≡ true
-one_printed [] one = refl
-one_printed (b ∷ name) one = by_choice _ (b ∷ name) (quoted (b ∷ name)) one (one_quoted (b ∷ name) one)
 
 -- the line of a die
 pub one_die : (name : List ℕ) → is_one_line name ≡ true → is_one_line (codes "die " ++ printed_name name) ≡ true
@@ -68,20 +46,6 @@ no_body_line line says is = bin_is_no_body says.bin (ap is_body_line (sym says.i
 pub one_bin_said : (a b : ℕ) → a ≤ last_bin → b ≤ last_bin → bin_words a ≡ bin_words b → a ≡ b
 one_bin_said a b p q e =
     decimal_injective a b (omega arith) (omega arith) (append_cancel_left (codes "bin ") (decimal a) (decimal b) e)
-
--- two texts are compared in either order
-pub bytes_turned : (a b : List ℕ) → bytes_eq a b ≡ bytes_eq b a
-bytes_turned [] [] = refl
-bytes_turned [] (y ∷ b) = refl
-bytes_turned (x ∷ a) [] = refl
-bytes_turned (x ∷ a) (y ∷ b) =
-    ap (λ t. t && bytes_eq a b) (eqb_turned x y) ∙ ap (λ t. (y == x) && t) (bytes_turned a b)
-  where
-    eqb_turned : (x y : ℕ) → (x == y) ≡ (y == x)
-    eqb_turned x y = elim (cases_eq x y) [
-      | inl same ↦ eq-eqb x y same ∙ sym (eq-eqb y x (sym same))
-      | inr other ↦ ne_eqb x y other ∙ sym (ne_eqb y x (λ e. other (sym e)))
-    ]
 
 and_true : (b : Bool) → (b && true) ≡ b
 and_true true = refl

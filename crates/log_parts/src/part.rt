@@ -3,7 +3,7 @@
 ghost use Rattle.std.specs.Prelude.{◌≡◌, ◌⊎◌, ◌+◌, ◌∷◌, ◌++◌, [], ℕ, List, Vec, IfOk, IfErr, MatchResult, slice_index_or};
 ghost use Rattle.datalog.specs.DatalogText.{dies_in};
 ghost use Rattle.part_lines.specs.LineFault.{IsLineFault};
-ghost use Rattle.part_lines.specs.Lines.{AreLines};
+ghost use Rattle.text_bytes.specs.Texts.{AreLines};
 ghost use Rattle.part_lines.specs.declared.fault.LineFault.TheVariants as fault;
 ghost use Rattle.log_parts.specs.Log.{IsLogOf};
 ghost use Rattle.log_parts.specs.Slices.{IsSliced, lent_sites};

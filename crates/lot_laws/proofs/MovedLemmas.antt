@@ -74,7 +74,7 @@ module _ (part : Part) (place : ℕ) (of_site : AreOf part.site part.rows) where
   abbrev pub there : Part
   there = record { site = place; code = part.code; rows = map (moved place) part.rows; circuits = part.circuits }
 
-  lot_is : lot_in there ≡ lot_in part
+  pub lot_is : lot_in there ≡ lot_in part
   lot_is = ap (λ (l : List LotRow). get_or l 0 (record { batch = 0; tries = 0; keep = 0 })) (lots_moved place part.rows)
 
   pub dies_is : dies_in there ≡ dies_in part
@@ -106,10 +106,10 @@ module _ (part : Part) (place : ℕ) (of_site : AreOf part.site part.rows) where
       ∙ ap (λ (l : List DieFault). loaded c (bound_by part.code.signals c (each_of as_clock part.rows) (each_of as_bind part.rows)) number l)
       (ap (map (numbered c)) (faults_moved part.site die place part.rows of_site) ∙ all_numbered place c (faults_at part.site die part.rows))
 
-  stand_is : (die number : ℕ) → stand_for there die number ≡ stand_for part die number
+  pub stand_is : (die number : ℕ) → stand_for there die number ≡ stand_for part die number
   stand_is die number = λ i. record { code = part.code; skews = skews_is i; device = device_of (image_is die number i) }
 
-  trial_is : (die number : ℕ) (cut : Cut) → trial there die number cut ≡ trial part die number cut
+  pub trial_is : (die number : ℕ) (cut : Cut) → trial there die number cut ≡ trial part die number cut
   unfolding trial batches_of
   trial_is die number cut =
       ap (λ (l : LotRow). recorded l.keep number (with_cut (order_in there die number)

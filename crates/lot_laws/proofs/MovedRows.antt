@@ -7,32 +7,16 @@ use Rattle.std.proofs.lemmas.Bool.{eq-eqb}
 use Rattle.std.proofs.lemmas.Option.{none-some, same_Some}
 use Rattle.plan_rows.specs.declared.row.Row.{Row}
 use Rattle.plan_rows.specs.declared.row.Row.TheVariants as row
-use Rattle.plan_rows.specs.declared.row.BindRow.{BindRow}
-use Rattle.plan_rows.specs.declared.row.BinRow.{BinRow}
 use Rattle.plan_rows.specs.declared.row.DieRow.{DieRow}
 use Rattle.plan_rows.specs.declared.row.FaultRow.{FaultRow}
-use Rattle.plan_rows.specs.declared.row.LotRow.{LotRow}
 use Rattle.plan_rows.specs.declared.row.SkewRow.{SkewRow}
 use Rattle.plan_rows.specs.declared.row.StopRow.{StopRow}
 use Rattle.plan_rows.specs.Rows.{one, each_of, as_lot, as_clock, as_bind, as_bin, as_die, as_fault, as_stop, as_skew, dies_at, faults_at, stops_at, skews_at}
 use Rattle.site_meaning.specs.Part.{concerns, rows_for}
 use Rattle.plan_parts.specs.Moved.{moved}
+use Rattle.plan_parts.proofs.CutLemmas.{by_kind}
 
 -- ---- rows by their kinds
-
--- what is so of rows of each kind is so of each row
-by_kind : (P : Row → Type 0) → ((l : LotRow) → P (row.Lot l)) → ((signal : List ℕ) → P (row.Clock signal))
-    → ((b : BindRow) → P (row.Bind b)) → ((b : BinRow) → P (row.Bin b)) → ((d : DieRow) → P (row.Die d))
-    → ((f : FaultRow) → P (row.Fault f)) → ((s : StopRow) → P (row.Stop s)) → ((k : SkewRow) → P (row.Skew k))
-    → (r : Row) → P r
-by_kind P lot clock bind bin die fault stop skew (row.Lot l) = lot l
-by_kind P lot clock bind bin die fault stop skew (row.Clock signal) = clock signal
-by_kind P lot clock bind bin die fault stop skew (row.Bind b) = bind b
-by_kind P lot clock bind bin die fault stop skew (row.Bin b) = bin b
-by_kind P lot clock bind bin die fault stop skew (row.Die d) = die d
-by_kind P lot clock bind bin die fault stop skew (row.Fault f) = fault f
-by_kind P lot clock bind bin die fault stop skew (row.Stop s) = stop s
-by_kind P lot clock bind bin die fault stop skew (row.Skew k) = skew k
 
 -- what is said of a row that isn't there
 none : {A K : Type 0} (Stays : A → Type 0) (k : K) {b : Bool} → b ≡ true → (x : A) → ◌≡◌ {A = Option A} None (Some x) → Stays x

@@ -1,5 +1,5 @@
 -- Why there is no part of a grade, and what a run of one is.
-use Rattle.std.proofs.Common.{◌≡◌, ℕ, ◌<◌, List, Option, None, refl, sym, ap, ◌∙◌, subst}
+use Rattle.std.proofs.Common.{◌≡◌, ℕ, ◌<◌, List, Option, refl, ap, ◌∙◌, subst}
 use Rattle.tester_types.specs.Outside.{Files}
 use Rattle.packed_code.specs.Program.{Program}
 use Rattle.plan_rows.specs.Rows.{sites_of}
@@ -15,23 +15,16 @@ use Rattle.tool_inputs.specs.declared.status.Status.TheVariants.{Done, Usage, Re
 use Rattle.tool_inputs.specs.declared.refusal.Refusal.{Refusal}
 use Rattle.tool_inputs.specs.declared.refusal.Refusal.TheVariants as refused
 use Rattle.tool_inputs.specs.Refusals.{status_of, line_of}
-use Rattle.tool_inputs.specs.Inputs.{IsReady}
+use Rattle.tool_inputs.specs.Inputs.{IsReady, IsGradeRefused}
 use Rattle.tool_inputs.specs.Inputs.AreRefused.{no_memory}
-use Rattle.lot_parts.specs.Grades.{part_text, GradeRunWants, IsGradeRefused, GradeWants}
-use Rattle.lot_parts.specs.Grades.IsGradeRefused.{of_inputs, no_die}
+use Rattle.tool_inputs.specs.Inputs.IsGradeRefused.{of_inputs}
+use Rattle.lot_parts.specs.Grades.{part_text, GradeRunWants, GradeWants}
 use Rattle.lot_parts.specs.Grades.GradeWants.{is_graded, is_refused}
 
 -- what is wanted at a refusal
 pub refused_wants : (told : Option Files) (before now : ℕ) (program plan : List ℕ) (parts part : ℕ) (r : Refusal)
     → IsGradeRefused told before now program plan r → GradeWants told before now program plan parts part (status_of r) (line_of r)
 refused_wants told before now program plan parts part r cause = is_refused r cause refl refl
-
--- a plan that is ready, and has no die
-pub no_die_refused : (told : Option Files) (before now : ℕ) (program plan : List ℕ) (code : Program) (bound : Bound)
-    → IsReady told program plan code bound → sites_of bound.rows ≡ 0
-    → IsGradeRefused told before now program plan (refused.NoDie None)
-no_die_refused told before now program plan code bound ready none =
-    no_die ready.inputs ready.are ready.accepted (sym (ap (λ (b : Bound). sites_of b.rows) ready.is) ∙ none) refl
 
 -- the lines of a part of a grade of the first die, over the names of its netlist
 pub graded_so : (bound : Bound) (circuit : Circuit) (grade : Grade) (parts part : ℕ) → circuit ≡ circuit_in (first_part bound) 0

@@ -3,7 +3,7 @@ use Rattle.std.proofs.Common.{◌≡◌, ℕ, ◌+◌, ◌<◌, ◌≤◌, List,
 use Rattle.std.specs.Prelude.{IfOk, IfErr}
 use Rattle.std.specs.declared.alloc.Global.{Global}
 use Rattle.std.proofs.lemmas.List.{append-nil, drop_all, get_or-map}
-use Rattle.text_bytes.proofs.ListLemmas.{drop-item, all_append}
+use Rattle.text_bytes.proofs.ListLemmas.{all_append, split_more}
 use Rattle.tester_types.specs.Outside.{Files, HasRisen, gained, GainsFront}
 use Rattle.tool_inputs.specs.declared.status.Status.TheVariants.{Done, WriteFault}
 use Rattle.part_lines.specs.declared.fault.LineFault.{LineFault}
@@ -79,17 +79,12 @@ logs_push [] text (l ∷ ls) log are is = absurd are
 logs_push (t ∷ ts) text [] log are is = absurd are
 logs_push (t ∷ ts) text (l ∷ ls) log are is = (are.0, logs_push ts text ls log are.1 is)
 
-next_split : (texts front : List (List ℕ)) (number : ℕ) (text : List ℕ) → number < length texts → text ≡ get_or texts number text
-    → texts ≡ front ++ drop number texts → texts ≡ front ++ text ∷ drop (number + 1) texts
-next_split texts front number text within is split =
-    split ∙ ap (λ (l : List (List ℕ)). front ++ l) (drop-item texts number text within is)
-
 pub next_read : (texts : List (List ℕ)) (number : ℕ) (logs logs' : List GradeLog) (text : List ℕ) (log : GradeLog)
     → number < length texts → text ≡ get_or texts number text → AreRead texts number logs → IsLog text log → logs' ≡ logs ++ log ∷ []
     → AreRead texts (number + 1) logs'
 next_read texts number logs logs' text log within is read found more = record {
   front = read.front ++ text ∷ [];
-  split = next_split texts read.front number text within is read.split
+  split = split_more texts read.front number text within is read.split
       ∙ sym (append_assoc read.front (text ∷ []) (drop (number + 1) texts));
   long = length-append read.front (text ∷ []) ∙ ap (λ (n : ℕ). n + 1) read.long;
   are = subst (AreLogTexts (read.front ++ text ∷ [])) (sym more) (logs_push read.front text logs log read.are found);
@@ -131,7 +126,7 @@ next_refused files texts number logs file text (fault.Line m) r within is file_i
       front = read.front;
       text = text;
       later = drop (number + 1) texts;
-      texts_are = next_split texts read.front number text within is read.split;
+      texts_are = split_more texts read.front number text within is read.split;
       file_is = file_is ∙ ap (λ (n : ℕ). get_or files n []) (sym read.long);
       logs = logs;
       before = read.are;

@@ -2,7 +2,7 @@
 use Rattle.std.proofs.Common.{◌≡◌, ℕ, ◌+◌, ◌<◌, ◌≤◌, List, [], ◌∷◌, ◌++◌, length, drop, get_or, Option, Some, None, Err, refl, sym, ap, ◌∙◌, subst, append_assoc, arith, inl, inr, String, string_bytes, Vec}
 use Rattle.std.specs.declared.alloc.Global.{Global}
 use Rattle.std.proofs.lemmas.List.{append-nil, drop_all, length-map, get_or-map, map-append}
-use Rattle.text_bytes.proofs.ListLemmas.{drop-item}
+use Rattle.text_bytes.proofs.ListLemmas.{split_more}
 use Rattle.tester_types.specs.Outside.{Files, TellsFile, Loads, FailsBy}
 use Rattle.tester_types.specs.declared.outside.ShelfFault.{ShelfFault}
 use Rattle.tester_types.specs.declared.outside.ShelfFault.TheVariants as shelf
@@ -92,17 +92,12 @@ pub none_loaded : (told : Option Files) (files : List (List ℕ)) → AreLoaded 
 none_loaded told files = record { front = []; split = refl; are = tt }
 
 -- with the next one
-next_split : (files front : List (List ℕ)) (number : ℕ) (file : List ℕ) → number < length files → file ≡ get_or files number file
-    → files ≡ front ++ drop number files → files ≡ front ++ file ∷ drop (number + 1) files
-next_split files front number file within is split =
-    split ∙ ap (λ (l : List (List ℕ)). front ++ l) (drop-item files number file within is)
-
 pub next_loaded : (told told' : Option Files) (files : List (List ℕ)) (number : ℕ) (texts texts' : List (List ℕ)) (file : List ℕ)
     → number < length files → file ≡ get_or files number file → told' ≡ told → AreLoaded told files number texts
     → AddsText told' file texts texts' → AreLoaded told files (number + 1) texts'
 next_loaded told told' files number texts texts' file within is same read adds = record {
   front = read.front ++ file ∷ [];
-  split = next_split files read.front number file within is read.split
+  split = split_more files read.front number file within is read.split
       ∙ sym (append_assoc read.front (file ∷ []) (drop (number + 1) files));
   are = subst (ArePartFiles told (read.front ++ file ∷ [])) (sym adds.more)
       (files_push told read.front file texts adds.text read.are
@@ -121,7 +116,7 @@ pub next_unloaded : (told told' : Option Files) (b b' n : ℕ) (files : List (Li
     (file : List ℕ) (r : Refusal) → number < length files → file ≡ get_or files number file → told' ≡ told → b ≤ b' → b' ≤ n
     → AreLoaded told files number texts → IsUnloaded told' b' n file r → AreUnloaded told b n files r
 next_unloaded told told' b b' n files number texts file r within is same low between read why =
-    of_file read.front (drop (number + 1) files) file (next_split files read.front number file within is read.split) texts read.are
+    of_file read.front (drop (number + 1) files) file (split_more files read.front number file within is read.split) texts read.are
     (wide-unloaded told file b b' n n r low between (omega arith) (subst (λ (t : Option Files). IsUnloaded t b' n file r) same why))
 
 -- one text more

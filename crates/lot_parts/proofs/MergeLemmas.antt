@@ -4,7 +4,7 @@ use Rattle.std.specs.Prelude.{slice_index_or, IfOk, IfErr, Result, Vec}
 use Rattle.std.specs.Borrow.{Bor}
 use Rattle.std.specs.declared.alloc.Global.{Global}
 use Rattle.std.proofs.lemmas.List.{append-nil, drop_all}
-use Rattle.text_bytes.proofs.ListLemmas.{drop-item}
+use Rattle.text_bytes.proofs.ListLemmas.{split_more}
 use Rattle.tester_types.specs.Outside.{Files, HasRisen, gained, GainsFront}
 use Rattle.plan_rows.specs.declared.row.Row.{Row}
 use Rattle.plan_parts.specs.Cut.{sites_with_dies}
@@ -121,11 +121,6 @@ slices_push rows parts part (t ∷ ts) text (s ∷ ss) slice are is =
           (subst (λ (p : ℕ). IsSliced (names_in parts p rows) text slice) same is),
     )
 
-next_split : (texts front : List (List ℕ)) (number : ℕ) (text : List ℕ) → number < length texts → text ≡ get_or texts number text
-    → texts ≡ front ++ drop number texts → texts ≡ front ++ text ∷ drop (number + 1) texts
-next_split texts front number text within is split =
-    split ∙ ap (λ (l : List (List ℕ)). front ++ l) (drop-item texts number text within is)
-
 pub next_read : (rows : List Row) (parts : ℕ) (texts : List (List ℕ)) (number : ℕ) (slices slices' : List SlicedLog) (text : List ℕ)
     (slice : SlicedLog) → number < length texts → text ≡ get_or texts number text → AreRead rows parts texts number slices
     → IsSliced (names_in parts number rows) text slice → slices' ≡ slices ++ slice ∷ [] → AreRead rows parts texts (number + 1) slices'
@@ -133,7 +128,7 @@ next_read rows parts texts number slices slices' text slice within is read found
     let same : number ≡ 0 + length read.front = omega (arith, read.long) in
     record {
       front = read.front ++ text ∷ [];
-      split = next_split texts read.front number text within is read.split
+      split = split_more texts read.front number text within is read.split
           ∙ sym (append_assoc read.front (text ∷ []) (drop (number + 1) texts));
       long = length-append read.front (text ∷ []) ∙ ap (λ (n : ℕ). n + 1) read.long;
       are = subst (AreSliced rows parts 0 (read.front ++ text ∷ [])) (sym more)
@@ -161,7 +156,7 @@ next_refused rows files texts parts number slices file text (fault.Line m) r all
       front = read.front;
       text = text;
       later = drop (number + 1) texts;
-      texts_are = next_split texts read.front number text within is read.split;
+      texts_are = split_more texts read.front number text within is read.split;
       file_is = file_is ∙ ap (λ (n : ℕ). get_or files n []) (sym read.long);
       logs = said.logs;
       before = subst (λ (p : ℕ). AreLogTexts rows p 0 read.front said.logs) all said.are;

@@ -1,5 +1,5 @@
 -- The names of the dies of a part as they are gathered, site by site, and how many sites there are.
-use Rattle.std.proofs.Common.{◌≡◌, ℕ, ◌+◌, ◌*◌, ◌<◌, ◌≤◌, List, [], ◌∷◌, ◌++◌, length, map, get_or, sym, ap, ◌∙◌, arith, Vec, cond, Bool, true, false, ◌==◌}
+use Rattle.std.proofs.Common.{◌≡◌, ℕ, ◌+◌, ◌*◌, ◌<◌, ◌≤◌, List, [], ◌∷◌, ◌++◌, length, map, get_or, sym, ap, ◌∙◌, arith, Vec, cond, Bool, ◌==◌}
 use Rattle.std.specs.Prelude.{filter, slice_index_or, Option, None}
 use Rattle.std.specs.List.{range_with_len}
 use Rattle.std.specs.Borrow.{Bor}
@@ -7,42 +7,21 @@ use Rattle.std.specs.declared.alloc.Global.{Global}
 use Rattle.std.proofs.Math.ListN.{take}
 use Rattle.std.proofs.Math.Nat.{mul-le-mul_left}
 use Rattle.std.proofs.lemmas.List.{map-append, append-nil, take_more}
-use Rattle.std.proofs.lemmas.List.FromFn.{length-range_with_len}
 use Rattle.std.proofs.lemmas.List.Elements.{filter-append}
 use Rattle.plan_rows.specs.declared.row.Row.{Row}
 use Rattle.plan_rows.specs.declared.row.Row.TheVariants as row
 use Rattle.plan_rows.specs.declared.row.DieRow.{DieRow}
 use Rattle.std.proofs.lemmas.Bool.{eq-eqb, ne_eqb}
-use Rattle.plan_rows.specs.Rows.{AreKept, as_die, one, dies_of, dies_at, sites_of}
+use Rattle.text_bytes.proofs.ListLemmas.{range-more}
+use Rattle.plan_rows.specs.Rows.{as_die, one, dies_of, dies_at}
 use Rattle.plan_rows.specs.Judging.{names_at}
 use Rattle.plan_rows.proofs.KeptLemmas.{each_of-last}
-use Rattle.plan_parts.specs.Cut.{has_dies, sites_with_dies, sites_in_part, rank_at, site_at}
+use Rattle.plan_parts.specs.Cut.{sites_with_dies, sites_in_part, rank_at, site_at}
 use Rattle.plan_parts.proofs.RankLemmas.{number_within}
-use Rattle.plan_parts.proofs.SiteLemmas.{sites_of-within, range-more}
 use Rattle.log_parts.specs.Slices.{lent, lent_sites}
 use Rattle.log_parts.specs.Merged.{names_in}
 
 -- ---- how many sites there are
-
--- those that pass are no more than all
-filter-le : (p : ℕ → Bool) (xs : List ℕ) → length (filter p xs) ≤ length xs
-filter-le p [] = omega arith
-filter-le p (x ∷ xs) = by (p x) (filter p xs) (filter-le p xs)
-  where
-    by : (b : Bool) (some : List ℕ) → length some ≤ length xs → length (cond b (x ∷ some) some) ≤ length (x ∷ xs)
-    by true some few = omega (arith, few)
-    by false some few = omega (arith, few)
-
--- at most 64 sites have dies
-pub few_sites : (rows : List Row) → AreKept rows → length (sites_with_dies rows) ≤ 64
-unfolding sites_with_dies
-few_sites rows kept =
-    omega (
-      arith,
-      filter-le (has_dies rows) (range_with_len 0 (sites_of rows)),
-      length-range_with_len 0 (sites_of rows),
-      sites_of-within rows kept,
-    )
 
 -- a number in a part is small
 pub small_number : (parts part ranks number : ℕ) → part < parts → number < sites_in_part parts part ranks → ranks ≤ 64

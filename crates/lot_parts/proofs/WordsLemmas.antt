@@ -5,6 +5,7 @@ use Rattle.std.specs.declared.alloc.Global.{Global}
 use Rattle.std.specs.Cmp.Lexicographic.{pointwise, bytes_decides}
 use Rattle.std.proofs.lemmas.Fmt.{decimal_injective}
 use Rattle.std.proofs.lemmas.List.{length-map}
+use Rattle.text_bytes.proofs.ListLemmas.{one_item, three_items, four_items}
 use Rattle.lot_parts.specs.Words.{words_seen, most_parts, ArePart, AreParts, AreCut, AreMerge, AreGrade, AreMergeGrade}
 
 -- the first of some words
@@ -41,31 +42,6 @@ begins_none [] command none more is = cc
 begins_none (word ∷ words) command none more is = omega (arith, none)
 
 -- ---- how many words there are
-
--- one, three or four items
-one_item : {X : Type 0} (xs : List X) (a : X) → 1 ≤ length xs → length xs < 2 → a ≡ get_or xs 0 a → xs ≡ a ∷ []
-one_item [] a least below first = absurd (omega arith)
-one_item (x ∷ []) a least below first = ap (λ h. h ∷ []) (sym first)
-one_item (x ∷ y ∷ xs) a least below first = absurd (omega arith)
-
-two_items : {X : Type 0} (xs : List X) (a b : X) → 2 ≤ length xs → length xs < 3 → a ≡ get_or xs 0 a → b ≡ get_or xs 1 b
-    → xs ≡ a ∷ b ∷ []
-two_items [] a b least below first second = absurd (omega arith)
-two_items (x ∷ xs) a b least below first second =
-    ap (λ h. h ∷ xs) (sym first) ∙ ap (λ l. a ∷ l) (one_item xs b (omega (arith, least)) (omega (arith, below)) second)
-
-three_items : {X : Type 0} (xs : List X) (a b c : X) → 3 ≤ length xs → length xs < 4 → a ≡ get_or xs 0 a → b ≡ get_or xs 1 b
-    → c ≡ get_or xs 2 c → xs ≡ a ∷ b ∷ c ∷ []
-three_items [] a b c least below first second third = absurd (omega arith)
-three_items (x ∷ xs) a b c least below first second third =
-    ap (λ h. h ∷ xs) (sym first) ∙ ap (λ l. a ∷ l) (two_items xs b c (omega (arith, least)) (omega (arith, below)) second third)
-
-four_items : {X : Type 0} (xs : List X) (a b c d : X) → 4 ≤ length xs → length xs < 5 → a ≡ get_or xs 0 a → b ≡ get_or xs 1 b
-    → c ≡ get_or xs 2 c → d ≡ get_or xs 3 d → xs ≡ a ∷ b ∷ c ∷ d ∷ []
-four_items [] a b c d least below first second third fourth = absurd (omega arith)
-four_items (x ∷ xs) a b c d least below first second third fourth =
-    ap (λ h. h ∷ xs) (sym first)
-    ∙ ap (λ l. a ∷ l) (three_items xs b c d (omega (arith, least)) (omega (arith, below)) second third fourth)
 
 -- a command and one word
 pub one_word : (words : List (List ℕ)) (rest : List (String Global)) (a : String Global) (command plan : List ℕ)

@@ -10,9 +10,8 @@ use Rattle.grade_listing.specs.GradeText.{grade_text}
 use Rattle.tool_inputs.specs.declared.status.Status.{Status}
 use Rattle.tool_inputs.specs.declared.status.Status.TheVariants.{Done, OutOfMemory}
 use Rattle.tool_inputs.specs.declared.refusal.Refusal.{Refusal}
-use Rattle.tool_inputs.specs.declared.refusal.Refusal.TheVariants.{NoDie}
 use Rattle.tool_inputs.specs.Endings.{memory_line}
-use Rattle.tool_inputs.specs.Inputs.{Inputs, AreInputs, AreRefused, bound_of}
+use Rattle.tool_inputs.specs.Inputs.{Inputs, AreInputs, bound_of, IsGradeRefused}
 use Rattle.tool_inputs.specs.Refusals as refusals
 use Rattle.part_lines.specs.LineFault.{IsLineFault}
 use Rattle.grade_parts.specs.Part.{part_grade}
@@ -37,12 +36,6 @@ abbrev pub GradeRunWants : Bound → ℕ → ℕ → Status → List ℕ → Typ
 GradeRunWants bound parts part Done text = text ≡ part_text bound parts part
 GradeRunWants bound parts part OutOfMemory text = text ≡ memory_line
 GradeRunWants bound parts part _ text = ⊥
-
--- why there is no grade: what it reads is refused, or the plan has no die record
-pub data IsGradeRefused (told : Option Files) (before now : ℕ) (program plan : List ℕ) (r : Refusal) : Type 0 where
-  of_inputs : AreRefused told before now program plan r → IsGradeRefused told before now program plan r
-  no_die : (inputs : Inputs) → AreInputs told program plan inputs → refusal (bound_of inputs) ≡ None
-      → sites_of inputs.rows ≡ 0 → r ≡ NoDie None → IsGradeRefused told before now program plan r
 
 -- what must be so for a status of `grade`, with what is written then
 pub data GradeWants (told : Option Files) (before now : ℕ) (program plan : List ℕ) (parts part : ℕ) (status : Status)

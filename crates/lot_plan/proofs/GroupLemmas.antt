@@ -9,6 +9,7 @@ use Rattle.plan_rows.specs.declared.row.DieRow.{DieRow}
 use Rattle.plan_rows.specs.declared.row.FaultRow.{FaultRow}
 use Rattle.plan_rows.specs.declared.row.StopRow.{StopRow}
 use Rattle.plan_rows.specs.Rows.{AreKept, each_of, as_fault, as_stop, dies_of, dies_at, faults_at, stops_at, sites_of, files_of}
+use Rattle.plan_rows.proofs.RowLemmas.{greatest, greatest-from}
 use Rattle.lot_plan.specs.Bound.{die_at, file_of}
 use Rattle.lot_plan.specs.Groups.{DieRows, no_rows, group_at, rows_at, with_fault, with_stop, new_die, put_die, put_fault, put_stop, IsThere, HasShape, IsGroup, AreGroups}
 
@@ -178,14 +179,6 @@ count-fold : (files : List (List ℕ)) (ds : List DieRow) (sites : List (List Di
 count-fold files [] sites = refl
 count-fold files (d ∷ ds) sites =
     count-fold files ds (put_die files sites d) ∙ length-set sites d.site (group_at sites d.site ++ new_die files d ∷ [])
-
--- the greatest site, plus 1
-abbrev greatest : ℕ → List DieRow → ℕ
-greatest most ds = fold (λ most d. max most (d.site + 1)) most ds
-
-greatest-from : (ds : List DieRow) (most : ℕ) → most ≤ greatest most ds
-greatest-from [] most = omega arith
-greatest-from (d ∷ ds) most = omega (arith, greatest-from ds (max most (d.site + 1)))
 
 all-greatest : (ds : List DieRow) (most : ℕ) → All (λ d. d.site < greatest most ds) ds
 all-greatest [] most = λ k d within. absurd (omega (arith, within))

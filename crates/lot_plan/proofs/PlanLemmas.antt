@@ -1,5 +1,5 @@
 -- How many sites and dies an accepted plan has.
-use Rattle.std.proofs.Common.{◌≡◌, ◌==◌, ℕ, zero, suc, ◌+◌, ◌≤◌, Bool, true, false, max, cond, List, [], ◌∷◌, ◌++◌, length, arith}
+use Rattle.std.proofs.Common.{◌≡◌, ◌==◌, ℕ, zero, suc, ◌+◌, ◌≤◌, Bool, true, false, cond, List, [], ◌∷◌, ◌++◌, length, arith}
 use Rattle.std.specs.Prelude.{All, fold}
 use Rattle.std.proofs.lemmas.Bool.{and_parts}
 use Rattle.std.proofs.lemmas.List.Elements.{All-append, All-head, All-tail}
@@ -7,27 +7,15 @@ use Rattle.std.specs.List.{list_all, list_any}
 use Rattle.std.specs.Str.{bytes_eq}
 use Rattle.text_bytes.specs.Texts.{added}
 use Rattle.text_bytes.specs.Bytes.{is_printing}
+use Rattle.text_bytes.proofs.ListLemmas.{length-filter-le}
 use Rattle.plan_rows.specs.Words.{is_name}
-use Rattle.plan_rows.proofs.RowLemmas.{filter-le}
 use Rattle.plan_rows.specs.declared.row.Row.{Row}
 use Rattle.plan_rows.specs.declared.row.DieRow.{DieRow}
-use Rattle.plan_rows.specs.Rows.{AreKept, sites_of, dies_of, dies_at, files_of}
-
--- the greatest of small sites is small
-greatest-within : (dies : List DieRow) (most : ℕ) → most ≤ 64 → All (λ d. d.site ≤ 63) dies →
-    fold (λ most d. max most (d.site + 1)) most dies ≤ 64
-greatest-within [] most h all = h
-greatest-within (d ∷ ds) most h all =
-    let here : d.site ≤ 63 = All-head (λ (x : DieRow). x.site ≤ 63) d ds all in
-    greatest-within ds (max most (d.site + 1)) (omega arith) (All-tail (λ (x : DieRow). x.site ≤ 63) d ds all)
-
--- there are at most 64 sites
-pub sites_of-within : (rows : List Row) → AreKept rows → sites_of rows ≤ 64
-sites_of-within rows kept = greatest-within (dies_of rows) 0 (omega arith) kept.sites
+use Rattle.plan_rows.specs.Rows.{AreKept, dies_of, dies_at, files_of}
 
 -- a site has at most 4,096 dies
 pub length-dies_at : (rows : List Row) (site : ℕ) → AreKept rows → length (dies_at site rows) ≤ 4096
-length-dies_at rows site kept = omega (arith, kept.dies, filter-le (λ (d : DieRow). d.site == site) (dies_of rows))
+length-dies_at rows site kept = omega (arith, kept.dies, length-filter-le (λ (d : DieRow). d.site == site) (dies_of rows))
 
 -- a file whose bytes show in print
 abbrev pub IsPrinting : List ℕ → Type 0

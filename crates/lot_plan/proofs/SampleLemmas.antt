@@ -6,10 +6,10 @@ use Rattle.plan_rows.specs.declared.row.FaultRow.{FaultRow}
 use Rattle.plan_rows.specs.declared.row.StopRow.{StopRow}
 use Rattle.plan_rows.specs.declared.row.BinRow.{BinRow}
 use Rattle.text_bytes.specs.Bytes.{is_printing}
+use Rattle.text_bytes.proofs.ListLemmas.{length-filter-le}
 use Rattle.plan_rows.specs.Words.{is_name}
 use Rattle.plan_rows.specs.Rows.{AreKept, IsLot, each_of, as_fault, as_stop, as_bin, dies_of, dies_at, faults_at}
 use Rattle.lot_plan.specs.Sample.{lot_alone, one_die}
-use Rattle.plan_rows.proofs.RowLemmas.{filter-le}
 
 sample-lot : IsLot (record { batch = 10; tries = 2; keep = 4 })
 sample-lot = record {
@@ -67,7 +67,7 @@ stop-there net ending zero s within = omega arith
 stop-there net ending (suc k) s within = absurd (omega (arith, within))
 
 few-faults : (net : List ℕ) (ending : Ending) (site die : ℕ) → length (faults_at site die (one_die net ending)) ≤ 1
-few-faults net ending site die = filter-le (λ (f : FaultRow). (f.site == site) && (f.die == die))
+few-faults net ending site die = length-filter-le (λ (f : FaultRow). (f.site == site) && (f.die == die))
     (each_of as_fault (one_die net ending))
 
 -- one die with a fault and a stop

@@ -4,6 +4,7 @@ use Rattle.std.specs.Option.{option_map_or}
 use Rattle.std.proofs.lemmas.Bool.{cases_lt, eq-eqb}
 use Rattle.std.proofs.lemmas.List.{get_or_append_left, get_or_at}
 use Rattle.std.proofs.lemmas.Option.{slice_get-get_or}
+use Rattle.std.proofs.Math.Bool.{or-true}
 use Rattle.bench_net.specs.Circuit.{Circuit, IsWhole}
 use Rattle.bench_net.specs.Wiring.{driver_at}
 use Rattle.bench_net.specs.declared.gate.Driver.{Driver}
@@ -47,11 +48,7 @@ driven-at (b ∷ bs) zero n within at = ap (λ x. drives n x || is_driven bs n) 
     ∙ ap (λ x. x || is_driven bs n) (eq-eqb n n refl)
 driven-at (b ∷ bs) (suc s) n within at =
     let rest : is_driven bs n ≡ true = driven-at bs s n (omega (arith, within)) at in
-    ap (λ x. drives n b || x) rest ∙ or_true (drives n b)
-  where
-    or_true : (x : Bool) → (x || true) ≡ true
-    or_true true = refl
-    or_true false = refl
+    ap (λ x. drives n b || x) rest ∙ or-true (drives n b)
 
 left-at : (before : List Bind) (b : Bind) (s : ℕ) → s < length before → bind_at (before ++ b ∷ []) s ≡ bind_at before s
 left-at before b s within = get_or_append_left before (b ∷ []) bind.Free s within

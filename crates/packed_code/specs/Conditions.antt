@@ -1,6 +1,6 @@
 -- What a code may be, part by part.
 use Rattle.std.specs.Prelude.{◌≡◌, ℕ, suc, ◌-◌, ◌*◌, ◌^◌, ◌<◌, ◌≤◌, Bool, true, false, List, [], ◌∷◌, ◌++◌, ◌==◌, ◌&&◌, ◌||◌, nat_lt, nat_eq, length, Option, slice_get, slice_index_or, sum_by}
-use Rattle.std.specs.List.{list_all, list_any, AllByRecursion}
+use Rattle.std.specs.List.{list_all, list_any}
 use Rattle.std.specs.Option.{option_map_or}
 use Rattle.std.specs.Cmp.Lexicographic.{pointwise}
 use Rattle.text_bytes.specs.Limits.{longest_name, most_waves, longest_period, most_cells, most_chains, most_signals, most_code_tables, most_row_characters, most_executives}
@@ -152,8 +152,3 @@ pub record IsProgram (program : Program) : Type 0 where
   pub some_execs : 0 < length program.execs
   pub few_execs : length program.execs ≤ most_executives
   pub execs : Each (IsExec (length program.signals) program.tables program.rows) program.execs
-
--- the signals of waves don't fall
-abbrev pub IsRising : List Wave → Type 0
-IsRising [] = Unit {0}
-IsRising (wave ∷ waves) = AllByRecursion (λ later. wave.signal ≤ later.signal) waves × IsRising waves

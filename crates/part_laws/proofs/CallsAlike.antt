@@ -1,5 +1,5 @@
 -- Dies of one netlist get the same drive calls, whatever order their gates lie in, in cycles that say the same.
-use Rattle.std.proofs.Common.{◌≡◌, ℕ, zero, suc, ◌+◌, List, [], ◌∷◌, ◌++◌, length, map, take, Option, Some, None, refl, sym, ap, ◌∙◌, subst, ℤ, slice_get}
+use Rattle.std.proofs.Common.{◌≡◌, ℕ, zero, suc, ◌+◌, List, [], ◌∷◌, ◌++◌, length, map, take, Option, refl, sym, ap, ◌∙◌, subst, ℤ, slice_get}
 use Rattle.std.specs.Prelude.{Result}
 use Rattle.std.specs.List.{flat_map, range_with_len}
 use Rattle.std.specs.Option.{option_map_or}
@@ -22,13 +22,14 @@ use Rattle.die_sim.proofs.SettledLemmas.{one_settled_netlist}
 use Rattle.die_sim.proofs.SettlingLemmas.{settles}
 use Rattle.plan_rows.specs.declared.row.Row.{Row}
 use Rattle.plan_rows.specs.Rows.{faults_at, skews_at}
-use Rattle.lot_plan.specs.Needs.{PinNeed, needs_of, clock_of}
-use Rattle.lot_plan.specs.Binds.{bound_or, bind_to, is_driven, binds_from, binds_of, list_of}
+use Rattle.lot_plan.specs.Needs.{needs_of, clock_of}
+use Rattle.lot_plan.specs.Binds.{binds_of, list_of}
 use Rattle.lot_plan.specs.Bound.{numbered, active_at}
 use Rattle.lot_plan.specs.Skews.{skews_of}
 use Rattle.site_meaning.specs.Playing.{Stand, Going, Along, starting, along_of, driven, after_moment, after_moments, moments_in, after_cycle}
 use Rattle.site_meaning.specs.Alike.{SaidCycle, said_cycles, AreCodesAlike, AreCircuitsAlike}
 use Rattle.site_meaning.proofs.AlikeDies.{Say, SayAll, say_all, one, other, die, twin, twins, starting_alike}
+use Rattle.site_meaning.proofs.AlikeLemmas.{binds_alike, of_net}
 use Rattle.cycle_run.specs.Tape.{call_of, calls_in, calls_of_cycle}
 use Rattle.cycle_run.specs.Batch.{calls_of_cycles}
 
@@ -168,22 +169,6 @@ module _ (net : Net) (order order' : List ℕ) (readers readers' : List (List �
 
 -- ---- a die of a part
 
--- signals are bound to circuits of one netlist alike
-binds_alike : (c d : Circuit) → c.net ≡ d.net → (before : List Bind) (needs : List PinNeed)
-    → binds_from c before needs ≡ binds_from d before needs
-binds_alike c d net before [] = refl
-binds_alike c d net before (w ∷ needs) =
-    by (bind_to c (is_driven before) w.role w.net) (λ b. binds_from c (before ++ b ∷ []) needs) (λ b. binds_from d (before ++ b ∷ []) needs)
-    (λ b. binds_alike c d net (before ++ b ∷ []) needs)
-    ∙ ap (λ (n : Net). bound_or w.name
-    (bind_to (record { net = n; order = []; readers = [] }) (is_driven before) w.role w.net) (λ b. binds_from d (before ++ b ∷ []) needs)) net
-  where
-    by : (o : Option Bind) (next next' : Bind → Result (List Bind) (List ℕ))
-        → ((b : Bind) → next b ≡ next' b)
-        → bound_or w.name o next ≡ bound_or w.name o next'
-    by None next next' same = refl
-    by (Some b) next next' same = same b
-
 -- the die that a circuit gives in a try, by what the rows say of it and by the signals of a code
 abbrev pub device_by : List Row → ℕ → ℕ → ℕ → List CodeSignal → Circuit → Device
 device_by rows site die number signals c = record {
@@ -197,11 +182,6 @@ device_by rows site die number signals c = record {
 abbrev pub stand_by : List Row → ℕ → ℕ → ℕ → Program → Circuit → Stand
 stand_by rows site die number code c =
     record { code = code; skews = skews_of code.signals (skews_at site rows); device = device_by rows site die number code.signals c }
-
--- a circuit has the netlist of another one
-of_net : (c d : Circuit) → c.net ≡ d.net
-    → record { net = c.net; order = d.order; readers = d.readers } ≡ d
-of_net c d net = λ i. record { net = net i; order = d.order; readers = d.readers }
 
 -- the calls of the first so many cycles of a try, by its cycles
 abbrev pub calls_on : Stand → List Cycle → Calls

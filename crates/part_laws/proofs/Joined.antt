@@ -1,5 +1,5 @@
 -- The floors of parts as one: the socket and the stops of each site.
-use Rattle.std.proofs.Common.{◌≡◌, ℕ, zero, suc, ◌/◌, ◌%◌, ◌<◌, Bool, true, false, cond, List, [], ◌∷◌, length, map, get_or, refl, ap, ◌∙◌, arith}
+use Rattle.std.proofs.Common.{◌≡◌, ℕ, zero, suc, ◌/◌, ◌%◌, ◌<◌, Bool, true, false, cond, List, [], ◌∷◌, length, map, get_or, ap, ◌∙◌, arith}
 use Rattle.std.specs.Prelude.{Option, Some, None, slice_get}
 use Rattle.std.proofs.lemmas.List.FromFn.{length-map-range_with_len, get_or-map-range_with_len}
 use Rattle.plan_rows.specs.declared.row.Row.{Row}
@@ -10,23 +10,7 @@ use Rattle.part_laws.specs.Runs.{no_floor, floor_for, socket_for, stops_for, joi
 
 -- ---- items of a list
 
--- an item that is there
-pub item_at : {X : Type 0} (xs : List X) (k : ℕ) → k < length xs
-    → (x : X) × (slice_get xs k ≡ Some x)
-item_at [] k low = absurd (omega (arith, low))
-item_at (x ∷ xs) zero low = (x, refl)
-item_at (x ∷ xs) (suc k) low = item_at xs k (omega (arith, low))
-
--- it is among them
-pub got_below : {X : Type 0} (xs : List X) (k : ℕ) (x : X) → slice_get xs k ≡ Some x → k < length xs
-got_below [] k x got = absurd (none got)
-  where
-    none : {A : Type 0} {x : A} → ◌≡◌ {A = Option A} None (Some x) → ⊥
-    none e = cc
-got_below (y ∷ xs) zero x got = omega arith
-got_below (y ∷ xs) (suc k) x got = let h = got_below xs k x got in omega (arith, h)
-
--- it stands there, changed, in the list of changed items
+-- an item that is there stands, changed, in the list of changed items
 pub got_at : {X Y : Type 0} (f : X → Y) (xs : List X) (k : ℕ) (x : X) (d : Y)
     → slice_get xs k ≡ Some x → get_or (map f xs) k d ≡ f x
 got_at f [] k x d got = absurd (none got)

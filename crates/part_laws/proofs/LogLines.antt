@@ -25,8 +25,9 @@ use Rattle.lot_plan.specs.Bound.{Bound, die_at}
 use Rattle.lot_plan.proofs.BinLemmas.{bin_of-within}
 use Rattle.datalog.specs.DatalogText.{signal_name, seen_letter, cell_of, cell_words, found_words, fail_line, verdict_line, try_line, trial_text, final_verdict, die_bin, record_text}
 use Rattle.part_lines.specs.Lines.{ended, is_one_line}
+use Rattle.part_lines.proofs.LineLemmas.{one_append, one_decimal}
 use Rattle.log_parts.specs.Log.{DieLog, IsDieLog, is_body_line, die_text}
-use Rattle.part_laws.proofs.OneLine.{one_line-append, decimal_one, printed_one, ShowsNames, signal_printable, IsPrinted, cell_of_printed}
+use Rattle.part_laws.proofs.OneLine.{printed_one, ShowsNames, signal_printable, IsPrinted, cell_of_printed}
 
 -- ---- lines without their line feeds
 
@@ -114,28 +115,28 @@ One line = is_one_line line ≡ true
 -- the line of a try
 try_one : (t : Trial) → is_body_line (try_words t) ≡ true
 try_one t =
-    one_line-append (codes "try " ++ decimal t.number ++ codes " cycles " ++ decimal t.cycles ++ codes " fails ") (decimal t.fails)
-    (one_line-append (codes "try " ++ decimal t.number ++ codes " cycles " ++ decimal t.cycles) (codes " fails ")
-    (one_line-append (codes "try " ++ decimal t.number ++ codes " cycles ") (decimal t.cycles)
-    (one_line-append (codes "try " ++ decimal t.number) (codes " cycles ")
-    (one_line-append (codes "try ") (decimal t.number) refl (decimal_one t.number)) refl) (decimal_one t.cycles)) refl) (decimal_one t.fails)
+    one_append (codes "try " ++ decimal t.number ++ codes " cycles " ++ decimal t.cycles ++ codes " fails ") (decimal t.fails)
+    (one_append (codes "try " ++ decimal t.number ++ codes " cycles " ++ decimal t.cycles) (codes " fails ")
+    (one_append (codes "try " ++ decimal t.number ++ codes " cycles ") (decimal t.cycles)
+    (one_append (codes "try " ++ decimal t.number) (codes " cycles ")
+    (one_append (codes "try ") (decimal t.number) refl (one_decimal t.number)) refl) (one_decimal t.cycles)) refl) (one_decimal t.fails)
 
 -- that of a stop
 stopped_one : (batch : ℕ) (who : By) → is_body_line (stopped_words batch who) ≡ true
 stopped_one batch by.Plan =
-    one_line-append (codes "verdict stopped " ++ decimal batch) (codes " plan")
-    (one_line-append (codes "verdict stopped ") (decimal batch) refl (decimal_one batch)) refl
+    one_append (codes "verdict stopped " ++ decimal batch) (codes " plan")
+    (one_append (codes "verdict stopped ") (decimal batch) refl (one_decimal batch)) refl
 stopped_one batch (by.Desk stops) =
-    one_line-append (codes "verdict stopped " ++ decimal batch ++ codes " desk ") (decimal stops)
-    (one_line-append (codes "verdict stopped " ++ decimal batch) (codes " desk ")
-    (one_line-append (codes "verdict stopped ") (decimal batch) refl (decimal_one batch)) refl) (decimal_one stops)
+    one_append (codes "verdict stopped " ++ decimal batch ++ codes " desk ") (decimal stops)
+    (one_append (codes "verdict stopped " ++ decimal batch) (codes " desk ")
+    (one_append (codes "verdict stopped ") (decimal batch) refl (one_decimal batch)) refl) (one_decimal stops)
 
 -- that of a verdict
 verdict_one : (v : Verdict) → is_body_line (verdict_words v) ≡ true
 verdict_one verdict.Pass = refl
-verdict_one (verdict.Fail exec) = one_line-append (codes "verdict fail ") (decimal exec) refl (decimal_one exec)
+verdict_one (verdict.Fail exec) = one_append (codes "verdict fail ") (decimal exec) refl (one_decimal exec)
 verdict_one (verdict.Stopped batch who) = stopped_one batch who
-verdict_one (verdict.Contact at) = one_line-append (codes "verdict contact ") (decimal at) refl (decimal_one at)
+verdict_one (verdict.Contact at) = one_append (codes "verdict contact ") (decimal at) refl (one_decimal at)
 
 -- the letter of a look
 look_one : (look : Look) → One (look_letter look)
@@ -158,26 +159,26 @@ seen_one level.Z = refl
 cell_one : (o : Option Cell) → IsPrinted o → One (cell_words o)
 cell_one None is = refl
 cell_one (Some cell) is =
-    one_line-append (codes " " ++ printed_name cell.chain ++ codes " ") (printed_name cell.name)
-    (one_line-append (codes " " ++ printed_name cell.chain) (codes " ")
-    (one_line-append (codes " ") (printed_name cell.chain) refl (printed_one cell.chain is.0)) refl) (printed_one cell.name is.1)
+    one_append (codes " " ++ printed_name cell.chain ++ codes " ") (printed_name cell.name)
+    (one_append (codes " " ++ printed_name cell.chain) (codes " ")
+    (one_append (codes " ") (printed_name cell.chain) refl (printed_one cell.chain is.0)) refl) (printed_one cell.name is.1)
 
 -- the line of a fail
 fail_one : (code : Program) → ShowsNames code → (f : Fail) → is_body_line (fail_words code f) ≡ true
 fail_one code shows f =
     let signal : List ℕ = printed_name (signal_name code f.signal) in
-    one_line-append (found_words code f) (cell_words (cell_of code f))
-    (one_line-append (codes "fail " ++ decimal f.cycle ++ codes " " ++ decimal f.at ++ codes " " ++ signal ++ codes " "
+    one_append (found_words code f) (cell_words (cell_of code f))
+    (one_append (codes "fail " ++ decimal f.cycle ++ codes " " ++ decimal f.at ++ codes " " ++ signal ++ codes " "
     ++ look_letter f.want ++ codes " ") (seen_letter f.seen)
-    (one_line-append (codes "fail " ++ decimal f.cycle ++ codes " " ++ decimal f.at ++ codes " " ++ signal ++ codes " "
+    (one_append (codes "fail " ++ decimal f.cycle ++ codes " " ++ decimal f.at ++ codes " " ++ signal ++ codes " "
     ++ look_letter f.want) (codes " ")
-    (one_line-append (codes "fail " ++ decimal f.cycle ++ codes " " ++ decimal f.at ++ codes " " ++ signal ++ codes " ") (look_letter f.want)
-    (one_line-append (codes "fail " ++ decimal f.cycle ++ codes " " ++ decimal f.at ++ codes " " ++ signal) (codes " ")
-    (one_line-append (codes "fail " ++ decimal f.cycle ++ codes " " ++ decimal f.at ++ codes " ") signal
-    (one_line-append (codes "fail " ++ decimal f.cycle ++ codes " " ++ decimal f.at) (codes " ")
-    (one_line-append (codes "fail " ++ decimal f.cycle ++ codes " ") (decimal f.at)
-    (one_line-append (codes "fail " ++ decimal f.cycle) (codes " ")
-    (one_line-append (codes "fail ") (decimal f.cycle) refl (decimal_one f.cycle)) refl) (decimal_one f.at)) refl)
+    (one_append (codes "fail " ++ decimal f.cycle ++ codes " " ++ decimal f.at ++ codes " " ++ signal ++ codes " ") (look_letter f.want)
+    (one_append (codes "fail " ++ decimal f.cycle ++ codes " " ++ decimal f.at ++ codes " " ++ signal) (codes " ")
+    (one_append (codes "fail " ++ decimal f.cycle ++ codes " " ++ decimal f.at ++ codes " ") signal
+    (one_append (codes "fail " ++ decimal f.cycle ++ codes " " ++ decimal f.at) (codes " ")
+    (one_append (codes "fail " ++ decimal f.cycle ++ codes " ") (decimal f.at)
+    (one_append (codes "fail " ++ decimal f.cycle) (codes " ")
+    (one_append (codes "fail ") (decimal f.cycle) refl (one_decimal f.cycle)) refl) (one_decimal f.at)) refl)
     (printed_one (signal_name code f.signal) (signal_printable code shows f.signal))) refl) (look_one f.want)) refl) (seen_one f.seen))
     (cell_one (cell_of code f) (cell_of_printed code shows (λ chain. chain.out == f.signal) f.exec f.mark))
 

@@ -2,6 +2,7 @@
 use Rattle.std.proofs.Common.{◌≡◌, ℕ, ◌+◌, ◌<◌, ◌≤◌, List, [], ◌∷◌, ◌++◌, length, map, refl, sym, ap, ◌∙◌, subst}
 use Rattle.std.specs.List.{AllByRecursion, flat_map, range_with_len}
 use Rattle.std.proofs.lemmas.List.{length-map}
+use Rattle.text_bytes.proofs.ListLemmas.{all_from}
 use Rattle.tester_types.specs.declared.record.Record.{Record}
 use Rattle.site_meaning.specs.Part.{Part, dies_in}
 use Rattle.site_meaning.specs.Trials.{cut_of}
@@ -9,7 +10,6 @@ use Rattle.site_meaning.specs.Polls.{live_numbers}
 use Rattle.site_meaning.specs.Records.{TryCut, IsTrue, EndsSo, Sound, AreInOrder, touchdown, records, told_cut, cuts_of}
 use Rattle.site_meaning.specs.Alike.{ArePartsAlike}
 use Rattle.site_meaning.proofs.AlikeLemmas.{records_alike}
-use Rattle.site_meaning.proofs.AllLemmas.{All-weaker}
 use Rattle.plan_rows.specs.declared.row.LotRow.{LotRow}
 use Rattle.lot_laws.specs.Moved.{moved_record}
 use Rattle.lot_laws.proofs.MovedRows.{AreOf}
@@ -60,7 +60,7 @@ module _ (part : Part) (place : ℕ) (of_site : AreOf part.site part.rows) (othe
         die = planned;
         most = subst (λ (l : LotRow). length entry.trials ≤ l.tries) (other_lot part place of_site other alike) sound.most;
         numbers = sound.numbers;
-        each = All-weaker (IsTrue other entry.die) (IsTrue part entry.die)
+        each = all_from (IsTrue other entry.die) (IsTrue part entry.die)
             (λ t is. is ∙ other_trial part place of_site other alike entry.die t.number (cut_of t) planned) entry.trials sound.each;
         ending = subst (λ (l : LotRow). EndsSo l.tries entry.trials) (other_lot part place of_site other alike) sound.ending;
       }

@@ -1,13 +1,12 @@
--- What a datalog prints has no line feeds within its lines: numbers, and the names of a program.
-use Rattle.std.proofs.Common.{◌≡◌, ◌==◌, ℕ, zero, suc, ◌+◌, ◌-◌, ◌/◌, ◌%◌, ◌<◌, ◌≤◌, nat_le, Bool, true, false, not, cond, ◌||◌, ◌&&◌, List, [], ◌∷◌, ◌++◌, length, get_or, Option, Some, None, refl, ap, ◌∙◌, arith}
-use Rattle.std.specs.Prelude.{decimal, slice_get}
-use Rattle.std.specs.Fmt.{digits, digits_onto, digit_glyph}
+-- What a datalog prints of the names of a program has no line feeds within its lines.
+use Rattle.std.proofs.Common.{◌≡◌, ℕ, zero, suc, ◌+◌, ◌-◌, ◌≤◌, nat_le, Bool, true, false, not, cond, ◌||◌, List, [], ◌∷◌, ◌++◌, length, get_or, Option, Some, None, refl, ap, ◌∙◌, arith}
+use Rattle.std.specs.Prelude.{slice_get}
 use Rattle.std.specs.List.{AllByRecursion, find, list_all, list_any}
 use Rattle.std.specs.Option.{option_map, option_map_or, option_and_then}
-use Rattle.std.proofs.lemmas.Bool.{and_from, and_parts, leb-true, lt-ltb, ne_eqb}
+use Rattle.std.proofs.lemmas.Bool.{and_parts, leb-true, ne_eqb}
 use Rattle.text_bytes.specs.Bytes.{is_printable}
 use Rattle.tester_types.specs.Cells.{Cell, marked_cell}
-use Rattle.tester_types.specs.Printing.{is_bare, quoted, printed_name}
+use Rattle.tester_types.specs.Printing.{printed_name}
 use Rattle.packed_code.specs.declared.parts.CodeChain.{CodeChain}
 use Rattle.packed_code.specs.declared.parts.CodeSignal.{CodeSignal}
 use Rattle.packed_code.specs.Program.{Exec, Program}
@@ -15,59 +14,7 @@ use Rattle.packed_code.specs.Conditions.{EachBehind, IsName, IsSignal, IsChain, 
 use Rattle.packed_code.specs.Cycles.{exec_of}
 use Rattle.packed_code.proofs.Lists.{each_all}
 use Rattle.part_lines.specs.Lines.{is_feed, is_one_line}
-
--- ---- pieces of a line
-
--- two pieces
-pub one_line-append : (a b : List ℕ) → is_one_line a ≡ true → is_one_line b ≡ true
-    → is_one_line (a ++ b) ≡ true
-one_line-append [] b p q = q
-one_line-append (x ∷ a) b p q = by (is_feed x) p (λ rest. one_line-append a b rest q)
-  where
-    by : (t : Bool) → not (t || list_any is_feed a) ≡ true
-        → (is_one_line a ≡ true → is_one_line (a ++ b) ≡ true)
-        → not (t || list_any is_feed (a ++ b)) ≡ true
-    by true p rest = p
-    by false p rest = rest p
-
--- no byte is a line feed
-all_one : (bytes : List ℕ) → list_all (λ b. not (is_feed b)) bytes ≡ true → is_one_line bytes ≡ true
-all_one [] all = refl
-all_one (x ∷ bytes) all = by (is_feed x) all (all_one bytes)
-  where
-    by : (t : Bool) → (not t && list_all (λ b. not (is_feed b)) bytes) ≡ true
-        → (list_all (λ b. not (is_feed b)) bytes ≡ true → is_one_line bytes ≡ true)
-        → not (t || list_any is_feed bytes) ≡ true
-    by true all later = all
-    by false all later = later all
-
--- ---- numbers
-
--- the digits of a number
-digit_passes : (d : ℕ) → d < 10 → not (is_feed (digit_glyph false d)) ≡ true
-digit_passes d small =
-    ap (λ (b : Bool). not (is_feed (cond b (48 + d) (87 + d)))) (lt-ltb d 10 small)
-    ∙ ap not (ne_eqb (48 + d) 10 (λ e. absurd (omega (arith, e))))
-
--- in front of others
-digits_pass : (k n : ℕ) (acc : List ℕ) → list_all (λ b. not (is_feed b)) acc ≡ true
-    → list_all (λ b. not (is_feed b)) (digits_onto k 10 false n acc) ≡ true
-digits_pass zero n acc h = h
-digits_pass (suc k) n acc h =
-    let first = digit_glyph false (n % 10) in
-    let more = and_from (not (is_feed first)) (list_all (λ b. not (is_feed b)) acc) (digit_passes (n % 10) (omega arith)) h in
-    by (n / 10 == 0) (first ∷ acc) (digits_onto k 10 false (n / 10) (first ∷ acc)) more (digits_pass k (n / 10) (first ∷ acc) more)
-  where
-    by : (done : Bool) (one later : List ℕ) → list_all (λ b. not (is_feed b)) one ≡ true
-        → list_all (λ b. not (is_feed b)) later ≡ true
-        → list_all (λ b. not (is_feed b)) (cond done one later) ≡ true
-    by true one later a b = a
-    by false one later a b = b
-
--- a number has no line feed
-pub decimal_one : (n : ℕ) → is_one_line (decimal n) ≡ true
-unfolding digits
-decimal_one n = all_one (decimal n) (digits_pass 64 n [] refl)
+use Rattle.part_lines.proofs.LineLemmas.{one_printed}
 
 -- ---- names
 
@@ -87,12 +34,7 @@ printable_one (x ∷ name) all =
 -- a name as it is printed
 pub printed_one : (name : List ℕ) → list_all is_printable name ≡ true
     → is_one_line (printed_name name) ≡ true
-printed_one [] all = refl
-printed_one (x ∷ name) all = by (list_all is_bare (x ∷ name))
-  where
-    by : (t : Bool) → is_one_line (cond t (x ∷ name) (quoted (x ∷ name))) ≡ true
-    by true = printable_one (x ∷ name) all
-    by false = one_line-append (x ∷ name) (34 ∷ []) (printable_one (x ∷ name) all) refl
+printed_one name all = one_printed name (printable_one name all)
 
 -- ---- the names of a program
 

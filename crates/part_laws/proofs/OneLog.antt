@@ -1,32 +1,15 @@
 -- A text is a datalog of dies with given names in one way: `one_log`.
 use Rattle.std.proofs.Common.{◌≡◌, ℕ, ◌+◌, ◌≤◌, true, false, List, [], ◌∷◌, ◌++◌, refl, sym, ap, ◌∙◌, subst, arith, append_assoc}
-use Rattle.std.specs.Prelude.{codes, decimal}
 use Rattle.std.specs.List.{AllByRecursion, flat_map}
-use Rattle.std.specs.Str.Parse.{digits_value}
-use Rattle.std.proofs.lemmas.Bool.{and_parts}
-use Rattle.std.proofs.lemmas.Fmt.{decimal_is_IsNumeral}
 use Rattle.std.proofs.lemmas.List.{append_cancel_left}
 use Rattle.datalog.specs.DatalogText.{die_line, bin_line, site_line, totals_text}
-use Rattle.part_lines.specs.Lines.{ended, is_one_line}
+use Rattle.part_lines.specs.Lines.{ended}
 use Rattle.part_lines.proofs.LineLemmas.{one_reading}
 use Rattle.log_parts.specs.Log.{DieLog, AreDieLogs, AreLogs, IsLog, is_body_line, die_text, dies_text, sites_text, bins_of, log_text}
-use Rattle.part_laws.proofs.OneLine.{one_line-append, decimal_one}
+use Rattle.log_parts.specs.Step.{bin_words}
+use Rattle.log_parts.proofs.WordLemmas.{one_bin, one_body, one_bin_said}
 
 -- ---- a bin
-
--- the line of a bin, without its line feed
-abbrev bin_words : ℕ → List ℕ
-bin_words bin = codes "bin " ++ decimal bin
-
--- it is one line
-bin_one : (bin : ℕ) → is_one_line (bin_words bin) ≡ true
-bin_one bin = one_line-append (codes "bin ") (decimal bin) refl (decimal_one bin)
-
--- and of one bin
-same_bin : (a b : ℕ) → a ≤ 99 → b ≤ 99 → bin_words a ≡ bin_words b → a ≡ b
-same_bin a b low high same =
-    let digits : decimal a ≡ decimal b = append_cancel_left (codes "bin ") (decimal a) (decimal b) same in
-    sym (decimal_is_IsNumeral a (omega (arith, low))).1 ∙ ap (digits_value 10) digits ∙ (decimal_is_IsNumeral b (omega (arith, high))).1
 
 -- no line of a try, a fail or a verdict is that of a bin
 no_bin : (line : List ℕ) (bin : ℕ) → is_body_line line ≡ true → line ≡ bin_words bin → ⊥
@@ -35,33 +18,29 @@ no_bin line bin fits is = wrong (subst (λ (l : List ℕ). is_body_line l ≡ tr
     wrong : false ≡ true → ⊥
     wrong e = cc
 
--- a line of a die is one line
-body_one : (line : List ℕ) → is_body_line line ≡ true → is_one_line line ≡ true
-body_one line fits = (and_parts _ (is_one_line line) fits).1
-
 -- ---- a die
 
 -- lines up to a bin, and what stands behind it
-one_body : (a b : List (List ℕ)) (m n : ℕ) (x y : List ℕ)
+one_rest_of_die : (a b : List (List ℕ)) (m n : ℕ) (x y : List ℕ)
     → AllByRecursion (λ line. is_body_line line ≡ true) a
     → AllByRecursion (λ line. is_body_line line ≡ true) b → m ≤ 99 → n ≤ 99
     → flat_map ended a ++ (bin_line m ++ x) ≡ flat_map ended b ++ (bin_line n ++ y)
     → (a ≡ b) × (m ≡ n) × (x ≡ y)
-one_body [] [] m n x y p q low high e =
-    let both = one_reading (bin_words m) (bin_words n) x y (bin_one m) (bin_one n) e in
-    (refl, same_bin m n low high both.0, both.1)
-one_body [] (l ∷ b) m n x y p q low high e =
-    let both = one_reading (bin_words m) l x (flat_map ended b ++ (bin_line n ++ y)) (bin_one m) (body_one l q.0)
+one_rest_of_die [] [] m n x y p q low high e =
+    let both = one_reading (bin_words m) (bin_words n) x y (one_bin m) (one_bin n) e in
+    (refl, one_bin_said m n low high both.0, both.1)
+one_rest_of_die [] (l ∷ b) m n x y p q low high e =
+    let both = one_reading (bin_words m) l x (flat_map ended b ++ (bin_line n ++ y)) (one_bin m) (one_body l q.0)
     (e ∙ append_assoc (ended l) (flat_map ended b) (bin_line n ++ y)) in
     absurd (no_bin l m q.0 (sym both.0))
-one_body (k ∷ a) [] m n x y p q low high e =
-    let both = one_reading k (bin_words n) (flat_map ended a ++ (bin_line m ++ x)) y (body_one k p.0) (bin_one n)
+one_rest_of_die (k ∷ a) [] m n x y p q low high e =
+    let both = one_reading k (bin_words n) (flat_map ended a ++ (bin_line m ++ x)) y (one_body k p.0) (one_bin n)
     (sym (append_assoc (ended k) (flat_map ended a) (bin_line m ++ x)) ∙ e) in
     absurd (no_bin k n p.0 both.0)
-one_body (k ∷ a) (l ∷ b) m n x y p q low high e =
-    let both = one_reading k l (flat_map ended a ++ (bin_line m ++ x)) (flat_map ended b ++ (bin_line n ++ y)) (body_one k p.0) (body_one l q.0)
+one_rest_of_die (k ∷ a) (l ∷ b) m n x y p q low high e =
+    let both = one_reading k l (flat_map ended a ++ (bin_line m ++ x)) (flat_map ended b ++ (bin_line n ++ y)) (one_body k p.0) (one_body l q.0)
     (sym (append_assoc (ended k) (flat_map ended a) (bin_line m ++ x)) ∙ e ∙ append_assoc (ended l) (flat_map ended b) (bin_line n ++ y)) in
-    let rest = one_body a b m n x y p.1 q.1 low high both.1 in
+    let rest = one_rest_of_die a b m n x y p.1 q.1 low high both.1 in
     (ap (λ (h : List ℕ). h ∷ a) both.0 ∙ ap (λ (t : List (List ℕ)). l ∷ t) rest.0, rest.1, rest.2)
 
 -- a die in front of others
@@ -83,7 +62,7 @@ one_dies [] [] (l ∷ b) x y p q e = absurd (omega (arith, q.0))
 one_dies (n ∷ names) [] b x y p q e = absurd (omega (arith, p.0))
 one_dies (n ∷ names) (k ∷ a) [] x y p q e = absurd (omega (arith, q.0))
 one_dies (n ∷ names) (k ∷ a) (l ∷ b) x y p q e =
-    let first = one_body k.body l.body k.bin l.bin (dies_text names a ++ x) (dies_text names b ++ y) p.1.0.lines q.1.0.lines p.1.0.last q.1.0.last
+    let first = one_rest_of_die k.body l.body k.bin l.bin (dies_text names a ++ x) (dies_text names b ++ y) p.1.0.lines q.1.0.lines p.1.0.last q.1.0.last
     (append_cancel_left (die_line n) (flat_map ended k.body ++ (bin_line k.bin ++ (dies_text names a ++ x)))
     (flat_map ended l.body ++ (bin_line l.bin ++ (dies_text names b ++ y)))
     (sym (die_split n k (dies_text names a) x) ∙ e ∙ die_split n l (dies_text names b) y)) in

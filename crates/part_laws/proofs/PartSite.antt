@@ -5,6 +5,7 @@ use Rattle.std.specs.Prelude.{Some, slice_get}
 use Rattle.std.specs.List.{AllByRecursion, flat_map}
 use Rattle.std.proofs.lemmas.Bool.{ltb-true}
 use Rattle.std.proofs.lemmas.List.{length-map}
+use Rattle.std.proofs.lemmas.Option.{slice_get_within}
 use Rattle.tester_types.specs.Outside.{Files}
 use Rattle.tester_types.specs.declared.record.Record.{Record}
 use Rattle.die_sim.specs.Socket.{Told}
@@ -29,7 +30,6 @@ use Rattle.log_parts.specs.Log.{DieLog, dies_text}
 use Rattle.log_parts.specs.Merged.{names_in, log_of_rank}
 use Rattle.part_laws.specs.Runs.{IsRunOfPart, AreRunsOfParts}
 use Rattle.part_laws.specs.Laws.{AreLogsOf}
-use Rattle.part_laws.proofs.Joined.{got_below}
 use Rattle.part_laws.proofs.OneLog.{one_log}
 use Rattle.part_laws.proofs.LogSites.{AreShown, logs_at, site_dies, log_bins}
 use Rattle.part_laws.proofs.RunParts.{all_at, sites_are, says, has_there, run_alike, run_code, shown_at, logs_made, run_is_log, made_at}
@@ -72,7 +72,7 @@ module _ {S : Type 0} (tells : S → Told) (files : Files) (program plan : List 
 
   -- there is such a part
   less : part < length runs
-  less = got_below runs part run got
+  less = slice_get_within runs part run got
 
   -- its run
   abbrev own_run : IsRunOfPart tells files program plan inputs (length runs) part run

@@ -24,12 +24,12 @@ use Rattle.log_parts.specs.Log.{DieLog, dies_text, bins_of}
 use Rattle.log_parts.specs.Merged.{log_of_rank, merged_sites, merged_text}
 use Rattle.part_laws.specs.Runs.{AreRunsOfParts}
 use Rattle.part_laws.specs.Laws.{AreLogsOf}
-use Rattle.part_laws.proofs.Joined.{item_at}
 use Rattle.part_laws.proofs.LogSites.{all_text}
 use Rattle.part_laws.proofs.PartSite.{records_there, some_records, own_texts, own_bins, own_is}
 use Rattle.part_laws.proofs.Ranks.{by_rank}
 use Rattle.part_laws.proofs.SiteBack.{records_none}
 use Rattle.std.proofs.lemmas.List.{get_or_past}
+use Rattle.text_bytes.proofs.ListLemmas.{slice_get-there}
 
 -- ---- the book of all sites
 
@@ -67,7 +67,7 @@ module _ {S : Type 0} (tells : S → Told) (files : Files) (program plan : List 
   -- the run of its part
   pub run_for : (site : ℕ)
       → (run : LotRun tells) × (slice_get runs (rank_of inputs.rows site % length runs) ≡ Some run)
-  run_for site = item_at runs (rank_of inputs.rows site % length runs) (mod_below (rank_of inputs.rows site) (length runs) given.some)
+  run_for site = slice_get-there runs (rank_of inputs.rows site % length runs) (mod_below (rank_of inputs.rows site) (length runs) given.some)
 
   -- the records as they are filed
   filed : ℕ → SiteRecords

@@ -2,10 +2,12 @@
 use Rattle.std.proofs.Common.{◌≡◌, ℕ, ◌+◌, ◌<◌, true, List, [], ◌∷◌, ◌++◌, length, refl, sym, ap, subst, ◌∙◌, inl, inr, arith, append_assoc, length-append}
 use Rattle.std.proofs.lemmas.Bool.{cases_order}
 use Rattle.std.proofs.lemmas.List.{append-nil}
-use Rattle.part_lines.specs.Lines.{is_one_line, ended, lines_in, AreLines}
+use Rattle.text_bytes.specs.Texts.{AreLines}
+use Rattle.text_bytes.proofs.TextLemmas.{lines_behind}
+use Rattle.part_lines.specs.Lines.{is_one_line, ended, lines_in}
 use Rattle.part_lines.specs.LineFault.{Begins, NoLine, wrong, unended, short, IsLineFault}
 use Rattle.part_lines.specs.Reading.{IsNext, GoesOn}
-use Rattle.part_lines.proofs.LineLemmas.{one_reading, one_or_next, ended_is_more, ended_not_empty, cut_further, end_begins, lines_in-append, lines_behind}
+use Rattle.part_lines.proofs.LineLemmas.{one_reading, one_or_next, ended_is_more, ended_not_empty, cut_further, end_begins, lines_in-append}
 
 -- ---- fronts
 

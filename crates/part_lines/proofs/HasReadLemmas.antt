@@ -1,7 +1,8 @@
 -- What was read piece by piece, and the faults of what stands behind it.
 use Rattle.std.proofs.Common.{◌≡◌, ℕ, ◌+◌, true, List, [], ◌++◌, refl, sym, ap, subst, ◌∙◌, arith, append_assoc}
 use Rattle.std.proofs.lemmas.List.{append-nil}
-use Rattle.part_lines.specs.Lines.{is_one_line, ended, lines_in, AreLines}
+use Rattle.text_bytes.specs.Texts.{AreLines}
+use Rattle.part_lines.specs.Lines.{is_one_line, ended, lines_in}
 use Rattle.part_lines.specs.LineFault.{IsLineFault}
 use Rattle.part_lines.specs.Reading.{Reading, IsNext, GoesOn, HasRead, FaultFrom}
 use Rattle.part_lines.specs.declared.fault.LineFault.{LineFault}

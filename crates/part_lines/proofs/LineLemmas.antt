@@ -1,10 +1,16 @@
 -- Lines of a text: how they are read, and how many there are.
-use Rattle.std.proofs.Common.{◌≡◌, ℕ, ◌+◌, ◌<◌, ◌≤◌, true, false, not, ◌||◌, List, [], ◌∷◌, ◌++◌, length, refl, sym, ap, subst, ◌∙◌, ◌⊎◌, inl, inr, arith, append_assoc, length-append, cond}
-use Rattle.std.proofs.lemmas.Bool.{cases_Bool, or_parts, not-true, not_from_false, eqb-true, false≢true}
-use Rattle.std.proofs.lemmas.List.{append-nil}
+use Rattle.std.proofs.Common.{◌≡◌, ℕ, ◌+◌, ◌<◌, ◌≤◌, Bool, true, false, not, ◌||◌, List, [], ◌∷◌, ◌++◌, length, refl, sym, ap, subst, ◌∙◌, ◌⊎◌, inl, inr, arith, append_assoc, length-append, cond}
+use Rattle.std.proofs.lemmas.Bool.{cases_Bool, cond_both, ne_eqb, or_parts, not-true, not_from_false, eqb-true, false≢true}
+use Rattle.std.proofs.lemmas.List.Folds.{list_any-append}
 use Rattle.std.proofs.lemmas.List.Sums.{sum_by-cons, sum_by-append}
-use Rattle.std.specs.List.{list_any}
-use Rattle.part_lines.specs.Lines.{is_feed, is_one_line, ended, lines_in, AreLines}
+use Rattle.std.specs.Prelude.{decimal}
+use Rattle.std.specs.List.{flat_map, list_all, list_any}
+use Rattle.text_bytes.specs.Texts.{AreLines}
+use Rattle.text_bytes.proofs.Spans.{list_any-not}
+use Rattle.text_bytes.proofs.DigitLemmas.{decimal_all}
+use Rattle.text_bytes.proofs.TextLemmas.{lines_behind}
+use Rattle.tester_types.specs.Printing.{is_bare, quoted, printed_name}
+use Rattle.part_lines.specs.Lines.{is_feed, is_one_line, ended, lines_in}
 use Rattle.part_lines.specs.Reading.{IsNext}
 
 -- ---- bytes and lines
@@ -76,6 +82,27 @@ one_or_next (b ∷ text) =
       ]
     ]
 
+-- ---- what stands in one line
+
+-- two texts
+pub one_append : (a b : List ℕ) → is_one_line a ≡ true → is_one_line b ≡ true → is_one_line (a ++ b) ≡ true
+one_append a b one other =
+    ap not (list_any-append is_feed a b ∙ ap (λ (x : Bool). x || list_any is_feed b) (not-true _ one) ∙ not-true _ other)
+
+-- the digits of a number
+pub one_decimal : (n : ℕ) → is_one_line (decimal n) ≡ true
+one_decimal n = ap not (list_any-not is_feed (decimal n) (decimal_all (λ b. not (is_feed b)) no_feed n))
+  where
+    no_feed : (d : ℕ) → d < 10 → not (is_feed (48 + d)) ≡ true
+    no_feed d small = ap not (ne_eqb (48 + d) 10 (λ e. omega (arith, e)))
+
+-- a name as it is printed
+pub one_printed : (name : List ℕ) → is_one_line name ≡ true → is_one_line (printed_name name) ≡ true
+one_printed [] one = refl
+one_printed (b ∷ bs) one =
+    cond_both (list_all is_bare (b ∷ bs)) (b ∷ bs) (quoted (b ∷ bs)) (λ (l : List ℕ). is_one_line l ≡ true) (λ _. one)
+    (λ _. one_append (34 ∷ []) ((b ∷ bs) ++ 34 ∷ []) refl (one_append (b ∷ bs) (34 ∷ []) one refl))
+
 -- ---- how many lines there are
 
 -- lines of two texts
@@ -109,12 +136,10 @@ no_lines = inl refl
 pub lines_more : (front line : List ℕ) → AreLines (front ++ ended line)
 lines_more front line = inr (front ++ line, sym (append_assoc front line (10 ∷ [])))
 
--- whole lines behind others
-pub lines_behind : (front back : List ℕ) → AreLines front → AreLines back → AreLines (front ++ back)
-lines_behind front back lines (inl none) =
-    subst AreLines (sym (append-nil front) ∙ ap (λ t. front ++ t) (sym none)) lines
-lines_behind front back lines (inr (before, is)) =
-    inr (front ++ before, ap (λ t. front ++ t) is ∙ sym (append_assoc front before (10 ∷ [])))
+-- lines that are ended, one after another
+pub lines_ended : (lines : List (List ℕ)) → AreLines (flat_map ended lines)
+lines_ended [] = no_lines
+lines_ended (line ∷ lines) = lines_behind (ended line) (flat_map ended lines) (lines_more [] line) (lines_ended lines)
 
 -- of two ways to cut a text, one goes further
 pub cut_further : (a x b y : List ℕ) → a ++ x ≡ b ++ y → length a ≤ length b → (more : List ℕ) × (b ≡ a ++ more) × (x ≡ more ++ y)

@@ -1,12 +1,11 @@
 -- Whether a line is the one that pieces print.
 use Rattle.std.proofs.Common.{◌≡◌, ◌==◌, ℕ, ◌+◌, ◌<◌, true, false, List, [], ◌∷◌, ◌++◌, length, take, drop, get_or, Option, Some, None, Bor, refl, sym, ap, subst, ◌∙◌, arith, append_assoc}
 use Rattle.std.proofs.lemmas.Bool.{cond-false, eqb-true}
-use Rattle.std.proofs.lemmas.List.{append_cancel_left, take-append-drop, get_or_default}
-use Rattle.std.proofs.lemmas.Grind.{flat_map-append}
+use Rattle.std.proofs.lemmas.List.{append_cancel_left, get_or_default}
 use Rattle.std.specs.List.{list_all, flat_map}
 use Rattle.std.specs.Option.{MatchOption}
 use Rattle.tester_types.specs.Printing.{is_bare, quoted, printed_name}
-use Rattle.text_bytes.proofs.ListLemmas.{drop-item}
+use Rattle.tester_types.proofs.OutsideLemmas.{flat_map-split}
 use Rattle.part_lines.proofs.LineLemmas.{same_tail}
 
 -- what is asked of what stands behind a front
@@ -37,13 +36,6 @@ pub behind_printed : (text name : List ℕ) (r : Option (Bor (List ℕ))) → pr
     Behind text (quoted name) r → Behind text (printed_name name) r
 behind_printed text name r e h = subst (λ (shown : List ℕ). Behind text shown r) (sym e) h
 
--- a text among many: those before it, it, and those behind it
-split_at : {X : Type 0} (text : X → List ℕ) (items : List X) (i : ℕ) (item : X) → i < length items → item ≡ get_or items i item →
-    flat_map text items ≡ flat_map text (take i items) ++ (text item ++ flat_map text (drop (i + 1) items))
-split_at text items i item within is =
-    ap (flat_map text) (sym (take-append-drop i items)) ∙ flat_map-append text (take i items) (drop i items)
-    ∙ ap (λ xs. flat_map text (take i items) ++ flat_map text xs) (drop-item items i item within is)
-
 -- where a piece doesn't stand next, the line isn't that of the pieces
 pub piece_apart : {X : Type 0} (text : X → List ℕ) (line left : List ℕ) (items : List X) (i : ℕ) (d : X) → i < length items →
     line ≡ flat_map text (take i items) ++ left → ((rest : List ℕ) → left ≡ text (get_or items i d) ++ rest → ⊥) →
@@ -52,4 +44,4 @@ piece_apart text line left items i d within so_far none whole =
     let item = get_or items i d in
     none (flat_map text (drop (i + 1) items))
     (append_cancel_left (flat_map text (take i items)) left (text item ++ flat_map text (drop (i + 1) items))
-    (sym so_far ∙ whole ∙ split_at text items i item within (get_or_default items i d item within)))
+    (sym so_far ∙ whole ∙ flat_map-split text items i item within (get_or_default items i d item within)))

@@ -5,9 +5,10 @@ use Rattle.std.proofs.lemmas.List.{append-nil, take_at, drop_at, take-append-dro
 use Rattle.std.specs.Prelude.{nat_lt}
 use Rattle.std.specs.List.{list_all, position, position_or_len}
 use Rattle.text_bytes.specs.Bytes.{begins_with}
+use Rattle.text_bytes.specs.Texts.{AreLines}
 use Rattle.text_bytes.proofs.BoolLemmas.{chosen}
 use Rattle.text_bytes.proofs.Spans.{span, list_any-not}
-use Rattle.part_lines.specs.Lines.{is_feed, is_one_line, ended, lines_in, AreLines}
+use Rattle.part_lines.specs.Lines.{is_feed, is_one_line, ended, lines_in}
 use Rattle.part_lines.specs.Reading.{Reading, IsNext}
 use Rattle.part_lines.proofs.LineLemmas.{lines_more, lines_in-more}
 

@@ -1,6 +1,7 @@
 -- Where a text that is none of a kind departs from those of that kind.
 use Rattle.std.specs.Prelude.{◌≡◌, ℕ, ◌+◌, true, List, [], ◌∷◌, ◌++◌}
-use Rattle.part_lines.specs.Lines.{ended, is_one_line, lines_in, AreLines}
+use Rattle.text_bytes.specs.Texts.{AreLines}
+use Rattle.part_lines.specs.Lines.{ended, is_one_line, lines_in}
 
 -- a text of this kind begins with these bytes
 pub record Begins (Whole : List ℕ → Type 0) (front : List ℕ) : Type 0 where

@@ -1,5 +1,5 @@
 -- Lines of a text: each ends with one line feed.
-use Rattle.std.specs.Prelude.{◌≡◌, ◌⊎◌, ℕ, ◌+◌, ◌==◌, Bool, not, List, [], ◌++◌, length, take, codes}
+use Rattle.std.specs.Prelude.{ℕ, ◌+◌, ◌==◌, Bool, not, List, ◌++◌, length, take, codes}
 use Rattle.std.specs.List.{count_by, list_any}
 use Rattle.std.specs.Str.{bytes_eq}
 
@@ -18,10 +18,6 @@ ended line = line ++ codes "\n"
 -- how many lines end in a text
 abbrev pub lines_in : List ℕ → ℕ
 lines_in text = count_by is_feed text
-
--- these bytes are whole lines
-abbrev pub AreLines : List ℕ → Type 0
-AreLines text = (text ≡ []) ⊎ ((before : List ℕ) × (text ≡ ended before))
 
 -- whether a line begins with this word and a blank
 abbrev pub begins_so : List ℕ → List ℕ → Bool

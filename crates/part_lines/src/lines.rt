@@ -3,7 +3,8 @@
 ghost use Rattle.std.specs.Prelude.{◌≡◌, ℕ, ◌+◌, ◌++◌, List, [], true, length, IfSome, IfNone, IfOk, IfErr};
 ghost use Rattle.std.specs.List.{position, flat_map};
 ghost use Rattle.tester_types.specs.Printing.{piece_text};
-ghost use Rattle.part_lines.specs.Lines.{is_feed, is_one_line, ended, lines_in, AreLines};
+ghost use Rattle.text_bytes.specs.Texts.{AreLines};
+ghost use Rattle.part_lines.specs.Lines.{is_feed, is_one_line, ended, lines_in};
 ghost use Rattle.part_lines.specs.Reading.{IsNext, HasRead};
 ghost use Rattle.part_lines.specs.declared.fault.LineFault.TheVariants as fault;
 
@@ -22,7 +23,8 @@ pub struct Lines<'a> {
 
 impl<'a> Model for Lines<'a> {
     ghost use Rattle.std.specs.Prelude.{◌≡◌, ◌+◌, ◌≤◌, length, take, drop};
-    ghost use Rattle.part_lines.specs.Lines.{lines_in, AreLines};
+    ghost use Rattle.text_bytes.specs.Texts.{AreLines};
+    ghost use Rattle.part_lines.specs.Lines.{lines_in};
     ghost use Rattle.part_lines.specs.Reading.{Reading};
 
     ghost Value = { Reading };

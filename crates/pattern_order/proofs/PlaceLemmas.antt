@@ -10,21 +10,10 @@ use Rattle.std.proofs.lemmas.Bool.{cases_Bool, ltb-true, ltb-false}
 use Rattle.std.proofs.lemmas.Option.{none-some, same_Some, slice_get_past, slice_get_cases, get_or_from_slice_get}
 use Rattle.std.proofs.lemmas.List.Quantifiers.{position-Some}
 use Rattle.std.proofs.lemmas.List.Folds.{find_at}
-use Rattle.std.proofs.lemmas.Slice.Eq.{bytes_eq-Decides}
 use Rattle.text_bytes.proofs.MapLemmas.{lookup-push}
+use Rattle.text_bytes.proofs.TextLemmas.{bytes_eq-comm}
 use Rattle.indexmap.specs.IndexMap.{IndexMap, IsEmpty}
 use Rattle.pattern_order.specs.Numbers.{place_in}
-
--- names are the same either way
-bytes_eq-comm : (a b : List ℕ) → bytes_eq a b ≡ bytes_eq b a
-bytes_eq-comm a b =
-    elim (cases_Bool (bytes_eq a b)) [
-      | inl t ↦ t ∙ sym ((bytes_eq-Decides b a).1 (sym ((bytes_eq-Decides a b).0 t)))
-      | inr f ↦ elim (cases_Bool (bytes_eq b a)) [
-        | inl t ↦ (bytes_eq-Decides a b).1 (sym ((bytes_eq-Decides b a).0 t)) ∙ sym t
-        | inr g ↦ f ∙ sym g
-      ]
-    ]
 
 -- a name that had no place has this one
 pub place-added : {S : Type 0} (old new : IndexMap (Bor (List ℕ)) ℕ S) (key : Bor (List ℕ)) (place : ℕ) (name : List ℕ)

@@ -9,11 +9,11 @@ use Rattle.plan_rows.specs.Plan.{IsPlan}
 use Rattle.plan_rows.specs.declared.row.Row.{Row}
 use Rattle.plan_rows.specs.declared.row.Row.TheVariants as row
 use Rattle.plan_rows.specs.declared.row.DieRow.{DieRow}
-use Rattle.plan_rows.proofs.RowLemmas.{each_of-append}
+use Rattle.plan_rows.proofs.RowLemmas.{each_of-append, greatest}
 use Rattle.plan_rows.proofs.KeptLemmas.{kept_where_read}
 use Rattle.plan_parts.specs.Moved.{moved}
 use Rattle.plan_parts.specs.Cut.{has_dies, sites_with_dies, rank_of, site_at, part_rows, sites_in_part}
-use Rattle.plan_parts.proofs.SiteLemmas.{has_dies-below, greatest}
+use Rattle.plan_parts.proofs.SiteLemmas.{has_dies-below}
 use Rattle.plan_parts.proofs.CutLemmas.{Counts, AllCount, by_kind, cut_row, cut_rows, dies_cut, names_cut, die_to}
 use Rattle.plan_parts.proofs.RankLemmas.{number_of, part_rows-cut, part_is_cut, site_numbered, rank_of-has, rank_is, number_within}
 use Rattle.plan_parts.proofs.PartLemmas.{counts_plan}

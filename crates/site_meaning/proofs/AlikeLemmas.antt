@@ -27,7 +27,7 @@ use Rattle.site_meaning.proofs.AlikeDies.{twin, twins, SayExecs, say_all, tried_
 -- ---- a die of the part
 
 -- signals are bound to circuits of one netlist alike
-binds_alike : (c d : Circuit) → c.net ≡ d.net → (before : List Bind) (needs : List PinNeed)
+pub binds_alike : (c d : Circuit) → c.net ≡ d.net → (before : List Bind) (needs : List PinNeed)
     → binds_from c before needs ≡ binds_from d before needs
 binds_alike c d net before [] = refl
 binds_alike c d net before (w ∷ needs) =
@@ -63,7 +63,7 @@ say_execs code other same (e ∷ execs) =
     (say_all code.rows other.rows (cycles_of code e) (cycles_of other e) (same e), say_execs code other same execs)
 
 -- a circuit has the netlist of another one
-of_net : (c d : Circuit) → c.net ≡ d.net → record { net = c.net; order = d.order; readers = d.readers } ≡ d
+pub of_net : (c d : Circuit) → c.net ≡ d.net → record { net = c.net; order = d.order; readers = d.readers } ≡ d
 of_net c d net = λ i. record { net = net i; order = d.order; readers = d.readers }
 
 -- the batches of a try on a stand

@@ -1,14 +1,7 @@
 -- What holds of each item of lists that are made from others.
-use Rattle.std.proofs.Common.{ℕ, zero, suc, Bool, List, [], ◌∷◌, ◌++◌, map, take, drop}
-use Rattle.std.specs.Prelude.{filter}
+use Rattle.std.proofs.Common.{ℕ, zero, suc, List, [], ◌∷◌, ◌++◌, map, take, drop}
 use Rattle.std.specs.List.{AllByRecursion, flat_map}
-use Rattle.std.proofs.lemmas.Bool.{cond_both}
 use Rattle.text_bytes.proofs.ListLemmas.{all_append}
-
-pub All-weaker : {X : Type 0} (P Q : X → Type 0) → ((x : X) → P x → Q x) → (xs : List X) → AllByRecursion P xs
-    → AllByRecursion Q xs
-All-weaker P Q so [] all = tt
-All-weaker P Q so (x ∷ xs) all = (so x all.0, All-weaker P Q so xs all.1)
 
 -- what holds of anything holds of each
 pub All-of_any : {X : Type 0} (P : X → Type 0) (xs : List X) → ((x : X) → P x) → AllByRecursion P xs
@@ -38,13 +31,6 @@ pub All-drop : {X : Type 0} (P : X → Type 0) (n : ℕ) (xs : List X) → AllBy
 All-drop P zero xs all = all
 All-drop P (suc n) [] all = tt
 All-drop P (suc n) (x ∷ xs) all = All-drop P n xs all.1
-
-pub All-filter : {X : Type 0} (P : X → Type 0) (test : X → Bool) (xs : List X) → AllByRecursion P xs
-    → AllByRecursion P (filter test xs)
-All-filter P test [] all = tt
-All-filter P test (x ∷ xs) all =
-    cond_both (test x) (x ∷ filter test xs) (filter test xs) (AllByRecursion P) (λ _. (all.0, All-filter P test xs all.1))
-    (λ _. All-filter P test xs all.1)
 
 -- both of two lists
 pub all_parts : {X : Type 0} (P : X → Type 0) (xs ys : List X) → AllByRecursion P (xs ++ ys)

@@ -8,6 +8,7 @@ use Rattle.std.specs.Cmp.Lexicographic.{bytes_decides}
 use Rattle.std.proofs.lemmas.Bool.{false≢true, or_left, or_right}
 use Rattle.std.proofs.lemmas.List.FromFn.{get_or-map-range_with_len}
 use Rattle.text_bytes.specs.Texts.{added}
+use Rattle.text_bytes.proofs.ListLemmas.{all_filter}
 use Rattle.bench_net.specs.Circuit.{Circuit}
 use Rattle.die_sim.specs.declared.image.Binding.{Binding}
 use Rattle.packed_code.specs.Program.{Program}
@@ -25,7 +26,6 @@ use Rattle.lot_plan.specs.Binds.{binds_of, list_of}
 use Rattle.lot_plan.specs.Bound.{Bound, no_circuit, die_at, circuit_of, binding_to, numbered, loaded, image_of, stop_of}
 use Rattle.lot_plan.specs.Skews.{skews_of, site_skews}
 use Rattle.lot_plan.proofs.NameLemmas.{any-with_file}
-use Rattle.site_meaning.proofs.AllLemmas.{All-filter}
 use Rattle.site_meaning.specs.Part.{Part, rows_for, circuits_for, part_of, circuit_for, only, lot_in, dies_in, skews_in, circuit_in, as_plan, image_in, order_in}
 use Rattle.site_meaning.specs.Records.{TryCut, records}
 use Rattle.site_meaning.proofs.RowLemmas.{lots-same, clocks-same, binds-same, dies-same, faults-same, stops-same, skews-same, rows_for-rows_for}
@@ -144,7 +144,7 @@ die_named : (site die : ℕ) (rows : List Row) → die < length (dies_at site ro
     → list_any (bytes_eq (die_at rows site die).file) (files_of rows) ≡ true
 die_named site die rows planned =
     all_at (λ (d : DieRow). list_any (bytes_eq d.file) (files_of rows) ≡ true) (dies_at site rows) die no_die
-    (All-filter (λ (d : DieRow). list_any (bytes_eq d.file) (files_of rows) ≡ true) (λ (d : DieRow). d.site == site) (dies_of rows)
+    (all_filter (λ (d : DieRow). list_any (bytes_eq d.file) (files_of rows) ≡ true) (λ (d : DieRow). d.site == site) (dies_of rows)
     (all_there (dies_of rows) [])) planned
 
 -- a die of the site has its circuit

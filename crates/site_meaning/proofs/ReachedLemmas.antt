@@ -4,8 +4,7 @@ use Rattle.std.specs.List.{AllByRecursion, find}
 use Rattle.std.proofs.lemmas.Bool.{cond-false, ne_eqb, and_left}
 use Rattle.std.proofs.lemmas.List.{append_assoc}
 use Rattle.tester_types.specs.declared.record.Fail.{Fail}
-use Rattle.text_bytes.proofs.ListLemmas.{all_append}
-use Rattle.site_meaning.proofs.AllLemmas.{All-weaker}
+use Rattle.text_bytes.proofs.ListLemmas.{all_append, all_from}
 use Rattle.site_meaning.specs.Playing.{PlayedMoment, PlayedCycle}
 use Rattle.site_meaning.specs.Trials.{Lost, behind_cycle, lost_at, is_hit, reached, fails_in}
 
@@ -24,9 +23,9 @@ From now cycles = AllAt (λ (n : ℕ). now ≤ n) cycles
 
 pub AllAt-weaker : (P Q : ℕ → Type 0) → ((n : ℕ) → P n → Q n) → (cs : List PlayedCycle) → AllAt P cs → AllAt Q cs
 AllAt-weaker P Q so cs all =
-    All-weaker (λ (c : PlayedCycle). AllByRecursion (λ (m : PlayedMoment). P m.at) c.moments)
+    all_from (λ (c : PlayedCycle). AllByRecursion (λ (m : PlayedMoment). P m.at) c.moments)
     (λ (c : PlayedCycle). AllByRecursion (λ (m : PlayedMoment). Q m.at) c.moments)
-    (λ c h. All-weaker (λ (m : PlayedMoment). P m.at) (λ (m : PlayedMoment). Q m.at) (λ m k. so m.at k) c.moments h) cs all
+    (λ c h. all_from (λ (m : PlayedMoment). P m.at) (λ (m : PlayedMoment). Q m.at) (λ m k. so m.at k) c.moments h) cs all
 
 pub Before-later : (now then : ℕ) → now ≤ then → (cs : List PlayedCycle) → Before now cs → Before then cs
 Before-later now then le cs all =

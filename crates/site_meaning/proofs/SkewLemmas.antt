@@ -11,6 +11,7 @@ use Rattle.std.proofs.lemmas.List.{get_or-map, get_or-take, length-take-le}
 use Rattle.std.proofs.lemmas.List.Folds.{list_any_at}
 use Rattle.std.proofs.lemmas.List.Quantifiers.{position-Some}
 use Rattle.std.proofs.lemmas.List.Sums.{AllPass-from_list_all, list_all-from_AllPass}
+use Rattle.text_bytes.proofs.ListLemmas.{all_filter}
 use Rattle.tester_types.specs.declared.wave.Event.{Event}
 use Rattle.tester_types.specs.declared.signal.Direction.TheVariants.{In}
 use Rattle.tester_types.specs.declared.wave.Wave.{Wave}
@@ -32,7 +33,6 @@ use Rattle.lot_plan.specs.Bound.{Bound, signals_of, circuit_of}
 use Rattle.lot_plan.specs.Skews.{wave_stays, waves_stay, skew_fault, skew_refusal, skew_by, site_skews}
 use Rattle.lot_plan.specs.Refusal.{is_signal, row_refusal, rows_refusal, refused_row, IsBound}
 use Rattle.lot_plan.proofs.RefusalLemmas.{none_both}
-use Rattle.site_meaning.proofs.AllLemmas.{All-filter}
 use Rattle.site_meaning.specs.Part.{IsPart, part_of}
 use Rattle.site_meaning.proofs.PartLemmas.{lot_in-part_of, skews_in-part_of}
 
@@ -176,7 +176,7 @@ wave_inside b site k j t w program none within there =
     let all = accepted (is_signal signals) signals tables (length b.program.execs) (circuit_of b) 1 b.rows none in
     let name = (get_or signals wave.signal no_signal).name in
     let stays = all_found (Stays signals tables) (λ (r : SkewRow). bytes_eq name r.signal) rows
-    (All-filter (Stays signals tables) (λ (r : SkewRow). r.site == site) (each_of as_skew b.rows) all) in
+    (all_filter (Stays signals tables) (λ (r : SkewRow). r.site == site) (each_of as_skew b.rows) all) in
     let named = find-passes (λ (r : SkewRow). bytes_eq name r.signal) rows in
     let inside = by_row signals tables name k j wave.signal t w (find (λ (r : SkewRow). bytes_eq name r.signal) rows) program.signals
     within there refl of_wave.signal refl early stays named in

@@ -1,14 +1,15 @@
 -- What comes of a site's try in a poll, from where it arrives on.
-use Rattle.std.proofs.Common.{◌≡◌, ℕ, ◌-◌, ◌^◌, ◌<◌, ◌≤◌, Bool, true, false, cond, [], length, Option, Some, None, IfSome, refl, sym, ap, ◌∙◌, subst, arith, inl, inr}
+use Rattle.std.proofs.Common.{◌≡◌, ℕ, ◌-◌, ◌<◌, ◌≤◌, Bool, true, false, cond, [], length, Option, Some, None, IfSome, refl, sym, ap, ◌∙◌, subst, arith, inl, inr}
 use Rattle.std.specs.Prelude.{◌⊎◌, ◌&&◌, ◌||◌, nat_lt, nat_le, if◌then◌else◌, is_some, Result, Ok, Err, IfOk}
 use Rattle.std.specs.Option.{option_map, option_map_or}
-use Rattle.std.proofs.lemmas.Bool.{cases_Bool, cases_lt, eqb-true, lt-leb}
+use Rattle.std.proofs.lemmas.Bool.{cases_Bool, eqb-true, lt-leb}
 use Rattle.tester_types.specs.Outside.{HasRisen}
 use Rattle.tester_types.specs.declared.outside.NoMemory.{NoMemory}
 use Rattle.tester_types.specs.declared.record.Trial.{Trial}
 use Rattle.tester_types.specs.declared.record.Record.{Record}
 use Rattle.tester_types.specs.declared.record.Verdict.{Verdict}
 use Rattle.tester_types.specs.declared.record.Verdict.TheVariants as verdict
+use Rattle.tester_types.proofs.OutsideLemmas.{risen_behind}
 use Rattle.die_sim.specs.Socket.{Told, Calls}
 use Rattle.lot_plan.specs.Bound.{Bound}
 use Rattle.plan_rows.specs.Rows.{dies_at}
@@ -29,20 +30,9 @@ use Rattle.site_run.proofs.TapeLemmas.{before_zero, poll_calls}
 use Rattle.site_run.specs.Contact.{EndsAtContact, IsLostInPoll}
 use Rattle.site_run.specs.Site.{seat_of, try_of, IsSeatOf, IsOutcome, HasLost, Advances, Steps, KeepsRest, IsPolled}
 
--- a count that has risen from a later number has risen from an earlier one
-pub risen_from : (a b c : ℕ) → a ≤ b → b ≤ c → HasRisen b c → HasRisen a c
-risen_from a b c low up risen = λ small. rise a b c low up small risen
-  where
-    rise : (x y z : ℕ) → x ≤ y → y ≤ z → x < 2 ^ 64 - 1 → (y < 2 ^ 64 - 1 → y < z) → x < z
-    rise x y z low up small risen =
-        elim (cases_lt y (2 ^ 64 - 1)) [
-          | inl l ↦ omega (arith, low, risen l)
-          | inr l ↦ omega (arith, up, small, l)
-        ]
-
 risen_if : (o : Option ℕ) (a b c : ℕ) → a ≤ b → b ≤ c → IfSome o (λ at. HasRisen b c) → IfSome o (λ at. HasRisen a c)
 risen_if None a b c low up risen = tt
-risen_if (Some at) a b c low up risen = risen_from a b c low up risen
+risen_if (Some at) a b c low up risen = risen_behind a b c low up risen
 
 risen_more : (o : Option ℕ) (a b c : ℕ) → b ≤ c → IfSome o (λ at. HasRisen a b) → IfSome o (λ at. HasRisen a c)
 risen_more None a b c up risen = tt

@@ -5,7 +5,7 @@ use Rattle.std.specs.List.{AllByRecursion}
 use Rattle.std.proofs.lemmas.Bool.{cond-true, cond-false, lt-ltb, le-ltb, lt-leb, le-leb}
 use Rattle.std.proofs.lemmas.List.{append-nil, append_assoc}
 use Rattle.std.proofs.lemmas.List.Elements.{filter-append}
-use Rattle.text_bytes.proofs.ListLemmas.{all_append}
+use Rattle.text_bytes.proofs.ListLemmas.{all_append, all_from}
 use Rattle.tester_types.specs.declared.level.Drive.{Drive}
 use Rattle.tester_types.specs.declared.cycle.Cycle.{Cycle}
 use Rattle.tester_types.specs.declared.cycle.Moment.{Moment}
@@ -18,7 +18,7 @@ use Rattle.site_meaning.specs.Playing.{Stand, Going, Along, along_of, driven, af
 use Rattle.site_meaning.specs.Part.{Part, stand_for}
 use Rattle.site_meaning.specs.Trials.{after_cycles}
 use Rattle.site_meaning.specs.Polls.{Running, Seat, rests, arrived, next_cycles}
-use Rattle.site_meaning.proofs.AllLemmas.{All-weaker, All-of_any}
+use Rattle.site_meaning.proofs.AllLemmas.{All-of_any}
 use Rattle.site_run.specs.declared.run.Move.{Move}
 use Rattle.cycle_run.specs.Tape.{call_at, call_of, calls_in, calls_of_cycle, with_calls}
 use Rattle.cycle_run.specs.Cycle.{IsCallAt}
@@ -57,11 +57,11 @@ module _ (at : ℕ) (early own late : Calls) (before : AllAt (λ t. t < at) earl
   before_is : calls_before at (early ++ (own ++ late)) ≡ early
   before_is =
       let test = λ (c : Call). nat_lt c.0 at in
-      let a = keeps_all test early (All-weaker (λ (c : Call). c.0 < at) (λ (c : Call). test c ≡ true) (λ c h. lt-ltb c.0 at h) early before) in
+      let a = keeps_all test early (all_from (λ (c : Call). c.0 < at) (λ (c : Call). test c ≡ true) (λ c h. lt-ltb c.0 at h) early before) in
       let b = keeps_none test own
-      (All-weaker (λ (c : Call). c.0 ≡ at) (λ (c : Call). test c ≡ false) (λ c h. le-ltb c.0 at (omega (arith, h))) own there) in
+      (all_from (λ (c : Call). c.0 ≡ at) (λ (c : Call). test c ≡ false) (λ c h. le-ltb c.0 at (omega (arith, h))) own there) in
       let d = keeps_none test late
-      (All-weaker (λ (c : Call). at < c.0) (λ (c : Call). test c ≡ false) (λ c h. le-ltb c.0 at (omega (arith, h))) late behind) in
+      (all_from (λ (c : Call). at < c.0) (λ (c : Call). test c ≡ false) (λ c h. le-ltb c.0 at (omega (arith, h))) late behind) in
       filter-append test early (own ++ late)
       ∙ ap (λ (l : Calls). l ++ filter test (own ++ late)) a
       ∙ ap (λ (l : Calls). early ++ l) (filter-append test own late)
@@ -74,11 +74,11 @@ module _ (at : ℕ) (early own late : Calls) (before : AllAt (λ t. t < at) earl
   until_is =
       let test = λ (c : Call). nat_le c.0 at in
       let a = keeps_all test early
-      (All-weaker (λ (c : Call). c.0 < at) (λ (c : Call). test c ≡ true) (λ c h. le-leb c.0 at (omega (arith, h))) early before) in
+      (all_from (λ (c : Call). c.0 < at) (λ (c : Call). test c ≡ true) (λ c h. le-leb c.0 at (omega (arith, h))) early before) in
       let b = keeps_all test own
-      (All-weaker (λ (c : Call). c.0 ≡ at) (λ (c : Call). test c ≡ true) (λ c h. le-leb c.0 at (omega (arith, h))) own there) in
+      (all_from (λ (c : Call). c.0 ≡ at) (λ (c : Call). test c ≡ true) (λ c h. le-leb c.0 at (omega (arith, h))) own there) in
       let d = keeps_none test late
-      (All-weaker (λ (c : Call). at < c.0) (λ (c : Call). test c ≡ false) (λ c h. lt-leb c.0 at h) late behind) in
+      (all_from (λ (c : Call). at < c.0) (λ (c : Call). test c ≡ false) (λ c h. lt-leb c.0 at h) late behind) in
       filter-append test early (own ++ late)
       ∙ ap (λ (l : Calls). l ++ filter test (own ++ late)) a
       ∙ ap (λ (l : Calls). early ++ l) (filter-append test own late)
@@ -112,18 +112,18 @@ module _ (stand : Stand) (fit : FitCode stand.code stand.skews) (program : IsPro
   cycle_all At going cycle so =
       let end = going.time + period_of stand.code.tables cycle.table in
       calls_in-all At stand.device (along_of going) (moments_in stand going.time cycle)
-      (All-weaker (λ (m : Moment). (going.time ≤ m.at) × (m.at < end)) (λ (m : Moment). At m.at) (λ m h. so m.at h.0 h.1)
+      (all_from (λ (m : Moment). (going.time ≤ m.at) × (m.at < end)) (λ (m : Moment). At m.at) (λ m h. so m.at h.0 h.1)
       (moments_in stand going.time cycle) (cycle_between stand going.time cycle fit program))
 
   -- none comes before the first cycle starts
-  all_from : (At : ℕ → Type 0) (going : Going) (cycles : List Cycle) → ((t : ℕ) → going.time ≤ t → At t)
+  all_since : (At : ℕ → Type 0) (going : Going) (cycles : List Cycle) → ((t : ℕ) → going.time ≤ t → At t)
       → AllAt At (calls_of_cycles stand going cycles)
   unfolding calls_of_cycles
-  all_from At going [] so = tt
-  all_from At going (cycle ∷ cycles) so =
+  all_since At going [] so = tt
+  all_since At going (cycle ∷ cycles) so =
       let next = after_cycle stand going cycle in
       all_append (λ (c : Call). At c.0) (calls_of_cycle stand going cycle) (calls_of_cycles stand next cycles)
-      (cycle_all At going cycle (λ t low high. so t low)) (all_from At next cycles (λ t low. so t (omega (arith, low))))
+      (cycle_all At going cycle (λ t low high. so t low)) (all_since At next cycles (λ t low. so t (omega (arith, low))))
 
   -- each comes before the last one ends
   all_until : (At : ℕ → Type 0) (going : Going) (cycles : List Cycle) → ((t : ℕ) → t < (after_cycles stand going cycles).time → At t)
@@ -192,7 +192,7 @@ module _ (stand : Stand) (fit : FitCode stand.code stand.skews) (program : IsPro
       all_append (λ (c : Call). c.0 < at) earlier opened
       (all_until stand fit program (λ t. t < at) going done (λ t below. omega (arith, time, inside.0, below)))
       (calls_in-all (λ t. t < at) stand.device (along_of mid) call.done
-      (All-weaker (λ (m : Moment). m.at < call.moment.at) (λ (m : Moment). m.at < at) (λ m h. omega (arith, h, call.then)) call.done
+      (all_from (λ (m : Moment). m.at < call.moment.at) (λ (m : Moment). m.at < at) (λ m h. omega (arith, h, call.then)) call.done
       (below_one call.done call.later call.moment rises)))
 
   late_all : AllAt (λ t. at < t) (closed ++ others)
@@ -200,9 +200,9 @@ module _ (stand : Stand) (fit : FitCode stand.code stand.skews) (program : IsPro
       let inside = call_inside stand fit program exec mid cycle at call in
       all_append (λ (c : Call). at < c.0) closed others
       (calls_in-all (λ t. at < t) stand.device (after_moment stand.device along call.moment) call.later
-      (All-weaker (λ (m : Moment). call.moment.at < m.at) (λ (m : Moment). at < m.at) (λ m h. omega (arith, h, call.then)) call.later
+      (all_from (λ (m : Moment). call.moment.at < m.at) (λ (m : Moment). at < m.at) (λ m h. omega (arith, h, call.then)) call.later
       (behind_one call.done call.later call.moment rises)))
-      (all_from stand fit program (λ t. at < t) (after_cycle stand mid cycle) later (λ t low. omega (arith, inside.1, low)))
+      (all_since stand fit program (λ t. at < t) (after_cycle stand mid cycle) later (λ t low. omega (arith, inside.1, low)))
 
   own_all : AllAt (λ t. t ≡ at) own
   own_all = call_all (λ t. t ≡ at) call.moment.at (driven stand.device along.priors call.moment) call.then

@@ -10,6 +10,7 @@ use Rattle.tester_types.specs.declared.record.Trial.{Trial}
 use Rattle.tester_types.specs.declared.record.Record.{Record}
 use Rattle.tester_types.specs.declared.record.Verdict.{Verdict}
 use Rattle.tester_types.specs.declared.record.Verdict.TheVariants as verdict
+use Rattle.tester_types.proofs.OutsideLemmas.{risen_behind}
 use Rattle.die_sim.specs.Socket.{Told, Calls}
 use Rattle.pattern_mem.specs.Memory.{Memory}
 use Rattle.plan_rows.specs.Rows.{dies_at}
@@ -33,7 +34,7 @@ use Rattle.site_run.specs.Contact.{EndsAtContact, IsLostInPoll}
 use Rattle.site_run.specs.Touchdown.{IsIdle, IsTouchdown, ArePolls}
 use Rattle.cycle_run.proofs.SocketLemmas.{with-none}
 use Rattle.cycle_run.proofs.StepLemmas.{with-append}
-use Rattle.site_run.proofs.StepsLemmas.{risen_from, rests_not}
+use Rattle.site_run.proofs.StepsLemmas.{rests_not}
 use Rattle.site_run.proofs.SoFarLemmas.{Follows, poll_follows, poll_tapes}
 
 -- ---- polls, one after another
@@ -148,7 +149,7 @@ goes_first part told site is idle =
 -- no contact is lost where the count hasn't risen
 pub no_contact : (contact : Option ℕ) (a b c : ℕ) → a ≤ b → b ≤ c → IfSome contact (λ at. HasRisen b c) → (HasRisen a c → ⊥) → contact ≡ None
 no_contact None a b c low up cause quiet = refl
-no_contact (Some at) a b c low up cause quiet = absurd (quiet (risen_from a b c low up cause))
+no_contact (Some at) a b c low up cause quiet = absurd (quiet (risen_behind a b c low up cause))
 
 -- nor had it before
 pub quiet_before : (a b c : ℕ) → b ≤ c → (HasRisen a c → ⊥) → HasRisen a b → ⊥

@@ -1,5 +1,5 @@
 -- Why there is no grade, what a run of it is, and that one of fine files is done: `grade_completes`.
-use Rattle.std.proofs.Common.{◌≡◌, ◌⊎◌, ℕ, ◌<◌, List, length, Option, None, refl, sym, ap, ◌∙◌, subst, arith, inl, inr}
+use Rattle.std.proofs.Common.{◌≡◌, ◌⊎◌, ℕ, ◌<◌, List, length, Option, refl, sym, ap, ◌∙◌, subst, arith, inl, inr}
 use Rattle.tester_types.specs.Outside.{HasRisen, Files, gained, GainsFront}
 use Rattle.die_sim.specs.Socket.{Told}
 use Rattle.packed_code.specs.Program.{Program}
@@ -16,11 +16,11 @@ use Rattle.tool_inputs.specs.declared.refusal.Refusal.{Refusal}
 use Rattle.tool_inputs.specs.declared.refusal.Refusal.TheVariants as refused
 use Rattle.tool_inputs.specs.Endings.{Answers, IsDone}
 use Rattle.tool_inputs.specs.Refusals.{status_of, line_of}
-use Rattle.tool_inputs.specs.Inputs.{IsReady}
+use Rattle.tool_inputs.specs.Inputs.{IsReady, IsGradeRefused}
 use Rattle.tool_inputs.specs.Inputs.AreRefused.{no_memory}
+use Rattle.tool_inputs.specs.Inputs.IsGradeRefused.{of_inputs, no_die}
 use Rattle.tool_inputs.proofs.FineLemmas.{inputs_fine, rows_same}
-use Rattle.stil_tool.specs.Grade.{IsGradeRefused, graded_text, GradeRunWants, GradeWants, IsFineGrade}
-use Rattle.stil_tool.specs.Grade.IsGradeRefused.{of_inputs, no_die}
+use Rattle.stil_tool.specs.Grade.{graded_text, GradeRunWants, GradeWants, IsFineGrade}
 use Rattle.stil_tool.specs.Grade.GradeWants.{is_graded, is_refused}
 use Rattle.stil_tool.specs.Lot.{Floor}
 use Rattle.stil_tool.specs.Tester.{TesterWants}
@@ -31,13 +31,6 @@ use Rattle.stil_tool.proofs.FineLotLemmas.{program_word, plan_word, first_byte, 
 pub refused_wants : (told : Option Files) (before now : ℕ) (program plan : List ℕ) (r : Refusal)
     → IsGradeRefused told before now program plan r → GradeWants told before now program plan (status_of r) (line_of r)
 refused_wants told before now program plan r cause = is_refused r cause refl refl
-
--- a plan that is ready, and has no die
-pub no_die_refused : (told : Option Files) (before now : ℕ) (program plan : List ℕ) (code : Program) (bound : Bound)
-    → IsReady told program plan code bound → sites_of bound.rows ≡ 0
-    → IsGradeRefused told before now program plan (refused.NoDie None)
-no_die_refused told before now program plan code bound ready none =
-    no_die ready.inputs ready.are ready.accepted (sym (ap (λ (b : Bound). sites_of b.rows) ready.is) ∙ none) refl
 
 -- the lines of a grade of the first die, over the names of its netlist
 pub graded_so : (bound : Bound) (circuit : Circuit) (grade : Grade) → circuit ≡ circuit_in (first_part bound) 0 → grade ≡ grade_of bound

@@ -2,15 +2,8 @@
 use Rattle.std.proofs.Common.{◌≡◌, ℕ, ◌<◌, ◌≤◌, true, false, List, [], ◌∷◌, length, get_or, nat_eq, sym, ap, ◌∙◌, arith, String, string_bytes}
 use Rattle.std.specs.declared.alloc.Global.{Global}
 use Rattle.std.specs.Cmp.Lexicographic.{pointwise, bytes_decides}
+use Rattle.text_bytes.proofs.ListLemmas.{two_items, three_items, four_items}
 use Rattle.stil_tool.specs.Offline.{words_seen}
-
--- a list of two items
-pub two_items : {X : Type 0} (xs : List X) (a b : X) → 2 ≤ length xs → length xs < 3 →
-    a ≡ get_or xs 0 a → b ≡ get_or xs 1 b → xs ≡ a ∷ b ∷ []
-two_items [] a b least below first second = absurd (omega arith)
-two_items (x ∷ []) a b least below first second = absurd (omega arith)
-two_items (x ∷ y ∷ []) a b least below first second = ap (λ h. h ∷ y ∷ []) (sym first) ∙ ap (λ h. a ∷ h ∷ []) (sym second)
-two_items (x ∷ y ∷ z ∷ xs) a b least below first second = absurd (omega arith)
 
 -- two words, of which the first is this one
 pub two_words : (words : List (String Global)) (a b : String Global) (command seen file : List ℕ) →
@@ -22,16 +15,6 @@ two_words words a b command seen file least below first second seen_is same file
     ∙ ap (λ w. w ∷ string_bytes b ∷ []) (sym seen_is ∙ (bytes_decides seen command).0 (sym same))
     ∙ ap (λ w. command ∷ w ∷ []) (sym file_is)
 
--- a list of three items
-pub three_items : {X : Type 0} (xs : List X) (a b c : X) → 3 ≤ length xs → length xs < 4 →
-    a ≡ get_or xs 0 a → b ≡ get_or xs 1 b → c ≡ get_or xs 2 c → xs ≡ a ∷ b ∷ c ∷ []
-three_items [] a b c least below first second third = absurd (omega arith)
-three_items (x ∷ []) a b c least below first second third = absurd (omega arith)
-three_items (x ∷ y ∷ []) a b c least below first second third = absurd (omega arith)
-three_items (x ∷ y ∷ z ∷ []) a b c least below first second third =
-    ap (λ h. h ∷ y ∷ z ∷ []) (sym first) ∙ ap (λ h. a ∷ h ∷ z ∷ []) (sym second) ∙ ap (λ h. a ∷ b ∷ h ∷ []) (sym third)
-three_items (x ∷ y ∷ z ∷ w ∷ xs) a b c least below first second third = absurd (omega arith)
-
 -- three words, of which the first is this one
 pub three_words : (words : List (String Global)) (a b c : String Global) (command seen first_file second_file : List ℕ) →
     3 ≤ length words → length words < 4 → a ≡ get_or words 0 a → b ≡ get_or words 1 b → c ≡ get_or words 2 c →
@@ -41,13 +24,6 @@ three_words words a b c command seen first_file second_file least below first se
     ap words_seen (three_items words a b c least below first second third)
     ∙ ap (λ w. w ∷ string_bytes b ∷ string_bytes c ∷ []) (sym seen_is ∙ (bytes_decides seen command).0 (sym same))
     ∙ ap (λ w. command ∷ w ∷ string_bytes c ∷ []) (sym first_is) ∙ ap (λ w. command ∷ first_file ∷ w ∷ []) (sym second_is)
-
--- a list of four items
-pub four_items : {X : Type 0} (xs : List X) (a b c d : X) → 4 ≤ length xs → length xs < 5 → a ≡ get_or xs 0 a → b ≡ get_or xs 1 b →
-    c ≡ get_or xs 2 c → d ≡ get_or xs 3 d → xs ≡ a ∷ b ∷ c ∷ d ∷ []
-four_items [] a b c d least below first second third fourth = absurd (omega arith)
-four_items (x ∷ xs) a b c d least below first second third fourth =
-    ap (λ h. h ∷ xs) (sym first) ∙ ap (λ l. a ∷ l) (three_items xs b c d (omega (arith, least)) (omega (arith, below)) second third fourth)
 
 -- four words, of which the first is this one
 pub four_words : (words : List (String Global)) (a b c d : String Global) (command seen program plan last : List ℕ) →

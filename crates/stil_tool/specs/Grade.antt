@@ -10,21 +10,14 @@ use Rattle.grade_listing.specs.GradeText.{grade_text}
 use Rattle.tool_inputs.specs.declared.status.Status.{Status}
 use Rattle.tool_inputs.specs.declared.status.Status.TheVariants.{Done, OutOfMemory}
 use Rattle.tool_inputs.specs.declared.refusal.Refusal.{Refusal}
-use Rattle.tool_inputs.specs.declared.refusal.Refusal.TheVariants.{NoDie}
 use Rattle.tool_inputs.specs.Endings.{memory_line}
 use Rattle.tool_inputs.specs.Refusals.{status_of, line_of}
-use Rattle.tool_inputs.specs.Inputs.{Inputs, AreInputs, AreRefused, bound_of}
+use Rattle.tool_inputs.specs.Inputs.{Inputs, AreInputs, bound_of, IsGradeRefused}
 use Rattle.tool_inputs.specs.FineInputs.{AreFine}
 
 -- the words `grade PROGRAM PLAN`
 abbrev pub AreGrade : List (List ℕ) → List ℕ → List ℕ → Type 0
 AreGrade words program plan = words ≡ codes "grade" ∷ program ∷ plan ∷ []
-
--- why there is no grade: what it reads is refused, or the plan has no die record
-pub data IsGradeRefused (told : Option Files) (before now : ℕ) (program plan : List ℕ) (r : Refusal) : Type 0 where
-  of_inputs : AreRefused told before now program plan r → IsGradeRefused told before now program plan r
-  no_die : (inputs : Inputs) → AreInputs told program plan inputs → refusal (bound_of inputs) ≡ None
-      → sites_of inputs.rows ≡ 0 → r ≡ NoDie None → IsGradeRefused told before now program plan r
 
 -- what is written of a grade: that of the first die record's die, over the names of its nets
 abbrev pub graded_text : Bound → List ℕ

@@ -20,7 +20,7 @@ pub(crate) fn net_text(alloc: Global, number: u8) -> Result<Vec<u8>, AllocError>
 }
 
 /// The lines of the input, the output and the first register.
-#[tactic(auto, unfolding(crate::specs::Texts::net_head))]
+#[tactic(auto, unfolding(drill_fine::specs::Texts::net_head))]
 fn with_head(alloc: Global, number: u8) -> Result<Vec<u8>, AllocError>
     ensures { IfOk result (λ text. text.items ≡ net_head number) }
 {
@@ -31,7 +31,7 @@ fn with_head(alloc: Global, number: u8) -> Result<Vec<u8>, AllocError>
 }
 
 /// Puts the line of a register behind the first.
-#[tactic(auto, unfolding(crate::specs::Texts::register_line))]
+#[tactic(auto, unfolding(drill_fine::specs::Texts::register_line))]
 fn put_register(text: &mut Vec<u8>, register: u64) -> Result<(), AllocError>
     requires { 0 < register }
     ensures { OnOk result (text.new.items ≡ text.old.items ++ register_line register) }

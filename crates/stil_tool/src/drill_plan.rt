@@ -15,7 +15,7 @@ const DIE_ROWS: &[u8] = b"die,0,a,drill.bench,,\n\
     fault,1,b,f1,0,\n";
 
 /// The plan of the lot of the drill of this number.
-#[tactic(auto, unfolding(crate::specs::Texts::plan_text, crate::specs::Texts::die_rows))]
+#[tactic(auto, unfolding(drill_fine::specs::Texts::plan_text, drill_fine::specs::Texts::die_rows))]
 pub(crate) fn plan_text(alloc: Global, number: u8) -> Result<Vec<u8>, AllocError>
     ensures text { IfOk result (λ text. text.items ≡ plan_text number) }
     ensures few { IfOk result (λ text. length text.items ≤ most_bytes) }

@@ -36,7 +36,7 @@ pub(crate) fn stil_text(alloc: Global, number: u8) -> Result<Vec<u8>, AllocError
 }
 
 /// The text that stands before the vectors.
-#[tactic(auto, unfolding(crate::specs::Texts::stil_head))]
+#[tactic(auto, unfolding(drill_fine::specs::Texts::stil_head))]
 fn with_head(alloc: Global) -> Result<Vec<u8>, AllocError>
     ensures { IfOk result (λ text. text.items ≡ stil_head) }
 {
@@ -44,7 +44,7 @@ fn with_head(alloc: Global) -> Result<Vec<u8>, AllocError>
 }
 
 /// Puts what stands behind the vectors.
-#[tactic(auto, unfolding(crate::specs::Texts::stil_tail))]
+#[tactic(auto, unfolding(drill_fine::specs::Texts::stil_tail))]
 fn put_tail(text: &mut Vec<u8>) -> Result<(), AllocError>
     ensures { OnOk result (text.new.items ≡ text.old.items ++ stil_tail) }
 {
@@ -52,7 +52,7 @@ fn put_tail(text: &mut Vec<u8>) -> Result<(), AllocError>
 }
 
 /// Puts the line of a vector.
-#[tactic(auto, unfolding(crate::specs::Texts::vector_line))]
+#[tactic(auto, unfolding(drill_fine::specs::Texts::vector_line))]
 fn put_vector(text: &mut Vec<u8>, number: u64, place: u64) -> Result<(), AllocError>
     requires number { number < 256 }
     requires place { place < 127500 }

@@ -5,13 +5,14 @@ use Rattle.std.proofs.lemmas.List.{append-nil, map-append, length_push}
 use Rattle.std.proofs.lemmas.List.Concat.{flat_map-append}
 use Rattle.std.proofs.lemmas.List.Elements.{filter-append}
 use Rattle.std.specs.List.{AllByRecursion, flat_map, range_with_len}
+use Rattle.text_bytes.proofs.ListLemmas.{range-push}
 use Rattle.tester_types.specs.declared.wave.Look.{Look}
 use Rattle.tester_types.specs.declared.record.Fail.{Fail}
 use Rattle.strobe_check.specs.Entry.{Entry, looks_at, level_of, fail_at}
 use Rattle.strobe_check.specs.Fails.{fails_of, at_place, bound_signals, fails}
 use Rattle.strobe_check.specs.History.{open_window}
 use Rattle.strobe_check.specs.Step.{failed}
-use Rattle.strobe_check.proofs.ListLemmas.{flat_map-same, flat_map-below, range-push}
+use Rattle.strobe_check.proofs.ListLemmas.{flat_map-same, flat_map-below}
 use Rattle.strobe_check.proofs.FailLemmas.{fail_here, fails_of-push}
 use Rattle.strobe_check.proofs.PlaceLemmas.{fails_of-below}
 

@@ -1,7 +1,6 @@
 -- Lists of any elements.
 use Rattle.std.proofs.Common.{◌≡◌, ℕ, zero, suc, ◌+◌, ◌<◌, Bool, true, false, cond, List, [], ◌∷◌, ◌++◌, length, get_or, ext_get_or, replicate, set, take, drop, Option, Some, None, refl, sym, ap, ◌∙◌, arith}
-use Rattle.std.proofs.lemmas.List.{append_assoc, map-id, take_more, drop_more, set_at, get_or_at, get_or-replicate, length-replicate, length-take-le}
-use Rattle.std.proofs.lemmas.List.FromFn.{map-range_with_len_more}
+use Rattle.std.proofs.lemmas.List.{append_assoc, take_more, drop_more, set_at, get_or_at, get_or-replicate, length-replicate, length-take-le}
 use Rattle.std.specs.List.{AllByRecursion, cons_option, flat_map, range_with_len}
 
 -- ---- one more element
@@ -29,12 +28,6 @@ flat_map-below f g bound a zero upto same = refl
 flat_map-below f g bound a (suc n) upto same =
     ap (λ l. l ++ flat_map f (range_with_len (a + 1) n)) (same a (omega arith))
     ∙ ap (λ l. g a ++ l) (flat_map-below f g bound (a + 1) n (omega arith) same)
-
--- one number more
-pub range-push : (a n : ℕ) → range_with_len a (n + 1) ≡ range_with_len a n ++ (a + n) ∷ []
-range-push a n =
-    sym (map-id (range_with_len a (n + 1))) ∙ map-range_with_len_more (λ k. k) a n (a + n) refl
-    ∙ ap (λ l. l ++ (a + n) ∷ []) (map-id (range_with_len a n))
 
 -- ---- each element
 

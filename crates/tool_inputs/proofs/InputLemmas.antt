@@ -1,5 +1,5 @@
 -- Why a lot is refused stays so over a whole call, and what a run wants is wanted of the lot.
-use Rattle.std.proofs.Common.{◌≡◌, ℕ, ◌-◌, ◌^◌, ◌<◌, ◌≤◌, Bool, true, ltb, List, Option, Some, Result, Ok, Err, refl, sym, ap, ◌∙◌, subst, arith, inl, inr, false, ◌⊎◌}
+use Rattle.std.proofs.Common.{◌≡◌, ℕ, ◌-◌, ◌^◌, ◌<◌, ◌≤◌, Bool, true, ltb, List, Option, Some, None, Result, Ok, Err, refl, sym, ap, ◌∙◌, subst, arith, inl, inr, false, ◌⊎◌}
 use Rattle.std.proofs.lemmas.Bool.{cases_Bool, ltb-true, ltb-false}
 use Rattle.tester_types.specs.Outside.{HasRisen, Files}
 use Rattle.packed_code.specs.Program.{Program}
@@ -9,7 +9,7 @@ use Rattle.plan_rows.specs.Plan.{IsFault as IsPlanFault}
 use Rattle.bench_net.specs.declared.fault.NetFault.{NetFault}
 use Rattle.bench_net.specs.declared.fault.NetFault.TheVariants as nets
 use Rattle.bench_net.specs.Fault.{IsFault as IsNetFault}
-use Rattle.plan_rows.specs.Rows.{files_of}
+use Rattle.plan_rows.specs.Rows.{files_of, sites_of}
 use Rattle.lot_plan.specs.Refusal.{refusal}
 use Rattle.page_code.specs.Reading.{load_of}
 use Rattle.page_code.specs.Saved.{Saved}
@@ -18,18 +18,20 @@ use Rattle.stil_ast.specs.declared.fault.StilFault.{StilFault}
 use Rattle.stil_ast.specs.Data.Refusal.{StilRefusal}
 use Rattle.answers.specs.declared.short.Short.TheVariants as stil
 use Rattle.std.specs.Prelude.{IfOk, IfErr}
+use Rattle.lot_plan.specs.Bound.{Bound}
 use Rattle.tool_inputs.specs.declared.status.Status.{Status}
 use Rattle.tool_inputs.specs.declared.refusal.Refusal.{Refusal}
 use Rattle.tool_inputs.specs.declared.refusal.Refusal.TheVariants as refused
 use Rattle.tool_inputs.specs.Endings.{LoadFailed, Ends, IsFile}
 use Rattle.tool_inputs.specs.Refusals.{status_of}
-use Rattle.tool_inputs.specs.Inputs.{AreRefused, is_saved, IsCodeBy, Inputs, AreInputs, bound_of, IsProgramFile, IsPlanFile, AreNetFiles, IsUnread, IsProgramRefused, IsPlanRefused, IsNetRefused, AreNetsRefused}
+use Rattle.tool_inputs.specs.Inputs.{AreRefused, is_saved, IsCodeBy, Inputs, AreInputs, bound_of, IsProgramFile, IsPlanFile, AreNetFiles, IsUnread, IsProgramRefused, IsPlanRefused, IsNetRefused, AreNetsRefused, IsReady, IsGradeRefused}
 use Rattle.tool_inputs.specs.Refused.{IsTextRefusal, IsSavedRefusal}
 use Rattle.tool_inputs.specs.Inputs.IsProgramRefused.{no_memory as program_memory, of_text, of_saved}
 use Rattle.tool_inputs.specs.Inputs.IsPlanRefused.{no_memory as plan_memory, unread as plan_unread, faulty as plan_faulty}
 use Rattle.tool_inputs.specs.Inputs.IsNetRefused.{no_memory as net_memory, unread as net_unread, faulty as net_faulty}
 use Rattle.tool_inputs.specs.Inputs.AreNetsRefused.{no_memory as nets_memory, of_file}
 use Rattle.tool_inputs.specs.Inputs.AreRefused.{no_memory, unbound}
+use Rattle.tool_inputs.specs.Inputs.IsGradeRefused.{no_die}
 
 -- a count that rose within a call, and never falls, rose over the whole of it
 pub wide-risen : (b b' n' n : ℕ) → b ≤ b' → b' ≤ n' → n' ≤ n → HasRisen b' n' → HasRisen b n
@@ -178,3 +180,10 @@ pub same_ends : (held held' : Option (List ℕ)) (faults faults' : ℕ) (result 
 same_ends held held' faults faults' result status status' text text' answer line ends =
     subst (λ (s : Status). Ends held faults s text' result held' faults') answer
     (subst (λ (t : List ℕ). Ends held faults status t result held' faults') line ends)
+
+-- a plan that is ready, and has no die
+pub no_die_refused : (told : Option Files) (before now : ℕ) (program plan : List ℕ) (code : Program) (bound : Bound)
+    → IsReady told program plan code bound → sites_of bound.rows ≡ 0
+    → IsGradeRefused told before now program plan (refused.NoDie None)
+no_die_refused told before now program plan code bound ready none =
+    no_die ready.inputs ready.are ready.accepted (sym (ap (λ (b : Bound). sites_of b.rows) ready.is) ∙ none) refl

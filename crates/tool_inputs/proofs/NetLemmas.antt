@@ -1,7 +1,7 @@
 -- Netlists that are read one after another are those of all files, or one of them is refused.
 use Rattle.std.proofs.Common.{◌≡◌, ℕ, suc, ◌+◌, ◌<◌, ◌≤◌, List, [], ◌∷◌, ◌++◌, length, drop, get_or, Option, refl, sym, ap, ◌∙◌, subst, append_assoc}
 use Rattle.std.proofs.lemmas.List.{append-nil, drop_all}
-use Rattle.text_bytes.proofs.ListLemmas.{drop-item}
+use Rattle.text_bytes.proofs.ListLemmas.{split_more}
 use Rattle.tester_types.specs.Outside.{Files}
 use Rattle.bench_net.specs.Circuit.{Circuit}
 use Rattle.tool_inputs.specs.declared.refusal.Refusal.{Refusal}
@@ -37,16 +37,12 @@ pub none_read : (told : Option Files) (files : List (List ℕ)) → AreRead told
 none_read told files = record { front = []; split = refl; nets = tt }
 
 -- with the next one
-next_split : (files front : List (List ℕ)) (number : ℕ) (file : List ℕ) → number < length files → file ≡ get_or files number file
-    → files ≡ front ++ drop number files → files ≡ front ++ file ∷ drop (number + 1) files
-next_split files front number file within is split = split ∙ ap (λ (l : List (List ℕ)). front ++ l) (drop-item files number file within is)
-
 pub next_read : (told told' : Option Files) (files : List (List ℕ)) (number : ℕ) (circuits circuits' : List Circuit) (file : List ℕ)
     → number < length files → file ≡ get_or files number file → told' ≡ told → AreRead told files number circuits
     → AddsNet told' file circuits circuits' → AreRead told files (number + 1) circuits'
 next_read told told' files number circuits circuits' file within is same read adds = record {
   front = read.front ++ file ∷ [];
-  split = next_split files read.front number file within is read.split
+  split = split_more files read.front number file within is read.split
       ∙ sym (append_assoc read.front (file ∷ []) (drop (number + 1) files));
   nets = subst (AreNetFiles told (read.front ++ file ∷ [])) (sym adds.more)
       (files_push told read.front file circuits adds.circuit read.nets
@@ -65,5 +61,5 @@ pub next_refused : (told told' : Option Files) (b b' n : ℕ) (files : List (Lis
     (file : List ℕ) (r : Refusal) → number < length files → file ≡ get_or files number file → told' ≡ told → b ≤ b' → b' ≤ n
     → AreRead told files number circuits → IsNetRefused told' b' n file r → AreNetsRefused told b n files r
 next_refused told told' b b' n files number circuits file r within is same low between read refused =
-    of_file read.front (drop (number + 1) files) file (next_split files read.front number file within is read.split) circuits read.nets
+    of_file read.front (drop (number + 1) files) file (split_more files read.front number file within is read.split) circuits read.nets
     (wide-net told file b b' n r low between (subst (λ (t : Option Files). IsNetRefused t b' n file r) same refused))

@@ -7,7 +7,7 @@ use Rattle.bench_net.specs.Net.{IsNet}
 use Rattle.bench_net.specs.Fault as nets
 use Rattle.bench_net.specs.declared.fault.NetFault.{NetFault}
 use Rattle.plan_rows.specs.declared.row.Row.{Row}
-use Rattle.plan_rows.specs.Rows.{files_of}
+use Rattle.plan_rows.specs.Rows.{files_of, sites_of}
 use Rattle.plan_rows.specs.Plan as plans
 use Rattle.plan_rows.specs.declared.fault.PlanFault.{PlanFault}
 use Rattle.lot_plan.specs.Bound.{Bound}
@@ -140,3 +140,9 @@ pub record IsReady (told : Option Files) (program plan : List ℕ) (code : Progr
   pub code_is : code ≡ inputs.code
   pub is : bound ≡ bound_of inputs
   pub accepted : refusal (bound_of inputs) ≡ None
+
+-- why there is no grade: what it reads is refused, or the plan has no die record
+pub data IsGradeRefused (told : Option Files) (before now : ℕ) (program plan : List ℕ) (r : Refusal) : Type 0 where
+  of_inputs : AreRefused told before now program plan r → IsGradeRefused told before now program plan r
+  no_die : (inputs : Inputs) → AreInputs told program plan inputs → refusal (bound_of inputs) ≡ None
+      → sites_of inputs.rows ≡ 0 → r ≡ NoDie None → IsGradeRefused told before now program plan r

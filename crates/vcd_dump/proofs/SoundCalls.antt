@@ -4,7 +4,7 @@ use Rattle.std.specs.List.{AllByRecursion}
 use Rattle.std.specs.Option.{option_map_or}
 use Rattle.std.proofs.lemmas.Option.{get_or_from_slice_get}
 use Rattle.std.proofs.lemmas.List.Elements.{recursion_from_All}
-use Rattle.text_bytes.proofs.ListLemmas.{all_append, slice_get-there}
+use Rattle.text_bytes.proofs.ListLemmas.{all_append, slice_get-there, all_from}
 use Rattle.tester_types.specs.declared.wave.Push.{Push}
 use Rattle.tester_types.specs.declared.wave.Table.{Table}
 use Rattle.tester_types.specs.declared.level.Drive.{Drive}
@@ -21,7 +21,7 @@ use Rattle.die_sim.specs.Socket.{Calls}
 use Rattle.site_meaning.specs.Playing.{Stand, Going, Along, Whose, PlayedMoment, FitStand, along_of, whose_next, driven, is_driven, after_moment, entry_of, moments_in, moments_played, played_cycle, after_cycle}
 use Rattle.site_meaning.specs.Trials.{played}
 use Rattle.site_meaning.specs.Rising.{instants_of}
-use Rattle.site_meaning.proofs.AllLemmas.{All-map, All-weaker}
+use Rattle.site_meaning.proofs.AllLemmas.{All-map}
 use Rattle.site_meaning.proofs.InstantLemmas.{cycle_from, cycle_before}
 use Rattle.site_meaning.proofs.RiseLemmas.{played-ats, played_rises}
 use Rattle.strobe_check.specs.Entry.{Entry}
@@ -54,7 +54,7 @@ pub calls_both : (vars : List Var) (low mid high : ℕ) (a b : Calls) → low �
 calls_both vars low mid high a b first second x y = record {
   rise = rises_both low mid a b first x.rise x.before y.rise;
   before = all_append (λ (call : ℕ × List (ℕ × Drive)). call.0 < high) a b
-      (All-weaker (λ (call : ℕ × List (ℕ × Drive)). call.0 < mid) (λ (call : ℕ × List (ℕ × Drive)). call.0 < high) (λ call h. omega (arith, h, second)) a x.before)
+      (all_from (λ (call : ℕ × List (ℕ × Drive)). call.0 < mid) (λ (call : ℕ × List (ℕ × Drive)). call.0 < high) (λ call h. omega (arith, h, second)) a x.before)
       y.before;
   each = all_append (IsCall vars) a b x.each y.each;
 }
@@ -89,7 +89,7 @@ module _ (device : Device) (vars : List Var) (signals high : ℕ) (small : high 
   moments_calls along least (m ∷ moments) low rise below of =
       let next = after_moment device along m in
       let rest = moments_calls next (m.at + 1) moments
-      (All-weaker (λ (n : ℕ). m.at < n) (λ (n : ℕ). m.at + 1 ≤ n) (λ n h. omega (arith, h)) (ats moments) rise.0) rise.1 below.1 of.1 in
+      (all_from (λ (n : ℕ). m.at < n) (λ (n : ℕ). m.at + 1 ≤ n) (λ n h. omega (arith, h)) (ats moments) rise.0) rise.1 below.1 of.1 in
       one_call least m.at (driven device along.priors m) (calls_in device next moments) low.0 below.0
       (given_sound device along.priors vars signals there m.drives of.0.rising
       (recursion_from_All (λ (g : ℕ × Push). g.0 < signals) m.drives of.0.below)) rest

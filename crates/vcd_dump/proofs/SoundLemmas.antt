@@ -9,6 +9,7 @@ use Rattle.std.proofs.lemmas.Option.{get_or_from_slice_get, slice_get_within}
 use Rattle.std.proofs.lemmas.List.Folds.{list_any-append}
 use Rattle.std.proofs.lemmas.Fmt.{decimal_is_IsNumeral_wide, length-decimal-le}
 use Rattle.std.proofs.lemmas.Str.Parse.{tells_digits}
+use Rattle.std.proofs.Math.Bool.{or-true}
 use Rattle.text_bytes.specs.Bytes.{begins_name, is_word}
 use Rattle.text_bytes.specs.Limits.{longest_name, most_signals}
 use Rattle.tester_types.specs.declared.wave.Push.{Push}
@@ -64,10 +65,6 @@ short_name code signal program = go (slice_get code.signals signal) refl
         let fits = behind_at IsSignal [] code.signals signal s program.signals within in
         let same = get_or_from_slice_get code.signals signal s s is in
         omega (arith, fits.name.text.short, ap (λ (t : CodeSignal). length t.name) same)
-
-or_true : (b : Bool) → (b || true) ≡ true
-or_true true = refl
-or_true false = refl
 
 from_zero : (drives : List (ℕ × Push)) → AllByRecursion (λ (g : ℕ × Push). 0 ≤ g.0) drives
 from_zero [] = tt
@@ -126,7 +123,7 @@ var_there device code a (suc n) signal low high driven =
           let more : a + 1 ≤ signal = search (rules, other, low) in
           let rest : is_var later signal ≡ true = var_there device code (a + 1) n signal more (omega (arith, high)) driven in
           list_any-append (λ (v : Var). v.0 == signal) (var_of device code a) later
-          ∙ ap (λ b. is_var (var_of device code a) signal || b) rest ∙ or_true (is_var (var_of device code a) signal)
+          ∙ ap (λ b. is_var (var_of device code a) signal || b) rest ∙ or-true (is_var (var_of device code a) signal)
     ]
 
 -- all vars

@@ -7,7 +7,6 @@ use Rattle.std.proofs.lemmas.List.{map-append}
 use Rattle.std.proofs.lemmas.Grind.{flat_map-append}
 use Rattle.std.proofs.lemmas.List.Elements.{All-from_recursion}
 use Rattle.text_bytes.specs.Limits.{most_signals}
-use Rattle.strobe_check.proofs.ListLemmas.{range-push}
 use Rattle.tester_types.specs.declared.level.Drive.{Drive}
 use Rattle.packed_code.specs.Program.{Program}
 use Rattle.die_sim.specs.Die.{Device, device_of}
@@ -94,12 +93,6 @@ pub few_signals : (vars : List Var) (calls : Calls) → IsSound vars calls
 few_signals vars calls sound =
     All-from_recursion (λ (call : ℕ × List (ℕ × Drive)). All (λ (given : ℕ × Drive). given.0 < most_signals) call.1) calls
     (calls_few vars calls sound.names.each sound.drives.each)
-
--- numbers up to one more
-pub range_more : (n : ℕ) → range_with_len 0 (n + 1) ≡ range_with_len 0 n ++ n ∷ []
-range_more n =
-    let none : 0 + n ≡ n = omega arith in
-    range-push 0 n ∙ ap (λ (k : ℕ). range_with_len 0 n ++ k ∷ []) none
 
 -- the first of numbers
 pub take_range : (a k n : ℕ) → k ≤ n → take k (range_with_len a n) ≡ range_with_len a k

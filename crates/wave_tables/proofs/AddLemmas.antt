@@ -2,6 +2,7 @@
 use Rattle.std.proofs.Common.{◌≡◌, ◌≢◌, ◌⊎◌, ℕ, ◌+◌, ◌<◌, Bool, true, false, ◌||◌, List, [], Option, Some, None, is_some, length, get_or, take, refl, sym, ap, ◌∙◌, subst, inl, inr, arith}
 use Rattle.std.proofs.lemmas.List.{get_or-take, get_or_past, get_or_default, length-take}
 use Rattle.std.proofs.lemmas.Bool.{cases_lt, cases_eq, cases_Bool, or_parts, true≢false}
+use Rattle.std.proofs.Math.Bool.{or-false}
 use Rattle.stil_ast.specs.Faults.TableFaults.{Timed}
 use Rattle.expr_text.specs.Ratio.{Ratio}
 use Rattle.wave_tables.specs.declared.lineage.Whole.{Whole}
@@ -49,10 +50,6 @@ front_last ready i r within is =
 front_past : (ready : List Bool) (i : ℕ) → get_or (take i ready) i false ≡ false
 front_past ready i = get_or_past (take i ready) i false (omega (arith, length-take i ready))
 
-or_false : (b : Bool) → (b || false) ≡ b
-or_false true = refl
-or_false false = refl
-
 -- one table more
 pub adds_more : (t : Timed Ratio) (inherits : List (List ℕ)) (ready : List Bool) (i : ℕ) (r : Bool)
     (first now new : List (Option Whole)) (added more : Bool)
@@ -69,7 +66,7 @@ adds_more t inherits ready i r first now new added more within is before at = re
             let step : is_there new i ≡ (is_there first i || get_or (take (i + 1) ready) i false) =
             at.there here ∙ ap (λ (b : Bool). b || r)
             (before.there i low ∙ ap (λ (b : Bool). is_there first i || b) (front_past ready i)
-            ∙ or_false (is_there first i))
+            ∙ or-false (is_there first i))
             ∙ ap (λ (b : Bool). is_there first i || b) (sym (front_last ready i r within is)) in
             subst (λ (j : ℕ). is_there new j ≡ (is_there first j || get_or (take (i + 1) ready) j false)) same step
         | inr other ↦

@@ -3,6 +3,7 @@ use Rattle.std.proofs.Common.{◌≡◌, ◌&&◌, Bool, true, false, List, [], 
 use Rattle.std.specs.List.{list_all}
 use Rattle.std.proofs.lemmas.Bool.{and_parts}
 use Rattle.std.proofs.lemmas.List.Folds.{list_all-append}
+use Rattle.text_bytes.proofs.ListLemmas.{passes_from}
 use Rattle.stil_ast.specs.Data.Texts.{same}
 use Rattle.stil_ast.specs.Data.BlockForms.{is_wave_decl, is_signal_waves, is_table_decl, is_timing_block}
 use Rattle.stil_ast.specs.Meaning.Tables.{tables_named}
@@ -11,14 +12,6 @@ use Rattle.stil_ast.specs.declared.timing.SignalWaves.{SignalWaves}
 use Rattle.stil_ast.specs.declared.timing.TableDecl.{TableDecl}
 use Rattle.stil_ast.specs.declared.timing.TimingBlock.{TimingBlock}
 use Rattle.wave_tables.specs.Letters.{has_letters, waves_lettered, signals_lettered, are_lettered}
-
--- what one test tells of each item, the other does
-each_tells : {X : Type 0} (p q : X → Bool) → ((x : X) → p x ≡ true → q x ≡ true) → (xs : List X) → list_all p xs ≡ true
-    → list_all q xs ≡ true
-each_tells p q tells [] h = refl
-each_tells p q tells (x ∷ xs) h =
-    let parts = and_parts (p x) (list_all p xs) h in
-    ap (λ (b : Bool). b && list_all q xs) (tells x parts.0) ∙ each_tells p q tells xs parts.1
 
 wave_lettered : (w : WaveDecl) → is_wave_decl w ≡ true → has_letters w.letters ≡ true
 wave_lettered w h =
@@ -30,17 +23,17 @@ wave_lettered w h =
 signal_lettered : (s : SignalWaves) → is_signal_waves s ≡ true → waves_lettered s.waves ≡ true
 signal_lettered s h =
     let a = and_parts _ _ h in
-    each_tells is_wave_decl (λ (w : WaveDecl). has_letters w.letters) wave_lettered s.waves (and_parts _ _ a.0).1
+    passes_from is_wave_decl (λ (w : WaveDecl). has_letters w.letters) wave_lettered s.waves (and_parts _ _ a.0).1
 
 table_lettered : (t : TableDecl) → is_table_decl t ≡ true → signals_lettered t.waveforms ≡ true
 table_lettered t h =
     let a = and_parts _ _ h in
-    each_tells is_signal_waves (λ (s : SignalWaves). waves_lettered s.waves) signal_lettered t.waveforms
+    passes_from is_signal_waves (λ (s : SignalWaves). waves_lettered s.waves) signal_lettered t.waveforms
     (and_parts _ _ a.0).1
 
 block_lettered : (t : TimingBlock) → is_timing_block t ≡ true → are_lettered t.tables ≡ true
 block_lettered t h =
-    each_tells is_table_decl (λ (t : TableDecl). signals_lettered t.waveforms) table_lettered t.tables
+    passes_from is_table_decl (λ (t : TableDecl). signals_lettered t.waveforms) table_lettered t.tables
     (and_parts _ _ h).1
 
 -- the tables of Timing blocks of a name

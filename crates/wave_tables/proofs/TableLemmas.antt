@@ -56,12 +56,6 @@ free_at t wholes k d whole within at none =
     ∙ ap (λ (o : Option TableDecl). list_any (leads_into_cycle t.tables) (inherited_by t.tables o)) at
     ∙ names_free t.place t.tables d.inherits none
 
--- what is found at a place is within the list
-pub within_at : {X : Type 0} (xs : List X) (i : ℕ) (x : X) → slice_get xs i ≡ Some x → i < length xs
-within_at [] i x e = cc
-within_at (y ∷ ys) zero x e = omega arith
-within_at (y ∷ ys) (suc i) x e = omega (arith, within_at ys i x e)
-
 none_at : {X : Type 0} (f : ℕ × X → Option StilFault) (n : ℕ) (xs : List X) (i : ℕ) (x : X)
     → first_in f (enumerate_from n xs) ≡ None
     → slice_get xs i ≡ Some x → f (n + i, x) ≡ None

@@ -2,6 +2,7 @@ use Rattle.std.proofs.Common.{◌≡◌, ◌++◌, ◌+◌, ◌∙◌, [], List,
 use Rattle.std.proofs.lemmas.Option.{get_or_from_slice_get}
 use Rattle.std.proofs.lemmas.Result.{err_from_is_err_and}
 use Rattle.std.specs.List.{flat_map}
+use Rattle.text_bytes.proofs.TextLemmas.{lines_behind}
 use Rattle.tester_types.specs.declared.cycle.Cycle.{Cycle}
 use Rattle.tester_types.specs.declared.wave.Table.{Table}
 use Rattle.tester_types.specs.Outside.{gained}
@@ -9,7 +10,7 @@ use Rattle.tester_types.proofs.OutsideLemmas.{gained-none, gained_both}
 use Rattle.packed_code.specs.Walk.{cycles_left}
 use Rattle.code_listing.specs.Listing.{no_table, listed, listed_exec, time_of}
 use Rattle.code_listing.specs.Room.{text_of}
-use Rattle.code_listing.proofs.LineLemmas.{lines_both, lists_stops}
+use Rattle.code_listing.proofs.LineLemmas.{lists_stops}
 use Rattle.packed_code.proofs.WalkLemmas.{length-cycles}
 use Rattle.code_listing.proofs.ListingLemmas.{listed_from, text_lines, whole-next, time-next, length-next, none-left, all-put, all-timed}
 use Rattle.code_listing.proofs.listing.put_exec_cycles.Goals as goal
@@ -72,7 +73,7 @@ loop-number-preserved g c =
       held = gained_both (g.K.Sink.told c.args.sink.now) (g.K.Sink.told c.loop-number.sink) (g.K.Sink.told c.put_cycle.new.sink) i.done (text here) i.held c.in_ok-put_cycle.ensures.lists;
       whole = whole-next text code c.loop-number.number c.in-Some.cycle old left _ i.done c.in-Some.ensures.given i.whole
           ∙ sym (append_assoc i.done (text here) (flat_map text (listed_from code (c.loop-number.number + 1) left)));
-      lines = lines_both i.done (text here) i.lines (text_lines c.args.form code here);
+      lines = lines_behind i.done (text here) i.lines (text_lines c.args.form code here);
       time = omega (arith, i.time, split, period, c.from-time.ensures);
       room = c.in_ok-put_cycle.ensures.room;
       count = omega (arith, i.count, c.in_ok-put_cycle.ensures.count);

@@ -1,10 +1,10 @@
 use Rattle.std.proofs.Common.{◌≡◌, ◌≤◌, ◌+◌, ◌++◌, List, ℕ, length}
 use Rattle.std.specs.List.{flat_map}
+use Rattle.text_bytes.specs.Texts.{AreLines}
 use Rattle.tester_types.specs.Outside.{gained}
 use Rattle.packed_code.specs.Cycles.{cycles_of}
 use Rattle.packed_code.specs.Walk.{IsOver, cycles_left}
 use Rattle.code_listing.specs.Listing.{listed_exec, time_of}
-use Rattle.code_listing.specs.Lines.{AreLines}
 use Rattle.code_listing.specs.Room.{Fits, text_of}
 use Rattle.code_listing.proofs.ListingLemmas.{listed_from}
 use Rattle.code_listing.proofs.listing.put_exec_cycles.Given as goal

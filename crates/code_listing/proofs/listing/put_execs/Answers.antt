@@ -1,10 +1,11 @@
-use Rattle.std.proofs.Common.{◌≡◌, ◌<◌, ◌++◌, ◌+◌, ◌-◌, ◌∙◌, ℕ, List, length, sym, ap, arith, append_assoc}
+use Rattle.std.proofs.Common.{◌<◌, ◌++◌, ◌+◌, ◌-◌, ◌∙◌, ℕ, length, sym, arith, append_assoc, ◌≡◌, List, ap}
 use Rattle.std.proofs.lemmas.Result.{err_from_is_err_and}
+use Rattle.text_bytes.proofs.TextLemmas.{lines_behind}
 use Rattle.tester_types.proofs.OutsideLemmas.{gained_both}
 use Rattle.code_listing.specs.Listing.{listed_exec}
 use Rattle.code_listing.specs.Room.{text_of}
 use Rattle.code_listing.specs.Text.{exec_text, execs_text}
-use Rattle.code_listing.proofs.LineLemmas.{lines_both, lists_stops}
+use Rattle.code_listing.proofs.LineLemmas.{lists_stops}
 use Rattle.code_listing.proofs.ListingLemmas.{execs_from, time-split, text-next, exec-text-lines}
 use Rattle.code_listing.proofs.listing.put_execs.Goals as goal
 
@@ -37,7 +38,7 @@ loop-exec-preserved g c =
       held = gained_both (g.K.Sink.told c.args.sink.now) (g.K.Sink.told c.loop-exec.sink) _ i.done here i.held c.in_ok-time.ensures.lists;
       whole = text-next text code c.loop-exec.exec (length code.execs) _ i.done within i.whole
           ∙ sym (append_assoc i.done here (execs_text text (execs_from code (c.loop-exec.exec + 1) (length code.execs - (c.loop-exec.exec + 1)))));
-      lines = lines_both i.done here i.lines (exec-text-lines c.args.form code (listed_exec code c.loop-exec.exec));
+      lines = lines_behind i.done here i.lines (exec-text-lines c.args.form code (listed_exec code c.loop-exec.exec));
       time = omega (arith, i.time, c.in_ok-time.ensures.time, time-split code c.loop-exec.exec (length code.execs) within);
       room = c.in_ok-time.ensures.room;
       count = omega (arith, i.count, c.in_ok-time.ensures.count);

@@ -1,7 +1,7 @@
 use Rattle.std.proofs.Common.{◌≡◌, ◌≤◌, ◌+◌, ◌-◌, ◌++◌, List, ℕ, length}
+use Rattle.text_bytes.specs.Texts.{AreLines}
 use Rattle.tester_types.specs.Outside.{gained}
 use Rattle.code_listing.specs.Listing.{listing_of, cycles_in, time_of}
-use Rattle.code_listing.specs.Lines.{AreLines}
 use Rattle.code_listing.specs.Room.{Fits, text_of}
 use Rattle.code_listing.specs.Text.{execs_text}
 use Rattle.code_listing.proofs.ListingLemmas.{execs_from}

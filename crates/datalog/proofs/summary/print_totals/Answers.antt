@@ -1,7 +1,7 @@
 use Rattle.std.proofs.Common.{◌<◌, List, All, length, subst, sym, ap, arith}
 use Rattle.tester_types.specs.Records.{SiteRecords, records_of}
 use Rattle.tester_types.specs.declared.record.Record.{Record}
-use Rattle.lot_plan.proofs.PlanLemmas.{sites_of-within}
+use Rattle.plan_rows.proofs.RowLemmas.{sites_of-within}
 use Rattle.datalog.proofs.PrintableLemmas.{printable_book}
 use Rattle.datalog.proofs.summary.print_totals.Goals as goal
 

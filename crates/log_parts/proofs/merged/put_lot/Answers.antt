@@ -1,6 +1,5 @@
 use Rattle.std.proofs.lemmas.Result.{err_from_is_err_and, on_err_weaker}
-use Rattle.tester_types.proofs.OutsideLemmas.{front_more, puts_last}
-use Rattle.log_parts.proofs.RangedLemmas.{risen_behind}
+use Rattle.tester_types.proofs.OutsideLemmas.{front_more, puts_last, risen_behind}
 use Rattle.log_parts.specs.Dealt.{dealt_text, sums_text}
 use Rattle.log_parts.proofs.merged.put_lot.Goals as goal
 

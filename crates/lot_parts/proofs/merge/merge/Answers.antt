@@ -1,13 +1,13 @@
 use Rattle.std.proofs.Common.{ℕ, ◌<◌, ◌≤◌, List, Option, length, refl, sym, ap, subst, ◌∙◌, arith}
 use Rattle.tester_types.specs.Outside.{Files}
 use Rattle.tool_inputs.specs.declared.refusal.Refusal.TheVariants.{NoMemory}
+use Rattle.plan_parts.proofs.RankLemmas.{few_sites}
 use Rattle.lot_parts.specs.declared.refusal.PartRefusal.TheVariants as refusal
 use Rattle.lot_parts.specs.Words.{words_seen}
 use Rattle.lot_parts.specs.Files.{texts_seen, ArePartFiles, AreUnloaded}
 use Rattle.lot_parts.specs.Merging.{IsTextRefused}
 use Rattle.lot_parts.specs.Merging.IsMergeRefused.{no_memory, of_plan, of_files, of_text}
 use Rattle.lot_parts.proofs.LoadLemmas.{loaded_long, texts_long, wide-unloaded_files}
-use Rattle.lot_parts.proofs.SiteNameLemmas.{few_sites}
 use Rattle.lot_parts.proofs.WordsLemmas.{files_long}
 use Rattle.lot_parts.proofs.MergeLemmas.{some_logs, sliced_same, merged_answers, refused_answers, whole_ends, front_ends}
 use Rattle.lot_parts.proofs.merge.merge.Goals as goal

@@ -1,8 +1,9 @@
 use Rattle.std.proofs.Common.{None, arith}
 use Rattle.tool_inputs.specs.declared.refusal.Refusal.TheVariants.{NoDie}
 use Rattle.tool_inputs.specs.Refusals.{status_of, line_of}
-use Rattle.stil_tool.specs.Grade.IsGradeRefused.{of_inputs}
-use Rattle.stil_tool.proofs.GradeLemmas.{refused_wants, no_die_refused, run_wants}
+use Rattle.tool_inputs.specs.Inputs.IsGradeRefused.{of_inputs}
+use Rattle.tool_inputs.proofs.InputLemmas.{no_die_refused}
+use Rattle.stil_tool.proofs.GradeLemmas.{refused_wants, run_wants}
 use Rattle.stil_tool.proofs.grade.grade.Goals as goal
 
 pub returns-in-Err-clause-answers : goal.returns-in-Err-clause-answers

@@ -3,11 +3,12 @@ use Rattle.std.specs.List.{flat_map, range_with_len}
 use Rattle.std.proofs.lemmas.Grind.{flat_map-append}
 use Rattle.std.proofs.lemmas.List.FromFn.{length-range_with_len, get_or-range_with_len}
 use Rattle.std.proofs.lemmas.Result.{err_from_is_err_and}
+use Rattle.text_bytes.proofs.ListLemmas.{range-more}
 use Rattle.die_sim.specs.Die.{device_of}
 use Rattle.tester_types.specs.Outside.{gained}
 use Rattle.tester_types.proofs.OutsideLemmas.{each_stops, gained_both}
 use Rattle.vcd_dump.specs.Written.{var_text}
-use Rattle.vcd_dump.proofs.WriteLemmas.{range_more, take_range}
+use Rattle.vcd_dump.proofs.WriteLemmas.{take_range}
 use Rattle.vcd_dump.proofs.write.put_signals.Goals as goal
 
 pub returns-in_err-put_signal-clause-puts : goal.returns-in_err-put_signal-clause-puts
@@ -31,6 +32,6 @@ loop-signal-preserved g c =
       held = gained_both (g.K.Sink.told c.args.sink.now) _ _ (flat_map text (range_with_len 0 i)) (text i) c.loop-signal.invariant.held c.in_ok-put_signal.ensures.puts
           ∙ ap (gained (g.K.Sink.told c.args.sink.now))
           (ap (λ t. flat_map text (range_with_len 0 i) ++ t) (sym (append-nil (text i)))
-          ∙ sym (flat_map-append text (range_with_len 0 i) (i ∷ [])) ∙ ap (flat_map text) (sym (range_more i)));
+          ∙ sym (flat_map-append text (range_with_len 0 i) (i ∷ [])) ∙ ap (flat_map text) (sym (range-more i)));
       count = omega (arith, c.loop-signal.invariant.count, c.in_ok-put_signal.ensures.count);
     }

@@ -1,11 +1,13 @@
 use Rattle.stil_ast.specs.Faults.Found.{first_in}
 use Rattle.stil_ast.specs.Faults.TableFaults.{inherit_fault, table_fault}
+use Rattle.wave_tables.proofs.FirstLemmas.{none_both}
 use Rattle.wave_tables.specs.declared.trouble.Trouble.{Trouble}
 use Rattle.wave_tables.specs.Scope.{timed}
 use Rattle.wave_tables.specs.Check.{behind_names, IsFree, IsRefusedBy}
-use Rattle.wave_tables.proofs.FirstLemmas.{ok_then, err_then, none_both, at_second}
-use Rattle.wave_tables.proofs.TableLemmas.{free_at, within_at}
+use Rattle.wave_tables.proofs.FirstLemmas.{ok_then, err_then, at_second}
+use Rattle.wave_tables.proofs.TableLemmas.{free_at}
 use Rattle.wave_tables.proofs.judge.check_table.Goals as goal
+use Rattle.std.proofs.lemmas.Option.{slice_get_within}
 
 pub check_whole-requires-clause-has : goal.check_whole-requires-clause-has
 check_whole-requires-clause-has c =
@@ -13,7 +15,7 @@ check_whole-requires-clause-has c =
     let known = rw c.as_slice.ensures at c.in-Ok.ensures.known in
     c.requires.wholes.have c.args.number c.in-Some.whole.now c.in-Some.ensures
     (free_at t c.args.wholes.now c.args.number c.args.table.now c.requires.wholes
-    (within_at t.tables c.args.number c.args.table.now c.requires.at)
+    (slice_get_within t.tables c.args.number c.args.table.now c.requires.at)
     c.requires.at known)
 
 pub returns-in-Some-clause-fits : goal.returns-in-Some-clause-fits

@@ -1,5 +1,5 @@
 use Rattle.std.proofs.Common.{arith}
-use Rattle.lot_plan.proofs.PlanLemmas.{sites_of-within}
+use Rattle.plan_rows.proofs.RowLemmas.{sites_of-within}
 use Rattle.lot_plan.proofs.bound_plan.BoundPlan.sites.Goals as goal
 
 pub overflow_cast-result : goal.overflow_cast-result
