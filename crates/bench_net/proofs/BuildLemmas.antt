@@ -18,7 +18,7 @@ use Rattle.bench_net.specs.Circuit.{Net, IsWhole, number}
 use Rattle.bench_net.specs.Line.{Form, nothing, input, output, gate, Says}
 use Rattle.bench_net.specs.Net.{Reads, named, names, shown, drives, driver_of, driver_for, net_of, takes_not, wrong_arity, head_of, arity_fault, IsDriven}
 use Rattle.bench_net.specs.Fault.{IsReachedLine, IsLoopLine, IsFirstLoop}
-use Rattle.bench_net.specs.Givers.{HasPins, IsNetOf, AreShown, looped, loop_fault}
+use Rattle.bench_net.specs.Numbers.{HasPins, IsNetOf, looped, loop_fault}
 use Rattle.bench_net.specs.Sorting.{AreWithin, IsSorted}
 use Rattle.bench_net.proofs.SortLemmas.{gate_within, pins_none}
 use Rattle.bench_net.proofs.NamesLemmas.{numbers_within, number-within, AreApart-names}
@@ -410,10 +410,3 @@ pub same_net : (forms : List Form) (all : List (List ℕ)) (drivers : List Drive
     (let made : Net = record { names = all; drivers = drivers; outputs = outputs } in made
     ≡ net_of forms)
 same_net forms all drivers outputs a d o = λ i. record { names = a i; drivers = d i; outputs = o i }
-
--- what outputs of the net are
-pub outputs-shown : (forms : List Form) (all nets : List (List ℕ)) → all ≡ names forms
-    → AreShown forms nets → map (λ name. list_any (bytes_eq name) nets) all ≡ (net_of forms).outputs
-outputs-shown forms all nets a s =
-    ap (λ (x : List (List ℕ)). map (λ name. list_any (bytes_eq name) nets) x) a
-    ∙ (λ i. map (λ name. s.same name i) (names forms))

@@ -9,7 +9,7 @@ pub mod WalkLemmas
 pub mod NextLemmas
 pub mod OrderLemmas
 pub mod NamesLemmas
-pub mod GivenLemmas
+pub mod NumberLemmas
 pub mod BuildLemmas
 pub mod ReadLemmas
 pub mod StandardFacts

@@ -16,9 +16,8 @@ use Rattle.bench_net.specs.declared.gate.Driver.TheVariants.{Input}
 use Rattle.bench_net.specs.Line.{Form, nothing, input, output, gate}
 use Rattle.bench_net.specs.Circuit.{number}
 use Rattle.bench_net.specs.Net.{named, names, driven, drives, driver_of, driver_for}
-use Rattle.bench_net.specs.Givers.{places_from, line_driver}
 
-number_there : (ks : List (List ℕ)) (n : List ℕ) → list_any (bytes_eq n) ks ≡ true
+pub number_there : (ks : List (List ℕ)) (n : List ℕ) → list_any (bytes_eq n) ks ≡ true
     → number ks n < length ks
 number_there [] n e = cc
 number_there (k ∷ ks) n e =
@@ -30,7 +29,7 @@ number_there (k ∷ ks) n e =
           (omega (arith, number_there ks n (sym (ap (λ x. x || list_any (bytes_eq n) ks) b) ∙ e)))
     ]
 
-number_not : (ks : List (List ℕ)) (n : List ℕ) → list_any (bytes_eq n) ks ≡ false → number ks n
+pub number_not : (ks : List (List ℕ)) (n : List ℕ) → list_any (bytes_eq n) ks ≡ false → number ks n
     ≡ length ks
 number_not [] n e = refl
 number_not (k ∷ ks) n e =
@@ -43,10 +42,10 @@ number_not (k ∷ ks) n e =
     true_false : true ≡ false → ⊥
     true_false e = cc
 
-same_bytes : (n : List ℕ) → bytes_eq n n ≡ true
+pub same_bytes : (n : List ℕ) → bytes_eq n n ≡ true
 same_bytes n = (bytes_decides n n).1 refl
 
-added_there : (ks : List (List ℕ)) (n : List ℕ) → list_any (bytes_eq n) (added ks n) ≡ true
+pub added_there : (ks : List (List ℕ)) (n : List ℕ) → list_any (bytes_eq n) (added ks n) ≡ true
 added_there ks n =
     elim (cases_Bool (list_any (bytes_eq n) ks)) [
       | inl e ↦ ap (λ b. list_any (bytes_eq n) (cond b ks (ks ++ n ∷ []))) e ∙ e
@@ -65,7 +64,7 @@ added_stays ks n m h =
           ∙ or_left (list_any (bytes_eq m) ks) (list_any (bytes_eq m) (n ∷ [])) h
     ]
 
-fold_stays : (xs ks : List (List ℕ)) (m : List ℕ) → list_any (bytes_eq m) ks ≡ true
+pub fold_stays : (xs ks : List (List ℕ)) (m : List ℕ) → list_any (bytes_eq m) ks ≡ true
     → list_any (bytes_eq m) (fold added ks xs) ≡ true
 fold_stays [] ks m h = h
 fold_stays (x ∷ xs) ks m h = fold_stays xs (added ks x) m (added_stays ks x m h)
@@ -107,6 +106,40 @@ number-within forms m e = number_there (names forms) m e
 pub record AreApart (ks : List (List ℕ)) : Type 0 where
   pub each : (i : ℕ) → i < length ks → number ks (get_or ks i []) ≡ i
 
+-- a name that is there keeps its number, and a new one has the next
+number-front : (ks : List (List ℕ)) (n m : List ℕ) → number ks m < length ks → number (ks ++ n ∷ []) m ≡ number ks m
+number-front ks n m l =
+    position_or_len_push (bytes_eq m) ks n
+    ∙ ap (λ b. cond {A = ℕ} b (length ks + cond {A = ℕ} (bytes_eq m n) 0 1) (number ks m))
+    (ne_eqb (number ks m) (length ks) (λ q. absurd (omega (arith, q, l))))
+
+number-last : (ks : List (List ℕ)) (n : List ℕ) → list_any (bytes_eq n) ks ≡ false → number (ks ++ n ∷ []) n ≡ length ks
+number-last ks n e =
+    position_or_len_push (bytes_eq n) ks n
+    ∙ ap (λ b. cond {A = ℕ} b (length ks + cond {A = ℕ} (bytes_eq n n) 0 1) (number ks n))
+    (eq-eqb (number ks n) (length ks) (number_not ks n e))
+    ∙ ap (λ b. length ks + cond {A = ℕ} b 0 1) (same_bytes n)
+    ∙ omega arith
+
+pub number-added : (ks : List (List ℕ)) (n : List ℕ) → number (added ks n) n ≡ number ks n
+number-added ks n =
+    elim (cases_Bool (list_any (bytes_eq n) ks)) [
+      | inl e ↦ ap (λ b. number (cond b ks (ks ++ n ∷ [])) n) e
+      | inr e ↦ ap (λ b. number (cond b ks (ks ++ n ∷ [])) n) e ∙ number-last ks n e ∙ sym (number_not ks n e)
+    ]
+
+number-stays : (ks : List (List ℕ)) (n m : List ℕ) → list_any (bytes_eq m) ks ≡ true → number (added ks n) m ≡ number ks m
+number-stays ks n m h =
+    elim (cases_Bool (list_any (bytes_eq n) ks)) [
+      | inl e ↦ ap (λ b. number (cond b ks (ks ++ n ∷ [])) m) e
+      | inr e ↦ ap (λ b. number (cond b ks (ks ++ n ∷ [])) m) e ∙ number-front ks n m (number_there ks m h)
+    ]
+
+pub number-fold : (xs ks : List (List ℕ)) (m : List ℕ) → list_any (bytes_eq m) ks ≡ true
+    → number (fold added ks xs) m ≡ number ks m
+number-fold [] ks m h = refl
+number-fold (x ∷ xs) ks m h = number-fold xs (added ks x) m (added_stays ks x m h) ∙ number-stays ks x m h
+
 AreApart-added : (ks : List (List ℕ)) (n : List ℕ) → AreApart ks → AreApart (added ks n)
 AreApart-added ks n h =
     elim (cases_Bool (list_any (bytes_eq n) ks)) [
@@ -120,25 +153,13 @@ AreApart-added ks n h =
     pushed e i l =
         elim (cases_lt i (length ks)) [
           | inl m ↦
-              let at : get_or (ks ++ n ∷ []) i []
-              ≡ get_or ks i [] = get_or_append_left ks (n ∷ []) [] i m in
               let own : number ks (get_or ks i []) ≡ i = h.each i m in
-              ap (number (ks ++ n ∷ [])) at
-              ∙ position_or_len_push (bytes_eq (get_or ks i [])) ks n
-              ∙ ap (λ b. cond {A = ℕ} b (length ks + cond {A = ℕ} (bytes_eq (get_or ks i []) n) 0 1)
-              (number ks (get_or ks i [])))
-              (ne_eqb (number ks (get_or ks i [])) (length ks)
-              (λ q. absurd (omega (arith, own, q, m))))
+              ap (number (ks ++ n ∷ [])) (get_or_append_left ks (n ∷ []) [] i m)
+              ∙ number-front ks n (get_or ks i []) (omega (arith, own, m))
               ∙ own
           | inr m ↦
               let at : i ≡ length ks = omega (arith, m, l, length-append ks (n ∷ [])) in
-              let none : number ks n ≡ length ks = number_not ks n e in
-              ap (number (ks ++ n ∷ [])) (get_or_at ks n [] [] i (sym at))
-              ∙ position_or_len_push (bytes_eq n) ks n
-              ∙ ap (λ b. cond {A = ℕ} b (length ks + cond {A = ℕ} (bytes_eq n n) 0 1) (number ks n))
-              (eq-eqb (number ks n) (length ks) none)
-              ∙ ap (λ b. length ks + cond {A = ℕ} b 0 1) (same_bytes n)
-              ∙ omega (arith, at)
+              ap (number (ks ++ n ∷ [])) (get_or_at ks n [] [] i (sym at)) ∙ number-last ks n e ∙ sym at
         ]
 
 AreApart-fold : (xs ks : List (List ℕ)) → AreApart ks → AreApart (fold added ks xs)
@@ -148,81 +169,3 @@ AreApart-fold (x ∷ xs) ks h = AreApart-fold xs (added ks x) (AreApart-added ks
 pub AreApart-names : (forms : List Form) → AreApart (names forms)
 AreApart-names forms = AreApart-fold (flat_map named forms) []
     (record { each = λ i l. absurd (omega (arith, l)) })
-
--- the driver of a line, where this is one
-abbrev at_place : (Form → Driver) → List Form → Option ℕ → Driver
-at_place D all o = option_map_or (λ at. D (get_or all at nothing)) o Input
-
-found_first : (D : Form → Driver) (all : List Form) (j : ℕ) (f : Form) (fs : List Form)
-    (name n : List ℕ) (rest : List ℕ) (more : List (List ℕ)) → get_or all j nothing ≡ f
-    → at_place D all (slice_get rest (number more name))
-    ≡ option_map_or D (find (drives name) fs) Input
-    → at_place D all (slice_get (j ∷ rest) (number (n ∷ more) name))
-    ≡ option_map_or D (cond (bytes_eq name n) (Some f) (find (drives name) fs)) Input
-found_first D all j f fs name n rest more at ih =
-    elim (cases_Bool (bytes_eq name n)) [
-      | inl e ↦ ap (λ b. at_place D all
-          (slice_get (j ∷ rest) (cond {A = ℕ} (not b) (1 + number more name) 0))) e ∙ ap D at
-          ∙ sym (ap (λ b. option_map_or D (cond b (Some f) (find (drives name) fs)) Input) e)
-      | inr e ↦
-          let one : 1 + number more name ≡ suc (number more name) = omega arith in
-          ap (λ b. at_place D all (slice_get (j ∷ rest)
-          (cond {A = ℕ} (not b) (1 + number more name) 0))) e
-          ∙ ap (λ k. at_place D all (slice_get (j ∷ rest) k)) one
-          ∙ ih
-          ∙ sym (ap (λ b. option_map_or D (cond b (Some f) (find (drives name) fs)) Input) e)
-    ]
-
-found_line : (D : Form → Driver) (all : List Form) (name : List ℕ) (fs : List Form) (j : ℕ)
-    → ((k : ℕ) → get_or all (j + k) nothing ≡ get_or fs k nothing)
-    → at_place D all (slice_get (places_from j fs) (number (filter_map driven fs) name))
-    ≡ option_map_or D (find (drives name) fs) Input
-found_line D all name [] j h = refl
-found_line D all name (nothing ∷ fs) j h = found_line D all name fs (suc j)
-    (λ k. ap (λ i. get_or all i nothing) (let e : suc j + k ≡ j + suc k = omega arith in e)
-    ∙ h (suc k))
-found_line D all name (output n ∷ fs) j h = found_line D all name fs (suc j)
-    (λ k. ap (λ i. get_or all i nothing) (let e : suc j + k ≡ j + suc k = omega arith in e)
-    ∙ h (suc k))
-found_line D all name (input n ∷ fs) j h =
-    found_first D all j (input n) fs name n (places_from (suc j) fs) (filter_map driven fs)
-    (ap (λ i. get_or all i nothing) (let e : j ≡ j + 0 = omega arith in e) ∙ h 0)
-    (found_line D all name fs (suc j)
-    (λ k. ap (λ i. get_or all i nothing) (let e : suc j + k ≡ j + suc k = omega arith in e)
-    ∙ h (suc k)))
-found_line D all name (gate n f pins ∷ fs) j h =
-    found_first D all j (gate n f pins) fs name n (places_from (suc j) fs) (filter_map driven fs)
-    (ap (λ i. get_or all i nothing) (let e : j ≡ j + 0 = omega arith in e) ∙ h 0)
-    (found_line D all name fs (suc j)
-    (λ k. ap (λ i. get_or all i nothing) (let e : suc j + k ≡ j + suc k = omega arith in e)
-    ∙ h (suc k)))
-
-length-places : (fs : List Form) (j : ℕ) → length (places_from j fs) ≡ length (filter_map driven fs)
-length-places [] j = refl
-length-places (nothing ∷ fs) j = length-places fs (suc j)
-length-places (output n ∷ fs) j = length-places fs (suc j)
-length-places (input n ∷ fs) j = ap suc (length-places fs (suc j))
-length-places (gate n f pins ∷ fs) j = ap suc (length-places fs (suc j))
-
-place_by_number : (ps : List ℕ) (xs : List (List ℕ)) (name : List ℕ) → length ps ≡ length xs
-    → option_and_then (slice_get ps) (position (bytes_eq name) xs) ≡ slice_get ps (number xs name)
-place_by_number ps xs name e =
-    elim (cases_lt (number xs name) (length xs)) [
-      | inl l ↦ ap (λ b. option_and_then (slice_get ps) (cond b (Some (number xs name)) None))
-          (lt-ltb (number xs name) (length xs) l)
-      | inr l ↦ ap (λ b. option_and_then (slice_get ps) (cond b (Some (number xs name)) None))
-          (le-ltb (number xs name) (length xs) l)
-          ∙ sym (slice_get_past ps (number xs name) (omega (arith, l, e)))
-    ]
-
--- the driver that is looked up is the one that the lines give
-pub given-driver_for : (forms : List Form) (name : List ℕ)
-    → option_map_or (line_driver (names forms) forms)
-    (option_and_then (slice_get (places_from 0 forms)) (position (bytes_eq name) (filter_map driven forms))) Input
-    ≡ driver_for forms name
-given-driver_for forms name =
-    ap (at_place (driver_of (names forms)) forms)
-    (place_by_number (places_from 0 forms) (filter_map driven forms) name
-    (length-places forms 0))
-    ∙ found_line (driver_of (names forms)) forms name forms 0
-    (λ k. ap (λ i. get_or forms i nothing) (let e : 0 + k ≡ k = omega arith in e))

@@ -95,10 +95,3 @@ number_from_none names name h =
       prefix_len-le-length
           (λ x. not (bytes_eq name x)) names,
     )
-
--- a flip-flop reads the first of the nets
-pub Dff-first : (all : List (List ℕ)) (pins : List (Bor (List ℕ))) (n : ℕ) (d : Bor (List ℕ))
-    → 1 ≤ length pins → n ≡ number all (get_or pins 0 d).now → Dff n
-    ≡ function_driver Register (map (number all) (texts pins))
-Dff-first all [] n d some e = absurd (omega arith)
-Dff-first all (p ∷ ps) n d some e = ap Dff e

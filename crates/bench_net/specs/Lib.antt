@@ -5,7 +5,7 @@ pub mod Line
 pub mod Net
 pub mod Fault
 pub mod FaultText
-pub mod Givers
+pub mod Numbers
 pub mod Sorting
 pub mod Step
 pub mod Views

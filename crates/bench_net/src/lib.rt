@@ -19,6 +19,7 @@ mod laws;
 mod line;
 mod netlist;
 mod nets;
+mod numbers;
 mod order;
 mod table;
 mod text;

@@ -1,25 +1,26 @@
 //! The netlist that a text names.
-ghost use Rattle.std.specs.Prelude.{◌≡◌, ℕ, ◌<◌, ◌≤◌, ◌≢◌, ◌↔◌, ◌⊎◌, [], length, IsTrue, IfSome, IfNone, IfOk, IfErr, MatchResult, Some, None, true, slice_get, slice_index_or, map, All};
+ghost use Rattle.std.specs.Prelude.{◌≡◌, ℕ, ◌<◌, ◌≤◌, ◌≢◌, ◌↔◌, ◌⊎◌, [], length, IsTrue, IfSome, IfNone, IfOk, IfErr, OnOk, MatchResult, Some, None, true, slice_get, slice_index_or, map, All};
 ghost use Rattle.text_bytes.specs.Texts.{key_texts};
-ghost use Rattle.text_bytes.specs.Limits.{most_bytes};
+ghost use Rattle.text_bytes.specs.Limits.{most_bytes, most_nets};
 ghost use Rattle.bench_net.specs.Wiring.{driver_at};
 ghost use Rattle.bench_net.specs.Circuit.{Circuit, Net, IsWhole};
 ghost use Rattle.bench_net.specs.Net.{names, net_of, IsDriven, IsNet};
 ghost use Rattle.bench_net.specs.Fault.{IsFault, IsRefusal};
-ghost use Rattle.bench_net.specs.Givers.{HasPins, IsNetOf, IsChecked};
+ghost use Rattle.bench_net.specs.Numbers.{HasPins, IsNetOf, numbered};
 ghost use Rattle.bench_net.specs.Views.{form_of};
 ghost use Rattle.bench_net.specs.declared.gate.Driver.{Driver};
 ghost use Rattle.bench_net.specs.declared.gate.Driver.TheVariants.{Input};
 ghost use Rattle.bench_net.specs.declared.fault.NetFault.{NetFault};
 ghost use Rattle.bench_net.specs.declared.fault.NetFault.TheVariants.{NoMemory};
 
-use crate::build::{first_loop, first_wrong_arity, givers, missing, names_of, shown_nets};
+use crate::build::{first_loop, first_wrong_arity, missing};
 use crate::fault::{NetFault, NetName};
 use crate::gate::Driver;
 use crate::line::Line;
 use crate::nets::Nets;
+use crate::numbers::{Numbered, numbered_lines};
 use crate::order::{readers, sorted};
-use crate::table::{drivers, outputs, places_of};
+use crate::table::{driven_nets, tables};
 use crate::text::read_lines;
 use indexmap::IndexSet;
 use std::alloc::{AllocError, Global};
@@ -148,28 +149,10 @@ fn netlist_of(alloc: Global, lines: &[Line<'_>]) -> Result<Netlist, NetFault>
     ensures found { IfOk result (λ n. IsNetOf (map form_of lines.now) n.net) }
     ensures fault { IfErr result (λ e. (e ≡ NoMemory) ⊎ IsRefusal (map form_of lines.now) e) }
 {
-    let names = names_of(alloc, lines)?;
-    let given = checked(alloc, &names, lines)?;
-    let (drivers, outputs) = tables(alloc, &names, lines, given.as_slice())?;
+    let (names, numbered) = numbered_lines(alloc, lines)?;
+    checked(alloc, &names, lines, numbered.as_slice())?;
+    let (drivers, outputs) = tables(alloc, names.len(), numbered)?;
     ordered(alloc, names, lines, drivers, outputs)
-}
-
-/// What drives each net, and whether it is an output.
-fn tables(
-    alloc: Global,
-    all: &IndexSet<Vec<u8>>,
-    lines: &[Line<'_>],
-    given: &[usize],
-) -> Result<(Vec<Driver>, Vec<bool>), AllocError>
-    requires names { key_texts all.now.keys ≡ names (map form_of lines.now) }
-    requires checked { IsChecked (map form_of lines.now) given.now }
-    ensures drivers { IfOk result (λ made. made.0.items ≡ (net_of (map form_of lines.now)).drivers) }
-    ensures outputs { IfOk result (λ made. made.1.items ≡ (net_of (map form_of lines.now)).outputs) }
-{
-    let drivers = drivers(alloc, all, lines, given)?;
-    let shown = shown_nets(alloc, lines)?;
-    let outputs = outputs(alloc, all, &shown)?;
-    Ok((drivers, outputs))
 }
 
 /// The netlist of nets whose drivers are known, unless its gates form a loop.
@@ -202,14 +185,17 @@ fn ordered(
     }
 }
 
-/// The places of the lines that give the nets their drivers, where each net has one, of as many nets as it takes.
+/// Lines that give each net one driver, of as many nets as it takes, or the refusal of others.
 fn checked(
     alloc: Global,
     all: &IndexSet<Vec<u8>>,
     lines: &[Line<'_>],
-) -> Result<Vec<usize>, NetFault>
-    requires { key_texts all.now.keys ≡ names (map form_of lines.now) }
-    ensures found { IfOk result (λ given. IsChecked (map form_of lines.now) given.items) }
+    said: &[Numbered],
+) -> Result<(), NetFault>
+    requires names { key_texts all.now.keys ≡ names (map form_of lines.now) }
+    requires lines { length (names (map form_of lines.now)) ≤ most_nets
+        → said.now ≡ map (numbered (names (map form_of lines.now))) (map form_of lines.now) }
+    ensures found { OnOk result (IsDriven (map form_of lines.now)) }
     ensures fault { IfErr result (λ e. (e ≡ NoMemory) ⊎ IsRefusal (map form_of lines.now) e) }
 {
     if all.len() > MOST_NETS {
@@ -218,11 +204,9 @@ fn checked(
     if let Some(net) = first_wrong_arity(lines) {
         return Err(NetFault::Arity(NetName::from_slice(alloc, net)?));
     }
-    let (nets, places) = givers(alloc, lines)?;
-    let none = lines.len();
-    let given = places_of(alloc, all, &nets, places.as_slice(), none)?;
-    if let Some(net) = missing(&nets, lines, given.as_slice(), none) {
+    let driven = driven_nets(alloc, all, said)?;
+    if let Some(net) = missing(all, driven.as_slice(), lines) {
         return Err(NetFault::Missing(NetName::from_slice(alloc, net)?));
     }
-    Ok(given)
+    Ok(())
 }

@@ -1,172 +1,156 @@
-//! What drives each net, by the nets' numbers.
-ghost use Rattle.std.specs.Prelude.{◌≡◌, ℕ, ◌<◌, ◌≤◌, None, Some, List, map, length, IfOk, IfSome};
-ghost use Rattle.std.specs.List.{position, list_any};
-ghost use Rattle.std.specs.Str.{bytes_eq};
+//! What the lines say of each net, by the nets' numbers.
+ghost use Rattle.std.specs.Prelude.{◌≡◌, ℕ, ◌⊎◌, None, Some, true, false, if◌then◌else◌, length, map, fold, replicate, slice_index_or, slice_set, [], IfOk, IfErr};
 ghost use Rattle.text_bytes.specs.Texts.{key_texts};
-ghost use Rattle.text_bytes.specs.Limits.{most_nets};
-ghost use Rattle.bench_net.specs.Circuit.{number};
-ghost use Rattle.bench_net.specs.Net.{function_driver, driver_of};
-ghost use Rattle.bench_net.specs.Givers.{given_place, line_driver};
-ghost use Rattle.bench_net.specs.declared.gate.Function.TheVariants.{Register};
-ghost use Rattle.bench_net.specs.Views.{form_of, texts};
+ghost use Rattle.bench_net.specs.Numbers.{driven_net, shown_net, with_mark, twice_at, first_twice, IsTwice, with_driver, placed};
+ghost use Rattle.bench_net.specs.declared.gate.Driver.TheVariants.{Input};
+ghost use Rattle.bench_net.specs.declared.fault.NetFault.TheVariants.{NoMemory};
 
-use crate::build::is_among;
-use crate::gate::{Driver, Function};
-use crate::line::Line;
-use crate::nets::Nets;
+use crate::fault::{NetFault, NetName};
+use crate::gate::Driver;
+use crate::numbers::Numbered;
 use indexmap::IndexSet;
 use std::alloc::{AllocError, Global};
 
-/// Where a net stands among these.
-fn place_among(nets: &IndexSet<&[u8]>, net: &[u8]) -> Option<usize>
-    ensures { result ≡ position (bytes_eq net.now) (texts nets.now.keys) }
-{
-    nets.get_index_of(net)
-}
-
-/// Where a name stands among these.
-fn place_in(names: &IndexSet<Vec<u8>>, name: &[u8]) -> Option<usize>
-    ensures place { result ≡ position (bytes_eq name.now) (key_texts names.now.keys) }
-    ensures within { IfSome result (λ place. place < length names.now.keys) }
-{
-    names.get_index_of(name)
-}
-
-/// The number of a net, or how many there are where none has the name.
-#[tactic(auto, using(crate::proofs::NetLemmas::number_from_some, crate::proofs::NetLemmas::number_from_none))]
-pub(crate) fn number(names: &IndexSet<Vec<u8>>, name: &[u8]) -> u32
-    requires { length names.now.keys ≤ most_nets }
-    ensures { result ≡ number (key_texts names.now.keys) name.now }
-{
-    match place_in(names, name) {
-        Some(place) => place as u32,
-        None => names.len() as u32,
-    }
-}
-
-/// The numbers of nets.
-fn numbers(alloc: Global, names: &IndexSet<Vec<u8>>, pins: &[&[u8]]) -> Result<Nets, AllocError>
-    requires { length names.now.keys ≤ most_nets }
-    ensures { IfOk result (λ nets. nets ≡ map (number (key_texts names.now.keys)) (texts pins.now)) }
-{
-    let mut nets = Vec::new(alloc);
-    let mut rest = pins;
-    while let [pin, more @ ..] = rest {
-        nets.push(number(names, pin))?;
-        rest = more;
-    }
-    Ok(Nets::from_vec(nets))
-}
-
-/// The flip-flop of the first of these nets.
-fn flip_flop(names: &IndexSet<Vec<u8>>, pins: &[&[u8]]) -> Driver
-    requires { length names.now.keys ≤ most_nets }
-    ensures { result ≡ function_driver Register (map (number (key_texts names.now.keys)) (texts pins.now)) }
-{
-    match pins {
-        [] => Driver::Input,
-        [pin, ..] => Driver::Dff(number(names, pin)),
-    }
-}
-
-/// The driver that a line gives.
-fn driver_of(
-    alloc: Global,
-    names: &IndexSet<Vec<u8>>,
-    line: &Line<'_>,
-) -> Result<Driver, AllocError>
-    requires { length names.now.keys ≤ most_nets }
-    ensures { IfOk result (λ driver. driver ≡ driver_of (key_texts names.now.keys) (form_of line.now)) }
+/// The net that a line gives a driver.
+fn driven_net(line: &Numbered) -> Option<u32>
+    ensures { result ≡ driven_net line.now }
 {
     match line {
-        Line::Gate(_, Function::Logic(kind), pins) => {
-            let nets = numbers(alloc, names, pins.as_slice())?;
-            Ok(Driver::Gate(*kind, nets))
+        Numbered::Drives(net, _) => Some(*net),
+        _ => None,
+    }
+}
+
+/// The net that a line names as an output.
+fn shown_net(line: &Numbered) -> Option<u32>
+    ensures { result ≡ shown_net line.now }
+{
+    match line {
+        Numbered::Shows(net) => Some(*net),
+        _ => None,
+    }
+}
+
+/// Marks a net; where it is marked already, it is the answer.
+fn mark_at(marks: &mut Vec<bool>, net: u32) -> Option<u32>
+    ensures marks { marks.new.items ≡ slice_set marks.old.items net true }
+    ensures twice { result ≡ if slice_index_or marks.old.items net false then Some net else None }
+{
+    let place = net as usize;
+    if place >= marks.len() {
+        return None;
+    }
+    if marks[place] {
+        return Some(net);
+    }
+    marks[place] = true;
+    None
+}
+
+/// Marks a net, if it is one; where it is marked already, it is the answer.
+fn mark(marks: &mut Vec<bool>, net: Option<u32>) -> Option<u32>
+    ensures marks { marks.new.items ≡ with_mark marks.old.items net }
+    ensures twice { result ≡ twice_at marks.old.items net }
+{
+    match net {
+        Some(net) => mark_at(marks, net),
+        None => None,
+    }
+}
+
+/// The name of the net of a number.
+fn name_at(names: &IndexSet<Vec<u8>>, net: u32) -> &[u8]
+    ensures { result.now ≡ slice_index_or (key_texts names.now.keys) net [] }
+{
+    match names.get_index(net as usize) {
+        Some(name) => name.as_slice(),
+        None => &[],
+    }
+}
+
+/// Which nets the lines give a driver, or the first that has two.
+pub(crate) fn driven_nets(
+    alloc: Global,
+    names: &IndexSet<Vec<u8>>,
+    lines: &[Numbered],
+) -> Result<Vec<bool>, NetFault>
+    ensures once { IfOk result (λ _. first_twice (replicate (length names.now.keys) false)
+        (map driven_net lines.now) ≡ None) }
+    ensures found { IfOk result (λ driven. driven.items
+        ≡ fold with_mark (replicate (length names.now.keys) false) (map driven_net lines.now)) }
+    ensures fault { IfErr result (λ e. (e ≡ NoMemory) ⊎ IsTwice (length names.now.keys)
+        (key_texts names.now.keys) lines.now e) }
+{
+    let mut driven = vec![in alloc; false; names.len()]?;
+    let mut rest = lines;
+    while let [line, more @ ..] = rest {
+        if let Some(net) = mark(&mut driven, driven_net(line)) {
+            return Err(NetFault::Twice(NetName::from_slice(alloc, name_at(names, net))?));
         }
-        Line::Gate(_, Function::Register, pins) => Ok(flip_flop(names, pins.as_slice())),
-        _ => Ok(Driver::Input),
+        rest = more;
     }
+    Ok(driven)
 }
 
-/// The place of the line that gives a net its driver, or `none` where there is none: `nets` are those that the lines give one,
-/// and `places` those of the lines that do.
-fn place_of(nets: &IndexSet<&[u8]>, places: &[usize], name: &[u8], none: usize) -> usize
-    ensures { result ≡ given_place (texts nets.now.keys) places.now none name.now }
+/// Which of so many nets the lines name as outputs.
+fn outputs(alloc: Global, count: usize, lines: &[Numbered]) -> Result<Vec<bool>, AllocError>
+    ensures { IfOk result (λ outputs. outputs.items
+        ≡ fold with_mark (replicate count false) (map shown_net lines.now)) }
 {
-    match place_among(nets, name) {
-        Some(place) => places.get(place).copied().unwrap_or(none),
-        None => none,
+    let mut outputs = vec![in alloc; false; count]?;
+    let mut rest = lines;
+    while let [line, more @ ..] = rest {
+        mark(&mut outputs, shown_net(line));
+        rest = more;
     }
+    Ok(outputs)
 }
 
-/// The places of the lines that give the nets their drivers, in the order of the nets' names.
-pub(crate) fn places_of(
-    alloc: Global,
-    names: &IndexSet<Vec<u8>>,
-    nets: &IndexSet<&[u8]>,
-    places: &[usize],
-    none: usize,
-) -> Result<Vec<usize>, AllocError>
-    ensures { IfOk result (λ given. given.items
-        ≡ map (given_place (texts nets.now.keys) places.now none) (key_texts names.now.keys)) }
-{
-    let mut given = Vec::new(alloc);
-    for name in names.iter() {
-        given.push(place_of(nets, places, name.as_slice(), none))?;
-    }
-    Ok(given)
-}
-
-/// The driver that the line at a place gives.
-fn driver_at(
-    alloc: Global,
-    names: &IndexSet<Vec<u8>>,
-    lines: &[Line<'_>],
-    place: usize,
-) -> Result<Driver, AllocError>
-    requires { length names.now.keys ≤ most_nets }
-    ensures { IfOk result (λ driver. driver
-        ≡ line_driver (key_texts names.now.keys) (map form_of lines.now) place) }
-{
-    if place < lines.len() {
-        driver_of(alloc, names, &lines[place])
-    } else {
-        Ok(Driver::Input)
-    }
-}
-
-/// The drivers that the lines at these places give.
-pub(crate) fn drivers(
-    alloc: Global,
-    names: &IndexSet<Vec<u8>>,
-    lines: &[Line<'_>],
-    given: &[usize],
-) -> Result<Vec<Driver>, AllocError>
-    requires { length names.now.keys ≤ most_nets }
-    ensures { IfOk result (λ drivers. drivers.items
-        ≡ map (line_driver (key_texts names.now.keys) (map form_of lines.now)) given.now) }
+/// As many nets that nothing inside drives.
+fn inputs(alloc: Global, count: usize) -> Result<Vec<Driver>, AllocError>
+    ensures { IfOk result (λ drivers. drivers.items ≡ replicate count Input) }
 {
     let mut drivers = Vec::new(alloc);
-    for place in given {
-        let driver = driver_at(alloc, names, lines, *place)?;
-        drivers.push(driver)?;
+    for _ in 0..count {
+        drivers.push(Driver::Input)?;
     }
     Ok(drivers)
 }
 
-/// Whether each net is among these, in the order of the nets' names.
-pub(crate) fn outputs(
-    alloc: Global,
-    names: &IndexSet<Vec<u8>>,
-    shown: &IndexSet<&[u8]>,
-) -> Result<Vec<bool>, AllocError>
-    ensures { IfOk result (λ outputs. outputs.items
-        ≡ map (λ name. list_any (bytes_eq name) (texts shown.now.keys))
-        (key_texts names.now.keys)) }
+/// Puts the driver that a line gives a net in the place of the one that it had.
+fn drive(drivers: &mut Vec<Driver>, line: Numbered)
+    ensures { drivers.new.items ≡ with_driver drivers.old.items line }
 {
-    let mut outputs = Vec::new(alloc);
-    for name in names.iter() {
-        outputs.push(is_among(shown, name.as_slice()))?;
+    if let Numbered::Drives(net, driver) = line {
+        let place = net as usize;
+        if place < drivers.len() {
+            drivers[place] = driver;
+        }
     }
-    Ok(outputs)
+}
+
+/// What drives each of so many nets, by the first line that gives it a driver.
+fn drivers(alloc: Global, count: usize, mut lines: Vec<Numbered>) -> Result<Vec<Driver>, AllocError>
+    ensures { IfOk result (λ drivers. drivers.items ≡ placed (replicate count Input) lines.items) }
+{
+    let mut drivers = inputs(alloc, count)?;
+    while let Some(line) = lines.pop() {
+        drive(&mut drivers, line);
+    }
+    Ok(drivers)
+}
+
+/// What drives each of so many nets, and whether it is an output.
+pub(crate) fn tables(
+    alloc: Global,
+    count: usize,
+    lines: Vec<Numbered>,
+) -> Result<(Vec<Driver>, Vec<bool>), AllocError>
+    ensures drivers { IfOk result (λ made. made.0.items ≡ placed (replicate count Input) lines.items) }
+    ensures outputs { IfOk result (λ made. made.1.items
+        ≡ fold with_mark (replicate count false) (map shown_net lines.items)) }
+{
+    let outputs = outputs(alloc, count, lines.as_slice())?;
+    let drivers = drivers(alloc, count, lines)?;
+    Ok((drivers, outputs))
 }

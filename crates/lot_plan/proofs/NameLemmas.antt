@@ -1,5 +1,5 @@
 -- Names in sets, and rows by their kinds.
-use Rattle.std.proofs.Common.{◌≡◌, ℕ, ◌+◌, ◌<◌, ◌≤◌, Bool, true, false, ◌||◌, cond, List, [], ◌∷◌, ◌++◌, length, drop, get_or, refl, sym, ap, ◌∙◌, subst, inl, inr}
+use Rattle.std.proofs.Common.{◌≡◌, ℕ, ◌+◌, ◌<◌, ◌≤◌, Bool, true, false, ◌||◌, cond, List, [], ◌∷◌, ◌++◌, length, map, drop, get_or, refl, sym, ap, ◌∙◌, subst, inl, inr}
 use Rattle.std.specs.Prelude.{All}
 use Rattle.std.specs.Borrow.{Bor}
 use Rattle.std.specs.List.{list_any}
@@ -7,13 +7,29 @@ use Rattle.std.specs.Str.{bytes_eq}
 use Rattle.std.specs.Cmp.Lexicographic.{bytes_decides}
 use Rattle.text_bytes.proofs.ListLemmas.{drop-item}
 use Rattle.std.proofs.lemmas.Bool.{cases_Bool}
-use Rattle.std.proofs.lemmas.List.{get_or-map, length-map}
+use Rattle.std.proofs.lemmas.List.{get_or-map, length-map, map-append}
 use Rattle.std.proofs.lemmas.List.Folds.{list_any-append}
 use Rattle.std.proofs.Math.Bool.{or-false}
 use Rattle.text_bytes.specs.Texts.{behind, added}
 use Rattle.packed_code.specs.declared.parts.CodeSignal.{CodeSignal}
 use Rattle.plan_rows.specs.declared.row.DieRow.{DieRow}
 use Rattle.lot_plan.specs.Needs.{has_name}
+
+-- of the texts of a list, whether one passes
+list_any-map : {X : Type 0} (f : X → List ℕ) (p : List ℕ → Bool) → (xs : List X)
+    → list_any p (map f xs) ≡ list_any (λ x. p (f x)) xs
+list_any-map f p [] = refl
+list_any-map f p (x ∷ xs) = ap (λ b. p (f x) || b) (list_any-map f p xs)
+
+-- a new key goes behind the others
+pub keys-absent : {X : Type 0} (f : X → List ℕ) (keys keys' : List X) (k : X) → false
+    ≡ list_any (bytes_eq (f k)) (map f keys) → keys'
+    ≡ cond (list_any (λ j. bytes_eq (f k) (f j)) keys) keys (keys ++ k ∷ []) → map f keys'
+    ≡ map f keys ++ f k ∷ []
+keys-absent f keys keys' k h put =
+    ap (map f) (put ∙ ap (λ b. cond b keys (keys ++ k ∷ []))
+    (sym (list_any-map f (bytes_eq (f k)) keys) ∙ sym h))
+    ∙ map-append f keys (k ∷ [])
 
 -- a name that isn't there goes behind the others
 pub with_file-new : (files made : List (List ℕ)) (name : List ℕ) → false ≡ list_any (bytes_eq name) files →

@@ -1,6 +1,6 @@
 use Rattle.std.proofs.Common.{◌≡◌, length, map}
 use Rattle.text_bytes.specs.Texts.{key_texts}
-use Rattle.bench_net.specs.Givers.{loop_fault}
+use Rattle.bench_net.specs.Numbers.{loop_fault}
 use Rattle.bench_net.specs.Views.{form_of}
 use Rattle.bench_net.proofs.build.first_loop.Given as goal
 

@@ -1,24 +1,66 @@
-use Rattle.std.proofs.Common.{◌≡◌, List, ℕ, Some, length, map, sym, ap, ◌∙◌, arith}
-use Rattle.std.specs.List.{find, flat_map}
-use Rattle.std.proofs.lemmas.Grind.{common_steps}
-use Rattle.bench_net.specs.Net.{used, missing_fault}
-use Rattle.bench_net.specs.Givers.{is_no, given_place}
-use Rattle.bench_net.specs.Views.{form_of, texts}
-use Rattle.bench_net.proofs.GivenLemmas.{none_missing}
+use Rattle.std.proofs.Common.{◌≡◌, Bool, List, ℕ, true, None, Some, length, map, sym, ap, ◌∙◌, subst, inr, arith}
+use Rattle.std.specs.List.{find, flat_map, list_all}
+use Rattle.std.proofs.lemmas.Result.{err_from_is_err_and}
+use Rattle.text_bytes.specs.Texts.{key_texts}
+use Rattle.bench_net.specs.Net.{used}
+use Rattle.bench_net.specs.Numbers.{lacks}
+use Rattle.bench_net.specs.Views.{form_of}
+use Rattle.bench_net.proofs.NumberLemmas.{AreLines-small, twice-refused, none-lacks, missing-placed, once-placed}
 use Rattle.bench_net.proofs.netlist.checked.Goals as goal
+
+pub returns-in_err-driven-clause-fault : goal.returns-in_err-driven-clause-fault
+returns-in_err-driven-clause-fault c =
+    let keys = c.args.all.now.keys in
+    let forms = map form_of c.args.lines.now in
+    let lines =
+    AreLines-small (λ k. k.items) keys forms c.args.said.now c.requires.names
+    (omega (arith, c.len.ensures.len, c.if-len-gt-MOST_NETS.false)) c.requires.lines in
+    let p = err_from_is_err_and c.from_residual-in_err-driven.result c.from_residual-in_err-driven.ensures.1 in
+    rw (p.1, p.2)
+    (twice-refused forms (length keys) c.args.said.now (key_texts keys) _ lines c.requires.names (sym c.in_default.ensures) c.in_err-driven.ensures.fault)
 
 pub missing-requires : goal.missing-requires
 missing-requires c =
-    let none = length c.args.lines.now in
-    let place = given_place (texts c.in_ok-nets.nets.keys) c.as_slice.result.now none in
-    none_missing (map form_of c.args.lines.now) (texts c.in_ok-nets.nets.keys) c.as_slice.result.now c.as_slice-2.result.now
-    none (c.as_slice-2.ensures.value ∙ c.in_ok-given.ensures ∙ ap (map place) c.requires)
+    let keys = c.args.all.now.keys in
+    let forms = map form_of c.args.lines.now in
+    let marks = c.as_slice.result.now in
+    let lines =
+    AreLines-small (λ k. k.items) keys forms c.args.said.now c.requires.names
+    (omega (arith, c.len.ensures.len, c.if-len-gt-MOST_NETS.false)) c.requires.lines in
+    subst (λ (all : List (List ℕ)). list_all (λ (b : Bool). b) marks ≡ true → find (lacks all marks) (flat_map used forms) ≡ None)
+    (sym c.requires.names)
+    (none-lacks forms (length keys) c.args.said.now marks lines (c.as_slice.ensures.value ∙ c.in_ok-driven.ensures.found))
 
 pub returns-in-Some-missing-clause-fault : goal.returns-in-Some-missing-clause-fault
 returns-in-Some-missing-clause-fault c =
-    let missing : missing_fault (map form_of c.args.lines.now) ≡ Some c.in_ok-from_slice-2.field-0 =
-    ap (λ (ns : List (List ℕ)). find (is_no ns) (flat_map used (map form_of c.args.lines.now)))
-    (sym c.in_ok-nets.ensures.found.nets_are)
-    ∙ sym c.in-Some-missing.ensures
-    ∙ ap (λ n. Some n) (sym c.in_ok-from_slice-2.ensures) in
-    grind (arith, common_steps, missing)
+    let keys = c.args.all.now.keys in
+    let forms = map form_of c.args.lines.now in
+    let marks = c.as_slice.result.now in
+    let lines =
+    AreLines-small (λ k. k.items) keys forms c.args.said.now c.requires.names
+    (omega (arith, c.len.ensures.len, c.if-len-gt-MOST_NETS.false)) c.requires.lines in
+    inr (
+      lines.small,
+      sym c.in_default.ensures,
+      once-placed forms (length keys) c.args.said.now lines c.in_ok-driven.ensures.once,
+      sym (missing-placed forms (length keys) c.args.said.now marks lines (c.as_slice.ensures.value ∙ c.in_ok-driven.ensures.found))
+          ∙ ap (λ (all : List (List ℕ)). find (lacks all marks) (flat_map used forms)) (sym c.requires.names)
+          ∙ sym c.in-Some-missing.ensures ∙ ap (λ n. Some n) (sym c.in_ok-from_slice-2.ensures),
+    )
+
+pub returns-clause-found : goal.returns-clause-found
+returns-clause-found c =
+    let keys = c.args.all.now.keys in
+    let forms = map form_of c.args.lines.now in
+    let marks = c.as_slice.result.now in
+    let lines =
+    AreLines-small (λ k. k.items) keys forms c.args.said.now c.requires.names
+    (omega (arith, c.len.ensures.len, c.if-len-gt-MOST_NETS.false)) c.requires.lines in
+    record {
+      in_range = lines.small;
+      arity = sym c.in_default.ensures;
+      once = once-placed forms (length keys) c.args.said.now lines c.in_ok-driven.ensures.once;
+      all = sym (missing-placed forms (length keys) c.args.said.now marks lines (c.as_slice.ensures.value ∙ c.in_ok-driven.ensures.found))
+          ∙ ap (λ (all : List (List ℕ)). find (lacks all marks) (flat_map used forms)) (sym c.requires.names)
+          ∙ sym c.in_default-missing.ensures;
+    }

@@ -5,7 +5,7 @@ use Rattle.bench_net.specs.declared.gate.Driver.{Driver}
 use Rattle.bench_net.specs.Wiring.{pins_at, AreReaders}
 use Rattle.bench_net.specs.Circuit.{Net, IsWhole}
 use Rattle.bench_net.specs.Fault.{IsFirstLoop}
-use Rattle.bench_net.specs.Givers.{IsNetOf}
+use Rattle.bench_net.specs.Numbers.{IsNetOf}
 use Rattle.bench_net.specs.Sorting.{AreWithin}
 use Rattle.bench_net.specs.Views.{form_of}
 use Rattle.bench_net.proofs.BuildLemmas.{IsTable-sorted, IsWhole-net_of, IsNetOf-net_of, same_net, wired, within-wired, loop-first, loop_fault-same}

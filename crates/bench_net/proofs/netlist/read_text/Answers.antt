@@ -1,7 +1,7 @@
 use Rattle.std.proofs.Common.{List, map, ap, sym, subst}
 use Rattle.std.specs.Prelude.{All}
 use Rattle.bench_net.specs.Line.{Form}
-use Rattle.bench_net.specs.Givers.{HasPins}
+use Rattle.bench_net.specs.Numbers.{HasPins}
 use Rattle.bench_net.specs.Views.{form_of}
 use Rattle.bench_net.proofs.BuildLemmas.{HasPins-Reads}
 use Rattle.bench_net.proofs.netlist.read_text.Goals as goal

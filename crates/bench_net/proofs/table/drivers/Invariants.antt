@@ -1,9 +1,10 @@
-use Rattle.std.proofs.Common.{◌≡◌, map, take}
-use Rattle.text_bytes.specs.Texts.{key_texts}
-use Rattle.bench_net.specs.Givers.{line_driver}
-use Rattle.bench_net.specs.Views.{form_of}
+use Rattle.std.proofs.Common.{◌≡◌, length, replicate}
+use Rattle.bench_net.specs.declared.gate.Driver.TheVariants.{Input}
+use Rattle.bench_net.specs.Numbers.{placed}
 use Rattle.bench_net.proofs.table.drivers.Given as goal
 
-abbrev pub invariant-loop-place : goal.invariant-loop-place
-invariant-loop-place l =
-    l.drivers.items ≡ map (line_driver (key_texts l.fn.names.keys) (map form_of l.fn.lines)) (take l.place-index l.given)
+abbrev pub invariant-loop-line : goal.invariant-loop-line
+invariant-loop-line l = placed l.drivers.items l.lines.items ≡ placed (replicate l.count Input) l.initial.lines.items
+
+abbrev pub decreases-loop-line : goal.decreases-loop-line
+decreases-loop-line l = length l.lines.items

@@ -1,11 +1,11 @@
-use Rattle.std.proofs.Common.{◌≡◌, map}
-use Rattle.std.specs.List.{list_any}
-use Rattle.std.specs.Str.{bytes_eq}
-use Rattle.text_bytes.specs.Texts.{key_texts}
-use Rattle.bench_net.specs.Views.{texts}
+use Rattle.std.proofs.Common.{◌≡◌, false, length, map, replicate}
+use Rattle.std.specs.List.{fold}
+use Rattle.bench_net.specs.Numbers.{shown_net, with_mark}
 use Rattle.bench_net.proofs.table.outputs.Given as goal
 
-abbrev pub invariant-loop-name : goal.invariant-loop-name
-invariant-loop-name l =
-    l.outputs.items ≡ map (λ name. list_any (bytes_eq name) (texts l.fn.shown.keys))
-    (key_texts (map (λ k. k.now) l.yielded))
+abbrev pub invariant-loop-rest : goal.invariant-loop-rest
+invariant-loop-rest l = fold with_mark l.outputs.items (map shown_net l.rest)
+    ≡ fold with_mark (replicate l.count false) (map shown_net l.fn.lines)
+
+abbrev pub decreases-loop-rest : goal.decreases-loop-rest
+decreases-loop-rest l = length l.rest

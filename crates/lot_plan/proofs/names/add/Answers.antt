@@ -1,6 +1,5 @@
 use Rattle.bench_net.specs.Views.{texts}
-use Rattle.bench_net.proofs.KeyLemmas.{keys-absent}
-use Rattle.lot_plan.proofs.NameLemmas.{with_file-new}
+use Rattle.lot_plan.proofs.NameLemmas.{keys-absent, with_file-new}
 use Rattle.lot_plan.proofs.names.add.Goals as goal
 
 pub returns : goal.returns

@@ -1,8 +1,0 @@
-use Rattle.std.proofs.Common.{sym, ◌∙◌}
-use Rattle.std.specs.Str.{bytes_eq}
-use Rattle.bench_net.proofs.KeyLemmas.{list_any-map}
-use Rattle.bench_net.proofs.build.is_among.Goals as goal
-
-pub returns : goal.returns
-returns c = c.contains.ensures
-    ∙ sym (list_any-map (λ k. k.now) (bytes_eq c.args.net.now) c.args.nets.now.keys)

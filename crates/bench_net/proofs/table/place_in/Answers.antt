@@ -1,8 +1,0 @@
-use Rattle.std.proofs.Common.{sym, ◌∙◌}
-use Rattle.std.specs.Str.{bytes_eq}
-use Rattle.bench_net.proofs.NetLemmas.{position-map}
-use Rattle.bench_net.proofs.table.place_in.Goals as goal
-
-pub returns-clause-place : goal.returns-clause-place
-returns-clause-place c = c.get_index_of.ensures.index
-    ∙ sym (position-map (λ k. k.items) (bytes_eq c.args.name.now) c.args.names.now.keys)
