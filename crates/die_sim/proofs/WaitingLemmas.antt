@@ -1,7 +1,10 @@
 -- Flip-flops that don't wait keep what their D nets have, through captures, drives and new levels.
-use Rattle.std.proofs.Common.{◌≡◌, ◌≢◌, ℕ, ◌+◌, ◌<◌, ◌≤◌, ◌⊎◌, ◌++◌, Bool, true, false, cond, List, [], ◌∷◌, length, get_or, take, set, replicate, refl, sym, ap, ◌∙◌, subst, arith, inl, inr, length-set, length-append}
+use Rattle.std.proofs.Common.{◌≡◌, ◌≢◌, ℕ, ◌+◌, ◌-◌, ◌<◌, ◌≤◌, ◌⊎◌, ◌++◌, Bool, true, false, cond, List, [], ◌∷◌, length, get_or, take, set, replicate, refl, sym, ap, ◌∙◌, subst, arith, inl, inr, length-set, length-append}
 use Rattle.std.proofs.lemmas.List.{get_or-set_same, get_or-set_other, get_or_append_left, get_or_push, get_or_past, get_or-take, length-take-le, get_or-replicate, length-replicate}
-use Rattle.std.proofs.lemmas.Bool.{cases_Bool, cases_eq, cases_lt, both_ways}
+use Rattle.std.proofs.lemmas.Bool.{cases_Bool, cases_eq, cases_lt, both_ways, eqb-true}
+use Rattle.std.proofs.lemmas.Nat.Bits.{bit_at-zero}
+use Rattle.std.specs.Int.{bit_at}
+use Rattle.place_bits.specs.Bits.{in_word, IsLowest, IsRest}
 use Rattle.tester_types.specs.declared.level.Level.{Level}
 use Rattle.tester_types.specs.declared.level.Level.TheVariants.{Zero, One, X, Z}
 use Rattle.tester_types.specs.declared.level.Drive.{Drive}
@@ -223,6 +226,100 @@ AreListed-more nets bits k count list within room h = record {
         record { place = s.place; within = omega (arith, b); is = get_or-set_other list count s.place (get_or nets k 0) 0 other ∙ s.is }
   ];
 }
+
+-- past the last flip-flop none is listed
+pub AreListed-end : (nets : List ℕ) (bits : List Bool) (k count : ℕ) (list : List ℕ) → length nets ≤ k
+    → AreListed nets bits k count list → AreListed nets bits (k + 1) count list
+AreListed-end nets bits k count list past h = record {
+  few = h.few;
+  each = h.each;
+  all = λ j l within w. h.all j (omega (arith, within, past)) within w;
+}
+
+-- all are listed where the places are as many as the flip-flops or more
+pub AreListed-all : (nets : List ℕ) (bits : List Bool) (k count : ℕ) (list : List ℕ) → length nets ≤ k
+    → AreListed nets bits k count list → AreListed nets bits (length nets) count list
+AreListed-all nets bits k count list past h = record {
+  few = h.few;
+  each = h.each;
+  all = λ j l within w. h.all j (omega (arith, within, past)) within w;
+}
+
+-- of a word the flip-flops in front of a place are listed, and the marks of the others are left
+pub record ListedTo (nets : List ℕ) (bits : List Bool) (base left count : ℕ) (list : List ℕ) : Type 0 where
+  pub from : ℕ
+  pub within : from ≤ 64
+  pub skipped : (k : ℕ) → k < from → bit_at left k ≡ 0
+  pub marks : (k : ℕ) → from ≤ k → k < 64 → waits_at bits (base + k) ≡ true → bit_at left k ≡ 1
+  pub listed : AreListed nets bits (base + from) count list
+  pub few : count ≤ base + from
+
+pub ListedTo-none : (nets : List ℕ) (bits : List Bool) (base word count : ℕ) (list : List ℕ)
+    → ((k : ℕ) → k < 64 → waits_at bits (base + k) ≡ in_word word k) → AreListed nets bits base count list → count ≤ base
+    → ListedTo nets bits base word count list
+ListedTo-none nets bits base word count list is h few = record {
+  from = 0;
+  within = omega arith;
+  skipped = λ k l. absurd (omega (arith, l));
+  marks = λ k f l w. eqb-true (bit_at word k) 1 (sym (is k l) ∙ w);
+  listed = subst (λ (n : ℕ). AreListed nets bits n count list) (omega arith) h;
+  few = omega (arith, few);
+}
+
+-- the flip-flops that don't wait in front of the first mark
+pub ListedTo-on : (nets : List ℕ) (bits : List Bool) (base left count place : ℕ) (list : List ℕ) → place ≤ 64
+    → ((k : ℕ) → k < place → bit_at left k ≡ 0) → (h : ListedTo nets bits base left count list) → h.from ≤ place
+    → AreListed nets bits (base + place) count list
+ListedTo-on nets bits base left count place list within none h l =
+    AreListed-on nets bits (base + h.from) (base + place) count list clear h.listed
+  where
+    clear : (i : ℕ) → base + h.from ≤ i → i < base + place → waits_at bits i ≡ false
+    clear i a b = elim (cases_Bool (waits_at bits i)) [
+      | inl w ↦
+          let is : base + (i - base) ≡ i = omega (arith, a) in
+          let one = h.marks (i - base) (omega (arith, a)) (omega (arith, a, b, within)) (ap (waits_at bits) is ∙ w) in
+          absurd (omega (arith, one, none (i - base) (omega (arith, a, b))))
+      | inr f ↦ f
+    ]
+
+-- the first mark lies no earlier than the place
+from-le : (nets : List ℕ) (bits : List Bool) (base left count place : ℕ) (list : List ℕ) → bit_at left place ≡ 1
+    → (h : ListedTo nets bits base left count list) → h.from ≤ place
+from-le nets bits base left count place list one h = elim (cases_lt place h.from) [
+  | inl l ↦ absurd (omega (arith, one, h.skipped place l))
+  | inr l ↦ l
+]
+
+module _ (nets : List ℕ) (bits : List Bool) (base left count place : ℕ) (list : List ℕ) (h : ListedTo nets bits base left count list)
+    (within : place < 64) (low : IsLowest left place) where
+  start : h.from ≤ place
+  start = from-le nets bits base left count place list low.found h
+
+  pub ListedTo-few : count ≤ base + place
+  ListedTo-few = omega (arith, h.few, start)
+
+  -- the flip-flop at the first mark is listed, and its mark is taken
+  pub ListedTo-more : (count' rest : ℕ) (list' : List ℕ) → IsRest left place rest
+      → (AreListed nets bits (base + place) count list → AreListed nets bits (base + place + 1) count' list')
+      → count' ≤ base + place + 1 → ListedTo nets bits base rest count' list'
+  ListedTo-more count' rest list' r more few = record {
+    from = place + 1;
+    within = omega (arith, within);
+    skipped = λ k l. elim (cases_eq k place) [
+      | inl q ↦ ap (bit_at rest) q ∙ r.here
+      | inr ne ↦ r.others k ne ∙ low.skipped k (omega (arith, l, ne))
+    ];
+    marks = λ k f l w. r.others k (λ q. omega (arith, q, f)) ∙ h.marks k (omega (arith, f, start)) l w;
+    listed = subst (λ (n : ℕ). AreListed nets bits n count' list') (omega arith)
+        (more (ListedTo-on nets bits base left count place list (omega (arith, within)) low.skipped h start));
+    few = omega (arith, few);
+  }
+
+-- all of a word are listed
+pub ListedTo-all : (nets : List ℕ) (bits : List Bool) (base left count : ℕ) (list : List ℕ) → left ≡ 0
+    → (h : ListedTo nets bits base left count list) → AreListed nets bits (base + 64) count list
+ListedTo-all nets bits base left count list none h =
+    ListedTo-on nets bits base left count 64 list (omega arith) (λ k l. ap (λ (x : ℕ). bit_at x k) none ∙ bit_at-zero k) h h.within
 
 pub AreWakers-same : (drivers : List Driver) (old new : FlipFlops) → SameLinks old new → AreWakers drivers old → AreWakers drivers new
 AreWakers-same drivers old new s h = record {

@@ -1,6 +1,6 @@
 //! Flip-flops that wait for an edge. One that keeps what its D net has captures nothing new, so an edge passes it; it
 //! waits from the moment at which its D net's level changes.
-ghost use Rattle.std.specs.Prelude.{◌≡◌, ℕ, ◌+◌, ◌<◌, ◌≤◌, true, List, [], ◌∷◌, ◌++◌, length, cond, IfOk, OnOk, replicate};
+ghost use Rattle.std.specs.Prelude.{◌≡◌, ℕ, ◌+◌, ◌<◌, ◌≤◌, ◌*◌, Bool, true, List, [], ◌∷◌, ◌++◌, length, cond, IfOk, OnOk, replicate};
 ghost use Rattle.tester_types.specs.declared.level.Level.{Level};
 ghost use Rattle.bench_net.specs.declared.gate.Driver.TheVariants.{Dff};
 ghost use Rattle.bench_net.specs.Circuit.{IsWhole};
@@ -10,7 +10,7 @@ ghost use Rattle.die_sim.specs.Waiting.{FlipFlops, first_at, next_at, waits_at, 
 
 use crate::moment::Edge;
 use bench_net::{Driver, Netlist};
-use place_bits::Bits;
+use place_bits::{Bits, lowest, rest};
 use std::alloc::{AllocError, Global};
 use std::marker::Model;
 
@@ -202,16 +202,52 @@ fn wake_from(nexts: &[u32], first: u32, bits: &mut Bits)
 /// Lists the nets of the flip-flops that wait, and answers how many they are.
 fn list_waiting(nets: &[u32], bits: &Bits, list: &mut Vec<u32>) -> usize
     requires room { length nets.now ≤ length bits.now }
+    requires size { length bits.now ≤ 65600 }
     requires list { length nets.now ≤ length list.old.items }
     ensures listed { AreListed nets.now bits.now (length nets.now) result list.new.items }
     ensures size { length list.new.items ≡ length list.old.items }
 {
     let mut count = 0;
-    let mut place = bits.next(0);
-    while place < nets.len() {
-        list[count] = nets[place];
-        count += 1;
-        place = bits.next(place + 1);
+    for at in 0..bits.words() {
+        count = list_word(nets, bits, at, list, count);
     }
     count
+}
+
+/// Lists the nets of the flip-flops that wait of a word behind those that are listed, and answers how many they are now.
+/// The word is in hand: a step over its marks doesn't wait for the one before.
+fn list_word(nets: &[u32], bits: &Bits, at: usize, list: &mut Vec<u32>, listed: usize) -> usize
+    requires within { 64 * at < length bits.now }
+    requires size { length bits.now ≤ 65600 }
+    requires list { length nets.now ≤ length list.old.items }
+    requires listed { AreListed nets.now bits.now (64 * at) listed list.old.items }
+    requires few { listed ≤ 64 * at }
+    ensures listed { AreListed nets.now bits.now (64 * at + 64) result list.new.items }
+    ensures few { result ≤ 64 * at + 64 }
+    ensures size { length list.new.items ≡ length list.old.items }
+{
+    let mut count = listed;
+    let mut left = bits.word(at);
+    while left > 0 {
+        count = list_place(nets, 64 * at + lowest(left), list, count);
+        left = rest(left);
+    }
+    count
+}
+
+/// Lists the net of the flip-flop at a place, if there is one, behind those that are listed, and answers how many they are
+/// now.
+fn list_place(nets: &[u32], place: usize, list: &mut Vec<u32>, listed: usize) -> usize
+    requires list { length nets.now ≤ length list.old.items }
+    requires few { listed ≤ place }
+    ensures listed { (bits : List Bool) → AreListed nets.now bits place listed list.old.items
+        → AreListed nets.now bits (place + 1) result list.new.items }
+    ensures few { result ≤ place + 1 }
+    ensures size { length list.new.items ≡ length list.old.items }
+{
+    if place >= nets.len() {
+        return listed;
+    }
+    list[listed] = nets[place];
+    listed + 1
 }

@@ -1,12 +1,13 @@
 -- Words of 64 as a list of bits: a bit that is set or cleared, and the first bit that is 1.
-use Rattle.std.proofs.Common.{◌≡◌, ℕ, min, subst, ◌+◌, ◌-◌, ◌*◌, ◌/◌, ◌%◌, ◌^◌, ◌<◌, ◌≤◌, Bool, true, false, eqb, List, length, get_or, set, replicate, sym, ◌∙◌, ap, inl, inr, arith, ext_get_or, length-set, get_or-set_same, get_or-set_other, eq-eqb, ne_eqb, w64}
+use Rattle.std.proofs.Common.{◌≡◌, ℕ, zero, suc, min, refl, subst, ◌+◌, ◌-◌, ◌*◌, ◌/◌, ◌%◌, ◌^◌, ◌<◌, ◌≤◌, Bool, true, false, eqb, List, length, get_or, set, replicate, sym, ◌∙◌, ap, inl, inr, arith, ext_get_or, length-set, get_or-set_same, get_or-set_other, eq-eqb, ne_eqb, w64}
 use Rattle.std.proofs.lemmas.List.FromFn.{length-map-range_with_len, get_or-map-range_with_len}
 use Rattle.std.proofs.lemmas.List.{get_or_past, get_or-replicate, length-replicate}
 use Rattle.std.proofs.lemmas.Bool.{cases_eq, cases_lt}
-use Rattle.std.proofs.lemmas.Nat.Bits.{bit_at_set_same, bit_at_set_other, bit_at_clear_same, bit_at_clear_other, bit_at-zero, bit_at-lt, bit_at_and, bit_at_mask_below, bit_at_mask_inside, ones_shl}
+use Rattle.std.proofs.lemmas.Nat.Bits.{bit_at_set_same, bit_at_set_other, bit_at_clear_same, bit_at_clear_other, bit_at-zero, bit_at-lt, bit_at_and, bit_at_mask_below, bit_at_mask_inside, ones_shl, bit_at_lowest, bit_at-suc}
 use Rattle.std.specs.Prelude.{bit_and, bit_or}
 use Rattle.std.specs.Int.{bit_at, bit_not}
-use Rattle.place_bits.specs.Bits.{bit_of, bits_of}
+use Rattle.std.proofs.lemmas.Nat.{and_le_r}
+use Rattle.place_bits.specs.Bits.{bit_of, bits_of, in_word, IsLowest, IsRest}
 
 pub length-bits_of : (words : List ℕ) → length (bits_of words) ≡ 64 * length words
 unfolding bits_of
@@ -132,3 +133,55 @@ pub found-bits_of : (words : List ℕ) (all : List Bool) (k : ℕ) → bits_of w
 found-bits_of words all k is l one = subst (λ (a : List Bool). get_or a k false ≡ true) is (
     let within : k < 64 * length words = omega (arith, l, length-bits_of words, ap (λ (a : List Bool). length a) is) in
     get_or-bits_of words k within ∙ one within)
+
+-- the number below has no 1 at the lowest 1 of a number, and the same bits above it
+bit_at-below : (n t : ℕ) → bit_at n t ≡ 1 → ((i : ℕ) → i < t → bit_at n i ≡ 0)
+    → (bit_at (n - 1) t ≡ 0) × ((i : ℕ) → t < i → bit_at (n - 1) i ≡ bit_at n i)
+bit_at-below n zero one none =
+    let odd : n % 2 ≡ 1 = sym (bit_at_lowest n) ∙ one in
+    (bit_at_lowest (n - 1) ∙ omega (arith, odd), above odd)
+  where
+    above : n % 2 ≡ 1 → (i : ℕ) → 0 < i → bit_at (n - 1) i ≡ bit_at n i
+    above odd zero l = absurd (omega (arith, l))
+    above odd (suc i) l =
+        let half : (n - 1) / 2 ≡ n / 2 = omega (arith, odd) in
+        bit_at-suc (n - 1) i ∙ ap (λ x. bit_at x i) half ∙ sym (bit_at-suc n i)
+bit_at-below n (suc t) one none =
+    let even : n % 2 ≡ 0 = sym (bit_at_lowest n) ∙ none 0 (omega arith) in
+    let half : (n - 1) / 2 ≡ n / 2 - 1 = omega (arith, even) in
+    let below = bit_at-below (n / 2) t (sym (bit_at-suc n t) ∙ one) (λ i l. sym (bit_at-suc n i) ∙ none (suc i) (omega (arith, l))) in
+    (bit_at-suc (n - 1) t ∙ ap (λ x. bit_at x t) half ∙ below.0, above half below.1)
+  where
+    above : (n - 1) / 2 ≡ n / 2 - 1 → ((i : ℕ) → t < i → bit_at (n / 2 - 1) i ≡ bit_at (n / 2) i)
+        → (i : ℕ) → suc t < i → bit_at (n - 1) i ≡ bit_at n i
+    above half higher zero l = absurd (omega (arith, l))
+    above half higher (suc i) l =
+        bit_at-suc (n - 1) i ∙ ap (λ x. bit_at x i) half ∙ higher i (omega (arith, l)) ∙ sym (bit_at-suc n i)
+
+min_same : (a : ℕ) → min a a ≡ a
+min_same a = omega arith
+
+min_nothing : (a : ℕ) → min 0 a ≡ 0
+min_nothing a = omega arith
+
+-- a word without its lowest 1
+pub is_rest : (word place : ℕ) → IsLowest word place → IsRest word place (bit_and word (word - 1))
+is_rest word place low =
+    let below = bit_at-below word place low.found low.skipped in
+    record {
+      here = bit_at_and word (word - 1) place ∙ ap (min (bit_at word place)) below.0 ∙ min_none (bit_at word place);
+      others = λ k ne. bit_at_and word (word - 1) k ∙ elim (cases_lt k place) [
+        | inl l ↦ ap (λ x. min x (bit_at (word - 1) k)) (low.skipped k l) ∙ min_nothing (bit_at (word - 1) k) ∙ sym (low.skipped k l)
+        | inr l ↦ ap (min (bit_at word k)) (below.1 k (omega (arith, l, ne))) ∙ min_same (bit_at word k)
+      ];
+    }
+
+pub rest-lt : (word : ℕ) → 0 < word → bit_and word (word - 1) < word
+rest-lt word some = omega (arith, some, and_le_r word (word - 1))
+
+-- a place of the set by its word
+pub get_or-word : (words : List ℕ) (at k word : ℕ) → at < length words → k < 64 → word ≡ get_or words at 0
+    → get_or (bits_of words) (64 * at + k) false ≡ in_word word k
+get_or-word words at k word l in' is =
+    get_or-bits_of words (64 * at + k) (omega (arith, l, in'))
+    ∙ bit_of_word words (64 * at + k) at k refl in' ∙ ap (λ x. eqb (bit_at x k) 1) (sym is)

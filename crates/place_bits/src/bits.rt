@@ -2,7 +2,7 @@
 
 ghost use Rattle.std.specs.Prelude.{◌≡◌, ℕ, ◌+◌, ◌*◌, ◌/◌, ◌%◌, ◌<◌, ◌≤◌, true, false, length, IfOk, slice_set, slice_index, slice_index_or, replicate};
 ghost use Rattle.std.specs.Int.{bit_at};
-ghost use Rattle.place_bits.specs.Bits.{most_places, bit_of};
+ghost use Rattle.place_bits.specs.Bits.{most_places, bit_of, in_word, IsLowest, IsRest};
 
 use std::alloc::{AllocError, Global};
 use std::marker::Model;
@@ -72,6 +72,21 @@ impl Bits {
     {
         next_bit(self.words.as_slice(), from)
     }
+
+    /// How many words the places are packed into.
+    pub fn words(&self) -> usize
+        ensures { 64 * result ≡ length self.now }
+    {
+        self.words.len()
+    }
+
+    /// The word of 64 places.
+    pub fn word(&self, at: usize) -> u64
+        requires { 64 * at < length self.now }
+        ensures { (k : ℕ) → k < 64 → slice_index_or self.now (64 * at + k) false ≡ in_word result k }
+    {
+        self.words[at]
+    }
 }
 
 /// Puts 0 in the place of each word.
@@ -82,13 +97,22 @@ fn put_zeros(words: &mut Vec<u64>)
 }
 
 /// The place of the lowest 1 of a word that isn't 0.
-fn lowest(word: u64) -> usize
+pub fn lowest(word: u64) -> usize
     requires { 0 < word }
     ensures within { result < 64 }
     ensures found { bit_at word result ≡ 1 }
     ensures skipped { (k : ℕ) → k < result → bit_at word k ≡ 0 }
 {
     word.trailing_zeros() as usize
+}
+
+/// A word that isn't 0 without its lowest 1.
+pub fn rest(word: u64) -> u64
+    requires { 0 < word }
+    ensures less { result < word }
+    ensures rest { (place : ℕ) → IsLowest word place → IsRest word place result }
+{
+    word & (word - 1)
 }
 
 /// A word without its bits below a place.

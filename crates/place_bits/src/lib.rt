@@ -3,4 +3,4 @@
 
 mod bits;
 
-pub use bits::Bits;
+pub use bits::{Bits, lowest, rest};

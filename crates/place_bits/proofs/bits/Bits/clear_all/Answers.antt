@@ -1,4 +1,4 @@
-use Rattle.std.proofs.Common.{◌≡◌, ◌∙◌, ◌*◌, ℕ, List, length, replicate, sym, ap}
+use Rattle.std.proofs.Common.{◌∙◌, ◌*◌, ℕ, List, length, sym, ap}
 use Rattle.std.proofs.lemmas.List.{length-replicate}
 use Rattle.place_bits.proofs.BitLemmas.{length-bits_of, bits_of-zeros}
 use Rattle.place_bits.proofs.bits.Bits.clear_all.Goals as goal
