@@ -1,5 +1,5 @@
 -- Assignments in text order.
-use Rattle.std.proofs.Common.{◌≡◌, ℕ, ◌+◌, true, false, List, [], ◌∷◌, ◌++◌, Option, Some, None, refl, ap, sym, ◌∙◌, subst, length, append-nil, append_assoc}
+use Rattle.std.proofs.Common.{◌≡◌, ℕ, ◌+◌, true, false, List, [], ◌∷◌, ◌++◌, Option, Some, None, refl, ap, sym, ◌∙◌, subst, length, append-nil, append_assoc, Vec, Global}
 use Rattle.std.specs.Prelude.{Result, Ok, Err}
 use Rattle.stil_ast.specs.Data.Places.{Titles}
 use Rattle.stil_ast.specs.Meaning.Arguments.{Argument}
@@ -15,6 +15,8 @@ use Rattle.stil_ast.specs.declared.body.Assignment.{Assignment}
 use Rattle.stil_ast.specs.declared.fault.StilFault.{StilFault}
 use Rattle.stil_ast.specs.declared.fault.StilKind.{StilKind}
 use Rattle.stil_ast.specs.declared.fault.StilKind.TheVariants.{TooLarge}
+use Rattle.macro_expand.specs.declared.pairing.Pair.{Pair}
+use Rattle.macro_expand.specs.declared.references.References.{References}
 use Rattle.macro_expand.specs.declared.trouble.Trouble.{Trouble}
 use Rattle.macro_expand.specs.declared.trouble.Trouble.TheVariants.{NoMemory, At}
 use Rattle.macro_expand.specs.declared.walk.Walk.{Walk}
@@ -103,6 +105,15 @@ pub assigned_large : (sc : Scope) (s : Standing) (d : Assignment) (signals : Lis
 assigned_large sc s d signals w known e =
     assign_large sc s d w known.0 (ap (λ (xs : List ℕ). may_walk (w.count + length xs)) (sym known.1) ∙ e)
 
+-- whichever places of references were noted before, the same is written
+pub writes_noted : {A : Type 0} (titles : Titles) (check : Walked → Checked) (assigns : List Assign) (before after : Walk)
+    (references : References) (r : Result A Trouble) → WritesOr titles check assigns (record before { references = references }) after r
+    → WritesOr titles check assigns before after r
+writes_noted titles check assigns before after references (Ok done) w =
+    record { checked = w.checked; args = w.args; out = w.out; taken = w.taken }
+writes_noted titles check assigns before after references (Err NoMemory) w = tt
+writes_noted titles check assigns before after references (Err (At kind body line)) w = w
+
 -- one assignment in front of others
 deal-first : (a : Assign) (rest : List Assign) (args : List Argument) → (deal (a ∷ rest) args).gifts
     ≡ (deal (a ∷ []) args).gifts ++ (deal rest (deal (a ∷ []) args).args).gifts
@@ -114,6 +125,10 @@ pub takers-first : (a : Assign) (rest : List Assign) → takers (a ∷ rest) ≡
 takers-first a rest = ap (λ xs. xs ++ takers rest) (sym (append-nil (hashed a.signals (spread a.signals a.items))))
 
 module _ (sc : Scope) (s : Standing) (all : List Assignment) (start : Walk) where
+  -- none of them yet, whichever pairs are at hand
+  pub assigning_starts : (pairs : Vec Pair Global) → IsAssigning sc s all start all (record start { pairs = pairs })
+  assigning_starts pairs = record { checked = refl; args = refl; out = λ more. refl; taken = refl }
+
   -- one of them more
   pub assigning_step : (d : Assignment) (left : List Assignment) (now after : Walk)
       → IsAssigning sc s all start (d ∷ left) now
@@ -144,10 +159,10 @@ module _ (sc : Scope) (s : Standing) (all : List Assignment) (start : Walk) wher
   assigning_refused titles d left now (At kind body line) before e =
       sym before.checked ∙ ap (λ (c : Checked). then_check c (check_assigns sc s left)) e
 
-  -- all of them
-  pub assigning_ends : (now : Walk) → IsAssigning sc s all start [] now
-      → Writes (check_assigns sc s all) (resolved_assigns sc.names all) start now
-  assigning_ends now e = record {
+  -- all of them, whichever pairs are at hand behind them
+  pub assigning_ends : (now : Walk) (pairs : Vec Pair Global) → IsAssigning sc s all start [] now
+      → Writes (check_assigns sc s all) (resolved_assigns sc.names all) start (record now { pairs = pairs })
+  assigning_ends now pairs e = record {
     checked = sym e.checked;
     args = e.args;
     out = e.out;

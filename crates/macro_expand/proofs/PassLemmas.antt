@@ -14,6 +14,7 @@ use Rattle.stil_ast.specs.declared.fault.StilKind.TheVariants.{ShiftForm}
 use Rattle.flat_tree.specs.Kept.{kept}
 use Rattle.flat_tree.specs.Origins.{body_of}
 use Rattle.flat_tree.proofs.FlatLemmas.{joined-assoc}
+use Rattle.macro_expand.specs.declared.references.References.{References}
 use Rattle.macro_expand.specs.declared.trouble.Trouble.{Trouble}
 use Rattle.macro_expand.specs.declared.trouble.Trouble.TheVariants.{NoMemory, At}
 use Rattle.macro_expand.specs.declared.walk.Walk.{Walk}
@@ -31,6 +32,11 @@ use Rattle.macro_expand.proofs.FlatLemmas.{puts}
 use Rattle.macro_expand.proofs.PlaceLemmas.{not_ruled_out}
 use Rattle.macro_expand.proofs.ShiftLemmas.{columns-none, shift-args}
 use Rattle.macro_expand.proofs.WalkLemmas.{flat-anywhere, args-anywhere}
+
+-- whichever places of references were noted, before and behind a step
+steps_noted : (check : Walked → Checked) (piece : Piece) (before after : Walk) (first last : References)
+    → Steps check piece (record before { references = first }) after → Steps check piece before (record after { references = last })
+steps_noted check piece before after first last e = record { checked = e.checked; out = e.out; args = e.args }
 
 module _ (check : Walked → Checked) (f : Spot → Piece) (p : Origin) (all : ℕ) (start : Walk) where
   abbrev pass : List Argument → Piece
@@ -88,11 +94,11 @@ module _ (names : Names) (scope : PatternScope) (inside : HeldStanding) (line : 
   Left left now = ArePassing names scope inside line count body start left now
 
   -- a pass of statements more; where they begin makes no difference
-  pub passes_go_on : (k : ℕ) (hashes : List ℕ) (now after : Walk) → k < count → hashes ≡ [] → Left (count - k) now
+  pub passes_go_on : (k : ℕ) (hashes : List ℕ) (references : References) (now after : Walk) → k < count → hashes ≡ [] → Left (count - k) now
       → Steps check_it (flat_at (setting_in names scope) (flat_named names scope inside) (named_in names scope inside body) now.args)
-      (record now { hashes = hashes }) after
+      (record now { hashes = hashes; references = references }) after
       → Left (count - (k + 1)) after
-  passes_go_on k hashes now after few none before e =
+  passes_go_on k hashes references now after few none before e =
       let sc = scope_in names scope in
       let t = setting_in names scope in
       let f = flat_named names scope inside in
@@ -102,7 +108,8 @@ module _ (names : Names) (scope : PatternScope) (inside : HeldStanding) (line : 
       passing_step check_it tree_of there count start (count - (k + 1)) piece now after
       (flat-anywhere sc t f kind body now.args from there) (args-anywhere sc t f kind body now.args from there)
       (subst (λ n. Left n now) (one_less count k few) before)
-      (subst (λ (xs : List ℕ). Steps check_it piece (record now { hashes = xs }) after) none e)
+      (steps_noted check_it piece (record now { hashes = [] }) after references after.references
+      (subst (λ (xs : List ℕ). Steps check_it piece (record now { hashes = xs; references = references }) after) none e))
 
   -- one that has a fault
   pub passes_stop : (titles : Titles) (k : ℕ) (hashes : List ℕ) (now : Walk) (trouble : Trouble) → k < count → hashes ≡ []
@@ -114,10 +121,13 @@ module _ (names : Names) (scope : PatternScope) (inside : HeldStanding) (line : 
       (subst (λ (xs : List ℕ). IsAt titles (check_it (walked (record now { hashes = xs }))) trouble) none e)
 
   -- all of them
-  pub passes_end : (k : ℕ) (now : Walk) → count ≤ k → Left (count - k) now
-      → Steps (times_checked count (one_pass check_it)) (passes_at tree_of there count start.args) start now
-  passes_end k now all before =
-      passing_ends check_it tree_of there count start now (subst (λ n. Left n now) (none_less count k all) before)
+  pub passes_end : (k : ℕ) (references : References) (now : Walk) → count ≤ k → Left (count - k) now
+      → Steps (times_checked count (one_pass check_it)) (passes_at tree_of there count start.args) start
+      (record now { references = references })
+  passes_end k references now all before =
+      steps_noted (times_checked count (one_pass check_it)) (passes_at tree_of there count start.args) start now start.references
+      references
+      (passing_ends check_it tree_of there count start now (subst (λ n. Left n now) (none_less count k all) before))
 
 module _ (sc : Scope) (inner : Standing → Written → Walked → Checked) (f : Spot → Piece) (s : Standing) (line : ℕ) (body : Written)
     (may : may_shift s ≡ true) where

@@ -1,25 +1,20 @@
 -- What a V and a C write.
-use Rattle.std.proofs.Common.{◌≡◌, Vec, Global, ℕ, List, [], ap, sym, ◌∙◌}
-use Rattle.stil_ast.specs.Data.Places.{Origin}
+use Rattle.std.proofs.Common.{◌≡◌, ℕ, List, [], ap, sym, ◌∙◌}
+use Rattle.std.specs.Prelude.{Result, Ok, Err}
+use Rattle.stil_ast.specs.Data.Places.{Origin, Titles}
 use Rattle.stil_ast.specs.Meaning.Statements.{Assign}
 use Rattle.stil_ast.specs.Meaning.Dealing.{deal, takers, mark_of}
 use Rattle.stil_ast.specs.Meaning.Flat.{Flat, done, cycle}
 use Rattle.stil_ast.specs.Meaning.Flattening.{joined, cycle_piece, gifts_piece}
 use Rattle.stil_ast.specs.Meaning.Running.{Setting}
 use Rattle.stil_ast.specs.Faults.AssignmentFaults.{Walked, Checked}
-use Rattle.macro_expand.specs.declared.pairing.Pair.{Pair}
+use Rattle.macro_expand.specs.declared.trouble.Trouble.{Trouble}
+use Rattle.macro_expand.specs.declared.trouble.Trouble.TheVariants.{NoMemory, At}
 use Rattle.macro_expand.specs.declared.walk.Walk.{Walk}
 use Rattle.macro_expand.specs.Placing.{Writes}
-use Rattle.macro_expand.specs.Stepping.{Steps}
+use Rattle.macro_expand.specs.Stepping.{Steps, StepsOr, WritesOr}
 use Rattle.macro_expand.specs.Walks.{then_kept}
 use Rattle.macro_expand.proofs.FlatLemmas.{puts_cycle, gifts_front-joined}
-
--- whichever pairs are at hand before and behind, the same is written
-pub writes_beside : (check : Walked → Checked) (assigns : List Assign) (before wrote : Walk) (first last : Vec Pair Global)
-    → Writes check assigns (record before { pairs = first }) wrote
-    → Writes check assigns before (record wrote { pairs = last })
-writes_beside check assigns before wrote first last w =
-    record { checked = w.checked; args = w.args; out = w.out; taken = w.taken }
 
 -- assignments are written, with nothing noted before, and then a vector
 pub vector_steps : (check : Walked → Checked) (t : Setting) (assigns : List Assign) (before wrote : Walk) (place : Origin)
@@ -44,7 +39,7 @@ vector_steps check t assigns before wrote place w out e =
     }
 
 -- assignments alone
-pub condition_steps : (check : Walked → Checked) (assigns : List Assign) (before after : Walk) (place : Origin)
+condition_steps : (check : Walked → Checked) (assigns : List Assign) (before after : Walk) (place : Origin)
     → Writes check assigns (record before { taken = [] }) after
     → Steps check (gifts_piece (deal assigns before.args) (record { args = before.args; place = place })) before after
 condition_steps check assigns before after place w =
@@ -54,3 +49,11 @@ condition_steps check assigns before after place w =
       out = λ rest. w.out rest ∙ ap (then_kept before.out) (sym (gifts_front-joined d.gifts done rest));
       args = w.args;
     }
+
+-- or the first one that has a fault
+pub condition_steps_or : {A : Type 0} (titles : Titles) (check : Walked → Checked) (assigns : List Assign) (before after : Walk)
+    (place : Origin) (r : Result A Trouble) → WritesOr titles check assigns (record before { taken = [] }) after r
+    → StepsOr titles check (gifts_piece (deal assigns before.args) (record { args = before.args; place = place })) before after r
+condition_steps_or titles check assigns before after place (Ok x) w = condition_steps check assigns before after place w
+condition_steps_or titles check assigns before after place (Err NoMemory) w = tt
+condition_steps_or titles check assigns before after place (Err (At kind body line)) w = w

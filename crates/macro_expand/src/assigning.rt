@@ -14,7 +14,7 @@ ghost use Rattle.stil_ast.specs.Meaning.Flattening.{cycle_piece, gifts_piece};
 use crate::arguments::Arguments;
 use crate::pairing::Pair;
 use crate::placing::place;
-use crate::reference::resolved;
+use crate::reference::resolved_again;
 use crate::scope::PatternScope;
 use crate::signal_set::SignalSet;
 use crate::standing::Standing;
@@ -47,7 +47,7 @@ fn walk_assignment(
         (assignment_said parts.now))
         (resolved_assign names (assignment_said parts.now) ∷ []) walk.old walk.new result }
 {
-    match resolved(alloc, scope.signals, s, parts) {
+    match resolved_again(alloc, scope.signals, s, parts, &mut walk.references) {
         Ok(found) => {
             let signals = found.as_slice();
             if !may_walk(walk.count, signals.len()) {
@@ -65,19 +65,20 @@ fn walk_assignments(
     scope: &PatternScope,
     s: &Standing,
     assigns: &AssignmentList,
-    pairs: &mut Vec<Pair>,
     walk: &mut Walk,
 ) -> Result<(), Trouble>
     ensures { (names : Names) → IsNamed names scope.now → WritesOr (titles_in scope.now.titles)
         (check_assigns (scope_in names scope.now) (standing_in (scope_in names scope.now) s.now) assigns.now)
         (resolved_assigns names assigns.now) walk.old walk.new result }
 {
+    let mut pairs = mem::replace(&mut walk.pairs, Vec::new(alloc));
     for parts in assigns.cursor() {
-        match walk_assignment(alloc, scope, s, &parts, pairs, walk) {
+        match walk_assignment(alloc, scope, s, &parts, &mut pairs, walk) {
             Ok(()) => {}
             Err(trouble) => return Err(trouble),
         }
     }
+    walk.pairs = pairs;
     Ok(())
 }
 
@@ -111,10 +112,8 @@ pub(crate) fn walk_vector(
         walk.old walk.new result }
 {
     walk.taken.clear();
-    let mut pairs = mem::replace(&mut walk.pairs, Vec::new(alloc));
-    match walk_assignments(alloc, scope, s, assigns, &mut pairs, walk) {
+    match walk_assignments(alloc, scope, s, assigns, walk) {
         Ok(()) => {
-            walk.pairs = pairs;
             let mark = mark(scope.scan_outs, &walk.taken, &walk.args);
             let place = Origin { body: s.body, line };
             walk.out.push_cycle(mark, place)?;
@@ -125,7 +124,7 @@ pub(crate) fn walk_vector(
 }
 
 /// C: assigns.
-#[tactic(auto, using(crate::proofs::StepLemmas::condition_steps))]
+#[tactic(auto, using(crate::proofs::StepLemmas::condition_steps_or))]
 pub(crate) fn walk_condition(
     alloc: Global,
     scope: &PatternScope,
@@ -141,12 +140,5 @@ pub(crate) fn walk_condition(
 {
     let _line = line;
     walk.taken.clear();
-    let mut pairs = mem::replace(&mut walk.pairs, Vec::new(alloc));
-    match walk_assignments(alloc, scope, s, assigns, &mut pairs, walk) {
-        Ok(()) => {
-            walk.pairs = pairs;
-            Ok(())
-        }
-        Err(trouble) => Err(trouble),
-    }
+    walk_assignments(alloc, scope, s, assigns, walk)
 }

@@ -9,6 +9,7 @@ ghost use Rattle.macro_expand.specs.Expanding.{pattern_check, IsTreeOf, Expands,
 ghost use Rattle.macro_expand.specs.Scopes.{IsNamed};
 
 use crate::arguments::Arguments;
+use crate::references::References;
 use crate::refusing::refusal_of;
 use crate::scope::PatternScope;
 use crate::signal_set::SignalSet;
@@ -99,6 +100,7 @@ fn walk_pattern(
         count,
         out: FlatList::new(alloc),
         pairs: Vec::new(alloc),
+        references: References::new(alloc),
     };
     match walk_list(alloc, scope, &top, body, &mut walk) {
         Ok(()) => Ok(walk),

@@ -14,6 +14,7 @@ mod naming;
 mod pairing;
 mod placing;
 mod reference;
+mod references;
 mod refusing;
 mod rules;
 mod scope;

@@ -16,6 +16,7 @@ ghost use Rattle.macro_expand.specs.Stepping.{StepsOr, spot_on};
 
 use crate::arguments::Arguments;
 use crate::giving::walk_arguments;
+use crate::references::References;
 use crate::rules::is_running;
 use crate::scope::PatternScope;
 use crate::signal_set::SignalSet;
@@ -127,6 +128,7 @@ pub(crate) fn own_walk(
             count: walked,
             out,
             pairs: Vec::new(alloc),
+            references: References::new(alloc),
         }),
         Err(trouble) => Err(trouble),
     }

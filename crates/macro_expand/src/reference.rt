@@ -1,7 +1,8 @@
 //! The signals of an assignment's reference.
 
-ghost use Rattle.std.specs.Prelude.{◌≡◌, None, IfSome, IfOk};
+ghost use Rattle.std.specs.Prelude.{◌≡◌, ◌<◌, ◌+◌, None, length, IfSome, IfOk};
 ghost use Rattle.signal_groups.specs.Found.{signals_found};
+ghost use Rattle.signal_groups.specs.Lookup.{signals_at};
 ghost use Rattle.signal_groups.specs.Table.{table_of};
 ghost use Rattle.stil_ast.specs.Data.Assignments.{assignment_said};
 ghost use Rattle.stil_ast.specs.Data.AssignmentCuts.{reference_of};
@@ -9,6 +10,7 @@ ghost use Rattle.stil_ast.specs.Meaning.Members.{members, reference_kind};
 ghost use Rattle.stil_ast.specs.Meaning.Signals.{Names};
 ghost use Rattle.macro_expand.specs.Referring.{IsResolved};
 
+use crate::references::References;
 use crate::standing::Standing;
 use crate::trouble::Trouble;
 use signal_groups::{FoundSignals, RefFault, SignalTable};
@@ -52,17 +54,32 @@ fn resolve_in<'t>(
     }
 }
 
-/// The signals that a table keeps under the reference of an assignment, which take no memory.
-fn kept<'t>(signals: &'t SignalTable, parts: &AssignmentParts) -> Option<FoundSignals<'t>>
-    ensures { (names : Names) → signals.now ≡ table_of names → IfSome result (λ found.
+/// Where a table keeps the signals of the reference of an assignment, if it does; where it may is looked at first.
+fn place_of(signals: &SignalTable, guess: Option<u16>, parts: &AssignmentParts) -> Option<u16>
+    ensures signals { (names : Names) → signals.now ≡ table_of names → IfSome result (λ place.
         (reference_kind names (assignment_said parts.now).reference ≡ None)
-        × (signals_found found ≡ members names (assignment_said parts.now).reference)) }
+        × (signals_at signals.now place ≡ members names (assignment_said parts.now).reference)) }
+    ensures within { IfSome result (λ place. place < length signals.now.texts + length signals.now.members) }
 {
     match parts.reference {
-        RefKind::Name => signals.named(parts.bytes),
+        RefKind::Name => signals.place(guess, parts.bytes),
         RefKind::Indexed(_) => None,
         RefKind::Group(_) => None,
     }
+}
+
+/// The signals of an assignment that a table doesn't keep under its reference, or the fault of that.
+fn resolved_anew<'t>(
+    alloc: Global,
+    signals: &'t SignalTable,
+    s: &Standing,
+    parts: &AssignmentParts,
+) -> Result<FoundSignals<'t>, Trouble>
+    ensures { (names : Names) → signals.now ≡ table_of names
+        → IsResolved names (assignment_said parts.now).reference s.now.body parts.now.line result }
+{
+    let reference = reference_of(alloc, parts.reference, parts.bytes)?;
+    resolve_in(alloc, signals, s, parts.line, &reference)
 }
 
 /// The signals of an assignment, or the fault of its reference.
@@ -75,11 +92,38 @@ pub(crate) fn resolved<'t>(
     ensures { (names : Names) → signals.now ≡ table_of names
         → IsResolved names (assignment_said parts.now).reference s.now.body parts.now.line result }
 {
-    if let Some(found) = kept(signals, parts) {
-        return Ok(found);
+    match place_of(signals, None, parts) {
+        Some(place) => Ok(signals.at(place)),
+        None => resolved_anew(alloc, signals, s, parts),
     }
-    let reference = reference_of(alloc, parts.reference, parts.bytes)?;
-    resolve_in(alloc, signals, s, parts.line, &reference)
+}
+
+/// Notes where the next reference was found, if its body is walked again: in the passes of a Shift.
+fn note(s: &Standing, place: u16, references: &mut References) -> Result<(), AllocError> {
+    if s.in_shift && !s.without_pass {
+        references.note(place)?;
+    }
+    Ok(())
+}
+
+/// The same of an assignment of a body, which is found where it was found in the pass before.
+pub(crate) fn resolved_again<'t>(
+    alloc: Global,
+    signals: &'t SignalTable,
+    s: &Standing,
+    parts: &AssignmentParts,
+    references: &mut References,
+) -> Result<FoundSignals<'t>, Trouble>
+    ensures { (names : Names) → signals.now ≡ table_of names
+        → IsResolved names (assignment_said parts.now).reference s.now.body parts.now.line result }
+{
+    match place_of(signals, references.next(), parts) {
+        Some(place) => {
+            note(s, place, references)?;
+            Ok(signals.at(place))
+        }
+        None => resolved_anew(alloc, signals, s, parts),
+    }
 }
 
 /// The signals of an assignment, none where its reference has a fault.
@@ -91,8 +135,8 @@ pub(crate) fn members<'t>(
     ensures { IfOk result (λ found. (names : Names) → signals.now ≡ table_of names
         → signals_found found ≡ members names (assignment_said parts.now).reference) }
 {
-    if let Some(found) = kept(signals, parts) {
-        return Ok(found);
+    if let Some(place) = place_of(signals, None, parts) {
+        return Ok(signals.at(place));
     }
     let reference = reference_of(alloc, parts.reference, parts.bytes)?;
     members_in(alloc, signals, &reference)

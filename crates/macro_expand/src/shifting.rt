@@ -133,7 +133,8 @@ fn walk_without(
     }
 }
 
-/// So many passes of a Shift. A signal may have one `#` in each, so those of the pass before are forgotten.
+/// So many passes of a Shift. A signal may have one `#` in each, so those of the pass before are forgotten. The references
+/// are found where they were found in the pass before.
 #[cycle(walk)]
 fn walk_passes(
     alloc: Global,
@@ -149,10 +150,12 @@ fn walk_passes(
 {
     for _ in 0..count {
         walk.hashes.clear();
+        walk.references.again();
         match walk_list(alloc, scope, inside, body, walk) {
             Ok(()) => {}
             Err(trouble) => return Err(trouble),
         }
     }
+    walk.references.forget();
     Ok(())
 }

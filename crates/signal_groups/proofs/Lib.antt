@@ -3,6 +3,7 @@ pub mod LookupLemmas
 pub mod RangeLemmas
 pub mod MemberLemmas
 pub mod ResolveLemmas
+pub mod PlaceLemmas
 pub mod BegunLemmas
 pub mod GraphLemmas
 pub mod NeedsLemmas

@@ -1,14 +1,16 @@
 -- What is found in a table is what is found among the signals and groups that it was made of.
-use Rattle.std.proofs.Common.{◌≡◌, ℕ, suc, Bool, true, false, cond, not, ◌||◌, List, [], ◌∷◌, ◌++◌, length, map, Option, Some, None, refl, sym, ap, ◌∙◌, subst, arith, inl, inr}
+use Rattle.std.proofs.Common.{◌≡◌, ℕ, suc, Bool, true, false, cond, not, ◌||◌, List, [], ◌∷◌, ◌++◌, length, get_or, map, Option, Some, None, refl, sym, ap, ◌∙◌, subst, arith, inl, inr}
 use Rattle.std.specs.Prelude.{Vec, All, filter, ◌<◌, ◌+◌, nat_lt, position}
-use Rattle.std.specs.List.{list_any, position_or_len, enumerate_from, filter_map, cons_option}
+use Rattle.std.specs.List.{list_any, position_or_len, enumerate_from, filter_map, cons_option, IsDistinct}
 use Rattle.std.specs.declared.alloc.Global.{Global}
 use Rattle.std.specs.Cmp.Lexicographic.{bytes_decides}
 use Rattle.std.specs.Str.{bytes_eq}
-use Rattle.std.proofs.lemmas.Bool.{cases_Bool, cases_lt}
+use Rattle.std.proofs.lemmas.Bool.{cases_Bool, cases_lt, lt-ltb}
 use Rattle.std.proofs.lemmas.List.Elements.{All-nil, All-cons}
 use Rattle.std.proofs.lemmas.List.Quantifiers.{position-Some}
 use Rattle.std.proofs.lemmas.List.{map-append, length-map, get_or_past}
+use Rattle.std.proofs.lemmas.List.Sums.{position_or_len_is}
+use Rattle.std.proofs.lemmas.Map.Keys.{apart_from_distinct}
 use Rattle.text_bytes.specs.Texts.{key_texts}
 use Rattle.stil_ast.specs.Data.Texts.{same, indices, indexed}
 use Rattle.stil_ast.specs.Meaning.Members.{is_based_on}
@@ -47,6 +49,23 @@ pub number_in-keys : (keys : List (Vec ℕ Global)) (name : List ℕ)
     → position (λ k. bytes_eq name k.items) keys ≡ number_in (key_texts keys) name
 number_in-keys keys name =
     position-seen (λ k. k.items) (λ k. bytes_eq name k.items) (λ t. same t name) (λ k. same-sym name k.items) keys
+
+-- a name stands where a key is it, as keys differ
+pub position-at : (keys : List (Vec ℕ Global)) (name : List ℕ) (i : ℕ) (k : Vec ℕ Global)
+    → IsDistinct (λ (x y : Vec ℕ Global). bytes_eq x.items y.items) keys → i < length keys → k ≡ get_or keys i k
+    → bytes_eq k.items name ≡ true → position (λ k. bytes_eq name k.items) keys ≡ Some i
+position-at keys name i k apart within at e =
+    let here : (get_or keys i k).items ≡ name
+    = ap (λ (x : Vec ℕ Global). x.items) (sym at) ∙ (bytes_decides k.items name).0 e in
+    let before : (j : ℕ) → j < i → bytes_eq name (get_or keys j k).items ≡ false =
+    λ j less. same-sym name (get_or keys j k).items
+    ∙ subst (λ (n : List ℕ). bytes_eq (get_or keys j k).items n ≡ false) here
+    (apart_from_distinct (λ (x y : Vec ℕ Global). bytes_eq x.items y.items) keys j i k apart less within) in
+    let is : position_or_len (λ k. bytes_eq name k.items) keys ≡ i =
+    position_or_len_is (λ (x : Vec ℕ Global). bytes_eq name x.items) keys i k (omega (arith, within)) before
+    (λ _. (bytes_decides name (get_or keys i k).items).1 (sym here)) in
+    ap (λ n. cond (nat_lt n (length keys)) (Some n) None) is
+    ∙ ap (λ b. cond b (Some i) None) (lt-ltb i (length keys) within)
 
 -- a number is that of a name
 pub number_in-within : (texts : List (List ℕ)) (name : List ℕ) (i : ℕ) → number_in texts name ≡ Some i → i < length texts

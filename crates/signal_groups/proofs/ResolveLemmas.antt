@@ -1,6 +1,6 @@
 -- What a table of names answers is what the names mean.
 use Rattle.std.proofs.Common.{◌≡◌, append_assoc, length-append, ℕ, ◌+◌, Bool, true, false, cond, ◌||◌, List, [], ◌∷◌, ◌++◌, length, get_or, map, filter, Option, Some, None, refl, sym, ap, ◌∙◌, subst}
-use Rattle.std.specs.Prelude.{position, find, is_some, slice_index_or, IfSome, Result, Ok, Err}
+use Rattle.std.specs.Prelude.{position, find, is_some, slice_index_or, Result, Ok, Err}
 use Rattle.std.specs.List.{list_all, list_any, enumerate_from, filter_map, position_from}
 use Rattle.std.proofs.Math.Seq.{get_or-append_seam}
 use Rattle.std.proofs.lemmas.List.{map-append, length-map}
@@ -18,10 +18,8 @@ use Rattle.stil_ast.specs.declared.name.SigRef.TheVariants.{Name, Group as Group
 use Rattle.stil_ast.specs.declared.fault.StilKind.{StilKind}
 use Rattle.stil_ast.specs.declared.fault.StilKind.TheVariants.{UnknownName}
 use Rattle.signal_groups.specs.declared.fault.RefFault.{RefFault}
-use Rattle.signal_groups.specs.declared.found.FoundSignals.{FoundSignals}
-use Rattle.signal_groups.specs.Found.{signals_found}
 use Rattle.signal_groups.specs.Table.{Table, table_of}
-use Rattle.signal_groups.specs.Lookup.{number_in, based_in, plain_in, item_in, known_in, kind_in, signals_in, plain_ref, terms_kind, Refuses, Resolves}
+use Rattle.signal_groups.specs.Lookup.{number_in, based_in, plain_in, item_in, known_in, kind_in, signals_in, terms_kind, Refuses, Resolves}
 use Rattle.signal_groups.proofs.LookupLemmas.{position-seen}
 
 -- functions that agree everywhere are one
@@ -181,10 +179,3 @@ pub resolves : (names : Names) (table : Table) (r : SigRef) (result : Result (Li
     → Resolves (kind_in table r) (signals_in table r) result → Resolves (reference_kind names r) (members names r) result
 resolves names t r result e h =
     resolves_names names r result (subst (λ (t : Table). Resolves (kind_in t r) (signals_in t r) result) e h)
-
--- the same of what a table keeps under a name without indices
-pub kept_resolves : (names : Names) (table : Table) (name : List ℕ) (result : Option FoundSignals) → table ≡ table_of names
-    → IfSome result (λ found. Resolves (kind_in table (plain_ref name)) (signals_in table (plain_ref name)) (Ok (signals_found found)))
-    → IfSome result (λ found. Resolves (reference_kind names (plain_ref name)) (members names (plain_ref name)) (Ok (signals_found found)))
-kept_resolves names t name None e h = h
-kept_resolves names t name (Some found) e h = resolves names t (plain_ref name) (Ok (signals_found found)) e h

@@ -1,5 +1,5 @@
 -- What a table answers, by look-ups alone.
-use Rattle.std.specs.Prelude.{◌≡◌, Result, Ok, Err, ℕ, Bool, ◌||◌, List, [], ◌∷◌, Option, Some, None, map, filter, filter_map, position, is_some, slice_index_or, if◌then◌else◌}
+use Rattle.std.specs.Prelude.{◌≡◌, Result, Ok, Err, ℕ, ◌+◌, ◌-◌, nat_lt, Bool, not, ◌||◌, List, [], ◌∷◌, Option, Some, None, length, map, filter, filter_map, position, is_some, slice_index_or, if◌then◌else◌}
 use Rattle.std.specs.List.{list_all, list_any, enumerate_from}
 use Rattle.stil_ast.specs.Data.Texts.{same, indices, indexed}
 use Rattle.stil_ast.specs.Meaning.GroupText.{Term}
@@ -18,6 +18,27 @@ use Rattle.signal_groups.specs.Table.{Table}
 -- the number of the text that is this name
 abbrev pub number_in : List (List ℕ) → List ℕ → Option ℕ
 number_in texts name = position (λ t. same t name) texts
+
+-- whether no group has the name of a signal
+abbrev pub are_apart : List (List ℕ) → List (List ℕ) → Bool
+are_apart signals groups = list_all (λ g. not (is_some (number_in signals g))) groups
+
+-- where a name without indices stands, behind so many signals: a signal comes first, then a group
+abbrev pub place_from : ℕ → Option ℕ → Option ℕ → Option ℕ
+place_from count (Some signal) group = Some signal
+place_from count None (Some group) = Some (count + group)
+place_from count None None = None
+
+-- the same: a signal stands at its number, and a group behind the signals
+abbrev pub place_in : Table → List ℕ → Option ℕ
+place_in table name =
+    place_from (length table.texts) (number_in table.texts name) (number_in table.groups name)
+
+-- the signals at a place
+abbrev pub signals_at : Table → ℕ → List ℕ
+signals_at table place =
+    if nat_lt place (length table.texts) then place ∷ []
+    else slice_index_or table.members (place - length table.texts) []
 
 -- the signals that were declared with brackets under this name
 abbrev pub based_in : List (Option (List ℕ)) → List ℕ → List ℕ

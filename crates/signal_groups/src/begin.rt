@@ -11,6 +11,7 @@ ghost use Rattle.signal_groups.specs.Located.{group_at};
 ghost use Rattle.signal_groups.specs.Settled.{IsBegun};
 
 use crate::groups::{Located, take_names};
+use crate::places::are_apart;
 use crate::signals::take_signals;
 use crate::table::{Declared, SignalList, SignalTable};
 use indexmap::IndexSet;
@@ -75,10 +76,12 @@ pub(crate) fn begin(
     let (texts, declared) = signals_of(alloc, blocks.signals.as_slice())?;
     let names = called(alloc, groups)?;
     let members = no_members(alloc, groups.len())?;
+    let apart = are_apart(&texts, &names);
     Ok(SignalTable {
         texts,
         declared,
         groups: names,
         members,
+        apart,
     })
 }

@@ -11,6 +11,7 @@ mod groups;
 mod items;
 mod lexeme;
 mod members;
+mod places;
 mod read;
 mod refuse;
 mod resolve;

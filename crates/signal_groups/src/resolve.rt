@@ -1,17 +1,15 @@
 //! The signals for which a reference stands (IEEE 1450-1999, clause 6, signal references).
 
-ghost use Rattle.std.specs.Prelude.{◌≡◌, ◌<◌, ◌||◌, if◌then◌else◌, ℕ, None, Some, Ok, length, map, is_some, All, IfOk, IfSome};
+ghost use Rattle.std.specs.Prelude.{◌≡◌, ◌<◌, if◌then◌else◌, None, Some, length, map, All, IfOk};
 ghost use Rattle.std.specs.List.{list_all};
 ghost use Rattle.stil_ast.specs.Meaning.GroupText.{Term};
 ghost use Rattle.stil_ast.specs.Meaning.GroupReading.{terms_of};
 ghost use Rattle.stil_ast.specs.Meaning.Members.{combined_text};
 ghost use Rattle.stil_ast.specs.declared.fault.StilKind.TheVariants.{UnknownName};
 ghost use Rattle.signal_groups.specs.Lexed.{name_ref, term_of, held_terms};
-ghost use Rattle.signal_groups.specs.Found.{signals_found};
-ghost use Rattle.signal_groups.specs.Lookup.{item_in, known_in, terms_kind, kind_in, number_in, signals_in, plain_ref, Resolves};
+ghost use Rattle.signal_groups.specs.Lookup.{item_in, known_in, terms_kind, kind_in, signals_in, Resolves};
 
 use crate::fault::RefFault;
-use crate::found::FoundSignals;
 use crate::items::{is_known, item_signals};
 use crate::members::combined;
 use crate::table::{SignalList, SignalTable};
@@ -75,22 +73,6 @@ fn resolved_text(alloc: Global, table: &SignalTable, text: &[u8]) -> Result<Sign
     match terms_of(alloc, text)? {
         Some(terms) => resolved_terms(alloc, table, terms.as_slice()),
         None => Err(RefFault::Shape),
-    }
-}
-
-/// The signals that a table keeps under a name without indices: a signal comes first, then a group.
-pub(crate) fn kept<'t>(table: &'t SignalTable, name: &[u8]) -> Option<FoundSignals<'t>>
-    ensures signals { IfSome result (λ found. Resolves (kind_in table.now (plain_ref name.now))
-        (signals_in table.now (plain_ref name.now)) (Ok (signals_found found))) }
-    ensures had { is_some result
-        ≡ (is_some (number_in table.now.texts name.now) || is_some (number_in table.now.groups name.now)) }
-{
-    if let Some(signal) = table.number(name) {
-        return Some(FoundSignals::One([signal]));
-    }
-    match table.group(name) {
-        Some(group) => Some(FoundSignals::Group(table.members(group))),
-        None => None,
     }
 }
 

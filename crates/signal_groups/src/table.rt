@@ -1,17 +1,18 @@
 //! What is known of the signals and groups of a text.
 
-ghost use Rattle.std.specs.Prelude.{◌≡◌, ◌<◌, ◌≤◌, ◌||◌, ℕ, [], None, Some, Ok, IfSome, IfOk, All, length, is_some, slice_get, slice_index_or, slice_set};
+ghost use Rattle.std.specs.Prelude.{◌≡◌, ◌<◌, ◌≤◌, ◌+◌, ℕ, [], None, Some, Ok, IsTrue, IfSome, IfOk, All, length, slice_get, slice_index_or, slice_set};
 ghost use Rattle.text_bytes.specs.Limits.{most_signals};
 ghost use Rattle.stil_ast.specs.Meaning.Signals.{Names};
 ghost use Rattle.stil_ast.specs.Meaning.Members.{is_based_on, reference_kind, members};
 ghost use Rattle.signal_groups.specs.Table.{IsSound, table_of, with_members};
 ghost use Rattle.signal_groups.specs.Found.{signals_found};
-ghost use Rattle.signal_groups.specs.Lookup.{number_in, plain_ref, Resolves};
+ghost use Rattle.signal_groups.specs.Lookup.{number_in, place_in, signals_at, plain_ref, Resolves};
 ghost use Rattle.signal_groups.specs.Graph.{needed_unless};
 
 use crate::fault::RefFault;
 use crate::found::FoundSignals;
-use crate::resolve::{kept, resolved};
+use crate::places::{place_among, stands_at};
+use crate::resolve::resolved;
 use indexmap::IndexSet;
 use std::alloc::Global;
 use std::marker::Model;
@@ -28,24 +29,26 @@ pub(crate) struct Declared {
     pub(crate) direction: Direction,
 }
 
-/// The signals of a text in declared order, and its groups with their signals. Signals and groups are numbered from 0.
+/// The signals of a text in declared order, and its groups with their signals. Signals and groups are numbered from 0. It
+/// is kept whether no group has the name of a signal.
 #[derive(Drop)]
 pub struct SignalTable {
     pub(crate) texts: IndexSet<Vec<u8>>,
     pub(crate) declared: Vec<Declared>,
     pub(crate) groups: IndexSet<Vec<u8>>,
     pub(crate) members: Vec<SignalList>,
+    pub(crate) apart: bool,
 }
 
 impl Model for SignalTable {
-    ghost use Rattle.signal_groups.specs.Table.{Table, IsSound};
-    ghost use Rattle.signal_groups.specs.Memory.{table_in};
+    ghost use Rattle.signal_groups.specs.Table.{Table};
+    ghost use Rattle.signal_groups.specs.Memory.{table_in, IsHeld};
 
     ghost Value = { Table };
 
     ghost view = { table_in };
 
-    ghost invariant = { λ t. IsSound (table_in t) };
+    ghost invariant = { IsHeld };
 }
 
 impl SignalTable {
@@ -81,7 +84,7 @@ impl SignalTable {
         ensures number { result ≡ number_in self.now.texts name.now }
         ensures within { IfSome result (λ signal. signal < length self.now.texts) }
     {
-        let place = self.texts.get_index_of(name)?;
+        let place = place_among(&self.texts, name)?;
         Some(place as u16)
     }
 
@@ -90,7 +93,7 @@ impl SignalTable {
         ensures number { result ≡ number_in self.now.groups name.now }
         ensures within { IfSome result (λ group. group < length self.now.members) }
     {
-        self.groups.get_index_of(name)
+        place_among(&self.groups, name)
     }
 
     /// The number of the group of a name that no signal has.
@@ -140,15 +143,69 @@ impl SignalTable {
         let _texts = &self.texts;
     }
 
-    /// The signals of a name without indices that a signal or a group has, without memory.
-    pub fn named(&self, name: &[u8]) -> Option<FoundSignals<'_>>
-        ensures signals { (names : Names) → self.now ≡ table_of names → IfSome result (λ found.
-            Resolves (reference_kind names (plain_ref name.now)) (members names (plain_ref name.now))
-            (Ok (signals_found found))) }
-        ensures had { is_some result
-            ≡ (is_some (number_in self.now.texts name.now) || is_some (number_in self.now.groups name.now)) }
+    /// Whether a name without indices stands at a place.
+    fn stands_at(&self, place: usize, name: &[u8]) -> bool
+        ensures { IsTrue result → place_in self.now name.now ≡ Some place }
     {
-        kept(self, name)
+        if place < self.texts.len() {
+            return stands_at(&self.texts, place, name);
+        }
+        self.apart && stands_at(&self.groups, place - self.texts.len(), name)
+    }
+
+    /// Where a name without indices stands, which is searched for.
+    fn searched(&self, name: &[u8]) -> Option<u16>
+        ensures { result ≡ place_in self.now name.now }
+    {
+        self.soundness();
+        if let Some(signal) = self.number(name) {
+            return Some(signal);
+        }
+        match self.group(name) {
+            Some(group) => Some((self.texts.len() + group) as u16),
+            None => None,
+        }
+    }
+
+    /// Where a name without indices stands, for which it is looked first at the guess.
+    fn looked(&self, guess: Option<u16>, name: &[u8]) -> Option<u16>
+        ensures { result ≡ place_in self.now name.now }
+    {
+        match guess {
+            Some(place) => {
+                if self.stands_at(usize::from(place), name) {
+                    return Some(place);
+                }
+                self.searched(name)
+            }
+            None => self.searched(name),
+        }
+    }
+
+    /// Where a name without indices stands: a signal at its number, and a group behind the signals. Where a guess is right it
+    /// is found without a search.
+    pub fn place(&self, guess: Option<u16>, name: &[u8]) -> Option<u16>
+        ensures place { result ≡ place_in self.now name.now }
+        ensures signals { (names : Names) → self.now ≡ table_of names → IfSome result (λ place.
+            Resolves (reference_kind names (plain_ref name.now)) (members names (plain_ref name.now))
+            (Ok (signals_at self.now place))) }
+        ensures within { IfSome result (λ place. place < length self.now.texts + length self.now.members) }
+    {
+        self.soundness();
+        self.looked(guess, name)
+    }
+
+    /// The signals at a place, without memory.
+    pub fn at(&self, place: u16) -> FoundSignals<'_>
+        requires { place < length self.now.texts + length self.now.members }
+        ensures { signals_found result ≡ signals_at self.now place }
+    {
+        let count = self.texts.len();
+        if usize::from(place) < count {
+            FoundSignals::One([place])
+        } else {
+            FoundSignals::Group(self.members(usize::from(place) - count))
+        }
     }
 
     /// The signals for which a reference stands, in order.

@@ -349,8 +349,8 @@ shifting::walk_without-returns-in_ok-push_save-in-Ok t c = λ names line named m
 pub shifting::walk_passes-loop-preserved : goal.shifting::walk_passes-loop-preserved
 shifting::walk_passes-loop-preserved t c = λ names line named.
     passes_go_on names c.args.scope.now c.args.inside.now line c.args.count c.args.body.now c.args.walk.now c.loop.counter
-    c.clear.new.self c.loop.walk c.walk_list.new.walk c.loop-test.true c.clear.ensures (c.loop.invariant names line named)
-    (c.in-Ok.ensures names named)
+    c.clear.new.self c.again.new.self c.loop.walk c.walk_list.new.walk c.loop-test.true c.clear.ensures
+    (c.loop.invariant names line named) (c.in-Ok.ensures names named)
 
 pub shifting::walk_passes-returns-in-Err : goal.shifting::walk_passes-returns-in-Err
 shifting::walk_passes-returns-in-Err t c = λ names line named.
@@ -360,5 +360,5 @@ shifting::walk_passes-returns-in-Err t c = λ names line named.
 
 pub shifting::walk_passes-returns : goal.shifting::walk_passes-returns
 shifting::walk_passes-returns t c = λ names line named.
-    passes_end names c.args.scope.now c.args.inside.now line c.args.count c.args.body.now c.args.walk.now c.loop.counter c.loop.walk
-    c.loop-test.false (c.loop.invariant names line named)
+    passes_end names c.args.scope.now c.args.inside.now line c.args.count c.args.body.now c.args.walk.now c.loop.counter
+    c.forget.new.self c.loop.walk c.loop-test.false (c.loop.invariant names line named)

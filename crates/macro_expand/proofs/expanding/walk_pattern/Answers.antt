@@ -23,6 +23,7 @@ returns-in-Ok c = λ names named.
       count = c.args.count;
       out = c.new-3.result;
       pairs = c.new-4.result;
+      references = c.new-5.result;
     } in
     from_start names c.args.scope.now c.args.body.now c.args.count top start c.walk_list.new.walk c.none.ensures c.new.ensures c.new-3.ensures
     refl refl (c.in-Ok.ensures names named)
