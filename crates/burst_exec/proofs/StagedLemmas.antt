@@ -82,7 +82,7 @@ chains_found blocks e title (Ok chains) is h =
     subst (λ (x : List ℕ). (titled_fault blocks x ≡ None) × (chains ≡ chains_titled blocks x)) is h
 chains_found blocks e title (Err refusal.NoMemory) is h = tt
 chains_found blocks e title (Err (refusal.Fault f)) is h =
-    subst (λ (x : List ℕ). titled_fault blocks x ≡ Some f) is h
+    subst (λ (x : List ℕ). titled_fault blocks x ≡ Some f) is (h f refl)
 
 pub chains_there : (blocks : Blocks) (e : ExecDecl) (chains : List Chain) → chains ≡ chains_of blocks e
     → chains ≡ chain_list blocks e

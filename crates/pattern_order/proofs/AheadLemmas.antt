@@ -12,8 +12,7 @@ use Rattle.stil_ast.specs.declared.executive.Burst.{Burst}
 use Rattle.stil_ast.specs.declared.executive.BurstItem.{BurstItem}
 use Rattle.stil_ast.specs.declared.fault.StilFault.{StilFault}
 use Rattle.stil_ast.specs.Data.Refusal.{StilRefusal}
-use Rattle.answers.specs.declared.short.Short.TheVariants as refusal
-use Rattle.signal_groups.specs.Begun.{FirstTells}
+use Rattle.answers.specs.Answers.{Blames}
 use Rattle.pattern_order.specs.Walk.{Met, met_inside, met_at, met_within, mention_of, names_of, ahead_in, met_by}
 use Rattle.pattern_order.specs.Numbers.{IsNumbered, meaning_of}
 use Rattle.pattern_order.specs.Marks.{mark_at, is_fresh, is_open, is_closed, is_back, fresh_of, moved_on, IsNext, IsOpened, Passes, Stands}
@@ -256,7 +255,6 @@ module _ (blocks : Blocks) where
   pub goes-refused : (rule : Mention → Option StilFault) (Holds : List Mark → List Frame → Type 0) (marks : List Mark)
       (f : Frame) (fs : List Frame) (s : Step) (marks' : List Mark) (fs' : List Frame) (wanted : Option StilFault) (r : StilRefusal)
       → Stands blocks marks (f ∷ fs) → IsNext blocks marks f s → rule (mention_of blocks (met_by s)) ≡ wanted
-      → FirstTells (Err r) wanted → GoesOn rule Holds blocks (f ∷ fs) (Err r) marks' fs'
-  goes-refused rule Holds marks f fs s marks' fs' wanted refusal.NoMemory h n is t = tt
-  goes-refused rule Holds marks f fs s marks' fs' wanted (refusal.Fault fault) h n is t =
-      first-fault rule marks f fs s fault h n (is ∙ t)
+      → Blames wanted r → GoesOn rule Holds blocks (f ∷ fs) (Err r) marks' fs'
+  goes-refused rule Holds marks f fs s marks' fs' wanted r h n is t =
+      λ fault same. first-fault rule marks f fs s fault h n (is ∙ t fault same)

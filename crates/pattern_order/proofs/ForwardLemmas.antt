@@ -13,7 +13,7 @@ use Rattle.stil_ast.specs.declared.executive.Burst.{Burst}
 use Rattle.stil_ast.specs.declared.executive.BurstItem.{BurstItem}
 use Rattle.stil_ast.specs.declared.fault.StilKind.TheVariants.{Cyclic}
 use Rattle.stil_ast.specs.Data.Refusal.{StilRefusal}
-use Rattle.signal_groups.specs.Begun.{FirstTells}
+use Rattle.answers.specs.Answers.{Blames}
 use Rattle.pattern_order.specs.Walk.{Met, met_within, mention_of, names_of}
 use Rattle.pattern_order.specs.Numbers.{IsNumbered, meaning_of}
 use Rattle.pattern_order.specs.Marks.{mark_at, is_fresh, is_open, is_closed, fresh_of, moved_on, IsNext, Passes, Stands}
@@ -302,7 +302,7 @@ module _ (blocks : Blocks) where
   -- a name that leads back has the first fault
   pub forward-refused : (marks : List Mark) (f : Frame) (fs : List Frame) (s : Step) (marks' : List Mark) (fs' : List Frame) (r : StilRefusal)
       → Forwards blocks marks (f ∷ fs) → IsNext blocks marks f s
-      → FirstTells (Err r) (refuse_if s.leads_back (fault_at (burst_place s.burst.now s.item.now.line) Cyclic) None)
+      → Blames (refuse_if s.leads_back (fault_at (burst_place s.burst.now s.item.now.line) Cyclic) None) r
       → GoesOn cyclic_fault (Forwards blocks) blocks (f ∷ fs) (Err r) marks' fs'
   forward-refused marks f fs s marks' fs' r h n t =
       goes-refused blocks cyclic_fault (Forwards blocks) marks f fs s marks' fs'

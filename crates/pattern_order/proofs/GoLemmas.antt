@@ -8,8 +8,7 @@ use Rattle.stil_ast.specs.Faults.BurstFaults.{Mention}
 use Rattle.stil_ast.specs.declared.blocks.Blocks.{Blocks}
 use Rattle.stil_ast.specs.declared.fault.StilFault.{StilFault}
 use Rattle.stil_ast.specs.Data.Refusal.{StilRefusal}
-use Rattle.answers.specs.declared.short.Short.TheVariants as refusal
-use Rattle.signal_groups.specs.Begun.{FirstTells}
+use Rattle.answers.specs.Answers.{Blames}
 use Rattle.pattern_order.specs.Walk.{Met, met_within, mention_of, names_of, ahead_in, met_by}
 use Rattle.pattern_order.specs.Numbers.{IsNumbered}
 use Rattle.pattern_order.specs.Marks.{fresh_of, moved_on, IsNext, IsOpened, Passes, Stands}
@@ -106,8 +105,7 @@ gone-on rule Holds bs blocks frames before f marks' fs' is popped h =
 pub told-first : (rule : Mention → Option StilFault) (Holds : Blocks → List Mark → List Frame → Type 0) (bs blocks : Blocks)
     (frames before : List Frame) (f : Frame) (marks' : List Mark) (fs' : List Frame) (r : StilRefusal) (wanted : Option StilFault)
     → bs ≡ blocks → before ≡ frames ++ f ∷ [] → GoesOn rule (Holds bs) bs (f ∷ reverse frames) (Err r) marks' fs'
-    → first_ahead rule blocks (reverse before) ≡ wanted → FirstTells (Err r) wanted
-told-first rule Holds bs blocks frames before f marks' fs' refusal.NoMemory wanted is popped h first = tt
-told-first rule Holds bs blocks frames before f marks' fs' (refusal.Fault fault) wanted is popped h first =
+    → first_ahead rule blocks (reverse before) ≡ wanted → Blames wanted r
+told-first rule Holds bs blocks frames before f marks' fs' r wanted is popped h first = λ fault same.
     sym first ∙ ap (first_ahead rule blocks) (innermost-first before frames f popped)
-    ∙ ap (λ (x : Blocks). first_ahead rule x (f ∷ reverse frames)) (sym is) ∙ h
+    ∙ ap (λ (x : Blocks). first_ahead rule x (f ∷ reverse frames)) (sym is) ∙ h fault same

@@ -14,7 +14,7 @@ use Rattle.stil_ast.specs.declared.executive.BurstItem.{BurstItem}
 use Rattle.stil_ast.specs.declared.fault.StilFault.{StilFault}
 use Rattle.stil_ast.specs.declared.fault.StilKind.TheVariants.{UnknownName}
 use Rattle.stil_ast.specs.Data.Refusal.{StilRefusal}
-use Rattle.signal_groups.specs.Begun.{FirstTells}
+use Rattle.answers.specs.Answers.{Blames}
 use Rattle.pattern_order.specs.Walk.{Met, met_within, mention_of, names_of, met_by}
 use Rattle.pattern_order.specs.Numbers.{IsNumbered, meaning_of}
 use Rattle.pattern_order.specs.Marks.{mark_at, is_fresh, is_open, is_closed, fresh_of, moved_on, IsNext, Passes, Stands}
@@ -251,7 +251,7 @@ module _ (blocks : Blocks) where
   -- a name that is unknown has the first fault
   pub know-refused : (marks : List Mark) (f : Frame) (fs : List Frame) (s : Step) (marks' : List Mark) (fs' : List Frame) (r : StilRefusal)
       → Knows blocks marks (f ∷ fs) → IsNext blocks marks f s
-      → FirstTells (Err r) (unless (is_known s.meaning) (fault_at (burst_place s.burst.now s.item.now.line) UnknownName) None)
+      → Blames (unless (is_known s.meaning) (fault_at (burst_place s.burst.now s.item.now.line) UnknownName) None) r
       → GoesOn unknown_fault (Knows blocks) blocks (f ∷ fs) (Err r) marks' fs'
   know-refused marks f fs s marks' fs' r h n t =
       goes-refused blocks unknown_fault (Knows blocks) marks f fs s marks' fs'

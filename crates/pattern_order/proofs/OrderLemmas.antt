@@ -1,7 +1,7 @@
--- What is answered of a burst, and the four clauses of an answer on an executive, from one fact.
-use Rattle.std.proofs.Common.{◌≡◌, ℕ, List, [], get_or, Option, Some, None, Vec, length, refl, sym, ap, subst, ◌∙◌, inl, inr, ◌⊎◌}
+-- What is answered of a burst, and of an executive.
+use Rattle.std.proofs.Common.{◌≡◌, ℕ, List, [], get_or, Option, Some, None, Vec, length, refl, sym, ap, subst, ◌∙◌}
 use Rattle.std.proofs.lemmas.Option.{get_or_from_slice_get}
-use Rattle.std.specs.Prelude.{Result, Ok, Err, IfOk, IfErr, MatchResult, slice_get}
+use Rattle.std.specs.Prelude.{Result, slice_get}
 use Rattle.std.specs.List.{flat_map}
 use Rattle.std.specs.declared.alloc.Global.{Global}
 use Rattle.stil_ast.specs.Data.Texts.{same}
@@ -14,13 +14,11 @@ use Rattle.stil_ast.specs.declared.executive.ExecDecl.{ExecDecl}
 use Rattle.stil_ast.specs.declared.fault.StilFault.{StilFault}
 use Rattle.stil_ast.specs.declared.fault.StilKind.TheVariants.{TooLarge, UnknownName}
 use Rattle.stil_ast.specs.Data.Refusal.{StilRefusal}
-use Rattle.answers.specs.declared.short.Short.TheVariants as refusal
-use Rattle.signal_groups.specs.Begun.{Refuses, FirstTells}
-use Rattle.stil_ast.proofs.FoundLemmas.{not_both, one_fault}
+use Rattle.answers.specs.Answers.{Blames, Finds}
 use Rattle.pattern_order.specs.Numbers.{burst_number}
 use Rattle.pattern_order.specs.Walk.{met, played_at}
 use Rattle.pattern_order.specs.Held.{played_in}
-use Rattle.pattern_order.specs.Answer.{is_few, AllPlayed, own_fault, inner_fault, Orders, IsNamesFault}
+use Rattle.pattern_order.specs.Answer.{is_few, AllPlayed, own_fault, inner_fault}
 use Rattle.pattern_order.specs.declared.playing.PlayedPattern.{PlayedPattern}
 use Rattle.pattern_order.proofs.BeginLemmas.{mentions-all}
 use Rattle.pattern_order.proofs.MeaningLemmas.{numbered-named}
@@ -48,46 +46,16 @@ module _ (blocks : Blocks) (b : Burst) where
         → inner_fault blocks e (Some b) ≡ Some (fault_at (exec_place e.name e.line) TooLarge)
     too_many h = rw known (rw forward (rw (ap is_few (all-played forward) ∙ h) refl))
 
--- a refusal that has the fault is an answer
-pub refused_for : (fault : Option StilFault) (order : List Played) (f : StilFault) (r : StilRefusal)
-    → Refuses r f → fault ≡ Some f → Orders fault order (Err r)
-refused_for fault order f refusal.NoMemory h is = tt
-refused_for fault order f (refusal.Fault g) h is = is ∙ ap (λ (x : StilFault). Some x) (sym h)
-
 -- what is said of the executive at an index is said of the one that is found there
 pub orders-of : (blocks : Blocks) (exec : ℕ) (e here : ExecDecl) (r : Result (List Played) StilRefusal)
     → slice_get blocks.executives exec ≡ Some e → here ≡ get_or blocks.executives exec here
-    → Orders (exec_names_fault blocks here) (played blocks here) r
-    → Orders (exec_names_fault blocks e) (played blocks e) r
+    → Finds (exec_names_fault blocks here) (λ order. order ≡ played blocks here) r
+    → Finds (exec_names_fault blocks e) (λ order. order ≡ played blocks e) r
 orders-of blocks exec e here r at is h =
-    subst (λ (x : ExecDecl). Orders (exec_names_fault blocks x) (played blocks x) r)
+    subst (λ (x : ExecDecl). Finds (exec_names_fault blocks x) (λ order. order ≡ played blocks x) r)
     (is ∙ get_or_from_slice_get blocks.executives exec e here at) h
 
 module _ (blocks : Blocks) (e : ExecDecl) where
-  pub is_found : (r : Result (List Played) StilRefusal) → Orders (exec_names_fault blocks e) (played blocks e) r
-      → IfOk r (λ order. (exec_names_fault blocks e ≡ None) × (order ≡ played blocks e))
-  is_found (Ok order) h = h
-  is_found (Err r) h = tt
-
-  pub only_order : (r : Result (List Played) StilRefusal) → Orders (exec_names_fault blocks e) (played blocks e) r
-      → exec_names_fault blocks e ≡ None → MatchResult r (λ order. order ≡ played blocks e) (λ r. r ≡ refusal.NoMemory)
-  only_order (Ok order) h none = h.1
-  only_order (Err refusal.NoMemory) h none = refl
-  only_order (Err (refusal.Fault f)) h none = absurd (not_both (exec_names_fault blocks e) f none h)
-
-  pub is_fault : (r : Result (List Played) StilRefusal) → Orders (exec_names_fault blocks e) (played blocks e) r
-      → IfErr r (λ r. (r ≡ refusal.NoMemory) ⊎ IsNamesFault blocks e r)
-  is_fault (Ok order) h = tt
-  is_fault (Err refusal.NoMemory) h = inl refl
-  is_fault (Err (refusal.Fault f)) h = inr (record { fault = f; is = refl; first = h })
-
-  pub is_refused : (r : Result (List Played) StilRefusal) → Orders (exec_names_fault blocks e) (played blocks e) r
-      → (f : StilFault) → exec_names_fault blocks e ≡ Some f
-      → MatchResult r (λ _. ⊥) (λ r. (r ≡ refusal.NoMemory) ⊎ (r ≡ refusal.Fault f))
-  is_refused (Ok order) h f first = not_both (exec_names_fault blocks e) f h.0 first
-  is_refused (Err refusal.NoMemory) h f first = inl refl
-  is_refused (Err (refusal.Fault g)) h f first = inr (ap (λ x. refusal.Fault x) (one_fault g f (sym h ∙ first)))
-
   -- the first fault, of the names but for the burst and of what the burst leads to
   own-split : exec_names_fault blocks e
       ≡ or_else (own_fault blocks e)
@@ -111,27 +79,24 @@ module _ (blocks : Blocks) (e : ExecDecl) where
       ∙ ap (λ o. or_else o (or_else (named_fault e (is_burst blocks) e.burst) (inner_fault blocks e (burst_named blocks e.burst.name)))) none
 
   -- their fault is the first
-  pub own-refused : (r : StilRefusal) → FirstTells (Err r) (own_fault blocks e)
-      → Orders (exec_names_fault blocks e) (played blocks e) (Err r)
-  own-refused refusal.NoMemory h = tt
-  own-refused (refusal.Fault f) h =
+  pub own-refused : (r : StilRefusal) → Blames (own_fault blocks e) r → Blames (exec_names_fault blocks e) r
+  own-refused r h = λ first same.
       own-split
-      ∙ ap (λ o. or_else o (or_else (named_fault e (is_burst blocks) e.burst) (inner_fault blocks e (burst_named blocks e.burst.name)))) h
+      ∙ ap (λ o. or_else o (or_else (named_fault e (is_burst blocks) e.burst) (inner_fault blocks e (burst_named blocks e.burst.name))))
+      (h first same)
 
   -- an answer on the burst is an answer on the executive
   pub order-known : (k : ℕ) (r : Result (List Played) StilRefusal) → own_fault blocks e ≡ None
       → burst_number blocks e.burst.name ≡ Some k
-      → ((b : Burst) → slice_get blocks.bursts k ≡ Some b → Orders (inner_fault blocks e (Some b)) (played_of blocks (Some b)) r)
-      → Orders (exec_names_fault blocks e) (played blocks e) r
+      → ((b : Burst) → slice_get blocks.bursts k ≡ Some b → Finds (inner_fault blocks e (Some b)) (λ order. order ≡ played_of blocks (Some b)) r)
+      → Finds (exec_names_fault blocks e) (λ order. order ≡ played blocks e) r
   order-known k r none is h =
       let named = numbered-named blocks e.burst.name k is in
-      subst (λ (o : Option StilFault). Orders o (played blocks e) r) (sym (own-none none))
+      subst (λ (o : Option StilFault). Finds o (λ order. order ≡ played blocks e) r) (sym (own-none none))
       (rw named.2 (h named.0 named.1))
 
   -- a burst of no name is the fault
   pub order-unknown : (r : StilRefusal) → own_fault blocks e ≡ None → burst_number blocks e.burst.name ≡ None
-      → Refuses r (fault_at (exec_place e.name e.burst.line) UnknownName)
-      → Orders (exec_names_fault blocks e) (played blocks e) (Err r)
-  order-unknown r none is h =
-      refused_for (exec_names_fault blocks e) (played blocks e) (fault_at (exec_place e.name e.burst.line) UnknownName) r h
-      (own-none none ∙ rw (find-no_position (λ (b : Burst). same b.name e.burst.name) blocks.bursts is) refl)
+      → Blames (Some (fault_at (exec_place e.name e.burst.line) UnknownName)) r → Blames (exec_names_fault blocks e) r
+  order-unknown r none is h = λ first at.
+      own-none none ∙ rw (find-no_position (λ (b : Burst). same b.name e.burst.name) blocks.bursts is) (h first at)

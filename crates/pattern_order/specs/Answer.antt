@@ -1,5 +1,5 @@
 -- What is answered of the patterns of an executive.
-use Rattle.std.specs.Prelude.{◌≡◌, Bool, true, false, List, Vec, Option, Some, None, Result, Ok, Err, nat_le, length}
+use Rattle.std.specs.Prelude.{◌≡◌, Bool, true, false, List, Vec, Option, Some, None, nat_le, length}
 use Rattle.std.specs.declared.alloc.Global.{Global}
 use Rattle.text_bytes.specs.Limits.{most_patterns}
 use Rattle.stil_ast.specs.Meaning.Bursts.{Played, played_of}
@@ -36,12 +36,6 @@ inner_fault blocks e b =
     or_else (first_in unknown_fault (mentions blocks b))
     (or_else (first_in cyclic_fault (mentions blocks b))
     (unless (is_few (played_of blocks b)) (fault_at (exec_place e.name e.line) TooLarge) None))
-
--- patterns in this order, or the fault, or want of memory
-abbrev pub Orders : Option StilFault → List Played → Result (List Played) StilRefusal → Type 0
-Orders fault order (Ok found) = (fault ≡ None) × (found ≡ order)
-Orders fault order (Err refusal.NoMemory) = Unit {0}
-Orders fault order (Err (refusal.Fault first)) = fault ≡ Some first
 
 -- the fault by which an executive is refused for its names
 pub record IsNamesFault (blocks : Blocks) (e : ExecDecl) (r : StilRefusal) : Type 0 where

@@ -10,7 +10,7 @@ use Rattle.stil_ast.specs.declared.executive.Burst.{Burst}
 use Rattle.stil_ast.specs.declared.executive.BurstItem.{BurstItem}
 use Rattle.stil_ast.specs.declared.fault.StilFault.{StilFault}
 use Rattle.stil_ast.specs.Data.Refusal.{StilRefusal}
-use Rattle.answers.specs.declared.short.Short.TheVariants as refusal
+use Rattle.answers.specs.Answers.{Blames}
 use Rattle.pattern_order.specs.Walk.{mention_of, played_at, ahead_in}
 use Rattle.pattern_order.specs.Numbers.{meaning_of}
 use Rattle.pattern_order.specs.Marks.{mark_at, is_fresh, is_closed, Stands}
@@ -120,8 +120,7 @@ pub record HasGoneOn (rule : Mention → Option StilFault) (Holds : List Mark �
 abbrev pub GoesOn : (Mention → Option StilFault) → (List Mark → List Frame → Type 0) → Blocks → List Frame
     → Result (Unit {0}) StilRefusal → List Mark → List Frame → Type 0
 GoesOn rule Holds blocks frames (Ok done) marks' frames' = HasGoneOn rule Holds blocks frames marks' frames'
-GoesOn rule Holds blocks frames (Err refusal.NoMemory) marks' frames' = Unit {0}
-GoesOn rule Holds blocks frames (Err (refusal.Fault fault)) marks' frames' = first_ahead rule blocks frames ≡ Some fault
+GoesOn rule Holds blocks frames (Err short) marks' frames' = Blames (first_ahead rule blocks frames) short
 
 -- patterns have been put behind others, and the walk has gone on: what has run and what is still to run is the same
 pub record HasPlayed (blocks : Blocks) (ran : List Played) (frames : List Frame) (ran' : List Played)

@@ -1,45 +1,24 @@
 //! The first fault of the names to which a burst leads (IEEE 1450-1999, clause 16).
 
-ghost use Rattle.std.specs.Prelude.{◌≡◌, ◌<◌, ◌∷◌, Some, None, length, reverse, slice_get, IfOk};
+ghost use Rattle.std.specs.Prelude.{◌≡◌, ◌<◌, ◌∷◌, Some, None, length, reverse, slice_get};
+ghost use Rattle.answers.specs.Answers.{Blames, Passes};
 ghost use Rattle.stil_ast.specs.Faults.Found.{fault_at, unless, refuse_if, first_in};
 ghost use Rattle.stil_ast.specs.Faults.BurstFaults.{burst_place, unknown_fault, cyclic_fault, mentions};
 ghost use Rattle.stil_ast.specs.declared.fault.StilKind.TheVariants as kind;
-ghost use Rattle.signal_groups.specs.Begun.{Refuses, FirstTells};
 ghost use Rattle.pattern_order.specs.Numbers.{IsFirst};
 ghost use Rattle.pattern_order.specs.Walks.{is_known, Knows, Forwards, GoesOn};
 
 use crate::bursts::BurstNames;
 use crate::meaning::Meaning;
 use crate::walk::{Frame, Mark, Step, Walk};
-use std::alloc::{AllocError, Global};
-use stil_ast::{Burst, StilFault, StilKind, StilRefusal};
-use tester_types::Items;
-
-/// The fault of a line in a PatternBurst block.
-fn fault_of(
-    alloc: Global,
-    burst: &Burst,
-    line: u32,
-    kind: StilKind,
-) -> Result<StilFault, AllocError>
-    ensures { IfOk result (λ fault. fault ≡ fault_at (burst_place burst.now line) kind) }
-{
-    Ok(StilFault {
-        kind,
-        block: Items::from_slice(alloc, b"PatternBurst")?,
-        name: Items::from_slice(alloc, burst.name.as_slice())?,
-        line,
-    })
-}
+use std::alloc::Global;
+use stil_ast::{Burst, StilKind, StilRefusal, told};
 
 /// The refusal of a line in a PatternBurst block.
 fn refused(alloc: Global, burst: &Burst, line: u32, kind: StilKind) -> StilRefusal
-    ensures { Refuses result (fault_at (burst_place burst.now line) kind) }
+    ensures { Blames (Some (fault_at (burst_place burst.now line) kind)) result }
 {
-    match fault_of(alloc, burst, line, kind) {
-        Ok(fault) => StilRefusal::Fault(fault),
-        Err(_) => StilRefusal::NoMemory,
-    }
+    told(alloc, b"PatternBurst", burst.name.as_slice(), line, kind)
 }
 
 /// Whether a name is one of a block, a pattern or a burst.
@@ -51,8 +30,8 @@ fn is_known(meaning: Meaning) -> bool
 
 /// Checks that a name is one of a block, a pattern or a burst.
 fn check_known(alloc: Global, step: &Step) -> Result<(), StilRefusal>
-    ensures { FirstTells result (unless (is_known step.now.meaning)
-        (fault_at (burst_place step.now.burst.now step.now.item.now.line) kind.UnknownName) None) }
+    ensures { Passes (unless (is_known step.now.meaning)
+        (fault_at (burst_place step.now.burst.now step.now.item.now.line) kind.UnknownName) None) result }
 {
     if is_known(step.meaning) {
         Ok(())
@@ -63,8 +42,8 @@ fn check_known(alloc: Global, step: &Step) -> Result<(), StilRefusal>
 
 /// Checks that a name doesn't lead back to a burst in which it stands.
 fn check_forward(alloc: Global, step: &Step) -> Result<(), StilRefusal>
-    ensures { FirstTells result (refuse_if step.now.leads_back
-        (fault_at (burst_place step.now.burst.now step.now.item.now.line) kind.Cyclic) None) }
+    ensures { Passes (refuse_if step.now.leads_back
+        (fault_at (burst_place step.now.burst.now step.now.item.now.line) kind.Cyclic) None) result }
 {
     if step.leads_back {
         Err(refused(alloc, step.burst, step.item.line, StilKind::Cyclic))
@@ -129,7 +108,7 @@ pub(crate) fn check_all_known(
 ) -> Result<(), StilRefusal>
     requires { IsFirst names.now number }
     ensures { (b : Burst) → slice_get names.now.bursts number ≡ Some b
-        → FirstTells result (first_in unknown_fault (mentions names.now (Some b))) }
+        → Passes (first_in unknown_fault (mentions names.now (Some b))) result }
 {
     let mut walk = Walk::new(alloc, names, number)?;
     while let Some(frame) = walk.frames.pop() {
@@ -148,7 +127,7 @@ pub(crate) fn check_all_forward(
 ) -> Result<(), StilRefusal>
     requires { IsFirst names.now number }
     ensures { (b : Burst) → slice_get names.now.bursts number ≡ Some b
-        → FirstTells result (first_in cyclic_fault (mentions names.now (Some b))) }
+        → Passes (first_in cyclic_fault (mentions names.now (Some b))) result }
 {
     let mut walk = Walk::new(alloc, names, number)?;
     while let Some(frame) = walk.frames.pop() {

@@ -1,38 +1,22 @@
 //! The names that an executive gives (IEEE 1450-1999, clause 17).
 
-ghost use Rattle.std.specs.Prelude.{◌≡◌, None, IfOk};
+ghost use Rattle.std.specs.Prelude.{◌≡◌, None, Some};
+ghost use Rattle.answers.specs.Answers.{Blames, Passes};
 ghost use Rattle.stil_ast.specs.Faults.Found.{fault_at, unless, first_in};
 ghost use Rattle.stil_ast.specs.Faults.BurstFaults.{exec_place, is_category, is_selector, is_timing, named_fault, maybe_fault};
 ghost use Rattle.stil_ast.specs.declared.fault.StilKind.TheVariants.{UnknownName};
-ghost use Rattle.signal_groups.specs.Begun.{Refuses, FirstTells};
 ghost use Rattle.pattern_order.specs.Answer.{own_fault};
 
 use crate::bursts::BurstNames;
 use crate::found::{is_selector, is_timing};
-use std::alloc::{AllocError, Global};
-use stil_ast::{Blocks, ExecDecl, Named, StilFault, StilKind, StilRefusal};
-use tester_types::Items;
-
-/// The fault of a line in a PatternExec block of this name.
-fn fault_of(alloc: Global, name: &[u8], line: u32, kind: StilKind) -> Result<StilFault, AllocError>
-    ensures { IfOk result (λ fault. fault ≡ fault_at (exec_place name.now line) kind) }
-{
-    Ok(StilFault {
-        kind,
-        block: Items::from_slice(alloc, b"PatternExec")?,
-        name: Items::from_slice(alloc, name)?,
-        line,
-    })
-}
+use std::alloc::Global;
+use stil_ast::{Blocks, ExecDecl, Named, StilKind, StilRefusal, told};
 
 /// The refusal of a line in an executive.
 pub(crate) fn refused(alloc: Global, exec: &ExecDecl, line: u32, kind: StilKind) -> StilRefusal
-    ensures { Refuses result (fault_at (exec_place exec.now.name line) kind) }
+    ensures { Blames (Some (fault_at (exec_place exec.now.name line) kind)) result }
 {
-    match fault_of(alloc, exec.name.as_slice(), line, kind) {
-        Ok(fault) => StilRefusal::Fault(fault),
-        Err(_) => StilRefusal::NoMemory,
-    }
+    told(alloc, b"PatternExec", exec.name.as_slice(), line, kind)
 }
 
 /// Checks that a name is known.
@@ -42,8 +26,7 @@ fn check_name(
     named: &Named,
     is_known: bool,
 ) -> Result<(), StilRefusal>
-    ensures { FirstTells result
-        (unless is_known (fault_at (exec_place exec.now.name named.now.line) UnknownName) None) }
+    ensures { Passes (unless is_known (fault_at (exec_place exec.now.name named.now.line) UnknownName) None) result }
 {
     if is_known {
         Ok(())
@@ -54,7 +37,7 @@ fn check_name(
 
 /// Checks the names of categories.
 fn check_categories(alloc: Global, names: &BurstNames, exec: &ExecDecl) -> Result<(), StilRefusal>
-    ensures { FirstTells result (first_in (named_fault exec.now (is_category names.now)) exec.now.categories) }
+    ensures { Passes (first_in (named_fault exec.now (is_category names.now)) exec.now.categories) result }
 {
     for named in exec.categories.as_slice() {
         check_name(alloc, exec, named, names.is_category(named.name.as_slice()))?;
@@ -64,7 +47,7 @@ fn check_categories(alloc: Global, names: &BurstNames, exec: &ExecDecl) -> Resul
 
 /// Checks the name of a Selector.
 fn check_selector(alloc: Global, blocks: &Blocks, exec: &ExecDecl) -> Result<(), StilRefusal>
-    ensures { FirstTells result (maybe_fault exec.now (is_selector blocks.now) exec.now.selector) }
+    ensures { Passes (maybe_fault exec.now (is_selector blocks.now) exec.now.selector) result }
 {
     match &exec.selector {
         Some(named) => check_name(
@@ -79,7 +62,7 @@ fn check_selector(alloc: Global, blocks: &Blocks, exec: &ExecDecl) -> Result<(),
 
 /// Checks the name of a Timing.
 fn check_timing(alloc: Global, blocks: &Blocks, exec: &ExecDecl) -> Result<(), StilRefusal>
-    ensures { FirstTells result (maybe_fault exec.now (is_timing blocks.now) exec.now.timing) }
+    ensures { Passes (maybe_fault exec.now (is_timing blocks.now) exec.now.timing) result }
 {
     match &exec.timing {
         Some(named) => check_name(alloc, exec, named, is_timing(blocks, named.name.as_slice())),
@@ -93,7 +76,7 @@ pub(crate) fn check_own(
     names: &BurstNames,
     exec: &ExecDecl,
 ) -> Result<(), StilRefusal>
-    ensures { FirstTells result (own_fault names.now exec.now) }
+    ensures { Passes (own_fault names.now exec.now) result }
 {
     check_categories(alloc, names, exec)?;
     let blocks = names.blocks();

@@ -6,9 +6,10 @@ ghost use Rattle.stil_ast.specs.Faults.BurstFaults.{exec_names_fault};
 ghost use Rattle.stil_ast.specs.declared.executive.Burst.{Burst};
 ghost use Rattle.stil_ast.specs.declared.executive.ExecDecl.{ExecDecl};
 ghost use Rattle.stil_ast.specs.declared.fault.StilFault.{StilFault};
+ghost use Rattle.answers.specs.Answers.{Finds};
 ghost use Rattle.answers.specs.declared.short.Short.TheVariants as refusal;
 ghost use Rattle.pattern_order.specs.Numbers.{IsFirst};
-ghost use Rattle.pattern_order.specs.Answer.{inner_fault, Orders, IsNamesFault};
+ghost use Rattle.pattern_order.specs.Answer.{inner_fault, IsNamesFault};
 
 use crate::bursts::BurstNames;
 use crate::checking::{check_all_forward, check_all_known};
@@ -41,16 +42,29 @@ pub fn play_order<'a>(
         → exec_names_fault names.now e ≡ Some f
         → MatchResult result (λ _. ⊥) (λ r. (r ≡ refusal.NoMemory) ⊎ (r ≡ refusal.Fault f)) }
 {
+    order_at(alloc, names, exec)
+}
+
+/// The same in one clause.
+fn order_at<'a>(
+    alloc: Global,
+    names: &BurstNames<'a>,
+    exec: usize,
+) -> Result<PlayOrder<'a>, StilRefusal>
+    requires { exec < length names.now.executives }
+    ensures { (e : ExecDecl) → slice_get names.now.executives exec ≡ Some e
+        → Finds (exec_names_fault names.now e) (λ order. order ≡ played names.now e) result }
+{
     ordered(alloc, names, &names.blocks().executives.as_slice()[exec])
 }
 
-/// The same, with what is answered as one fact.
+/// The patterns of an executive.
 fn ordered<'a>(
     alloc: Global,
     names: &BurstNames<'a>,
     exec: &ExecDecl,
 ) -> Result<PlayOrder<'a>, StilRefusal>
-    ensures { Orders (exec_names_fault names.now exec.now) (played names.now exec.now) result }
+    ensures { Finds (exec_names_fault names.now exec.now) (λ order. order ≡ played names.now exec.now) result }
 {
     if let Err(refusal) = check_own(alloc, names, exec) {
         return Err(refusal);
@@ -70,7 +84,7 @@ fn burst_order<'a>(
 ) -> Result<PlayOrder<'a>, StilRefusal>
     requires { IsFirst names.now number }
     ensures { (b : Burst) → slice_get names.now.bursts number ≡ Some b
-        → Orders (inner_fault names.now exec.now (Some b)) (played_of names.now (Some b)) result }
+        → Finds (inner_fault names.now exec.now (Some b)) (λ order. order ≡ played_of names.now (Some b)) result }
 {
     check_all_known(alloc, names, number)?;
     check_all_forward(alloc, names, number)?;

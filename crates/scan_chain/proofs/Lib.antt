@@ -1,5 +1,4 @@
 pub mod CellLemmas
 pub mod NumberLemmas
-pub mod ScanLemmas
 pub mod StandardFacts
 pub mod ShortLemmas

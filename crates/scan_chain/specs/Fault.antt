@@ -1,5 +1,6 @@
 -- What is answered of the chains of an executive.
-use Rattle.std.specs.Prelude.{◌≡◌, ℕ, List, [], Option, Some, None, Result, Ok, Err}
+use Rattle.std.specs.Prelude.{◌≡◌, ℕ, List, [], Option, Some, Result}
+use Rattle.answers.specs.Answers.{Finds}
 use Rattle.stil_ast.specs.Meaning.Signals.{names_of}
 use Rattle.stil_ast.specs.Meaning.Chains.{Chain, chains_named, chains_of, chains_fault}
 use Rattle.stil_ast.specs.Meaning.Bursts.{exec_scans}
@@ -30,6 +31,4 @@ pub record IsChainFault (blocks : Blocks) (e : ExecDecl) (r : StilRefusal) : Typ
 
 -- the chains of the ScanStructures of a name, or their first fault, or want of memory
 abbrev pub Scans : Blocks → List ℕ → Result (List Chain) StilRefusal → Type 0
-Scans blocks title (Ok chains) = (titled_fault blocks title ≡ None) × (chains ≡ chains_titled blocks title)
-Scans blocks title (Err refusal.NoMemory) = Unit {0}
-Scans blocks title (Err (refusal.Fault fault)) = titled_fault blocks title ≡ Some fault
+Scans blocks title result = Finds (titled_fault blocks title) (λ chains. chains ≡ chains_titled blocks title) result

@@ -6,6 +6,7 @@ ghost use Rattle.stil_ast.specs.Meaning.Bursts.{exec_scans};
 ghost use Rattle.stil_ast.specs.Meaning.Executive.{chain_list};
 ghost use Rattle.stil_ast.specs.declared.executive.ExecDecl.{ExecDecl};
 ghost use Rattle.stil_ast.specs.declared.fault.StilFault.{StilFault};
+ghost use Rattle.answers.specs.Answers.{Finds};
 ghost use Rattle.answers.specs.declared.short.Short.TheVariants as refusal;
 ghost use Rattle.signal_groups.specs.Table.{table_of};
 ghost use Rattle.scan_chain.specs.Fault.{chain_list_fault, IsChainFault, Scans};
@@ -42,6 +43,21 @@ pub fn build(
     ensures refused { (e : ExecDecl) (f : StilFault) → slice_get blocks.now.executives exec ≡ Some e
         → chain_list_fault blocks.now e ≡ Some f
         → MatchResult result (λ _. ⊥) (λ r. (r ≡ refusal.NoMemory) ⊎ (r ≡ refusal.Fault f)) }
+{
+    built(alloc, blocks, exec, signals)
+}
+
+/// The same in one clause.
+fn built(
+    alloc: Global,
+    blocks: &Blocks,
+    exec: usize,
+    signals: &SignalTable,
+) -> Result<Chains, StilRefusal>
+    requires executive { exec < length blocks.now.executives }
+    requires signals { signals.now ≡ table_of (names_of blocks.now) }
+    ensures { (e : ExecDecl) → slice_get blocks.now.executives exec ≡ Some e
+        → Finds (chain_list_fault blocks.now e) (λ chains. chains ≡ chain_list blocks.now e) result }
 {
     build_named(alloc, blocks, scans_of(blocks, exec), signals)
 }

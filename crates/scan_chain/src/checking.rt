@@ -1,7 +1,8 @@
 //! The first fault of chains (IEEE 1450-1999, clause 20).
 
-ghost use Rattle.std.specs.Prelude.{◌≡◌, ℕ, List, [], is_some, length, nat_le, IfOk};
+ghost use Rattle.std.specs.Prelude.{◌≡◌, ℕ, List, [], Some, is_some, length, nat_le};
 ghost use Rattle.std.specs.List.{list_all, list_any};
+ghost use Rattle.answers.specs.Answers.{Blames, Passes};
 ghost use Rattle.text_bytes.specs.Texts.{behind};
 ghost use Rattle.text_bytes.specs.Limits.{longest_name};
 ghost use Rattle.stil_ast.specs.Data.Texts.{same, indices, indexed, names_with};
@@ -12,37 +13,20 @@ ghost use Rattle.stil_ast.specs.Meaning.Chains.{cells_of, scan_place, chain_stmt
 ghost use Rattle.stil_ast.specs.declared.scan.ChainDecl.{ChainDecl};
 ghost use Rattle.stil_ast.specs.declared.scan.ChainStmt.TheVariants as stmts;
 ghost use Rattle.signal_groups.specs.Table.{table_of};
-ghost use Rattle.signal_groups.specs.Begun.{Refuses, FirstTells};
 
 use itoa::Buffer;
 use signal_groups::{SignalTable, index_at, index_count};
-use std::alloc::{AllocError, Global};
+use std::alloc::Global;
 use stil_ast::{
-    CellsDecl, ChainDecl, ChainStmt, IndexRange, NameRef, Named, StilFault, StilKind, StilRefusal,
+    CellsDecl, ChainDecl, ChainStmt, IndexRange, NameRef, Named, StilKind, StilRefusal, told,
 };
-use tester_types::Items;
 use text_bytes::LONGEST_NAME;
-
-/// The fault of a line in a ScanStructures block of this name.
-fn fault_of(alloc: Global, block: &[u8], line: u32, kind: StilKind) -> Result<StilFault, AllocError>
-    ensures { IfOk result (λ fault. fault ≡ fault_at (scan_place block.now line) kind) }
-{
-    Ok(StilFault {
-        kind,
-        block: Items::from_slice(alloc, b"ScanStructures")?,
-        name: Items::from_slice(alloc, block)?,
-        line,
-    })
-}
 
 /// The refusal of a line in a ScanStructures block of this name.
 fn refused(alloc: Global, block: &[u8], line: u32, kind: StilKind) -> StilRefusal
-    ensures { Refuses result (fault_at (scan_place block.now line) kind) }
+    ensures { Blames (Some (fault_at (scan_place block.now line) kind)) result }
 {
-    match fault_of(alloc, block, line, kind) {
-        Ok(fault) => StilRefusal::Fault(fault),
-        Err(_) => StilRefusal::NoMemory,
-    }
+    told(alloc, b"ScanStructures", block, line, kind)
 }
 
 /// Whether a name is the text of a signal.
@@ -103,7 +87,7 @@ fn check_name(
     named: &Named,
 ) -> Result<(), StilRefusal>
     ensures { (names : Names) → signals.now ≡ table_of names
-        → FirstTells result (chain_stmt_fault names block.now (stmts.Out named.now)) }
+        → Passes (chain_stmt_fault names block.now (stmts.Out named.now)) result }
 {
     if is_signal(signals, named.name.as_slice()) {
         Ok(())
@@ -114,7 +98,7 @@ fn check_name(
 
 /// Checks the cells of a chain.
 fn check_cells(alloc: Global, block: &[u8], cells: &CellsDecl) -> Result<(), StilRefusal>
-    ensures { (names : Names) → FirstTells result (chain_stmt_fault names block.now (stmts.Cells cells.now)) }
+    ensures { (names : Names) → Passes (chain_stmt_fault names block.now (stmts.Cells cells.now)) result }
 {
     if are_cells_short(cells) {
         Ok(())
@@ -131,7 +115,7 @@ fn check_stmt(
     stmt: &ChainStmt,
 ) -> Result<(), StilRefusal>
     ensures { (names : Names) → signals.now ≡ table_of names
-        → FirstTells result (chain_stmt_fault names block.now stmt.now) }
+        → Passes (chain_stmt_fault names block.now stmt.now) result }
 {
     match stmt {
         ChainStmt::Length(_) => Ok(()),
@@ -149,7 +133,7 @@ fn check_stmts(
     stmts: &[ChainStmt],
 ) -> Result<(), StilRefusal>
     ensures { (names : Names) → signals.now ≡ table_of names
-        → FirstTells result (first_in (chain_stmt_fault names block.now) stmts.now) }
+        → Passes (first_in (chain_stmt_fault names block.now) stmts.now) result }
 {
     for stmt in stmts {
         check_stmt(alloc, signals, block, stmt)?;
@@ -178,7 +162,7 @@ fn check_chain(
     decl: &ChainDecl,
 ) -> Result<(), StilRefusal>
     ensures { (names : Names) → signals.now ≡ table_of names
-        → FirstTells result (chain_fault names block.now (behind before.now) decl.now) }
+        → Passes (chain_fault names block.now (behind before.now) decl.now) result }
 {
     if has_name(before, decl.name.as_slice()) {
         return Err(refused(alloc, block, decl.line, StilKind::Twice));
@@ -194,7 +178,7 @@ pub(crate) fn check_chains(
     decls: &[&ChainDecl],
 ) -> Result<(), StilRefusal>
     ensures { (names : Names) → signals.now ≡ table_of names
-        → FirstTells result (chains_fault names block.now [] (behind decls.now)) }
+        → Passes (chains_fault names block.now [] (behind decls.now)) result }
 {
     for (place, decl) in decls.iter().enumerate() {
         check_chain(alloc, signals, block, &decls[..place], decl)?;

@@ -7,10 +7,10 @@ use Rattle.stil_ast.specs.Data.Places.{Place}
 use Rattle.stil_ast.specs.Meaning.Times.{in_text}
 use Rattle.stil_ast.specs.Meaning.Variables.{Variable, value_of, value_of_found, value_within, value_fault, picked_fault}
 use Rattle.stil_ast.specs.Data.Texts.{same}
-use Rattle.stil_ast.specs.Faults.Found.{fault_at, first_in, or_else, IsRefusal}
+use Rattle.stil_ast.specs.Faults.Found.{fault_at, first_in, or_else}
 use Rattle.stil_ast.specs.declared.fault.StilFault.{StilFault}
 use Rattle.stil_ast.specs.Data.Refusal.{StilRefusal}
-use Rattle.answers.specs.declared.short.Short.TheVariants as refusal
+use Rattle.answers.specs.Answers.{Blames}
 use Rattle.stil_ast.specs.declared.fault.StilKind.TheVariants.{UnknownName}
 use Rattle.expr_text.specs.Ratio.{Ratio}
 use Rattle.expr_text.specs.Vars.{value_of_name, with_value}
@@ -18,7 +18,7 @@ use Rattle.expr_text.specs.Value.{named_of}
 use Rattle.time_expr.specs.NamedValue.{met_of}
 use Rattle.time_expr.specs.TimesOf.{times_of}
 use Rattle.time_expr.specs.Picked.{variable_of, variables_of}
-use Rattle.time_expr.specs.Choosing.{variable_named, TellsOf, IsOpen, IsNext, AreKnown, IsWalked, KeepsValues, own_fault, AreValues, Chooses, has_no_value}
+use Rattle.time_expr.specs.Choosing.{variable_named, IsOpen, IsNext, AreKnown, IsWalked, KeepsValues, own_fault, AreValues, Chooses, has_no_value}
 use Rattle.time_expr.specs.declared.picked.Picked.{Picked}
 use Rattle.time_expr.proofs.ReachLemmas.{variable-named, variable-first}
 use Rattle.time_expr.proofs.KnownLemmas.{known-value, known-added, added-keeps, added-fewer}
@@ -45,10 +45,9 @@ unknown-value vs name none =
     ap (λ o. value_of_found false o (times_of.value (value_within times_of vs (length vs) (name ∷ [])))) none
 
 pub unknown-first : (vs : List Variable) (p : Place) (name : List ℕ) (e : StilRefusal) → variable_named vs name ≡ None
-    → TellsOf (fault_at p UnknownName) e → IsRefusal (value_fault p (value_of times_of vs name)) e
-unknown-first vs p name refusal.NoMemory none told = tt
-unknown-first vs p name (refusal.Fault f) none told =
-    ap (value_fault p) (unknown-value vs name none) ∙ ap Some (sym told)
+    → Blames (Some (fault_at p UnknownName)) e → Blames (value_fault p (value_of times_of vs name)) e
+unknown-first vs p name e none told = λ f same.
+    ap (value_fault p) (unknown-value vs name none) ∙ told f same
 
 -- one value more
 module _ (vs : List Variable) (before now : List (List ℕ × Ratio)) (v : Variable) (r : Ratio) (known : AreKnown vs before)
@@ -108,9 +107,8 @@ fault-more vs rest vars v first known some is =
 
 -- its fault is the first
 pub fault-here : (vs rest : List Variable) (v : Variable) (first : Option StilFault) (e : StilRefusal)
-    → first ≡ first_in (own_fault vs) (v ∷ rest) → IsRefusal (own_fault vs v) e → IsRefusal first e
-fault-here vs rest v first refusal.NoMemory is at = tt
-fault-here vs rest v first (refusal.Fault f) is at = is ∙ ap (λ o. or_else o (first_in (own_fault vs) rest)) at
+    → first ≡ first_in (own_fault vs) (v ∷ rest) → Blames (own_fault vs v) e → Blames first e
+fault-here vs rest v first e is at = λ f same. is ∙ ap (λ o. or_else o (first_in (own_fault vs) rest)) (at f same)
 
 -- all have values
 pub all-found : (vs rest : List Variable) (vars : List (List ℕ × Ratio)) → AreKnown vs vars → rest ≡ []
@@ -131,12 +129,10 @@ all-found vs rest vars known end found fault =
 pub chooses : (vs : List Variable) (r : Result (List (List ℕ × Ratio)) StilRefusal) → picked_fault [] vs ≡ None
     → AreValues vs r → Chooses vs r
 chooses vs (Ok vars) apart h = (ap (λ o. or_else o (first_in (own_fault vs) vs)) apart ∙ h.0, h.1)
-chooses vs (Err refusal.NoMemory) apart h = tt
-chooses vs (Err (refusal.Fault f)) apart h = ap (λ o. or_else o (first_in (own_fault vs) vs)) apart ∙ h
+chooses vs (Err e) apart h = λ f same. ap (λ o. or_else o (first_in (own_fault vs) vs)) apart ∙ h f same
 
-pub apart-chooses : (vs : List Variable) (e : StilRefusal) → IsRefusal (picked_fault [] vs) e → Chooses vs (Err e)
-apart-chooses vs refusal.NoMemory h = tt
-apart-chooses vs (refusal.Fault f) h = ap (λ o. or_else o (first_in (own_fault vs) vs)) h
+pub apart-chooses : (vs : List Variable) (e : StilRefusal) → Blames (picked_fault [] vs) e → Chooses vs (Err e)
+apart-chooses vs e h = λ f same. ap (λ o. or_else o (first_in (own_fault vs) vs)) (h f same)
 
 -- the loop over the variables, at one of them
 module _ (vs : List Variable) (items : List Picked) (i : ℕ) (x : Picked) (within : i < length items)
@@ -149,10 +145,10 @@ module _ (vs : List Variable) (items : List Picked) (i : ℕ) (x : Picked) (with
 
   pub loop-refused : (q : Place) (e : StilRefusal) → q ≡ (variable_of x).place
       → first_in (own_fault vs) vs ≡ first_in (own_fault vs) (variables_of (drop i items))
-      → IsRefusal (value_fault q (value_of times_of vs x.name.now)) e → AreValues vs (Err e)
+      → Blames (value_fault q (value_of times_of vs x.name.now)) e → AreValues vs (Err e)
   loop-refused q e at fault told =
       fault-here vs rest (variable_of x) (first_in (own_fault vs) vs) e (fault ∙ ap (first_in (own_fault vs)) here)
-      (subst (λ (p : Place). IsRefusal (value_fault p (value_of times_of vs x.name.now)) e) at told)
+      (subst (λ (p : Place). Blames (value_fault p (value_of times_of vs x.name.now)) e) at told)
 
   pub loop-found : (before now : List (List ℕ × Ratio)) → KeepsValues before now → IsSome (value_of_name x.name.now now)
       → ((name : List ℕ) → value_of_name name before ≡ None

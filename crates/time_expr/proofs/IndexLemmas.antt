@@ -14,7 +14,8 @@ use Rattle.text_bytes.proofs.MapLemmas.{lookup-push}
 use Rattle.indexmap.specs.IndexMap.{IndexMap, IsEmpty}
 use Rattle.stil_ast.specs.Meaning.Variables.{Variable, picked_fault}
 use Rattle.stil_ast.specs.Data.Texts.{same}
-use Rattle.stil_ast.specs.Faults.Found.{fault_at, unless, refuse_if, IsRefusal}
+use Rattle.stil_ast.specs.Faults.Found.{fault_at, unless, refuse_if}
+use Rattle.answers.specs.Answers.{Blames}
 use Rattle.text_bytes.specs.Limits.{most_variables}
 use Rattle.stil_ast.specs.declared.fault.StilFault.{StilFault}
 use Rattle.stil_ast.specs.Data.Refusal.{StilRefusal}
@@ -55,10 +56,10 @@ next-follows vs before rest v place found at is apart follows =
 
 pub next-refused : (vs before rest : List Variable) (v : Variable) (place : ℕ) (found : Option Variable) (e : StilRefusal)
     → length before ≡ place → found ≡ variable_named before v.name → picked_fault before (v ∷ rest) ≡ picked_fault [] vs
-    → ((more : Option StilFault) → IsRefusal (next_fault place found v.place more) e)
-    → IsRefusal (picked_fault [] vs) e
+    → ((more : Option StilFault) → Blames (next_fault place found v.place more) e)
+    → Blames (picked_fault [] vs) e
 next-refused vs before rest v place found e at is apart refused =
-    subst (λ (o : Option StilFault). IsRefusal o e) (sym (next-is before rest v place found at is) ∙ apart)
+    subst (λ (o : Option StilFault). Blames o e) (sym (next-is before rest v place found at is) ∙ apart)
     (refused (picked_fault (before ++ v ∷ []) rest))
 
 -- what is kept after one more entry
@@ -131,8 +132,8 @@ pub index-refused : (xs : List Picked) (i : ℕ) (x : Picked) (found : Option Va
     → x ≡ get_or xs i x
     → found ≡ variable_named (variables_of (take i xs)) x.name.now
     → picked_fault (variables_of (take i xs)) (variables_of (drop i xs)) ≡ picked_fault [] (variables_of xs)
-    → ((more : Option StilFault) → IsRefusal (next_fault i found (variable_of x).place more) e)
-    → IsRefusal (picked_fault [] (variables_of xs)) e
+    → ((more : Option StilFault) → Blames (next_fault i found (variable_of x).place more) e)
+    → Blames (picked_fault [] (variables_of xs)) e
 index-refused xs i x found e within is kept apart refused =
     next-refused (variables_of xs) (variables_of (take i xs)) (variables_of (drop (i + 1) xs)) (variable_of x) i found e
     (taken-length xs i within) kept

@@ -4,7 +4,7 @@ use Rattle.std.specs.Borrow.{Bor}
 use Rattle.std.specs.Str.{bytes_eq}
 use Rattle.std.specs.List.{list_any}
 use Rattle.std.proofs.lemmas.List.{get_or_push}
-use Rattle.stil_ast.specs.Faults.Found.{IsRefusal}
+use Rattle.answers.specs.Answers.{Blames}
 use Rattle.indexmap.specs.IndexSet.{IndexSet, keys}
 use Rattle.stil_ast.specs.Data.Places.{Place}
 use Rattle.stil_ast.specs.Meaning.Variables.{Variable, value_of, value_fault}
@@ -59,7 +59,7 @@ module _ (vs : List Variable) (vars : List (List ℕ × Ratio)) (known : AreKnow
     at-here = subst (IsAt is_running) (sym is) at
 
     pub path-ends : (s : Step) (e : StilRefusal) → s ≡ step.Ends e → Looks is_running here (Err s)
-        → IsRefusal (value_fault p (value_of times_of vs name)) e
+        → Blames (value_fault p (value_of times_of vs name)) e
     path-ends s e ends looks =
         walk-ends vs vars known p name is_running (variable_of here.variable.now) (place_of here.spot) at-here e
         (subst (λ (x : Step). Looks is_running here (Err x)) ends looks)

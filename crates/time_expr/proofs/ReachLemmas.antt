@@ -16,7 +16,7 @@ use Rattle.expr_text.specs.Value.{named_of, value_of}
 use Rattle.time_expr.specs.NamedValue.{kind_of, met_of, value_by}
 use Rattle.time_expr.specs.Names.{names_of, first_missing}
 use Rattle.std.specs.Borrow.{Bor}
-use Rattle.stil_ast.specs.Faults.Found.{IsRefusal}
+use Rattle.answers.specs.Answers.{Blames}
 use Rattle.time_expr.specs.Picked.{variable_of, place_of}
 use Rattle.time_expr.specs.declared.picked.Picked.{Picked}
 use Rattle.time_expr.specs.declared.picked.Spot.{Spot}
@@ -185,7 +185,7 @@ pub same-steps : (vs : List Variable) (vars : List (List ℕ × Ratio)) (Fits : 
     → Steps vs vars Fits other p r → Steps vs vars Fits value p r
 same-steps vs vars Fits value other p same (Ok r) h = λ names has. same names ∙ h names has
 same-steps vs vars Fits value other p same (Err (step.Ends e)) h = λ names fits.
-    subst (λ (x : Result Ratio Met). IsRefusal (value_fault p x) e) (sym (same names)) (h names fits)
+    subst (λ (x : Result Ratio Met). Blames (value_fault p x) e) (sym (same names)) (h names fits)
 same-steps vs vars Fits value other p same (Err (step.Down next spot)) h = (
   h.0,
   λ names fits told e. ap (value_fault p) (same names) ∙ h.1 names fits told e,

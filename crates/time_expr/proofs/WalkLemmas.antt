@@ -2,7 +2,7 @@
 use Rattle.std.proofs.Common.{◌≡◌, ℕ, zero, suc, ◌+◌, ◌≤◌, Bool, true, false, not, ◌&&◌, ◌||◌, List, [], ◌∷◌, length, Some, None, Result, Ok, Err, refl, sym, ap, ◌∙◌, arith, count_by}
 use Rattle.std.specs.Str.{bytes_eq}
 use Rattle.std.proofs.lemmas.Bool.{and_from}
-use Rattle.stil_ast.specs.Faults.Found.{IsRefusal}
+use Rattle.answers.specs.Answers.{Blames}
 use Rattle.stil_ast.proofs.TextLemmas.{same-refl}
 use Rattle.stil_ast.specs.Data.Places.{Place}
 use Rattle.stil_ast.specs.Meaning.Times.{Met, in_text}
@@ -111,11 +111,10 @@ module _ (vs : List Variable) (vars : List (List ℕ × Ratio)) (known : AreKnow
     -- the evaluation ends with a refusal
     pub walk-ends : (e : StilRefusal)
         → ((names : List ℕ → Result Ratio Met) → GoesUnless (is_running v.name) vs vars names
-        → IsRefusal (value_fault q (evaluated (is_running v.name) v names)) e)
-        → IsRefusal (value_fault p (value_of times_of vs name)) e
-    walk-ends refusal.NoMemory ends = tt
-    walk-ends (refusal.Fault told) ends =
-        walk.leads told (ap (value_fault q) own-value ∙ ends inner inner-goes)
+        → Blames (value_fault q (evaluated (is_running v.name) v names)) e)
+        → Blames (value_fault p (value_of times_of vs name)) e
+    walk-ends e ends = λ told same.
+        walk.leads told (ap (value_fault q) own-value ∙ ends inner inner-goes told same)
 
     -- it ends with a value
     pub walk-finds : (r : Ratio) → is_running v.name ≡ false

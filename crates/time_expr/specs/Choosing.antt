@@ -1,19 +1,19 @@
 -- How the code finds the values of variables. No public clause cites this file.
-use Rattle.std.specs.Prelude.{◌≡◌, ℕ, suc, ◌+◌, ◌≤◌, Bool, true, false, not, ◌&&◌, List, [], Option, Some, None, option_map, is_none, is_some, Result, Ok, Err, length, find, count_by, nat_lt}
+use Rattle.std.specs.Prelude.{◌≡◌, ℕ, suc, ◌+◌, ◌≤◌, Bool, true, false, not, ◌&&◌, List, Option, Some, None, option_map, is_none, is_some, Result, Ok, Err, length, find, count_by, nat_lt}
 use Rattle.std.specs.Borrow.{Bor}
 use Rattle.std.specs.Option.{option_copied}
 use Rattle.std.specs.Str.{bytes_eq}
 use Rattle.indexmap.specs.IndexMap.{IndexMap, get_by}
 use Rattle.stil_ast.specs.Data.Places.{Place}
 use Rattle.stil_ast.specs.Meaning.Times.{Met, in_text}
-use Rattle.stil_ast.specs.Meaning.Variables.{Variable, value_of_found, value_within, value_of, value_fault, picked_fault, variables_fault}
-use Rattle.stil_ast.specs.Faults.Found.{fault_at, unless, first_in, refuse_if, IsRefusal}
+use Rattle.stil_ast.specs.Meaning.Variables.{Variable, value_of_found, value_within, value_of, value_fault, variables_fault}
+use Rattle.stil_ast.specs.Faults.Found.{fault_at, unless, first_in, refuse_if}
 use Rattle.text_bytes.specs.Limits.{most_variables}
 use Rattle.stil_ast.specs.Data.Texts.{same, has_name}
 use Rattle.stil_ast.specs.declared.fault.StilFault.{StilFault}
 use Rattle.stil_ast.specs.declared.fault.StilKind.TheVariants.{UnknownName, OutOfRange, Twice}
 use Rattle.stil_ast.specs.Data.Refusal.{StilRefusal}
-use Rattle.answers.specs.declared.short.Short.TheVariants as refusal
+use Rattle.answers.specs.Answers.{Blames, Finds}
 use Rattle.expr_text.specs.Ratio.{Ratio}
 use Rattle.expr_text.specs.Vars.{value_of_name}
 use Rattle.time_expr.specs.TimesOf.{times_of}
@@ -40,11 +40,6 @@ variable_at found = option_map variable_of (option_copied found)
 abbrev pub variable_in : {S : Type 0} → IndexMap (Bor (List ℕ)) (Bor Picked) S → List ℕ → Option Variable
 variable_in index name = variable_at (get_by (λ k. bytes_eq name k.now) index)
 
--- a refusal tells of this fault, unless memory ran out
-abbrev pub TellsOf : StilFault → StilRefusal → Type 0
-TellsOf fault refusal.NoMemory = Unit {0}
-TellsOf fault (refusal.Fault told) = told ≡ fault
-
 -- a variable may stand behind so many others, where that of its name is this
 abbrev pub next_fault : ℕ → Option Variable → Place → Option StilFault → Option StilFault
 next_fault place found p rest =
@@ -54,16 +49,11 @@ next_fault place found p rest =
 abbrev pub Follows : {A : Type 0} → ℕ → Option Variable → Place → Result A StilRefusal → Type 0
 Follows place found p (Ok done) =
     (found ≡ None) × ((rest : Option StilFault) → next_fault place found p rest ≡ rest)
-Follows place found p (Err e) = (rest : Option StilFault) → IsRefusal (next_fault place found p rest) e
+Follows place found p (Err e) = (rest : Option StilFault) → Blames (next_fault place found p rest) e
 
 -- an index keeps these variables
 abbrev pub Keeps : {S : Type 0} → List Variable → IndexMap (Bor (List ℕ)) (Bor Picked) S → Type 0
 Keeps vs index = (name : List ℕ) → variable_in index name ≡ variable_named vs name
-
--- the variables have no two of a name, and are not too many, or this is the fault
-abbrev pub AreApart : {A : Type 0} → List Variable → Result A StilRefusal → Type 0
-AreApart vs (Ok made) = picked_fault [] vs ≡ None
-AreApart vs (Err e) = IsRefusal (picked_fault [] vs) e
 
 -- a variable that is the first of its name and has no value so far
 pub record IsOpen (vs : List Variable) (vars : List (List ℕ × Ratio)) (v : Variable) : Type 0 where
@@ -112,7 +102,7 @@ abbrev pub Steps : List Variable → List (List ℕ × Ratio) → ((List ℕ →
     → ((List ℕ → Result Ratio Met) → Result Ratio Met) → Place → Result Ratio Step → Type 0
 Steps vs vars Fits value p (Ok r) = (names : List ℕ → Result Ratio Met) → HasValues vars names → value names ≡ Ok r
 Steps vs vars Fits value p (Err (step.Ends e)) =
-    (names : List ℕ → Result Ratio Met) → Fits names → IsRefusal (value_fault p (value names)) e
+    (names : List ℕ → Result Ratio Met) → Fits names → Blames (value_fault p (value names)) e
 Steps vs vars Fits value p (Err (step.Down next spot)) =
     IsOpen vs vars (variable_of next.now)
     × ((names : List ℕ → Result Ratio Met) → Fits names → (told : StilFault)
@@ -179,12 +169,11 @@ pub record IsWalk (vs : List Variable) (vars : List (List ℕ × Ratio)) (p : Pl
 abbrev pub IsWalked : List Variable → List (List ℕ × Ratio) → Place → List ℕ
     → Result (Bor Picked × Ratio) StilRefusal → Type 0
 IsWalked vs vars p name (Ok found) = IsNext vs vars (variable_of found.0.now) found.1
-IsWalked vs vars p name (Err e) = IsRefusal (value_fault p (value_of times_of vs name)) e
+IsWalked vs vars p name (Err e) = Blames (value_fault p (value_of times_of vs name)) e
 
 -- the values are those of the variables, which have no fault, or this is the fault
 abbrev pub Chooses : List Variable → Result (List (List ℕ × Ratio)) StilRefusal → Type 0
-Chooses vs (Ok vars) = (variables_fault times_of vs ≡ None) × AreNames (value_of times_of vs) vars
-Chooses vs (Err e) = IsRefusal (variables_fault times_of vs) e
+Chooses vs result = Finds (variables_fault times_of vs) (AreNames (value_of times_of vs)) result
 
 -- values that are known stay
 abbrev pub KeepsValues : List (List ℕ × Ratio) → List (List ℕ × Ratio) → Type 0
@@ -197,5 +186,4 @@ own_fault vs v = value_fault v.place (value_of times_of vs v.name)
 
 -- the values are those of the variables, each of which has one, or this is the fault of the first that has none
 abbrev pub AreValues : List Variable → Result (List (List ℕ × Ratio)) StilRefusal → Type 0
-AreValues vs (Ok vars) = (first_in (own_fault vs) vs ≡ None) × AreNames (value_of times_of vs) vars
-AreValues vs (Err e) = IsRefusal (first_in (own_fault vs) vs) e
+AreValues vs result = Finds (first_in (own_fault vs) vs) (AreNames (value_of times_of vs)) result

@@ -1,7 +1,7 @@
 //! The values of the variables of an executive (IEEE 1450-1999, clauses 16 and 19).
 
 ghost use Rattle.std.specs.Prelude.{◌≡◌, ◌⊎◌, ◌<◌, length, slice_get, Some, None, IsSome, IfOk, IfErr, OnOk, MatchResult};
-ghost use Rattle.stil_ast.specs.Faults.Found.{IsRefusal};
+ghost use Rattle.answers.specs.Answers.{Blames};
 ghost use Rattle.stil_ast.specs.Meaning.Executive.{exec_value};
 ghost use Rattle.stil_ast.specs.Meaning.Variables.{picked, value_of, value_fault, variables_fault};
 ghost use Rattle.stil_ast.specs.declared.executive.ExecDecl.{ExecDecl};
@@ -53,7 +53,7 @@ fn settle<'a>(
     ensures kept { OnOk result (KeepsValues vars.old vars.new) }
     ensures value { OnOk result (IsSome (value_of_name name.now vars.new)) }
     ensures fault { IfErr result
-        (IsRefusal (value_fault (place_of spot.entry) (value_of times_of variables.now name.now))) }
+        (Blames (value_fault (place_of spot.entry) (value_of times_of variables.now name.now))) }
 {
     while vars.get(name).is_none() {
         let (variable, value) = next_value(alloc, variables, vars, name, spot)?;
@@ -127,6 +127,19 @@ pub fn choose(
     ensures refused { (e : ExecDecl) (f : StilFault) → slice_get blocks.now.executives exec ≡ Some e
         → variables_fault times_of (picked blocks.now e) ≡ Some f
         → MatchResult result (λ _. ⊥) (λ r. (r ≡ refusal.NoMemory) ⊎ (r ≡ refusal.Fault f)) }
+{
+    chosen_at(alloc, texts, blocks, exec)
+}
+
+/// The same in one clause.
+fn chosen_at(
+    alloc: Global,
+    texts: &TimeTexts,
+    blocks: &Blocks,
+    exec: usize,
+) -> Result<Vars, StilRefusal>
+    requires { exec < length blocks.now.executives }
+    ensures { (e : ExecDecl) → slice_get blocks.now.executives exec ≡ Some e → Chooses (picked blocks.now e) result }
 {
     chosen_for(alloc, texts, blocks, &blocks.executives.as_slice()[exec])
 }

@@ -1,13 +1,15 @@
 //! The variables of an executive by their names, and texts that name them.
 
-ghost use Rattle.std.specs.Prelude.{◌≡◌, ℕ, List, Err, true, IfOk, IfSome};
+ghost use Rattle.std.specs.Prelude.{◌≡◌, ℕ, List, [], Some, Err, true, IfSome};
+ghost use Rattle.answers.specs.Answers.{Blames, Finds};
 ghost use Rattle.stil_ast.specs.Faults.Found.{fault_at};
+ghost use Rattle.stil_ast.specs.Meaning.Variables.{picked_fault};
 ghost use Rattle.expr_text.specs.Tree.{tree_of};
 ghost use Rattle.expr_text.specs.Spelling.{Spells};
 ghost use Rattle.time_expr.specs.TimesOf.{times_of};
 ghost use Rattle.time_expr.specs.NamedValue.{value_by};
 ghost use Rattle.time_expr.specs.Picked.{place_of, variable_of, variables_of};
-ghost use Rattle.time_expr.specs.Choosing.{variable_named, variable_at, variable_in, TellsOf, Follows, Keeps, AreApart, StopsAt, IsStopBy, Reaches};
+ghost use Rattle.time_expr.specs.Choosing.{variable_named, variable_at, variable_in, Follows, Keeps, StopsAt, IsStopBy, Reaches};
 ghost use Rattle.expr_text.specs.Value.{value_of};
 ghost use Rattle.time_expr.specs.Names.{names_of, first_missing};
 
@@ -17,34 +19,16 @@ use crate::texts::TimeTexts;
 use crate::time::kind_of;
 use expr_text::{Expr, ExprFault, Fraction, Vars, read_expr, value};
 use indexmap::IndexMap;
-use std::alloc::{AllocError, Global};
+use std::alloc::Global;
 use std::marker::Model;
-use stil_ast::{StilFault, StilKind, StilRefusal};
-use tester_types::Text;
+use stil_ast::{StilKind, StilRefusal, told};
 use text_bytes::MOST_VARIABLES;
-
-/// A fault of this kind at a spot.
-fn fault_at(alloc: Global, spot: Spot, kind: StilKind) -> Result<StilFault, AllocError>
-    ensures { IfOk result (λ fault. fault ≡ fault_at (place_of spot.entry) kind) }
-{
-    let block = Text::from_slice(alloc, b"Spec")?;
-    let name = Text::from_slice(alloc, spot.spec)?;
-    Ok(StilFault {
-        kind,
-        block,
-        name,
-        line: spot.line,
-    })
-}
 
 /// The refusal for a fault at a spot.
 pub(crate) fn refused(alloc: Global, spot: Spot, kind: StilKind) -> StilRefusal
-    ensures { TellsOf (fault_at (place_of spot.entry) kind) result }
+    ensures { Blames (Some (fault_at (place_of spot.entry) kind)) result }
 {
-    match fault_at(alloc, spot, kind) {
-        Ok(fault) => StilRefusal::Fault(fault),
-        Err(_) => StilRefusal::NoMemory,
-    }
+    told(alloc, b"Spec", spot.spec, spot.line, kind)
 }
 
 /// The spot of a variable's own statement.
@@ -85,8 +69,7 @@ impl<'a> Variables<'a> {
         texts: &'a TimeTexts<'a>,
         picked: &'a [Picked<'a>],
     ) -> Result<Variables<'a>, StilRefusal>
-        ensures made { IfOk result (λ made. made ≡ variables_of picked.now) }
-        ensures apart { AreApart (variables_of picked.now) result }
+        ensures { Finds (picked_fault [] (variables_of picked.now)) (λ made. made ≡ variables_of picked.now) result }
     {
         let index = index_of(alloc, picked)?;
         Ok(Variables {
@@ -146,8 +129,7 @@ fn index_of<'a>(
     alloc: Global,
     picked: &'a [Picked<'a>],
 ) -> Result<IndexMap<&'a [u8], &'a Picked<'a>>, StilRefusal>
-    ensures kept { IfOk result (λ index. Keeps (variables_of picked.now) index) }
-    ensures apart { AreApart (variables_of picked.now) result }
+    ensures { Finds (picked_fault [] (variables_of picked.now)) (λ index. Keeps (variables_of picked.now) index) result }
 {
     let mut index = IndexMap::new(alloc);
     for (place, variable) in picked.iter().enumerate() {

@@ -7,5 +7,5 @@ use Rattle.time_expr.proofs.choosing.chosen.Goals as goal
 
 pub returns : goal.returns
 returns c =
-    chooses (variables_of c.args.picked.now) c.values_of.result c.in_ok-variables.ensures.apart
-    (subst (λ (vs : List Variable). AreValues vs c.values_of.result) c.in_ok-variables.ensures.made c.values_of.ensures)
+    chooses (variables_of c.args.picked.now) c.values_of.result c.in_ok-variables.ensures.0
+    (subst (λ (vs : List Variable). AreValues vs c.values_of.result) c.in_ok-variables.ensures.1 c.values_of.ensures)

@@ -7,8 +7,8 @@ use Rattle.time_expr.specs.Choosing.{variable_in}
 use Rattle.time_expr.proofs.IndexLemmas.{nothing-kept, index-grows, index-apart, index-refused}
 use Rattle.time_expr.proofs.stop.index_of.Goals as goal
 
-pub returns-in_err-check_next-clause-apart : goal.returns-in_err-check_next-clause-apart
-returns-in_err-check_next-clause-apart c =
+pub returns-in_err-check_next : goal.returns-in_err-check_next
+returns-in_err-check_next c =
     let p = err_from_is_err_and c.from_residual.result c.from_residual.ensures.1 in
     rw (p.1, p.2)
     (index-refused c.args.picked.now c.loop-place.place c.index-picked-place.result
