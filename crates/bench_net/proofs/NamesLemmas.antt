@@ -1,21 +1,17 @@
 -- The names of all nets: each mention is there, and each name has its own number.
-use Rattle.std.proofs.Common.{◌≡◌, ℕ, suc, ◌+◌, ◌<◌, Bool, true, false, not, ◌||◌, cond, List, [], ◌∷◌, ◌++◌, length, get_or, Option, Some, None, slice_get, refl, sym, ap, ◌∙◌, subst, arith, inl, inr, length-append}
+use Rattle.std.proofs.Common.{◌≡◌, ℕ, suc, ◌+◌, ◌<◌, Bool, true, false, not, ◌||◌, cond, List, [], ◌∷◌, ◌++◌, length, get_or, refl, sym, ap, ◌∙◌, subst, arith, inl, inr, length-append}
 use Rattle.std.specs.Prelude.{All, fold}
-use Rattle.std.specs.List.{list_any, position, flat_map, filter_map, find}
-use Rattle.std.specs.Option.{option_map_or, option_and_then}
+use Rattle.std.specs.List.{list_any, flat_map}
 use Rattle.std.specs.Str.{bytes_eq}
 use Rattle.std.specs.Cmp.Lexicographic.{bytes_decides}
 use Rattle.std.proofs.lemmas.List.{get_or_append_left, get_or_at}
 use Rattle.std.proofs.lemmas.List.Elements.{All-nil, All-cons, All-head, All-tail}
 use Rattle.std.proofs.lemmas.List.Folds.{list_any-append, position_or_len_push}
-use Rattle.std.proofs.lemmas.Option.{slice_get_past}
-use Rattle.std.proofs.lemmas.Bool.{cases_Bool, cases_lt, eq-eqb, ne_eqb, lt-ltb, le-ltb, or_left}
+use Rattle.std.proofs.lemmas.Bool.{cases_Bool, cases_lt, eq-eqb, ne_eqb, or_left}
 use Rattle.text_bytes.specs.Texts.{added}
-use Rattle.bench_net.specs.declared.gate.Driver.{Driver}
-use Rattle.bench_net.specs.declared.gate.Driver.TheVariants.{Input}
-use Rattle.bench_net.specs.Line.{Form, nothing, input, output, gate}
+use Rattle.bench_net.specs.Line.{Form}
 use Rattle.bench_net.specs.Circuit.{number}
-use Rattle.bench_net.specs.Net.{named, names, driven, drives, driver_of, driver_for}
+use Rattle.bench_net.specs.Net.{named, names}
 
 pub number_there : (ks : List (List ℕ)) (n : List ℕ) → list_any (bytes_eq n) ks ≡ true
     → number ks n < length ks

@@ -8,12 +8,7 @@ use Rattle.std.proofs.lemmas.List.Quantifiers.{position-Some}
 use Rattle.std.proofs.lemmas.List.Sums.{fails_before_first, prefix_len-le-length}
 use Rattle.std.proofs.lemmas.Option.{slice_get-get_or, slice_get_within, get_or_from_slice_get}
 use Rattle.std.proofs.lemmas.Bool.{both_ways, cases_lt, lt-ltb, le-ltb}
-use Rattle.std.specs.Borrow.{Bor}
-use Rattle.bench_net.specs.declared.gate.Driver.TheVariants.{Dff}
-use Rattle.bench_net.specs.declared.gate.Function.TheVariants.{Register}
 use Rattle.bench_net.specs.Circuit.{number}
-use Rattle.bench_net.specs.Net.{function_driver}
-use Rattle.bench_net.specs.Views.{texts}
 
 -- a name found in a list of texts stands there
 name_found : (names : List (List ℕ)) (name : List ℕ) (i : ℕ) → position (bytes_eq name) names

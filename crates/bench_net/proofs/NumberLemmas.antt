@@ -6,31 +6,27 @@ use Rattle.std.specs.Option.{option_map, option_map_or, option_or}
 use Rattle.std.specs.Borrow.{Bor}
 use Rattle.std.specs.Str.{bytes_eq}
 use Rattle.std.specs.Cmp.Lexicographic.{bytes_decides}
-use Rattle.std.proofs.lemmas.Bool.{cases_Bool, both_ways, or_parts, and_parts}
+use Rattle.std.proofs.lemmas.Bool.{cases_Bool, or_parts, and_parts}
 use Rattle.std.proofs.lemmas.List.{map-append, take_rest, append_assoc, append-nil, length-map}
 use Rattle.std.proofs.lemmas.List.Elements.{All-cons, All-head, All-tail, All-append}
 use Rattle.std.proofs.lemmas.List.Folds.{list_any-append}
-use Rattle.std.proofs.lemmas.List.Sums.{fold-append}
 use Rattle.std.proofs.lemmas.Simd.{map-map, splat_is_map}
 use Rattle.std.proofs.Math.Bool.{or-false}
 use Rattle.text_bytes.specs.Texts.{added}
 use Rattle.text_bytes.specs.Limits.{most_nets}
 use Rattle.text_bytes.proofs.ListLemmas.{list_any-map}
+use Rattle.text_bytes.proofs.TextLemmas.{bytes_eq-comm}
 use Rattle.bench_net.specs.declared.fault.NetFault.{NetFault}
 use Rattle.bench_net.specs.declared.fault.NetFault.TheVariants.{NoMemory, Twice}
 use Rattle.bench_net.specs.declared.gate.Driver.{Driver}
-use Rattle.bench_net.specs.declared.gate.Driver.TheVariants.{Input, Dff}
-use Rattle.bench_net.specs.declared.gate.Function.{Function}
-use Rattle.bench_net.specs.declared.gate.Function.TheVariants.{Register}
-use Rattle.bench_net.specs.declared.line.Line.{Line}
+use Rattle.bench_net.specs.declared.gate.Driver.TheVariants.{Input}
 use Rattle.bench_net.specs.declared.numbers.Numbered.{Numbered}
-use Rattle.bench_net.specs.declared.numbers.Numbered.TheVariants.{Drives, Shows}
 use Rattle.bench_net.specs.Circuit.{number}
 use Rattle.bench_net.specs.Line.{Form, nothing, input, output, gate}
-use Rattle.bench_net.specs.Net.{named, names, driven, shown, used, drives, driver_of, driver_for, function_driver, net_of, first_repeat, arity_fault, twice_fault, is_missing, missing_fault}
+use Rattle.bench_net.specs.Net.{named, names, driven, shown, used, drives, driver_of, net_of, first_repeat, arity_fault, twice_fault, is_missing, missing_fault}
 use Rattle.bench_net.specs.Fault.{IsRefusal}
-use Rattle.bench_net.specs.Numbers.{numbered, IsNumber, AreNumbers, IsNumbered, driven_net, shown_net, with_mark, first_twice, IsTwice, with_driver, placed, lacks}
-use Rattle.bench_net.specs.Views.{form_of, texts}
+use Rattle.bench_net.specs.Numbers.{numbered, IsNumber, AreNumbers, driven_net, shown_net, with_mark, first_twice, IsTwice, with_driver, placed, lacks}
+use Rattle.bench_net.specs.Views.{texts}
 use Rattle.bench_net.proofs.NamesLemmas.{AreApart, AreApart-names, number_there, number_not, number-added, number-fold, added_there, fold_stays, fold_there, same_bytes, All-left, All-right}
 
 -- ---- names that are put behind the others
@@ -95,16 +91,6 @@ AreNumbers-done ks ks0 all nets nets' (z ∷ zs) none same whole = absurd (omega
 
 -- ---- the slots of nets, by their names
 
-bytes_sym : (a b : List ℕ) → bytes_eq a b ≡ bytes_eq b a
-bytes_sym a b =
-    elim (cases_Bool (bytes_eq a b)) [
-      | inl e ↦ e ∙ sym ((bytes_decides b a).1 (sym ((bytes_decides a b).0 e)))
-      | inr e ↦ elim (cases_Bool (bytes_eq b a)) [
-        | inl g ↦ absurd (both_ways (bytes_eq a b) e ((bytes_decides a b).1 (sym ((bytes_decides b a).0 g))))
-        | inr g ↦ e ∙ sym g
-      ]
-    ]
-
 -- at the number of a net stands its name
 at_number : (all : List (List ℕ)) (n : List ℕ) → list_any (bytes_eq n) all ≡ true → get_or all (number all n) [] ≡ n
 at_number [] n h = cc
@@ -165,7 +151,7 @@ written_nowhere : {B : Type 0} (f : List ℕ → B) (ks : List (List ℕ)) (n : 
 written_nowhere f [] n v h = refl
 written_nowhere f (k ∷ ks) n v h =
     let both = or_parts (bytes_eq n k) (list_any (bytes_eq n) ks) h in
-    λ i. sym (ap (λ b. cond b v (f k)) (bytes_sym k n ∙ both.0)) i ∷ written_nowhere f ks n v both.1 i
+    λ i. sym (ap (λ b. cond b v (f k)) (bytes_eq-comm k n ∙ both.0)) i ∷ written_nowhere f ks n v both.1 i
 
 written : {B : Type 0} (f : List ℕ → B) (all : List (List ℕ)) (n : List ℕ) (v : B) → AreApart all
     → set (map f all) (number all n) v ≡ map (λ m. cond (bytes_eq m n) v (f m)) all
@@ -176,11 +162,11 @@ written f (k ∷ ks) n v h =
       | inl e ↦
           let none = ap (λ (m : List ℕ). list_any (bytes_eq m) ks) ((bytes_decides n k).0 e) ∙ no_other k ks h in
           ap (λ b. set (map f (k ∷ ks)) (cond {A = ℕ} (not b) (1 + number ks n) 0) v) e
-          ∙ (λ i. sym (ap (λ b. cond b v (f k)) (bytes_sym k n ∙ e)) i ∷ written_nowhere f ks n v none i)
+          ∙ (λ i. sym (ap (λ b. cond b v (f k)) (bytes_eq-comm k n ∙ e)) i ∷ written_nowhere f ks n v none i)
       | inr e ↦
           ap (λ b. set (map f (k ∷ ks)) (cond {A = ℕ} (not b) (1 + number ks n) 0) v) e
           ∙ ap (λ j. set (map f (k ∷ ks)) j v) one
-          ∙ (λ i. sym (ap (λ b. cond b v (f k)) (bytes_sym k n ∙ e)) i ∷ written f ks n v (AreApart-rest k ks h) i)
+          ∙ (λ i. sym (ap (λ b. cond b v (f k)) (bytes_eq-comm k n ∙ e)) i ∷ written f ks n v (AreApart-rest k ks h) i)
     ]
 
 -- ---- marks

@@ -5,7 +5,8 @@ use Rattle.std.proofs.Math.Nat.{min-eq_left}
 use Rattle.std.proofs.Math.Seq.{take-length, drop-length}
 use Rattle.text_bytes.specs.Limits.{most_waves}
 use Rattle.stil_ast.specs.Faults.ExecutiveFaults.{exec_waves, exec_walked, execs_fault, checked_fault, fifth_fault}
-use Rattle.stil_ast.specs.Faults.Found.{or_else, IsRefusal}
+use Rattle.answers.specs.Answers.{Blames, Finds}
+use Rattle.stil_ast.specs.Faults.Found.{or_else}
 use Rattle.stil_ast.specs.Meaning.Bursts.{played}
 use Rattle.stil_ast.specs.Meaning.Cycles.{dated}
 use Rattle.stil_ast.specs.Meaning.Executive.{parts, tree_of, exec_vectors, table_list}
@@ -21,9 +22,9 @@ use Rattle.answers.specs.declared.short.Short.TheVariants as refusal
 use Rattle.stil_ast.proofs.TreeLemmas.{trees_agree, same_trees_serve}
 use Rattle.tester_types.specs.declared.wave.Table.{Table}
 use Rattle.time_expr.specs.TimesOf.{times_of}
+use Rattle.wave_tables.proofs.TakenLemmas.{front_found, drop_found}
 use Rattle.burst_exec.specs.Carried.{drafted, HasRun}
 use Rattle.burst_exec.specs.Executives.{IsExecutive, AreExecutives, AreAllOf, IsExecFault}
-use Rattle.burst_exec.specs.Finding.{Finds}
 use Rattle.burst_exec.specs.Gathered.{text_fault, rest_fault, IsTaken, IsGathering}
 use Rattle.burst_exec.specs.Patterns.{ArePlayed, played_fault}
 use Rattle.burst_exec.specs.Staged.{staged_fault, patterns_fault, whole_fault, order_of, tables_of, waves_of, chains_of, IsStageOf}
@@ -31,7 +32,7 @@ use Rattle.burst_exec.specs.declared.progress.Progress.{Progress}
 use Rattle.burst_exec.specs.declared.staging.Stage.{Stage}
 use Rattle.burst_exec.specs.declared.trees.Draft.{Draft}
 use Rattle.burst_exec.proofs.CountLemmas.{walked_behind}
-use Rattle.burst_exec.proofs.ListLemmas.{take_next, drop_next, sum_next}
+use Rattle.burst_exec.proofs.ListLemmas.{sum_next}
 use Rattle.burst_exec.proofs.StagedLemmas.{whole_is, few_here}
 
 -- one executive more
@@ -117,9 +118,9 @@ module _ (blocks : Blocks) where
       ap (λ (k : ℕ). whole_fault blocks k (sum_by (exec_walked blocks) before) e) (sym h.waves_are)
       ∙ ap (λ (k : ℕ). whole_fault blocks now.waves k e) (sym h.walked_is)
       ∙ is in
-      ap (λ (all : List ExecDecl). or_else o (rest_fault blocks all rest)) (take_next blocks.executives n e at)
+      ap (λ (all : List ExecDecl). or_else o (rest_fault blocks all rest)) (front_found blocks.executives n e at)
       ∙ sym (fault_here blocks e before rest o whole)
-      ∙ ap (rest_fault blocks before) (sym (drop_next blocks.executives n e at))
+      ∙ ap (rest_fault blocks before) (sym (drop_found blocks.executives n e at))
       ∙ h.faults
 
   pub goes_on : (n : ℕ) (e : ExecDecl) (before now : Progress) (found : List Executive) (x : Executive)
@@ -139,16 +140,15 @@ module _ (blocks : Blocks) where
             ∙ ap (λ (k : ℕ). k + exec_walked blocks e) h.walked_is
             ∙ sym (sum_next (exec_walked blocks) blocks.executives n e at);
         made =
-            subst (λ (all : List ExecDecl). AreExecutives blocks all (found ++ x ∷ [])) (sym (take_next blocks.executives n e at))
+            subst (λ (all : List ExecDecl). AreExecutives blocks all (found ++ x ∷ [])) (sym (front_found blocks.executives n e at))
             (executives-push blocks (take n blocks.executives) found e x h.made
             (executive_is blocks e before.walked now.walked x taken.played taken.name_is taken.line_is taken.tables_are taken.chains_are));
       }
 
   pub is_refused : (n : ℕ) (e : ExecDecl) (before : Progress) (found : List Executive) (r : StilRefusal)
       → slice_get blocks.executives n ≡ Some e → IsGathering blocks n before found
-      → IsRefusal (whole_fault blocks before.waves before.walked e) r → IsRefusal (text_fault blocks) r
-  is_refused n e before found refusal.NoMemory at h is = tt
-  is_refused n e before found (refusal.Fault f) at h is = sym (at_next n e before found (Some f) at h is)
+      → Blames (whole_fault blocks before.waves before.walked e) r → Blames (text_fault blocks) r
+  is_refused n e before found r at h is = λ f same. sym (at_next n e before found (Some f) at h (is f same))
 
   pub is_done : (n : ℕ) (now : Progress) (found : List Executive) → n ≡ length blocks.executives
       → IsGathering blocks n now found → (text_fault blocks ≡ None) × AreAllOf blocks found
@@ -162,19 +162,17 @@ module _ (blocks : Blocks) where
 
 module _ (blocks : Blocks) (e : ExecDecl) (before : Progress) where
   -- refused before its patterns
-  pub for_stage : (r : StilRefusal) → IsRefusal (staged_fault blocks before.waves e) r
-      → IsRefusal (whole_fault blocks before.waves before.walked e) r
+  pub for_stage : (r : StilRefusal) → Blames (staged_fault blocks before.waves e) r
+      → Blames (whole_fault blocks before.waves before.walked e) r
   unfolding whole_fault
-  for_stage refusal.NoMemory h = tt
-  for_stage (refusal.Fault f) h = rw h refl
+  for_stage r h = λ f same. rw (h f same) refl
 
   -- refused for its patterns
   pub for_patterns : (r : StilRefusal) → staged_fault blocks before.waves e ≡ None
-      → IsRefusal (played_fault blocks e (order_of blocks e) before.walked) r
-      → IsRefusal (whole_fault blocks before.waves before.walked e) r
+      → Blames (played_fault blocks e (order_of blocks e) before.walked) r
+      → Blames (whole_fault blocks before.waves before.walked e) r
   unfolding whole_fault patterns_fault played_fault order_of
-  for_patterns refusal.NoMemory none h = tt
-  for_patterns (refusal.Fault f) none h = rw none h
+  for_patterns r none h = λ f same. rw none (h f same)
 
   -- taken, unless memory is short
   pub taken_found : (begin now : Progress) (stage : Stage) (d : Draft) (decl : ExecDecl) (r : Result Executive StilRefusal)
@@ -204,7 +202,8 @@ module _ (blocks : Blocks) (e : ExecDecl) (before : Progress) where
           chains_are = ap (λ (y : Executive). y.chains) kept ∙ staged.1.chains_are;
         },
       )
-  taken_found begin now stage d decl (Err r) same staged run waves walked kept memory = rw memory tt
+  taken_found begin now stage d decl (Err r) same staged run waves walked kept memory = λ f told.
+      let short : r ≡ refusal.NoMemory = memory in cc
 
 -- the fault of all is that of the fifth pass
 pub of_text : (blocks : Blocks) (r : Result (List Executive) StilRefusal) → Finds (text_fault blocks) (AreAllOf blocks) r
@@ -217,4 +216,4 @@ pub is_exec_fault : (blocks : Blocks) (r : Result (List Executive) StilRefusal)
     → IfErr r (λ r. (r ≡ refusal.NoMemory) ⊎ IsExecFault blocks r)
 is_exec_fault blocks (Ok execs) h = tt
 is_exec_fault blocks (Err refusal.NoMemory) h = inl refl
-is_exec_fault blocks (Err (refusal.Fault f)) h = inr (record { fault = f; is = refl; first = h })
+is_exec_fault blocks (Err (refusal.Fault f)) h = inr (record { fault = f; is = refl; first = h f refl })

@@ -1,5 +1,4 @@
 pub mod CountLemmas
-pub mod FindLemmas
 pub mod ListLemmas
 pub mod WaveLemmas
 pub mod StagedLemmas

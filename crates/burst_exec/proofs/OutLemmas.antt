@@ -7,14 +7,14 @@ use Rattle.stil_ast.specs.Meaning.Resolved.{is_out, outs_of}
 use Rattle.stil_ast.specs.Meaning.Signals.{Names, Signal}
 use Rattle.signal_groups.specs.Table.{Table, table_of}
 use Rattle.tester_types.specs.declared.signal.Direction.{Direction}
-use Rattle.burst_exec.proofs.ListLemmas.{take_next}
+use Rattle.wave_tables.proofs.TakenLemmas.{front_found}
 
 pub outs_more : (directions : List Direction) (outs : List Bool) (n : ℕ) (d : Direction) → slice_get directions n ≡ Some d
     → outs ≡ map is_out (take n directions) → outs ++ (is_out d ∷ []) ≡ map is_out (take (n + 1) directions)
 outs_more directions outs n d at is =
     ap (λ (all : List Bool). all ++ (is_out d ∷ [])) is
     ∙ sym (map-append is_out (take n directions) (d ∷ []))
-    ∙ ap (map is_out) (sym (take_next directions n d at))
+    ∙ ap (map is_out) (sym (front_found directions n d at))
 
 map_twice : (signals : List Signal)
     → map is_out (map (λ (s : Signal). s.direction) signals) ≡ map (λ (s : Signal). is_out s.direction) signals

@@ -4,7 +4,7 @@ use Rattle.std.proofs.Math.Seq.{drop-cons}
 use Rattle.std.proofs.Math.ListN.{drop_of_length-le}
 use Rattle.std.proofs.lemmas.List.{drop-map}
 use Rattle.std.specs.Prelude.{Ok}
-use Rattle.stil_ast.specs.Faults.Found.{IsRefusal}
+use Rattle.answers.specs.Answers.{Blames}
 use Rattle.stil_ast.specs.Data.Places.{Body, of_pattern}
 use Rattle.stil_ast.specs.Data.Written.{Written, no_more, single, looped, shifted}
 use Rattle.stil_ast.specs.Faults.AssignmentFaults.{Walked, Checked, fine, refused}
@@ -22,7 +22,6 @@ use Rattle.stil_ast.specs.declared.body.Step.TheVariants.{Wave, Vector, Conditio
 use Rattle.stil_ast.specs.declared.executive.ExecDecl.{ExecDecl}
 use Rattle.stil_ast.specs.declared.fault.StilFault.{StilFault}
 use Rattle.stil_ast.specs.Data.Refusal.{StilRefusal}
-use Rattle.answers.specs.declared.short.Short.TheVariants as refusal
 use Rattle.pattern_order.specs.Held.{played_by, played_in}
 use Rattle.pattern_order.specs.declared.playing.PlayedPattern.{PlayedPattern}
 use Rattle.burst_exec.specs.Carried.{drafted, HasExpanded, IsRunning, HasRun, RunsNext}
@@ -117,12 +116,11 @@ module _ (blocks : Blocks) (e : ExecDecl) where
 
     -- the first fault
     pub is_refused : (p : Played) (rest : List Played) (trees : List Tree) (now : ℕ) (r : StilRefusal)
-        → IsPlaying blocks e patterns before (p ∷ rest) trees now → IsRefusal (pattern_fault blocks e p now) r
-        → IsRefusal (played_fault blocks e patterns before) r
+        → IsPlaying blocks e patterns before (p ∷ rest) trees now → Blames (pattern_fault blocks e p now) r
+        → Blames (played_fault blocks e patterns before) r
     unfolding pattern_fault played_fault
-    is_refused p rest trees now refusal.NoMemory playing h = tt
-    is_refused p rest trees now (refusal.Fault f) playing h =
-        let check = only_refused (check_pattern (scope_of blocks e p) p.pattern.body now) f h in
+    is_refused p rest trees now r playing h = λ f same.
+        let check = only_refused (check_pattern (scope_of blocks e p) p.pattern.body now) f (h f same) in
         ap checked_fault (sym playing.checked
         ∙ ap (λ (c : Checked). behind_pattern (stops (resolved (scope_of blocks e p) of_pattern p.pattern.body)) c (check_patterns blocks e rest)) check)
 

@@ -1,5 +1,5 @@
 -- What the names in a pattern are looked up in is what the language says.
-use Rattle.std.proofs.Common.{◌≡◌, ℕ, ◌+◌, List, [], ◌∷◌, refl, ap, ◌∙◌, subst, map, inl, inr, ◌⊎◌}
+use Rattle.std.proofs.Common.{◌≡◌, ℕ, ◌+◌, List, [], ◌∷◌, refl, ap, ◌∙◌, subst, map, inl, inr, ◌⊎◌, Some}
 use Rattle.std.specs.Prelude.{Result, Ok, Err, IfOk, IfErr}
 use Rattle.std.specs.List.{enumerate_from}
 use Rattle.signal_groups.specs.Table.{table_of}
@@ -27,7 +27,7 @@ use Rattle.time_expr.specs.TimesOf.{times_of}
 use Rattle.macro_expand.specs.Expanding.{Expands, IsPatternFault}
 use Rattle.macro_expand.specs.Scopes.{titles_in}
 use Rattle.macro_expand.specs.declared.scope.PatternScope.{PatternScope}
-use Rattle.burst_exec.specs.Finding.{Finds}
+use Rattle.answers.specs.Answers.{Finds}
 use Rattle.burst_exec.specs.Patterns.{IsScope, pattern_fault, IsExpanded}
 use Rattle.burst_exec.specs.Staged.{tables_of}
 
@@ -90,7 +90,7 @@ module _ (blocks : Blocks) (e : ExecDecl) (p : Played) where
   expanded_found scope before after (Ok flat) is found fault =
       let h = expanded scope before after flat is found in
       (ap checked_fault h.checked, h)
-  expanded_found scope before after (Err r) is found (inl m) = rw m tt
+  expanded_found scope before after (Err r) is found (inl m) = λ f same. cc
   expanded_found scope before after (Err r) is found (inr h) =
       let first = subst (λ (s : Scope). check_pattern s p.pattern.body before ≡ refused h.fault) is.is h.first in
-      rw h.is (ap checked_fault first)
+      λ f same. let is = h.is in let fault : h.fault ≡ f = cc in ap checked_fault first ∙ ap (λ x. Some x) fault

@@ -2,7 +2,8 @@
 use Rattle.std.proofs.Common.{◌≡◌, ℕ, ◌+◌, ◌-◌, ◌^◌, ◌≤◌, List, length, take, Option, Some, None, refl, sym, ap, ◌∙◌, subst, inl, inr, ◌⊎◌, arith}
 use Rattle.std.specs.Prelude.{Result, Ok, Err, IfOk, IfErr, min, slice_get, sum_by}
 use Rattle.text_bytes.specs.Limits.{most_waves}
-use Rattle.stil_ast.specs.Faults.Found.{or_else, IsRefusal}
+use Rattle.answers.specs.Answers.{Blames, Finds}
+use Rattle.stil_ast.specs.Faults.Found.{or_else}
 use Rattle.stil_ast.specs.Faults.BurstFaults.{exec_names_fault}
 use Rattle.stil_ast.specs.Faults.ExecutiveFaults.{timed_of, exec_waves, exec_walked, exec_fault, check_patterns, checked_fault}
 use Rattle.stil_ast.specs.Faults.TableFaults.{tables_fault}
@@ -21,19 +22,18 @@ use Rattle.expr_text.specs.Ratio.{Ratio}
 use Rattle.time_expr.specs.TimeIn.{AreNames}
 use Rattle.time_expr.specs.TimesOf.{times_of}
 use Rattle.pattern_order.specs.Answer.{IsNamesFault}
-use Rattle.scan_chain.specs.Fault.{chain_list_fault, chains_titled, titled_fault, Scans}
+use Rattle.scan_chain.specs.Fault.{chain_list_fault, Scans}
 use Rattle.wave_tables.proofs.CountLemmas.{waves_counted}
 use Rattle.wave_tables.specs.Waves.{waves_at}
-use Rattle.burst_exec.specs.Finding.{Finds}
 use Rattle.burst_exec.specs.Staged.{names_fault, values_fault, waves_fault, ends_fault, staged_fault, patterns_fault, whole_fault, order_of, AreValues, tables_of, waves_of, chains_of}
 use Rattle.burst_exec.proofs.ListLemmas.{sum_next}
 use Rattle.burst_exec.proofs.WaveLemmas.{few_waves}
 
 -- a refusal by a fault
 refuses : (o : Option StilFault) (r : StilRefusal)
-    → (r ≡ refusal.NoMemory) ⊎ ((f : StilFault) × (r ≡ refusal.Fault f) × (o ≡ Some f)) → IsRefusal o r
-refuses o r (inl m) = rw m tt
-refuses o r (inr h) = rw h.1 h.2
+    → (r ≡ refusal.NoMemory) ⊎ ((f : StilFault) × (r ≡ refusal.Fault f) × (o ≡ Some f)) → Blames o r
+refuses o r (inl m) = λ f same. cc
+refuses o r (inr h) = λ f same. let is = h.1 in let first = h.2 in cc
 
 -- what is so of blocks is so of the same ones
 pub in_blocks : (a b : Blocks) (n : ℕ) (e : ExecDecl) (Is : Blocks → Type 0) → a ≡ b
@@ -47,8 +47,8 @@ pub names_found : (blocks : Blocks) (e : ExecDecl) (r : Result (List Played) Sti
     → Finds (names_fault blocks e) (λ order. order ≡ order_of blocks e) r
 unfolding names_fault order_of
 names_found blocks e (Ok order) found fault = found
-names_found blocks e (Err r) found (inl m) = rw m tt
-names_found blocks e (Err r) found (inr h) = rw h.is h.first
+names_found blocks e (Err r) found (inl m) = refuses (exec_names_fault blocks e) r (inl m)
+names_found blocks e (Err r) found (inr h) = refuses (exec_names_fault blocks e) r (inr (h.fault, h.is, h.first))
 
 pub values_found : (blocks : Blocks) (e : ExecDecl) (r : Result (List (List ℕ × Ratio)) StilRefusal)
     → IfOk r (λ vars. (variables_fault times_of (picked blocks e) ≡ None) × AreNames (exec_value times_of blocks e) vars)
@@ -78,11 +78,7 @@ pub chains_found : (blocks : Blocks) (e : ExecDecl) (title : List ℕ) (r : Resu
     → title ≡ exec_scans blocks e → Scans blocks title r
     → Finds (ends_fault blocks e) (λ chains. chains ≡ chains_of blocks e) r
 unfolding ends_fault chains_of
-chains_found blocks e title (Ok chains) is h =
-    subst (λ (x : List ℕ). (titled_fault blocks x ≡ None) × (chains ≡ chains_titled blocks x)) is h
-chains_found blocks e title (Err refusal.NoMemory) is h = tt
-chains_found blocks e title (Err (refusal.Fault f)) is h =
-    subst (λ (x : List ℕ). titled_fault blocks x ≡ Some f) is (h f refl)
+chains_found blocks e title r is h = subst (λ (x : List ℕ). Scans blocks x r) is h
 
 pub chains_there : (blocks : Blocks) (e : ExecDecl) (chains : List Chain) → chains ≡ chains_of blocks e
     → chains ≡ chain_list blocks e
@@ -105,32 +101,28 @@ waves_next tables n before count more t at h g =
 
 module _ (blocks : Blocks) (waves : ℕ) (e : ExecDecl) where
   -- refused for its names
-  pub for_names : (r : StilRefusal) → IsRefusal (names_fault blocks e) r → IsRefusal (staged_fault blocks waves e) r
+  pub for_names : (r : StilRefusal) → Blames (names_fault blocks e) r → Blames (staged_fault blocks waves e) r
   unfolding staged_fault
-  for_names refusal.NoMemory h = tt
-  for_names (refusal.Fault f) h = rw h refl
+  for_names r h = λ f same. rw (h f same) refl
 
   -- for its variables
-  pub for_values : (r : StilRefusal) → names_fault blocks e ≡ None → IsRefusal (values_fault blocks e) r
-      → IsRefusal (staged_fault blocks waves e) r
+  pub for_values : (r : StilRefusal) → names_fault blocks e ≡ None → Blames (values_fault blocks e) r
+      → Blames (staged_fault blocks waves e) r
   unfolding staged_fault
-  for_values refusal.NoMemory names h = tt
-  for_values (refusal.Fault f) names h = rw names (rw h refl)
+  for_values r names h = λ f same. rw names (rw (h f same) refl)
 
   -- for its tables
   pub for_tables : (r : StilRefusal) → names_fault blocks e ≡ None → values_fault blocks e ≡ None
-      → IsRefusal (waves_fault blocks waves e) r → IsRefusal (staged_fault blocks waves e) r
+      → Blames (waves_fault blocks waves e) r → Blames (staged_fault blocks waves e) r
   unfolding staged_fault
-  for_tables refusal.NoMemory names values h = tt
-  for_tables (refusal.Fault f) names values h = rw names (rw values (rw h refl))
+  for_tables r names values h = λ f same. rw names (rw values (rw (h f same) refl))
 
   -- for its chains
   pub for_chains : (r : StilRefusal) → names_fault blocks e ≡ None → values_fault blocks e ≡ None
-      → waves_fault blocks waves e ≡ None → IsRefusal (ends_fault blocks e) r
-      → IsRefusal (staged_fault blocks waves e) r
+      → waves_fault blocks waves e ≡ None → Blames (ends_fault blocks e) r
+      → Blames (staged_fault blocks waves e) r
   unfolding staged_fault
-  for_chains refusal.NoMemory names values tables h = tt
-  for_chains (refusal.Fault f) names values tables h = rw names (rw values (rw tables h))
+  for_chains r names values tables h = λ f same. rw names (rw values (rw tables (h f same)))
 
   -- nothing refuses it
   pub for_nothing : names_fault blocks e ≡ None → values_fault blocks e ≡ None → waves_fault blocks waves e ≡ None

@@ -1,6 +1,6 @@
 -- What is carried from one pattern and from one executive to the next.
 use Rattle.std.specs.Prelude.{◌≡◌, true, false, Bool, List, Result, Ok, Err}
-use Rattle.stil_ast.specs.Faults.Found.{IsRefusal}
+use Rattle.answers.specs.Answers.{Blames}
 use Rattle.stil_ast.specs.Meaning.Bursts.{Played}
 use Rattle.stil_ast.specs.Meaning.ExecutiveData.{Tree}
 use Rattle.stil_ast.specs.Meaning.Flat.{Flat}
@@ -47,4 +47,4 @@ abbrev pub RunsNext : Blocks → ExecDecl → List Played → Progress → List 
     → Result Bool StilRefusal → Type 0
 RunsNext blocks e patterns before rest now d (Ok true) = HasRun blocks e patterns before now d
 RunsNext blocks e patterns before rest now d (Ok false) = IsRunning blocks e patterns before rest now d
-RunsNext blocks e patterns before rest now d (Err r) = IsRefusal (played_fault blocks e patterns before.walked) r
+RunsNext blocks e patterns before rest now d (Err r) = Blames (played_fault blocks e patterns before.walked) r

@@ -1,9 +1,7 @@
--- Read Executives first (what is said of the executives of a text). Held has how the code holds them, Finding how the
--- first fault refuses. Staged, Patterns, Made, Joined, Booked, Carried and Gathered have what the code computes on its
--- way.
+-- Read Executives first (what is said of the executives of a text). Held has how the code holds them. Staged, Patterns,
+-- Made, Joined, Booked, Carried and Gathered have what the code computes on its way.
 pub mod Executives
 pub mod Held
-pub mod Finding
 pub mod Staged
 pub mod Made
 pub mod Joined

@@ -1,7 +1,7 @@
 //! The executives of a text, or their first fault (IEEE 1450-1999, clauses 16 to 18 and 23).
 
 ghost use Rattle.std.specs.Prelude.{◌≡◌, ◌⊎◌, ◌<◌, ◌+◌, ℕ, Some, None, length, slice_get, IfOk, IfErr, OnOk, MatchResult};
-ghost use Rattle.stil_ast.specs.Faults.Found.{IsRefusal};
+ghost use Rattle.answers.specs.Answers.{Blames, Finds};
 ghost use Rattle.signal_groups.specs.Table.{table_of};
 ghost use Rattle.stil_ast.specs.Data.OneText.{AreOfOneText};
 ghost use Rattle.stil_ast.specs.Faults.ExecutiveFaults.{fifth_fault};
@@ -13,7 +13,6 @@ ghost use Rattle.answers.specs.declared.short.Short.TheVariants as refusal;
 ghost use Rattle.time_expr.specs.TimesOf.{times_of};
 ghost use Rattle.burst_exec.specs.Carried.{IsCarried, HasRun};
 ghost use Rattle.burst_exec.specs.Executives.{AreAllOf, IsExecFault};
-ghost use Rattle.burst_exec.specs.Finding.{Finds};
 ghost use Rattle.burst_exec.specs.Gathered.{text_fault, IsTaken, IsGathering};
 ghost use Rattle.burst_exec.specs.Held.{trees_in, AreEven};
 ghost use Rattle.burst_exec.specs.Patterns.{played_fault};
@@ -145,7 +144,7 @@ fn take_next<'a>(
     requires so_far { IsGathering names.now exec progress.old execs.old.items }
     ensures carried { OnOk result (IsCarried names.now progress.new) }
     ensures takes { MatchResult result (λ _. IsGathering names.now (exec + 1) progress.new execs.new.items)
-        (IsRefusal (text_fault names.now)) }
+        (Blames (text_fault names.now)) }
 {
     let taken = match exec_behind(alloc, names, texts, exec, signals, outs, progress) {
         Ok(taken) => taken,

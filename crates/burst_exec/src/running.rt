@@ -6,7 +6,7 @@ ghost use Rattle.stil_ast.specs.declared.executive.ExecDecl.{ExecDecl};
 ghost use Rattle.macro_expand.specs.Actions.{is_stop};
 ghost use Rattle.pattern_order.specs.Held.{played_by, played_in};
 ghost use Rattle.burst_exec.specs.Carried.{IsCarried, HasExpanded, IsRunning, HasRun, RunsNext};
-ghost use Rattle.burst_exec.specs.Finding.{Finds};
+ghost use Rattle.answers.specs.Answers.{Finds};
 ghost use Rattle.burst_exec.specs.Held.{trees_in, AreEven};
 ghost use Rattle.burst_exec.specs.Patterns.{IsStanding, pattern_fault, played_fault, has_stop};
 ghost use Rattle.burst_exec.specs.declared.progress.Progress.{Progress};

@@ -9,7 +9,7 @@ ghost use Rattle.stil_ast.specs.declared.executive.ExecDecl.{ExecDecl};
 ghost use Rattle.signal_groups.specs.Table.{table_of};
 ghost use Rattle.macro_expand.specs.Scopes.{titles_in};
 ghost use Rattle.pattern_order.specs.Held.{played_by};
-ghost use Rattle.burst_exec.specs.Finding.{Finds};
+ghost use Rattle.answers.specs.Answers.{Finds};
 ghost use Rattle.burst_exec.specs.Patterns.{IsStanding, IsScope, pattern_fault, IsExpanded};
 
 use flat_tree::FlatList;

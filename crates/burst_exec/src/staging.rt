@@ -7,7 +7,7 @@ ghost use Rattle.stil_ast.specs.Meaning.Signals.{names_of};
 ghost use Rattle.stil_ast.specs.declared.executive.ExecDecl.{ExecDecl};
 ghost use Rattle.wave_tables.specs.Waves.{waves_at};
 ghost use Rattle.burst_exec.specs.Booked.{AreBooked};
-ghost use Rattle.burst_exec.specs.Finding.{Finds};
+ghost use Rattle.answers.specs.Answers.{Finds};
 ghost use Rattle.burst_exec.specs.Staged.{names_fault, values_fault, waves_fault, ends_fault, staged_fault, order_of, tables_of, chains_of, AreValues, IsStageOf};
 
 use crate::chain_book::ChainBook;

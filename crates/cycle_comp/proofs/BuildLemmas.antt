@@ -31,7 +31,6 @@ use Rattle.cycle_comp.proofs.EntryLemmas.{entries-more}
 use Rattle.cycle_comp.specs.Written.{HasEachOnce, IsWritten}
 use Rattle.packed_code.specs.declared.instr.Instr.{Instr}
 use Rattle.stil_ast.specs.Data.Refusal.{StilRefusal}
-use Rattle.answers.specs.declared.short.Short.TheVariants as refusal
 use Rattle.cycle_comp.specs.Compiled.{chain_of}
 use Rattle.cycle_comp.specs.Working.{size_fault, rows_fault, IsSized, IsInside, IsMade, AreMade, IsBuilt}
 use Rattle.cycle_comp.specs.declared.building.Building.{Building}
@@ -297,8 +296,7 @@ built-push signals first measure before e code rows old new built at sized fine 
 -- a refusal by one executive is that of all behind it
 pub refused-more : (signals : ℕ) (before rest : List Executive) (e : Executive) (r : StilRefusal)
     → IsRefusal (compile_fault signals before e) r → IsRefusal (compile_faults signals before (e ∷ rest)) r
-refused-more signals before rest e refusal.NoMemory is = tt
-refused-more signals before rest e (refusal.Fault f) is = faults_some signals before rest e f is
+refused-more signals before rest e r is = λ f same. faults_some signals before rest e f (is f same)
 
 -- nothing is built yet
 pub built-none : (signals : ℕ) (b : Building) → b.tables.items ≡ [] → b.rows ≡ [] → b.execs.items ≡ [] → b.measure ≡ 0

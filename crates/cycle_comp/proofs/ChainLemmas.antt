@@ -7,7 +7,7 @@ use Rattle.std.proofs.lemmas.List.{length-append}
 use Rattle.std.proofs.lemmas.List.Quantifiers.{position-Some}
 use Rattle.std.proofs.lemmas.Option.{none-some}
 use Rattle.text_bytes.specs.Limits.{longest_name, most_cells}
-use Rattle.text_bytes.proofs.ListLemmas.{all_append}
+use Rattle.text_bytes.proofs.ListLemmas.{all_append, all_from}
 use Rattle.stil_ast.specs.Data.BlockForms.{is_chain_decl, is_chain_stmt, is_cells_decl, cell_count, chain_kind}
 use Rattle.stil_ast.specs.Data.Forms.{is_absent_or, is_range, is_line, is_name_ref, all_differ}
 use Rattle.stil_ast.specs.Data.Texts.{same, is_name, names_with}
@@ -23,9 +23,9 @@ use Rattle.stil_ast.proofs.FoundLemmas.{or_else-none}
 use Rattle.scan_chain.specs.Short.{is_short}
 use Rattle.tester_types.specs.declared.signal.Direction.TheVariants as direction
 use Rattle.packed_code.specs.Conditions.{IsName, IsChain}
-use Rattle.packed_code.proofs.Lists.{all_each}
+use Rattle.packed_code.proofs.Lists.{all_each, all_passing}
 use Rattle.cycle_comp.specs.Compiled.{chain_of}
-use Rattle.cycle_comp.proofs.EachLemmas.{all_weaker, all_map, all_flat_map, all_passing, all_both}
+use Rattle.cycle_comp.proofs.EachLemmas.{all_map, all_flat_map, all_both}
 use Rattle.burst_exec.proofs.WaveLemmas.{passed}
 use Rattle.cycle_comp.proofs.NameLemmas.{IsShown, name_is, shown_is, names_shown, short_name}
 use Rattle.cycle_comp.proofs.SignalLemmas.{refused_not}
@@ -43,7 +43,7 @@ cells_are names block c form fine =
     let refs = (and_parts (list_all is_name_ref c.cells) (nat_le (cell_count c.cells) most_cells)
     (and_parts (list_all is_name_ref c.cells && nat_le (cell_count c.cells) most_cells) (is_line c.line) form).0).0 in
     let short = (passed (list_all (λ (text : List ℕ). nat_le (length text) longest_name) (cells_of c)) _ _ fine).0 in
-    all_weaker (λ (text : List ℕ). IsShown text × (nat_le (length text) longest_name ≡ true)) IsName
+    all_from (λ (text : List ℕ). IsShown text × (nat_le (length text) longest_name ≡ true)) IsName
     (λ text is. short_name text is.0 (leb-true (length text) longest_name is.1)) (cells_of c)
     (all_both IsShown (λ (text : List ℕ). nat_le (length text) longest_name ≡ true) (cells_of c)
     (all_flat_map (λ (r : NameRef). names_with r.name r.range) (λ (r : NameRef). is_name_ref r ≡ true) IsShown

@@ -8,6 +8,8 @@ use Rattle.std.proofs.lemmas.Bool.{cases_lt, and_from, or_left, or_right, lt-ltb
 use Rattle.std.proofs.lemmas.List.{length-map, length-append}
 use Rattle.std.proofs.lemmas.List.Sums.{sum_by-append, sum_by-cons}
 use Rattle.text_bytes.specs.Limits.{most_waves}
+use Rattle.text_bytes.proofs.ListLemmas.{all_from}
+use Rattle.tester_types.specs.Waves.{key_in}
 use Rattle.tester_types.specs.declared.wave.Wave.{Wave}
 use Rattle.tester_types.specs.declared.wave.Table.{Table}
 use Rattle.stil_ast.specs.Meaning.ExecutiveData.{Executive, tables_of, rows_of, row_of, vectors_of}
@@ -19,7 +21,7 @@ use Rattle.stil_ast.proofs.FoundLemmas.{or_else-none}
 use Rattle.burst_exec.specs.Executives.{AreExecutives}
 use Rattle.signal_groups.specs.Table.{Table as SignalNames, table_of}
 use Rattle.signal_groups.proofs.BegunLemmas.{signals_few}
-use Rattle.wave_tables.specs.Waves.{AreInOrder, key_in}
+use Rattle.wave_tables.specs.Waves.{AreInOrder}
 use Rattle.packed_code.specs.declared.parts.CodeSignal.{CodeSignal}
 use Rattle.packed_code.specs.Program.{Exec, code_of}
 use Rattle.packed_code.specs.Conditions.{EachBehind, last_of, is_behind, wave_count, IsSignal, IsWave, IsTable, IsRow, IsExec, IsProgram}
@@ -28,7 +30,7 @@ use Rattle.cycle_comp.specs.Compiled.{signal_of, IsExecOf, IsCodeOf}
 use Rattle.cycle_comp.specs.OfText.{AreOfText}
 use Rattle.cycle_comp.specs.Working.{AreMade, IsBuilt, IsFit}
 use Rattle.cycle_comp.specs.declared.building.Building.{Building}
-use Rattle.cycle_comp.proofs.EachLemmas.{each_behind_cuts, all_cut, all_both, all_flat_map, all_weaker}
+use Rattle.cycle_comp.proofs.EachLemmas.{each_behind_cuts, all_cut, all_both, all_flat_map}
 use Rattle.cycle_comp.proofs.WaveLemmas.{IsGoodWave}
 use Rattle.cycle_comp.proofs.TableLemmas.{IsGoodTable}
 use Rattle.cycle_comp.proofs.SignalLemmas.{signals_are}
@@ -171,7 +173,7 @@ module _ (known : SignalNames) (executives : List Executive) (p : AreOfText know
   pub fits : All IsFit executives
   fits =
       All-from_recursion IsFit executives
-      (all_weaker (IsGoodExec (length names.signals)) IsFit (λ e good. record { chains = good.short }) executives goods)
+      (all_from (IsGoodExec (length names.signals)) IsFit (λ e good. record { chains = good.short }) executives goods)
 
   -- there are as many signals as the table has texts
   pub count_is : (others : Names) → known ≡ table_of others → length known.texts ≡ length others.signals

@@ -1,6 +1,6 @@
 -- Lists whose items are each as they should be, behind those before them or alone.
 use Rattle.std.proofs.Common.{◌≡◌, Bool, true, List, [], ◌∷◌, ◌++◌, map, Option, Some, None, refl, sym, ap, subst, append_assoc}
-use Rattle.std.proofs.lemmas.Bool.{and_parts, and_from}
+use Rattle.std.proofs.lemmas.Bool.{and_from}
 use Rattle.std.proofs.lemmas.List.{append-nil}
 use Rattle.std.specs.List.{list_all, flat_map, filter_map, cons_option, AllByRecursion}
 use Rattle.text_bytes.proofs.ListLemmas.{all_append}
@@ -24,12 +24,6 @@ all_cut {A} P items a b x all is = inside a (subst (λ (l : List A). AllByRecurs
     inside : (a : List A) → AllByRecursion P (a ++ x ∷ b) → P x
     inside [] all = all.0
     inside (y ∷ a) all = inside a all.1
-
--- what follows holds of each item too
-pub all_weaker : {A : Type 0} (Old New : A → Type 0) → ((a : A) → Old a → New a) → (xs : List A)
-    → AllByRecursion Old xs → AllByRecursion New xs
-all_weaker Old New one [] all = tt
-all_weaker Old New one (x ∷ xs) all = (one x all.0, all_weaker Old New one xs all.1)
 
 -- items that are mapped
 pub all_map : {A B : Type 0} (f : A → B) (Old : A → Type 0) (New : B → Type 0)
@@ -56,13 +50,6 @@ all_filter_map {A} {B} f Old New one (x ∷ xs) all = put (f x) refl (all_filter
         → AllByRecursion New (cons_option o (filter_map f xs))
     put None is rest = rest
     put (Some b) is rest = (one x b all.0 is, rest)
-
--- items that all pass a test
-pub all_passing : {A : Type 0} (test : A → Bool) (xs : List A) → list_all test xs ≡ true
-    → AllByRecursion (λ (x : A). test x ≡ true) xs
-all_passing test [] all = tt
-all_passing test (x ∷ xs) all =
-    let p = and_parts (test x) (list_all test xs) all in (p.0, all_passing test xs p.1)
 
 -- and back
 pub passing_all : {A : Type 0} (test : A → Bool) (xs : List A) → AllByRecursion (λ (x : A). test x ≡ true) xs

@@ -10,12 +10,12 @@ use Rattle.std.proofs.lemmas.List.{length-append}
 use Rattle.std.proofs.lemmas.List.Folds.{list_all-append}
 use Rattle.text_bytes.specs.Bytes.{is_printable}
 use Rattle.text_bytes.specs.Limits.{longest_name}
-use Rattle.text_bytes.proofs.ListLemmas.{all_reverse}
+use Rattle.text_bytes.proofs.ListLemmas.{all_reverse, all_from}
 use Rattle.stil_ast.specs.Data.Forms.{is_optional_name, is_absent_or, is_range}
 use Rattle.stil_ast.specs.Data.Texts.{is_name, upwards, indices, indexed, names_with}
 use Rattle.stil_ast.specs.declared.name.IndexRange.{IndexRange}
 use Rattle.packed_code.specs.Conditions.{IsText, IsName}
-use Rattle.cycle_comp.proofs.EachLemmas.{all_weaker, all_map}
+use Rattle.cycle_comp.proofs.EachLemmas.{all_map}
 use Rattle.cycle_comp.proofs.FoundLemmas.{all_below}
 
 -- a name has a byte at least, not too many, and each can be printed
@@ -85,7 +85,7 @@ indexed_shown name index is small = record {
 -- consecutive indices are small
 all_small : (from count : ℕ) → from + count ≤ 2 ^ 64 → AllByRecursion (λ (i : ℕ). i < 2 ^ 64) (upwards from count)
 all_small from count few =
-    all_weaker (λ (i : ℕ). i < from + count) (λ (i : ℕ). i < 2 ^ 64) (λ i low. omega (arith, few)) (upwards from count)
+    all_from (λ (i : ℕ). i < from + count) (λ (i : ℕ). i < 2 ^ 64) (λ i low. omega (arith, few)) (upwards from count)
     (all_below from count)
 
 indices_small : (r : IndexRange) → is_range r ≡ true → AllByRecursion (λ (i : ℕ). i < 2 ^ 64) (indices r)

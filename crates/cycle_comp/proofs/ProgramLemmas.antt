@@ -6,7 +6,7 @@ use Rattle.std.specs.Option.{option_map_or}
 use Rattle.std.proofs.lemmas.List.{length-map, length-append, append-nil}
 use Rattle.std.proofs.lemmas.Option.{get_or_from_slice_get, slice_get_within}
 use Rattle.std.proofs.lemmas.Grind.{flat_map-append}
-use Rattle.text_bytes.proofs.ListLemmas.{all_append, all_got}
+use Rattle.text_bytes.proofs.ListLemmas.{all_append, all_got, all_from}
 use Rattle.tester_types.specs.declared.wave.Wave.{Wave}
 use Rattle.tester_types.specs.declared.wave.Table.{Table}
 use Rattle.stil_ast.specs.Meaning.State.{Vector}
@@ -26,7 +26,7 @@ use Rattle.wave_tables.specs.Waves.{AreInOrder}
 use Rattle.cycle_comp.specs.Entries.{IsEntry}
 use Rattle.cycle_comp.specs.Compiled.{chain_of, least_of, read_cycle, IsExecOf}
 use Rattle.cycle_comp.specs.Working.{IsInside, IsMade, AreMade}
-use Rattle.cycle_comp.proofs.EachLemmas.{all_weaker, all_map, all_cut, all_both}
+use Rattle.cycle_comp.proofs.EachLemmas.{all_map, all_cut, all_both}
 use Rattle.cycle_comp.proofs.TableLemmas.{IsGoodTable}
 use Rattle.cycle_comp.proofs.ChainLemmas.{IsGoodChain, code_chains}
 use Rattle.cycle_comp.proofs.RowLemmas.{IsGoodRow}
@@ -79,7 +79,7 @@ module _ (signals : ℕ) (tables : List Table) (rows : List (List ℕ)) where
         IsHere (λ v entry. low_of v entry) (vectors_of signals e) (Means m.instrs) made.entries
         (vectors_runnable signals e made.fine)
         (runs_back (λ (entry : Entry). entry.table < first + length e.tables) m.instrs
-        (all_weaker (IsInside (first + length e.tables)) (Runs (λ (entry : Entry). entry.table < first + length e.tables))
+        (all_from (IsInside (first + length e.tables)) (Runs (λ (entry : Entry). entry.table < first + length e.tables))
         only_table m.instrs made.inside))
       where
         only_table : (i : Instr) → IsInside (first + length e.tables) i
@@ -107,7 +107,7 @@ module _ (signals : ℕ) (tables : List Table) (rows : List (List ℕ)) where
 
     -- its vectors can be read again
     pub read : AllByRecursion (IsRead first e.tables tables) (vectors_of signals e)
-    read = all_weaker IsHere (IsRead first e.tables tables) read_one (vectors_of signals e) here
+    read = all_from IsHere (IsRead first e.tables tables) read_one (vectors_of signals e) here
 
     -- what a code wants of a cycle
     abbrev IsWanted : Entry → Type 0
@@ -145,7 +145,7 @@ module _ (signals : ℕ) (tables : List Table) (rows : List (List ℕ)) where
     -- its instructions
     instrs_are : AllByRecursion (IsInstr tables rows) m.instrs
     instrs_are =
-        all_weaker (λ (i : Instr). Runs IsWanted i × IsInside (first + length e.tables) i) (IsInstr tables rows) one m.instrs
+        all_from (λ (i : Instr). Runs IsWanted i × IsInside (first + length e.tables) i) (IsInstr tables rows) one m.instrs
         (all_both (Runs IsWanted) (IsInside (first + length e.tables)) m.instrs
         (each_run IsWanted m.instrs made.whole
         (entries_all first rows IsHere IsWanted (λ v entry. wanted v entry) (vectors_of signals e) (Means m.instrs)

@@ -18,8 +18,9 @@ use Rattle.stil_ast.specs.declared.fault.StilFault.{StilFault}
 use Rattle.signal_groups.proofs.LookupLemmas.{same-sym}
 use Rattle.packed_code.specs.declared.parts.CodeSignal.{CodeSignal}
 use Rattle.packed_code.specs.Conditions.{EachBehind, IsSignal, is_named}
+use Rattle.packed_code.proofs.Lists.{all_passing}
 use Rattle.cycle_comp.specs.Compiled.{signal_of}
-use Rattle.cycle_comp.proofs.EachLemmas.{all_flat_map, all_passing}
+use Rattle.cycle_comp.proofs.EachLemmas.{all_flat_map}
 use Rattle.burst_exec.proofs.WaveLemmas.{passed}
 use Rattle.cycle_comp.proofs.NameLemmas.{IsShown, shown_is, names_shown, short_name}
 

@@ -10,8 +10,8 @@ use Rattle.tester_types.specs.declared.signal.Direction.{Direction}
 use Rattle.scan_chain.specs.Held.{chain_in, chains_in}
 use Rattle.scan_chain.specs.Short.{is_short}
 use Rattle.scan_chain.specs.declared.chain.ScanChain.{ScanChain}
+use Rattle.wave_tables.proofs.TakenLemmas.{front_found}
 use Rattle.packed_code.specs.declared.parts.CodeSignal.{CodeSignal}
-use Rattle.burst_exec.proofs.ListLemmas.{take_next}
 use Rattle.cycle_comp.specs.Compiled.{signal_of}
 
 -- a chain of short ones is short
@@ -41,7 +41,7 @@ signal-next signals i text dir named directed =
     let code : signal_of a.0 ≡ record { name = text; direction = dir } =
     ap (λ (t : List ℕ). record { name = t; direction = a.0.direction }) a.2
     ∙ ap (λ (d : Direction). record { name = text; direction = d }) (ap (λ (s : Signal). s.direction) (sym one) ∙ b.2) in
-    ap (map signal_of) (take_next signals i a.0 a.1)
+    ap (map signal_of) (front_found signals i a.0 a.1)
     ∙ (map-append signal_of (take i signals) (a.0 ∷ [])
     ∙ ap (λ (s : CodeSignal). map signal_of (take i signals) ++ s ∷ []) code)
   where

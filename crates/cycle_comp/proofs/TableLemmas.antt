@@ -5,7 +5,7 @@ use Rattle.std.specs.List.{list_all, enumerate_from, AllByRecursion}
 use Rattle.std.proofs.lemmas.Bool.{and_parts, leb-true}
 use Rattle.std.proofs.lemmas.Option.{none-some}
 use Rattle.text_bytes.specs.Limits.{most_waves, longest_period}
-use Rattle.text_bytes.proofs.ListLemmas.{all_got}
+use Rattle.text_bytes.proofs.ListLemmas.{all_got, all_from}
 use Rattle.stil_ast.specs.Data.BlockForms.{is_signal_waves, is_table_decl}
 use Rattle.stil_ast.specs.Data.Forms.{is_absent_or, is_line, is_named, is_quoted}
 use Rattle.stil_ast.specs.Data.Texts.{is_name}
@@ -20,7 +20,7 @@ use Rattle.stil_ast.specs.declared.timing.TableDecl.{TableDecl}
 use Rattle.stil_ast.proofs.FoundLemmas.{or_else-none}
 use Rattle.tester_types.specs.declared.wave.Table.{Table}
 use Rattle.packed_code.specs.Conditions.{IsName}
-use Rattle.cycle_comp.proofs.EachLemmas.{all_weaker, all_map, all_flat_map, all_both}
+use Rattle.cycle_comp.proofs.EachLemmas.{all_map, all_flat_map, all_both}
 use Rattle.burst_exec.proofs.WaveLemmas.{passed}
 use Rattle.cycle_comp.proofs.EventLemmas.{timed}
 use Rattle.cycle_comp.proofs.FoundLemmas.{first_all, all_under, numbered_at}
@@ -137,7 +137,7 @@ module _ {V : Type 0} (t : Timed V) (before : ℕ) where
           subst (λ (n : ℕ). first_in (late_waveform t has.period heir all) (own_waveforms t.names n d) ≡ None) zeroed
           (all_under (λ n d. first_in (late_waveform t has.period heir all) (own_waveforms t.names n d) ≡ None) 0
           t.tables table d (first_all _ (enumerate_from 0 t.tables) has.inherited) at) in
-          all_weaker
+          all_from
           (λ (w : Waveform). IsOwn t table its.period w × (late_waveform t has.period heir all w ≡ None))
           (IsJudged t heir has.period all)
           (λ w is. record {

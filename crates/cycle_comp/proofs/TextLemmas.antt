@@ -35,8 +35,9 @@ use Rattle.wave_tables.proofs.CountLemmas.{waves_counted}
 use Rattle.wave_tables.proofs.OrderLemmas.{waves_in_order}
 use Rattle.burst_exec.proofs.WaveLemmas.{few_waves}
 use Rattle.packed_code.specs.Conditions.{IsText, wave_count}
+use Rattle.packed_code.proofs.Lists.{all_passing}
 use Rattle.burst_exec.specs.Executives.{IsExecutive, AreExecutives}
-use Rattle.cycle_comp.proofs.EachLemmas.{all_map, all_flat_map, all_passing, passing_all}
+use Rattle.cycle_comp.proofs.EachLemmas.{all_map, all_flat_map, passing_all}
 use Rattle.cycle_comp.proofs.NameLemmas.{title_is}
 use Rattle.cycle_comp.proofs.TableLemmas.{IsGoodTable, good_tables}
 use Rattle.cycle_comp.proofs.ChainLemmas.{IsGoodChain, chains_are, chains_few}

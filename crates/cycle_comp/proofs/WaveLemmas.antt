@@ -23,7 +23,8 @@ use Rattle.stil_ast.specs.declared.timing.TableDecl.{TableDecl}
 use Rattle.stil_ast.proofs.FoundLemmas.{or_else-none}
 use Rattle.tester_types.specs.declared.wave.Wave.{Wave}
 use Rattle.packed_code.specs.Conditions.{EachBehind, IsEvent}
-use Rattle.cycle_comp.proofs.EachLemmas.{all_map, all_flat_map, all_filter_map, all_passing, all_both}
+use Rattle.packed_code.proofs.Lists.{all_passing}
+use Rattle.cycle_comp.proofs.EachLemmas.{all_map, all_flat_map, all_filter_map, all_both}
 use Rattle.burst_exec.proofs.WaveLemmas.{passed}
 use Rattle.cycle_comp.proofs.EventLemmas.{timed, events_each}
 use Rattle.cycle_comp.proofs.FoundLemmas.{first_all, found_all, any_at, all_below, fewer}

@@ -12,7 +12,7 @@ ghost use Rattle.signal_groups.specs.Table.{table_of};
 ghost use Rattle.text_bytes.specs.Limits.{most_measure};
 ghost use Rattle.packed_code.specs.Whole.{IsWhole};
 ghost use Rattle.cycle_comp.specs.Written.{IsWritten};
-ghost use Rattle.burst_exec.specs.Finding.{Finds};
+ghost use Rattle.answers.specs.Answers.{Finds};
 ghost use Rattle.cycle_comp.specs.Compiled.{IsCodeOf, code_fault};
 ghost use Rattle.cycle_comp.specs.OfText.{AreOfText};
 ghost use Rattle.cycle_comp.specs.Working.{HasPut, IsBuilt, IsFit, rows_fault};

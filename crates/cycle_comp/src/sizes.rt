@@ -5,7 +5,7 @@ ghost use Rattle.text_bytes.specs.Limits.{most_measure, most_cycles};
 ghost use Rattle.packed_code.specs.Count.{capped};
 ghost use Rattle.cycle_comp.specs.Counting.{vector_count};
 ghost use Rattle.cycle_comp.specs.Writing.{flats_measure};
-ghost use Rattle.burst_exec.specs.Finding.{Finds};
+ghost use Rattle.answers.specs.Answers.{Finds};
 ghost use Rattle.cycle_comp.specs.Working.{size_fault, IsSized};
 
 use crate::counting::cycles;

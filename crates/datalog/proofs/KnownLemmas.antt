@@ -16,10 +16,11 @@ use Rattle.strobe_check.specs.Extent.{Extent, extents}
 use Rattle.strobe_check.specs.Fails.{meets, fail_of, fails_of, at_place, bound_signals, fails}
 use Rattle.strobe_check.proofs.PlaceLemmas.{bound_from-below}
 use Rattle.text_bytes.proofs.ListLemmas.{all_append, all_from}
+use Rattle.packed_code.proofs.Lists.{all_of_any, all_mapped, all_flat}
 use Rattle.site_meaning.specs.Playing.{Stand, Going, Along, Whose, PlayedMoment, PlayedCycle, is_bound, bound_of, along_of, after_moment, entry_of, entries_in, moments_in, moments_played, whose_next, played_cycle, after_cycle, starting}
 use Rattle.site_meaning.specs.Part.{Part, lot_in, order_in, stand_for}
 use Rattle.site_meaning.specs.Trials.{Batch, Cut, uncut, live, touch, Lost, Outcome, played, after_cycles, fails_in, has_fails, in_first, pieces, of_exec, tried, execs_of, more_in, batches_of, cycles_in, ended, blamed, before_order, by_plan, comes_first, is_hit, behind_cycle, lost_at, reached, touched, with_cut, trial}
-use Rattle.site_meaning.proofs.AllLemmas.{All-of_any, All-map, All-flat_map, All-take}
+use Rattle.site_meaning.proofs.AllLemmas.{All-take}
 
 -- ---- the fails of a cycle
 
@@ -62,9 +63,9 @@ fails_known : (bound : List Bool) (entries : List Entry)
     → AllByRecursion (λ (fail : Fail). fail.signal < length bound) (fails bound entries)
 unfolding fails
 fails_known bound entries =
-    All-flat_map IsLow at (range_with_len 0 (length entries))
-    (All-of_any (λ (place : ℕ). AllByRecursion IsLow (at place)) (range_with_len 0 (length entries))
-    (λ place. All-flat_map IsLow (λ (signal : ℕ). at_place place (fails_of signal entries)) (bound_signals bound)
+    all_flat IsLow at (range_with_len 0 (length entries))
+    (all_of_any (λ (place : ℕ). AllByRecursion IsLow (at place)) (range_with_len 0 (length entries))
+    (λ place. all_flat IsLow (λ (signal : ℕ). at_place place (fails_of signal entries)) (bound_signals bound)
     (all_from (λ (signal : ℕ). signal < length bound)
     (λ (signal : ℕ). AllByRecursion IsLow (at_place place (fails_of signal entries)))
     (λ signal low. place_fails (length bound) place signal entries low) (bound_signals bound) low_signals)))
@@ -152,7 +153,7 @@ IsKnownBatch device batch = AllByRecursion (IsKnownCycle device) batch.cycles
 exec_known : (stand : Stand) (more exec : ℕ) (going : Going) (cycles : List Cycle)
     → AllByRecursion (IsKnownBatch stand.device) (of_exec exec (pieces more more (played stand exec going cycles)))
 exec_known stand more exec going cycles =
-    All-map (IsKnownBatch stand.device) (λ (part : List PlayedCycle). record { exec = exec; cycles = part })
+    all_mapped (IsKnownBatch stand.device) (λ (part : List PlayedCycle). record { exec = exec; cycles = part })
     (pieces more more (played stand exec going cycles))
     (all_pieces (IsKnownCycle stand.device) more more (played stand exec going cycles) (played_known stand exec going cycles))
 
@@ -187,14 +188,14 @@ batches_known part die number =
 cycles_known : (device : Device) (batches : List Batch) → AllByRecursion (IsKnownBatch device) batches
     → AllByRecursion (IsKnownCycle device) (cycles_in batches)
 unfolding cycles_in
-cycles_known device batches all = All-flat_map (IsKnownCycle device) (λ (batch : Batch). batch.cycles) batches all
+cycles_known device batches all = all_flat (IsKnownCycle device) (λ (batch : Batch). batch.cycles) batches all
 
 -- the fails of a try that ended behind batches
 ended_known : (device : Device) (batches : List Batch) → AllByRecursion (IsKnownBatch device) batches
     → AreKnown device (fails_in (cycles_in batches))
 unfolding fails_in
 ended_known device batches all =
-    All-flat_map (λ (fail : Fail). fail.signal < length device.binds) (λ (cycle : PlayedCycle). cycle.fails) (cycles_in batches)
+    all_flat (λ (fail : Fail). fail.signal < length device.binds) (λ (cycle : PlayedCycle). cycle.fails) (cycles_in batches)
     (all_from (IsKnownCycle device) (λ (cycle : PlayedCycle). AreKnown device cycle.fails) (λ cycle known. known.fails_are)
     (cycles_in batches) (cycles_known device batches all))
 

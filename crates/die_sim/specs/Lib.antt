@@ -9,6 +9,7 @@ pub mod Readers
 pub mod Pending
 pub mod Walk
 pub mod Waiting
+pub mod Settling
 pub mod Kept
 pub mod Socket
 pub mod Tape

@@ -5,7 +5,6 @@ use Rattle.tester_types.specs.declared.level.Level.TheVariants.{Zero, One, X, Z}
 use Rattle.bench_net.specs.declared.gate.Driver.{Driver}
 use Rattle.bench_net.specs.declared.gate.Driver.TheVariants.{Input, Dff, Gate}
 use Rattle.bench_net.specs.Wiring.{driver_at, gate_at}
-use Rattle.bench_net.specs.Circuit.{Circuit, IsWhole}
 use Rattle.die_sim.specs.declared.image.StuckAt.{StuckAt}
 use Rattle.die_sim.specs.declared.image.Bind.{Bind}
 use Rattle.die_sim.specs.declared.image.Bind.TheVariants as bind
@@ -37,13 +36,6 @@ same_level Zero b = is_zero b
 same_level One b = is_one b
 same_level X b = is_unknown b
 same_level Z b = is_off b
-
--- the tables have an entry for each net
-pub record AreTables (c : Circuit) (fixed : List (Option Level)) (held levels : List Level) : Type 0 where
-  pub whole : IsWhole c
-  pub fixed_count : length fixed ≡ length c.net.names
-  pub held_count : length held ≡ length c.net.names
-  pub levels_count : length levels ≡ length c.net.names
 
 -- a net has got a level; where it is another than before, the gates that read it are pending
 pub record Puts (drivers : List Driver) (n : ℕ) (x : Level) (old new : List Level)

@@ -16,6 +16,7 @@ use crate::readers::Readers;
 use crate::settle::{activate_all, refresh_driven, refresh_each, settle_first, walk};
 use crate::steps::Steps;
 use crate::waiting::Waiting;
+use crate::wiring::{Nets, Wiring};
 use bench_net::Netlist;
 use std::alloc::{AllocError, Global};
 use std::marker::Model;
@@ -25,48 +26,26 @@ use tester_types::{Drive, Level, NoMemory};
 /// A die as it is after each moment.
 #[derive(Drop)]
 pub struct DieState {
-    net: Arc<Netlist>,
-    bind: Arc<Binding>,
-    cells: Cells,
-    readers: Readers,
-    fixed: Vec<Option<Level>>,
+    wiring: Wiring,
     clock: Level,
     held: Vec<Level>,
-    levels: Vec<Level>,
-    pending: Pending,
-    waiting: Waiting,
+    nets: Nets,
     list: Vec<u32>,
 }
 
 impl Model for DieState {
-    ghost use Rattle.std.specs.Arc.{arc_value};
     ghost use Rattle.die_sim.specs.Die.{Die};
-    ghost use Rattle.die_sim.specs.Kept.{IsKept};
+    ghost use Rattle.die_sim.specs.Kept.{device_in, IsKept};
 
     ghost Value = { Die };
 
     ghost view = { λ d. record {
-      device = record {
-        circuit = arc_value d.net;
-        clock = (arc_value d.bind).clock;
-        binds =
-            (arc_value d.bind).nets;
-        fixed = d.fixed.items;
-      };
+      device = device_in d.wiring;
       state = record
-          { clock = d.clock; held = d.held.items; levels = d.levels.items };
+          { clock = d.clock; held = d.held.items; levels = d.nets.levels.items };
     } };
 
-    ghost invariant = { λ d. IsKept (record {
-      circuit = arc_value d.net;
-      clock = (arc_value d.bind).clock;
-      binds =
-          (arc_value d.bind).nets;
-      fixed = d.fixed.items;
-    })
-        (record { clock = d.clock; held = d.held.items; levels = d.levels.items })
-        d.pending d.waiting d.list.items d.cells.cells.items d.cells.pins.items
-        d.readers.starts.items d.readers.places.items };
+    ghost invariant = { λ d. IsKept d.wiring d.held.items d.nets d.list.items };
 }
 
 impl DieState {
@@ -76,37 +55,34 @@ impl DieState {
     {
         let net = Arc::try_clone(&die.net)?;
         let bind = Arc::try_clone(&die.bind)?;
-        let nets = net.nets();
-        let fixed = fixed_levels(alloc, nets, die.faults.as_slice())?;
-        let held = unknown_levels(alloc, nets)?;
-        let mut levels = first_levels(alloc, fixed.as_slice())?;
-        let mut pending = Pending::all(alloc, &net)?;
+        let count = net.nets();
+        let fixed = fixed_levels(alloc, count, die.faults.as_slice())?;
+        let held = unknown_levels(alloc, count)?;
+        let levels = first_levels(alloc, fixed.as_slice())?;
+        let pending = Pending::all(alloc, &net)?;
         let mut waiting = Waiting::new(alloc, &net)?;
-        let list = no_nets(alloc, nets)?;
+        let list = no_nets(alloc, count)?;
         let readers = Readers::new(alloc, &net, &pending)?;
         let cells = gates_of(alloc, &net, fixed.as_slice())?;
         waiting.wake_all();
-        settle_first(
-            &net,
-            &cells,
-            &readers,
-            fixed.as_slice(),
-            held.as_slice(),
-            &mut levels,
-            &mut pending,
-            &mut waiting,
-        );
-        Ok(DieState {
+        let wiring = Wiring {
             net,
             bind,
             cells,
             readers,
             fixed,
-            clock: Level::X,
-            held,
+        };
+        let mut nets = Nets {
             levels,
             pending,
             waiting,
+        };
+        settle_first(&wiring, held.as_slice(), &mut nets);
+        Ok(DieState {
+            wiring,
+            clock: Level::X,
+            held,
+            nets,
             list,
         })
     }
@@ -117,26 +93,17 @@ impl DieState {
         ensures device { self.new.device ≡ device_of die.now }
         ensures fresh { IsFresh self.new.device self.new.state }
     {
-        let net: &Netlist = &self.net;
-        fix_anew(&mut self.fixed, die.faults.as_slice());
-        let fixed = self.fixed.as_slice();
-        self.cells.put_rows(net, fixed);
+        let net: &Netlist = &self.wiring.net;
+        fix_anew(&mut self.wiring.fixed, die.faults.as_slice());
+        let fixed = self.wiring.fixed.as_slice();
+        self.wiring.cells.put_rows(net, fixed);
         forget(&mut self.held);
-        put_first(fixed, &mut self.levels);
-        activate_all(net, &mut self.pending);
-        self.waiting.wake_all();
+        put_first(fixed, &mut self.nets.levels);
+        activate_all(net, &mut self.nets.pending);
+        self.nets.waiting.wake_all();
         self.clock = Level::X;
         let held = self.held.as_slice();
-        settle_first(
-            net,
-            &self.cells,
-            &self.readers,
-            fixed,
-            held,
-            &mut self.levels,
-            &mut self.pending,
-            &mut self.waiting,
-        );
+        settle_first(&self.wiring, held, &mut self.nets);
     }
 
     /// One moment: the flip-flops capture where the clock rises, the inputs take their levels, and all settles. Each
@@ -163,49 +130,20 @@ impl DieState {
             → IsSpread self.old.device.circuit.net.drivers self.old.state.levels self.new.state.levels set
             → result ≤ count_by set self.old.device.circuit.order }
     {
-        let net: &Netlist = &self.net;
-        let fixed = self.fixed.as_slice();
-        let bind: &Binding = &self.bind;
+        let net: &Netlist = &self.wiring.net;
+        let bind: &Binding = &self.wiring.bind;
         let clock = clock_after(bind, self.clock, drives);
         let edge = clock_edge(self.clock, clock);
-        let count = self.waiting.take(edge, &mut self.list);
-        let nets = &self.list[..count];
-        let before = self.levels.as_slice();
-        capture_each(net, edge, nets, before, &mut self.held);
+        let count = self.nets.waiting.take(edge, &mut self.list);
+        let list = &self.list[..count];
+        let before = self.nets.levels.as_slice();
+        capture_each(net, edge, list, before, &mut self.held);
         put_all(&mut self.held, bind, drives);
         self.clock = clock;
         let held = self.held.as_slice();
-        refresh_each(
-            net,
-            &self.readers,
-            fixed,
-            held,
-            &mut self.levels,
-            &mut self.pending,
-            &mut self.waiting,
-            nets,
-        );
-        refresh_driven(
-            net,
-            &self.readers,
-            fixed,
-            held,
-            &mut self.levels,
-            &mut self.pending,
-            &mut self.waiting,
-            bind,
-            drives,
-        );
-        walk(
-            net,
-            &self.cells,
-            &self.readers,
-            fixed,
-            held,
-            &mut self.levels,
-            &mut self.pending,
-            &mut self.waiting,
-        )
+        refresh_each(&self.wiring, held, &mut self.nets, list);
+        refresh_driven(&self.wiring, held, &mut self.nets, drives);
+        walk(&self.wiring, held, &mut self.nets)
     }
 
     /// The level of a signal that is bound to a net, or is the clock.
@@ -213,10 +151,10 @@ impl DieState {
         requires { (is_clock self.now.device.clock signal ≡ true) ⊎ IsBoundTo (bind_at self.now.device.binds signal) }
         ensures { result ≡ level_of self.now.device self.now.state signal }
     {
-        match self.bind.bind_at(signal) {
+        match self.wiring.bind.bind_at(signal) {
             Bind::Free => self.clock,
-            Bind::Input(n) => self.levels[n as usize],
-            Bind::Output(n) => self.levels[n as usize],
+            Bind::Input(n) => self.nets.levels[n as usize],
+            Bind::Output(n) => self.nets.levels[n as usize],
         }
     }
 }

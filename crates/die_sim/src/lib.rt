@@ -18,6 +18,7 @@ mod table;
 mod tape;
 mod tape_socket;
 mod waiting;
+mod wiring;
 
 pub use die::DieState;
 pub use failing_socket::FailingSocket;

@@ -1,5 +1,6 @@
 //! Settling: each net gets the level that it must have, and of the gates those are evaluated that a change reaches.
 ghost use Rattle.std.specs.Prelude.{◌≡◌, ℕ, ◌<◌, ◌≤◌, Bool, true, false, List, length, map, replicate, unwrap_or, All, count_by, slice_index};
+ghost use Rattle.std.specs.Arc.{arc_value};
 ghost use Rattle.tester_types.specs.declared.level.Level.{Level};
 ghost use Rattle.tester_types.specs.declared.level.Level.TheVariants.{X};
 ghost use Rattle.bench_net.specs.Wiring.{driver_at, gate_at};
@@ -7,16 +8,12 @@ ghost use Rattle.bench_net.specs.Circuit.{IsWhole};
 ghost use Rattle.die_sim.specs.Gates.{level_at};
 ghost use Rattle.die_sim.specs.Die.{own_level, Settled, IsNetBind, bind_at};
 ghost use Rattle.die_sim.specs.Pending.{is_pending, HasPlace, SameSeats, AreSeats, ActivatesEach, ActivatesReaders};
-ghost use Rattle.die_sim.specs.Cells.{AreCells};
-ghost use Rattle.die_sim.specs.Readers.{AreReaderPlaces};
-ghost use Rattle.die_sim.specs.Waiting.{AreWakers, AreAtRest};
-ghost use Rattle.die_sim.specs.Walk.{same_level, is_flip_flop, AreTables, Puts, Waits, Refreshes, HaveLevels, HasLevel, HaveDriven, Carries, Visits};
+ghost use Rattle.die_sim.specs.Walk.{same_level, is_flip_flop, HaveLevels, HasLevel, HaveDriven, Carries};
+ghost use Rattle.die_sim.specs.Settling.{circuit_of, drivers_of, IsWiring, AreSeated, AreNets, StaysAtRest, GatesWait, SourcesFit, PutsNet, RefreshesNets, VisitsGate};
 
-use crate::cells::Cells;
-use crate::image::{Bind, Binding};
+use crate::image::Bind;
 use crate::pending::Pending;
-use crate::readers::Readers;
-use crate::waiting::Waiting;
+use crate::wiring::{Nets, Wiring};
 use bench_net::Netlist;
 use tester_types::{Drive, Level};
 
@@ -61,44 +58,31 @@ fn activate_places(pending: &mut Pending, places: &[u32])
 }
 
 /// The gates that read a net are pending.
-fn activate_readers(net: &Netlist, readers: &Readers, pending: &mut Pending, n: u32)
-    requires whole { IsWhole net.now }
-    requires readers { AreReaderPlaces net.now readers.now.starts.items readers.now.places.items }
-    requires seats { AreSeats net.now.order pending.old }
-    requires within { n < length net.now.net.names }
-    ensures pending { ActivatesReaders net.now.net.drivers n pending.old pending.new }
-    ensures seats { AreSeats net.now.order pending.new }
+fn activate_readers(wiring: &Wiring, pending: &mut Pending, n: u32)
+    requires wiring { IsWiring wiring.now }
+    requires seats { AreSeats (circuit_of wiring.now).order pending.old }
+    requires within { n < length (circuit_of wiring.now).net.names }
+    ensures pending { ActivatesReaders (drivers_of wiring.now) n pending.old pending.new }
+    ensures seats { AreSeats (circuit_of wiring.now).order pending.new }
 {
-    activate_places(pending, readers.at(n))
+    activate_places(pending, wiring.readers.at(n))
 }
 
 /// Gives a net a level. Where that is another than before, the gates are pending that read it, and the flip-flops wait.
-fn put_level(
-    net: &Netlist,
-    readers: &Readers,
-    levels: &mut Vec<Level>,
-    pending: &mut Pending,
-    waiting: &mut Waiting,
-    n: u32,
-    level: Level,
-)
-    requires whole { IsWhole net.now }
-    requires readers { AreReaderPlaces net.now readers.now.starts.items readers.now.places.items }
-    requires levels { length levels.old.items ≡ length net.now.net.names }
-    requires seats { AreSeats net.now.order pending.old }
-    requires wakers { AreWakers net.now.net.drivers waiting.old }
-    requires within { n < length net.now.net.names }
-    ensures puts { Puts net.now.net.drivers n level levels.old.items levels.new.items pending.old pending.new }
-    ensures seats { AreSeats net.now.order pending.new }
-    ensures rest { (held : List Level) → AreAtRest net.now.net.drivers held levels.old.items waiting.old
-        → AreAtRest net.now.net.drivers held levels.new.items waiting.new }
+fn put_level(wiring: &Wiring, nets: &mut Nets, n: u32, level: Level)
+    requires wiring { IsWiring wiring.now }
+    requires seated { AreSeated wiring.now nets.old }
+    requires within { n < length (circuit_of wiring.now).net.names }
+    ensures puts { PutsNet wiring.now n level nets.old nets.new }
+    ensures seated { AreSeated wiring.now nets.new }
+    ensures rest { StaysAtRest wiring.now nets.old nets.new }
 {
-    if same_level(levels[n as usize], level) {
+    if same_level(nets.levels[n as usize], level) {
         return;
     }
-    levels[n as usize] = level;
-    activate_readers(net, readers, pending, n);
-    waiting.wake(n);
+    nets.levels[n as usize] = level;
+    activate_readers(wiring, &mut nets.pending, n);
+    nets.waiting.wake(n);
 }
 
 /// The level that an input or a flip-flop must have.
@@ -111,235 +95,126 @@ fn own_level(fixed: &[Option<Level>], held: &[Level], n: u32) -> Level
 }
 
 /// Gives an input or a flip-flop its level.
-fn refresh_net(
-    net: &Netlist,
-    readers: &Readers,
-    fixed: &[Option<Level>],
-    held: &[Level],
-    levels: &mut Vec<Level>,
-    pending: &mut Pending,
-    waiting: &mut Waiting,
-    n: u32,
-)
-    requires tables { AreTables net.now fixed.now held.now levels.old.items }
-    requires readers { AreReaderPlaces net.now readers.now.starts.items readers.now.places.items }
-    requires waits { Waits net.now.net.drivers fixed.now held.now levels.old.items pending.old }
-    requires seats { AreSeats net.now.order pending.old }
-    requires rest { AreAtRest net.now.net.drivers held.now levels.old.items waiting.old }
-    requires within { n < length net.now.net.names }
-    requires source { gate_at net.now.net.drivers n ≡ false }
-    ensures refreshes { Refreshes net.now.net.drivers fixed.now held.now levels.old.items levels.new.items pending.old
-        pending.new }
-    ensures here { level_at levels.new.items n ≡ own_level fixed.now held.now n }
-    ensures seats { AreSeats net.now.order pending.new }
-    ensures rest { AreAtRest net.now.net.drivers held.now levels.new.items waiting.new }
+fn refresh_net(wiring: &Wiring, held: &[Level], nets: &mut Nets, n: u32)
+    requires wiring { IsWiring wiring.now }
+    requires nets { AreNets wiring.now held.now nets.old }
+    requires waits { GatesWait wiring.now held.now nets.old }
+    requires within { n < length (circuit_of wiring.now).net.names }
+    requires source { gate_at (drivers_of wiring.now) n ≡ false }
+    ensures refreshes { RefreshesNets wiring.now held.now nets.old nets.new }
+    ensures here { level_at nets.new.levels.items n ≡ own_level wiring.now.fixed.items held.now n }
+    ensures nets { AreNets wiring.now held.now nets.new }
 {
-    let level = own_level(fixed, held, n);
-    put_level(net, readers, levels, pending, waiting, n, level);
+    let level = own_level(wiring.fixed.as_slice(), held, n);
+    put_level(wiring, nets, n, level);
 }
 
 /// Gives these flip-flops their levels, and the gates are pending that read one whose level changed.
-pub(crate) fn refresh_each(
-    net: &Netlist,
-    readers: &Readers,
-    fixed: &[Option<Level>],
-    held: &[Level],
-    levels: &mut Vec<Level>,
-    pending: &mut Pending,
-    waiting: &mut Waiting,
-    nets: &[u32],
-)
-    requires tables { AreTables net.now fixed.now held.now levels.old.items }
-    requires readers { AreReaderPlaces net.now readers.now.starts.items readers.now.places.items }
-    requires waits { Waits net.now.net.drivers fixed.now held.now levels.old.items pending.old }
-    requires seats { AreSeats net.now.order pending.old }
-    requires rest { AreAtRest net.now.net.drivers held.now levels.old.items waiting.old }
-    requires nets { (k : ℕ) → k < length nets.now
-        → is_flip_flop (driver_at net.now.net.drivers (slice_index nets.now k)) ≡ true }
-    ensures refreshes { Refreshes net.now.net.drivers fixed.now held.now levels.old.items levels.new.items pending.old
-        pending.new }
-    ensures each { HaveLevels fixed.now held.now levels.new.items nets.now }
-    ensures seats { AreSeats net.now.order pending.new }
-    ensures rest { AreAtRest net.now.net.drivers held.now levels.new.items waiting.new }
+pub(crate) fn refresh_each(wiring: &Wiring, held: &[Level], nets: &mut Nets, list: &[u32])
+    requires wiring { IsWiring wiring.now }
+    requires nets { AreNets wiring.now held.now nets.old }
+    requires waits { GatesWait wiring.now held.now nets.old }
+    requires list { (k : ℕ) → k < length list.now
+        → is_flip_flop (driver_at (drivers_of wiring.now) (slice_index list.now k)) ≡ true }
+    ensures refreshes { RefreshesNets wiring.now held.now nets.old nets.new }
+    ensures each { HaveLevels wiring.now.fixed.items held.now nets.new.levels.items list.now }
+    ensures nets { AreNets wiring.now held.now nets.new }
 {
-    for n in nets {
-        refresh_net(net, readers, fixed, held, levels, pending, waiting, *n);
+    for n in list {
+        refresh_net(wiring, held, nets, *n);
     }
 }
 
 /// Gives the input its level that a signal is bound to.
-fn refresh_bound(
-    net: &Netlist,
-    readers: &Readers,
-    fixed: &[Option<Level>],
-    held: &[Level],
-    levels: &mut Vec<Level>,
-    pending: &mut Pending,
-    waiting: &mut Waiting,
-    bind: Bind,
-)
-    requires tables { AreTables net.now fixed.now held.now levels.old.items }
-    requires readers { AreReaderPlaces net.now readers.now.starts.items readers.now.places.items }
-    requires waits { Waits net.now.net.drivers fixed.now held.now levels.old.items pending.old }
-    requires seats { AreSeats net.now.order pending.old }
-    requires rest { AreAtRest net.now.net.drivers held.now levels.old.items waiting.old }
-    requires bind { IsNetBind net.now.net.drivers bind }
-    ensures refreshes { Refreshes net.now.net.drivers fixed.now held.now levels.old.items levels.new.items pending.old
-        pending.new }
-    ensures here { HasLevel fixed.now held.now levels.new.items bind }
-    ensures seats { AreSeats net.now.order pending.new }
-    ensures rest { AreAtRest net.now.net.drivers held.now levels.new.items waiting.new }
+fn refresh_bound(wiring: &Wiring, held: &[Level], nets: &mut Nets, bind: Bind)
+    requires wiring { IsWiring wiring.now }
+    requires nets { AreNets wiring.now held.now nets.old }
+    requires waits { GatesWait wiring.now held.now nets.old }
+    requires bind { IsNetBind (drivers_of wiring.now) bind }
+    ensures refreshes { RefreshesNets wiring.now held.now nets.old nets.new }
+    ensures here { HasLevel wiring.now.fixed.items held.now nets.new.levels.items bind }
+    ensures nets { AreNets wiring.now held.now nets.new }
 {
     match bind {
         Bind::Free => {}
-        Bind::Input(n) => refresh_net(net, readers, fixed, held, levels, pending, waiting, n),
+        Bind::Input(n) => refresh_net(wiring, held, nets, n),
         Bind::Output(_) => {}
     }
 }
 
 /// Gives the inputs that are driven their levels, and the gates are pending that read one whose level changed.
 pub(crate) fn refresh_driven(
-    net: &Netlist,
-    readers: &Readers,
-    fixed: &[Option<Level>],
+    wiring: &Wiring,
     held: &[Level],
-    levels: &mut Vec<Level>,
-    pending: &mut Pending,
-    waiting: &mut Waiting,
-    bind: &Binding,
+    nets: &mut Nets,
     drives: &[(u16, Drive)],
 )
-    requires tables { AreTables net.now fixed.now held.now levels.old.items }
-    requires readers { AreReaderPlaces net.now readers.now.starts.items readers.now.places.items }
-    requires waits { Waits net.now.net.drivers fixed.now held.now levels.old.items pending.old }
-    requires seats { AreSeats net.now.order pending.old }
-    requires rest { AreAtRest net.now.net.drivers held.now levels.old.items waiting.old }
-    requires binds { (s : ℕ) → IsNetBind net.now.net.drivers (bind_at bind.now.nets s) }
-    ensures refreshes { Refreshes net.now.net.drivers fixed.now held.now levels.old.items levels.new.items pending.old
-        pending.new }
-    ensures driven { HaveDriven fixed.now held.now levels.new.items bind.now.nets drives.now }
-    ensures seats { AreSeats net.now.order pending.new }
-    ensures rest { AreAtRest net.now.net.drivers held.now levels.new.items waiting.new }
+    requires wiring { IsWiring wiring.now }
+    requires nets { AreNets wiring.now held.now nets.old }
+    requires waits { GatesWait wiring.now held.now nets.old }
+    requires binds { (s : ℕ) → IsNetBind (drivers_of wiring.now) (bind_at (arc_value wiring.now.bind).nets s) }
+    ensures refreshes { RefreshesNets wiring.now held.now nets.old nets.new }
+    ensures driven { HaveDriven wiring.now.fixed.items held.now nets.new.levels.items
+        (arc_value wiring.now.bind).nets drives.now }
+    ensures nets { AreNets wiring.now held.now nets.new }
 {
     for (signal, _) in drives {
-        refresh_bound(
-            net,
-            readers,
-            fixed,
-            held,
-            levels,
-            pending,
-            waiting,
-            bind.bind_at(*signal),
-        );
+        refresh_bound(wiring, held, nets, wiring.bind.bind_at(*signal));
     }
 }
 
 /// Evaluates the gate at a place.
-fn visit(
-    net: &Netlist,
-    cells: &Cells,
-    readers: &Readers,
-    fixed: &[Option<Level>],
-    held: &[Level],
-    levels: &mut Vec<Level>,
-    pending: &mut Pending,
-    waiting: &mut Waiting,
-    place: usize,
-    g: u32,
-)
-    requires tables { AreTables net.now fixed.now held.now levels.old.items }
-    requires cells { AreCells net.now fixed.now cells.now.cells.items cells.now.pins.items }
-    requires readers { AreReaderPlaces net.now readers.now.starts.items readers.now.places.items }
-    requires seats { AreSeats net.now.order pending.old }
-    requires rest { AreAtRest net.now.net.drivers held.now levels.old.items waiting.old }
-    requires within { place < length net.now.order }
-    requires gate { slice_index net.now.order place ≡ g }
-    requires active { is_pending pending.old g ≡ true }
-    ensures visits { Visits net.now.net.drivers fixed.now held.now g levels.old.items levels.new.items pending.old
-        pending.new }
-    ensures seats { AreSeats net.now.order pending.new }
-    ensures rest { AreAtRest net.now.net.drivers held.now levels.new.items waiting.new }
+fn visit(wiring: &Wiring, nets: &mut Nets, place: usize, g: u32)
+    requires wiring { IsWiring wiring.now }
+    requires seated { AreSeated wiring.now nets.old }
+    requires within { place < length (circuit_of wiring.now).order }
+    requires gate { slice_index (circuit_of wiring.now).order place ≡ g }
+    requires active { is_pending nets.old.pending g ≡ true }
+    ensures visits { (held : List Level) → VisitsGate wiring.now held g nets.old nets.new }
+    ensures seated { AreSeated wiring.now nets.new }
+    ensures rest { StaysAtRest wiring.now nets.old nets.new }
 {
-    let level = cells.level(place, levels.as_slice());
-    pending.clear_at(place);
-    put_level(net, readers, levels, pending, waiting, g, level);
+    let level = wiring.cells.level(place, nets.levels.as_slice());
+    nets.pending.clear_at(place);
+    put_level(wiring, nets, g, level);
 }
 
 /// Evaluates the gates that are pending, and those that change on the way, each once, in the netlist's order. Answers how
 /// many evaluations that took.
-pub(crate) fn walk(
-    net: &Netlist,
-    cells: &Cells,
-    readers: &Readers,
-    fixed: &[Option<Level>],
-    held: &[Level],
-    levels: &mut Vec<Level>,
-    pending: &mut Pending,
-    waiting: &mut Waiting,
-) -> usize
-    requires tables { AreTables net.now fixed.now held.now levels.old.items }
-    requires cells { AreCells net.now fixed.now cells.now.cells.items cells.now.pins.items }
-    requires readers { AreReaderPlaces net.now readers.now.starts.items readers.now.places.items }
-    requires waits { Waits net.now.net.drivers fixed.now held.now levels.old.items pending.old }
-    requires seats { AreSeats net.now.order pending.old }
-    requires rest { AreAtRest net.now.net.drivers held.now levels.old.items waiting.old }
-    requires sources { (n : ℕ) → n < length net.now.net.drivers → gate_at net.now.net.drivers n ≡ false
-        → level_at levels.old.items n ≡ own_level fixed.now held.now n }
-    ensures settled { Settled net.now.net.drivers fixed.now held.now levels.new.items }
-    ensures kept { (n : ℕ) → gate_at net.now.net.drivers n ≡ false
-        → level_at levels.new.items n ≡ level_at levels.old.items n }
-    ensures seats { AreSeats net.now.order pending.new }
-    ensures rest { AreAtRest net.now.net.drivers held.now levels.new.items waiting.new }
-    ensures clear { (n : ℕ) → is_pending pending.new n ≡ false }
-    ensures bound { (set : ℕ → Bool) → Carries net.now.net.drivers pending.old set
-        → result ≤ count_by set net.now.order }
+pub(crate) fn walk(wiring: &Wiring, held: &[Level], nets: &mut Nets) -> usize
+    requires wiring { IsWiring wiring.now }
+    requires nets { AreNets wiring.now held.now nets.old }
+    requires waits { GatesWait wiring.now held.now nets.old }
+    requires sources { SourcesFit wiring.now held.now nets.old }
+    ensures settled { Settled (drivers_of wiring.now) wiring.now.fixed.items held.now nets.new.levels.items }
+    ensures kept { (n : ℕ) → gate_at (drivers_of wiring.now) n ≡ false
+        → level_at nets.new.levels.items n ≡ level_at nets.old.levels.items n }
+    ensures nets { AreNets wiring.now held.now nets.new }
+    ensures clear { (n : ℕ) → is_pending nets.new.pending n ≡ false }
+    ensures bound { (set : ℕ → Bool) → Carries (drivers_of wiring.now) nets.old.pending set
+        → result ≤ count_by set (circuit_of wiring.now).order }
 {
-    let order = net.order();
+    let order = wiring.net.order();
     let mut count = 0;
-    let mut place = pending.next(0);
+    let mut place = nets.pending.next(0);
     while place < order.len() {
-        visit(
-            net,
-            cells,
-            readers,
-            fixed,
-            held,
-            levels,
-            pending,
-            waiting,
-            place,
-            order[place],
-        );
+        visit(wiring, nets, place, order[place]);
         count += 1;
-        place = pending.next(place + 1);
+        place = nets.pending.next(place + 1);
     }
     count
 }
 
 /// Settles all nets where inputs and flip-flops are unknown and each gate is pending.
-pub(crate) fn settle_first(
-    net: &Netlist,
-    cells: &Cells,
-    readers: &Readers,
-    fixed: &[Option<Level>],
-    held: &[Level],
-    levels: &mut Vec<Level>,
-    pending: &mut Pending,
-    waiting: &mut Waiting,
-)
-    requires tables { AreTables net.now fixed.now held.now levels.old.items }
-    requires cells { AreCells net.now fixed.now cells.now.cells.items cells.now.pins.items }
-    requires readers { AreReaderPlaces net.now readers.now.starts.items readers.now.places.items }
-    requires seats { AreSeats net.now.order pending.old }
-    requires rest { AreAtRest net.now.net.drivers held.now levels.old.items waiting.old }
-    requires pending { (n : ℕ) → is_pending pending.old n ≡ gate_at net.now.net.drivers n }
-    requires held { held.now ≡ replicate (length net.now.net.names) X }
-    requires levels { levels.old.items ≡ map (λ f. unwrap_or f X) fixed.now }
-    ensures settled { Settled net.now.net.drivers fixed.now held.now levels.new.items }
-    ensures seats { AreSeats net.now.order pending.new }
-    ensures rest { AreAtRest net.now.net.drivers held.now levels.new.items waiting.new }
-    ensures clear { (n : ℕ) → is_pending pending.new n ≡ false }
+pub(crate) fn settle_first(wiring: &Wiring, held: &[Level], nets: &mut Nets)
+    requires wiring { IsWiring wiring.now }
+    requires nets { AreNets wiring.now held.now nets.old }
+    requires pending { (n : ℕ) → is_pending nets.old.pending n ≡ gate_at (drivers_of wiring.now) n }
+    requires held { held.now ≡ replicate (length (circuit_of wiring.now).net.names) X }
+    requires levels { nets.old.levels.items ≡ map (λ f. unwrap_or f X) wiring.now.fixed.items }
+    ensures settled { Settled (drivers_of wiring.now) wiring.now.fixed.items held.now nets.new.levels.items }
+    ensures nets { AreNets wiring.now held.now nets.new }
+    ensures clear { (n : ℕ) → is_pending nets.new.pending n ≡ false }
 {
-    walk(net, cells, readers, fixed, held, levels, pending, waiting);
+    walk(wiring, held, nets);
 }

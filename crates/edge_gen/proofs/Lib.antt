@@ -1,7 +1,6 @@
 mod StandardFacts
 pub mod InstantLemmas
 pub mod SortLemmas
-pub mod WaveLemmas
 pub mod DriveLemmas
 pub mod GroupLemmas
 pub mod SignalLemmas

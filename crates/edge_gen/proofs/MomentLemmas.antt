@@ -143,7 +143,7 @@ map-same f g same (x ∷ xs) =
 
 -- the events of a row's waves, moved, sorted by time and gathered, are the moments of the cycle
 pub grouped-moments_of : (table : Table) (row places : List ℕ) (skews : List ℤ) (start : ℕ) (events sorted : List Dated)
-    → ArePlaces table.waves table.waves row places → events ≡ dated_in table.waves skews (enumerate_from 0 places)
+    → ArePlaces table.waves row places → events ≡ dated_in table.waves skews (enumerate_from 0 places)
     → IsPermutation events sorted → ((time : ℕ) → at_time time sorted ≡ at_time time events)
     → grouped start sorted ≡ moments_of table row skews start
 unfolding moments_of

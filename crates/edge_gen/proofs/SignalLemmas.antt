@@ -88,7 +88,7 @@ dated_in-from waves skews n (letter ∷ row) (place ∷ places) long each =
     (dated_in-from waves skews (n + 1) row places (omega (arith, long)) after)
 
 pub dated_in-places : (table : Table) (row places : List ℕ) (skews : List ℤ)
-    → ArePlaces table.waves table.waves row places
+    → ArePlaces table.waves row places
     → dated_in table.waves skews (enumerate_from 0 places) ≡ flat_map dated_of (signals_of table row skews)
 dated_in-places table row places skews are =
     dated_in-from table.waves skews 0 row places are.long
@@ -126,7 +126,7 @@ numbered period skew time small is =
 
 -- the events of a wave that its signal's skew keeps inside the cycle are numbers of 64 bits
 pub skews_fit : (table : Table) (row places : List ℕ) (skews : List ℤ) → table.period < 2 ^ 64
-    → ArePlaces table.waves table.waves row places → FitSkews table row skews
+    → ArePlaces table.waves row places → FitSkews table row skews
     → (signal : ℕ) → signal < length places
     → All (Fits (skew_of skews signal)) (events_at table.waves (slice_index places signal))
 skews_fit table row places skews small are fit signal within =

@@ -23,8 +23,10 @@ use tester_types::{MomentList, NoMemory, Table};
 /// has one character a signal and 0 for a signal without one. Each signal's events are moved by its skew, in
 /// femtoseconds, which keeps them inside the cycle, as `keep_inside` tells of a whole table.
 ///
-/// A wave of a signal beyond the row has no part in the cycle. Its time is at most in step with the number
-/// of waves and signals and with that of the cycle's events times its logarithm.
+/// A wave of a signal beyond the row has no part in the cycle. Where the table's waves rise by signal and
+/// character its time is at most in step with the number of signals times the logarithm of how many waves one
+/// has, and with that of the cycle's events times its logarithm. Where they don't rise it goes over all waves
+/// for each signal.
 pub fn schedule(
     alloc: Global,
     table: &Table,
@@ -38,7 +40,7 @@ pub fn schedule(
 {
     let _period = table.period;
     let listed = table.waves.as_slice();
-    let places = waves::places(alloc, listed, row)?;
+    let places = waves::places(alloc, &table.waves, row)?;
     let mut events = dated::events(alloc, listed, &places, skews)?;
     dated::sort(&mut events)?;
     moments::group(alloc, &events, start)

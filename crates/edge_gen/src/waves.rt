@@ -1,28 +1,36 @@
 //! Which wave of a table each signal of a row has.
 
-ghost use Rattle.std.specs.Prelude.{◌↔◌, IfOk, IsTrue};
-ghost use Rattle.edge_gen.specs.Step.{ArePlaces, IsUsed};
+ghost use Rattle.std.specs.Prelude.{◌≡◌, IfOk, slice_get};
+ghost use Rattle.edge_gen.specs.Signals.{wave_of};
+ghost use Rattle.edge_gen.specs.Step.{ArePlaces};
 
 use std::alloc::Global;
-use tester_types::{NoMemory, Wave};
+use tester_types::{NoMemory, WaveList};
 
-/// For each signal of the row the place of its wave, or a place past all waves where it has none.
-pub(crate) fn places(alloc: Global, waves: &[Wave], row: &[u8]) -> Result<Vec<usize>, NoMemory>
-    ensures { IfOk result (λ places. ArePlaces waves.now waves.now row.now places.items) }
+/// For each signal of the row the place of its wave, or a place past all waves where it has none. Signals rise along the row,
+/// so the search for the wave of one begins where the last one ended.
+pub(crate) fn places(alloc: Global, waves: &WaveList, row: &[u8]) -> Result<Vec<usize>, NoMemory>
+    ensures { IfOk result (λ places. ArePlaces waves.now row.now places.items) }
 {
-    let mut places = vec![in alloc; waves.len(); row.len()]?;
-    for (place, wave) in waves.iter().enumerate() {
-        if is_used(wave, row) {
-            places[usize::from(wave.signal)] = place;
-        }
+    let mut places = Vec::with_capacity(alloc, row.len())?;
+    let mut from = 0;
+    for (signal, letter) in row.iter().enumerate() {
+        let (place, next) = place_of(waves, from, signal, *letter);
+        places.push(place)?;
+        from = next;
     }
     Ok(places)
 }
 
-/// Whether the row gives the wave's signal the wave's character.
-fn is_used(wave: &Wave, row: &[u8]) -> bool
-    ensures { IsTrue result ↔ IsUsed row.now wave.now }
+/// The place of a signal's wave, or one past all waves where it has none, and where the search for that of a later signal begins.
+fn place_of(waves: &WaveList, from: usize, signal: usize, letter: u8) -> (usize, usize)
+    ensures { slice_get waves.now result.0 ≡ wave_of waves.now signal letter }
 {
-    let signal = usize::from(wave.signal);
-    signal < row.len() && row[signal] == wave.letter && wave.letter != 0
+    if letter == 0 {
+        return (waves.len(), from);
+    }
+    match waves.search(from, signal, letter) {
+        Ok(place) => (place, place),
+        Err(next) => (waves.len(), next),
+    }
 }

@@ -33,11 +33,11 @@ use Rattle.stil_ast.specs.Faults.Found.{fault_at, fault_in, unless, or_else, fir
 use Rattle.stil_ast.specs.Faults.BurstFaults.{exec_place}
 use Rattle.stil_ast.specs.Faults.CodeFaults.{has_wave, have_waves, made_fault, vector_fault, trees_fault, compile_fault, compile_faults, sixth_fault}
 use Rattle.stil_ast.proofs.FlatLemmas.{flat_tree_agrees}
+use Rattle.packed_code.proofs.Lists.{all_mapped}
 use Rattle.flat_parts.specs.FlatBlocks.{AreFlatBlocks}
 use Rattle.flat_fine.proofs.FaultLemmas.{IsLarge, large_none, large_or, large_unless, large_is}
 use Rattle.flat_fine.proofs.ExecLemmas.{each_so, exec_fits}
 use Rattle.flat_fine.proofs.ScopeLemmas.{each_at}
-use Rattle.flat_fine.proofs.LineageLemmas.{each_map}
 use Rattle.flat_cycles.proofs.FitLemmas.{IsRun}
 use Rattle.flat_cycles.proofs.RowLemmas.{letters_or_none}
 use Rattle.flat_cycles.proofs.RunLemmas.{vectors}
@@ -189,7 +189,7 @@ module _ {V : Type 0} (times : Times V) (times_are : TimesAre times) (code : Pro
   vectors_waved =
       let all = entries times times_are code blocks exec e text in
       let vector = own_vector code blocks exec e text in
-      each_map (IsWaved x.tables) vector all
+      all_mapped (IsWaved x.tables) vector all
       (each_so (IsEntry code exec) (λ entry. IsWaved x.tables (vector entry)) all vector_waved
       (entries_fit times times_are code blocks exec e text))
 
@@ -211,6 +211,6 @@ only_too_large times times_are code blocks fault program flat found =
     let signals = length (names_of blocks).signals in
     large_is (sixth_fault times blocks) fault
     (executives_large signals [] (executives_of times blocks)
-    (each_map (IsFine signals) (executive_of times blocks) blocks.executives
+    (all_mapped (IsFine signals) (executive_of times blocks) blocks.executives
     (each_at (λ e. IsFine signals (executive_of times blocks e)) blocks.executives
     (λ exec e at. own_fine times times_are code blocks exec e (record { program = program; flat = flat; at = at }))))) found

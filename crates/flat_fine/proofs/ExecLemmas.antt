@@ -10,7 +10,7 @@ use Rattle.tester_types.specs.declared.wave.Table.{Table}
 use Rattle.packed_code.specs.Program.{Exec, Program}
 use Rattle.packed_code.specs.Conditions.{IsInstr, IsExec, IsProgram}
 use Rattle.packed_code.specs.Cycles.{exec_of}
-use Rattle.packed_code.proofs.Lists.{each_all}
+use Rattle.packed_code.proofs.Lists.{each_all, all_of_any}
 use Rattle.text_bytes.proofs.ListLemmas.{slice_get-there}
 use Rattle.flat_parts.specs.Order.{run_table, run_row, tables_in, rows_in, is_in, table_order, row_order, number_in}
 use Rattle.flat_parts.specs.FlatBlocks.{own_numbers}
@@ -22,10 +22,6 @@ use Rattle.flat_fine.proofs.NumberLemmas.{has_any, all_long}
 pub each_so : {A : Type 0} (P Q : A → Type 0) (items : List A) → ((x : A) → P x → Q x) → AllByRecursion P items → AllByRecursion Q items
 each_so P Q [] so each = tt
 each_so P Q (x ∷ items) so each = (so x each.0, each_so P Q items so each.1)
-
-pub each_is : {A : Type 0} (P : A → Type 0) (items : List A) → ((x : A) → P x) → AllByRecursion P items
-each_is P [] is = tt
-each_is P (x ∷ items) is = (is x, each_is P items is)
 
 -- a list of one
 one_of : (a n : ℕ) → is_in (a ∷ []) n ≡ true → a ≡ n
@@ -66,12 +62,12 @@ row_there tables rows n Done fits has = absurd (false≢true has)
 -- the tables and rows of an executive are few
 tables_few : (exec : Exec) → length exec.instrs ≤ 4194305 → length (tables_in exec) ≤ 4194305
 tables_few exec few =
-    let all = all_long run_table exec.instrs 1 (each_is (λ i. length (run_table i) ≤ 1) exec.instrs table_few) in
+    let all = all_long run_table exec.instrs 1 (all_of_any (λ i. length (run_table i) ≤ 1) exec.instrs table_few) in
     omega (arith, all, few)
 
 rows_few : (exec : Exec) → length exec.instrs ≤ 4194305 → length (rows_in exec) ≤ 4194305
 rows_few exec few =
-    let all = all_long run_row exec.instrs 1 (each_is (λ i. length (run_row i) ≤ 1) exec.instrs row_few) in
+    let all = all_long run_row exec.instrs 1 (all_of_any (λ i. length (run_row i) ≤ 1) exec.instrs row_few) in
     omega (arith, all, few)
 
 module _ (code : Program) (program : IsProgram code) where

@@ -1,5 +1,5 @@
 -- Faults that are none, or that something is too large.
-use Rattle.std.proofs.Common.{◌≡◌, Bool, true, false, List, [], ◌∷◌, Option, Some, None, refl, sym, ap, subst, ◌∙◌}
+use Rattle.std.proofs.Common.{◌≡◌, Bool, true, false, List, [], ◌∷◌, Option, Some, None, refl, sym, subst}
 use Rattle.stil_ast.specs.Faults.Found.{unless, or_else, first_in}
 use Rattle.stil_ast.specs.Faults.AssignmentFaults.{Walked, Checked, fine, refused, then_check, rule, bar_if}
 use Rattle.stil_ast.specs.Faults.ExecutiveFaults.{behind_pattern, checked_fault}
@@ -8,6 +8,7 @@ use Rattle.stil_ast.specs.declared.fault.StilFault.{StilFault}
 use Rattle.stil_ast.specs.declared.fault.StilKind.TheVariants.{TooLarge}
 use Rattle.std.specs.Prelude.{ℕ}
 use Rattle.std.specs.List.{AllByRecursion}
+use Rattle.stil_ast.proofs.FoundLemmas.{none_both}
 
 -- no fault, or that something is too large
 abbrev pub IsLarge : Option StilFault → Type 0
@@ -34,10 +35,6 @@ large_first of (x ∷ items) each = large_or (of x) (first_in of items) each.0 (
 -- what a fault is
 pub large_is : (o : Option StilFault) (fault : StilFault) → IsLarge o → o ≡ Some fault → fault.kind ≡ TooLarge
 large_is o fault large e = subst IsLarge e large
-
--- two of no fault
-pub none_both : (a b : Option StilFault) → a ≡ None → b ≡ None → or_else a b ≡ None
-none_both a b first second = ap (λ (o : Option StilFault). or_else o b) first ∙ second
 
 -- a list without fault
 pub none_first : {A : Type 0} (of : A → Option StilFault) (items : List A) → AllByRecursion (λ x. of x ≡ None) items

@@ -14,15 +14,10 @@ use Rattle.stil_ast.specs.declared.name.Named.{Named}
 use Rattle.stil_ast.specs.declared.timing.WaveDecl.{WaveDecl}
 use Rattle.stil_ast.specs.declared.timing.SignalWaves.{SignalWaves}
 use Rattle.stil_ast.specs.declared.timing.TableDecl.{TableDecl}
+use Rattle.packed_code.proofs.Lists.{all_mapped, all_of_any}
 use Rattle.flat_fine.proofs.ListLemmas.{within}
 use Rattle.flat_fine.proofs.LookupLemmas.{above}
-use Rattle.flat_fine.proofs.ExecLemmas.{each_is}
 use Rattle.flat_fine.proofs.FaultLemmas.{none_first}
-
--- each that a function gives
-pub each_map : {A B : Type 0} (P : B → Type 0) (f : A → B) (xs : List A) → AllByRecursion (λ x. P (f x)) xs → AllByRecursion P (map f xs)
-each_map P f [] each = tt
-each_map P f (x ∷ xs) each = (each.0, each_map P f xs each.1)
 
 each_from : {A : Type 0} (P : ℕ × A → Type 0) (from : ℕ) (xs : List A)
     → ((number : ℕ) (x : A) → slice_get xs number ≡ Some x → P (number + from, x)) → AllByRecursion P (enumerate_from from xs)
@@ -75,12 +70,12 @@ bare_of : (names : Names) (k : ℕ) (declarations : List SignalWaves)
 bare_of names k [] = tt
 bare_of names k (s ∷ declarations) =
     all_append (IsOf k) (map (bare names k s) s.waves) (flat_map (λ (s : SignalWaves). map (bare names k s) s.waves) declarations)
-    (each_map (IsOf k) (bare names k s) s.waves (each_is (λ (w : WaveDecl). k ≡ k) s.waves (λ w. refl))) (bare_of names k declarations)
+    (all_mapped (IsOf k) (bare names k s) s.waves (all_of_any (λ (w : WaveDecl). k ≡ k) s.waves (λ w. refl))) (bare_of names k declarations)
 
 -- a table's own waveforms stand in it
 pub own_of_table : (names : Names) (k : ℕ) (d : TableDecl) → AllByRecursion (IsOf k) (own_waveforms names k d)
 own_of_table names k d =
-    each_map (IsOf k) numbered (enumerate_from 0 (unnumbered names k d))
+    all_mapped (IsOf k) numbered (enumerate_from 0 (unnumbered names k d))
     (all_numbered (IsOf k) 0 (unnumbered names k d) (bare_of names k d.waveforms))
 
 -- what is found has what each has
@@ -131,7 +126,7 @@ module _ {V : Type 0} (t : Timed V) (period : ℤ) (k : ℕ) (all : List Wavefor
   none_late : (other : ℕ × TableDecl) → first_in (late_waveform t period k all) (own_waveforms t.names other.0 other.1) ≡ None
   none_late other =
       none_first (late_waveform t period k all) (own_waveforms t.names other.0 other.1)
-      (each_is (λ (w : Waveform). late_waveform t period k all w ≡ None) (own_waveforms t.names other.0 other.1) never_late)
+      (all_of_any (λ (w : Waveform). late_waveform t period k all w ≡ None) (own_waveforms t.names other.0 other.1) never_late)
 
 -- a table that inherits nothing has no inherited event that is late
 pub none_inherited : {V : Type 0} (t : Timed V) (period : ℤ) (k : ℕ) (d : TableDecl) → slice_get t.tables k ≡ Some d → d.inherits ≡ []
@@ -142,5 +137,5 @@ none_inherited t period k d at none =
     subst (AllByRecursion (IsOf k)) (sym (waveforms_are t.names t.tables k d at none)) (own_of_table t.names k d) in
     none_first (λ (other : ℕ × TableDecl). first_in (late_waveform t period k all) (own_waveforms t.names other.0 other.1))
     (enumerate_from 0 t.tables)
-    (each_is (λ (other : ℕ × TableDecl). first_in (late_waveform t period k all) (own_waveforms t.names other.0 other.1) ≡ None)
+    (all_of_any (λ (other : ℕ × TableDecl). first_in (late_waveform t period k all) (own_waveforms t.names other.0 other.1) ≡ None)
     (enumerate_from 0 t.tables) (none_late t period k all each))

@@ -21,7 +21,7 @@ use Rattle.stil_ast.specs.declared.executive.Burst.{Burst}
 use Rattle.stil_ast.specs.declared.executive.ExecDecl.{ExecDecl}
 use Rattle.stil_ast.specs.declared.fault.StilKind.TheVariants.{TooLarge, UnknownName}
 use Rattle.stil_ast.proofs.TextLemmas.{same-refl}
-use Rattle.flat_fine.proofs.FaultLemmas.{none_both}
+use Rattle.stil_ast.proofs.FoundLemmas.{none_both}
 use Rattle.flat_parts.specs.FlatText.{executives}
 use Rattle.flat_parts.specs.FlatBlocks.{numbered, IsTiming, IsPattern, IsBurst, IsExecDecl, AreFlatBlocks}
 use Rattle.flat_fine.proofs.ListLemmas.{IsOnly, only_first, first_found, only_has, beside, besides, within, range_at, at_range, some_passes}

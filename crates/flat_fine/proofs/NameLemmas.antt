@@ -15,7 +15,7 @@ use Rattle.stil_ast.specs.Faults.SignalFaults.{signals_fault, groups_fault, grou
 use Rattle.stil_ast.specs.declared.blocks.Blocks.{Blocks}
 use Rattle.stil_ast.specs.declared.fault.StilFault.{StilFault}
 use Rattle.stil_ast.specs.declared.fault.StilKind.TheVariants.{Twice, OutOfRange}
-use Rattle.flat_fine.proofs.FaultLemmas.{none_both}
+use Rattle.stil_ast.proofs.FoundLemmas.{none_both}
 use Rattle.flat_parts.specs.FlatBlocks.{AreFlatBlocks}
 use Rattle.flat_fine.proofs.ListLemmas.{as_many}
 use Rattle.flat_fine.proofs.SignalLemmas.{differ-sym, IsSameSignal, names_are}

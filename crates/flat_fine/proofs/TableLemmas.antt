@@ -25,7 +25,7 @@ use Rattle.stil_ast.specs.declared.timing.SignalWaves.{SignalWaves}
 use Rattle.stil_ast.specs.declared.timing.TableDecl.{TableDecl}
 use Rattle.stil_ast.specs.declared.fault.StilFault.{StilFault}
 use Rattle.stil_ast.specs.declared.fault.StilKind.TheVariants.{EventOutside, EventOrder}
-use Rattle.flat_fine.proofs.FaultLemmas.{none_both}
+use Rattle.stil_ast.proofs.FoundLemmas.{none_both}
 use Rattle.expr_text.specs.Ratio.{Ratio}
 use Rattle.time_expr.specs.TimesOf.{times_of}
 use Rattle.flat_parts.specs.FlatBlocks.{time_text, IsEventDecl, IsSignalWaves}

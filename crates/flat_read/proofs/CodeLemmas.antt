@@ -5,6 +5,7 @@ use Rattle.std.specs.List.{AllByRecursion, list_all, range_with_len}
 use Rattle.std.proofs.lemmas.List.Concat.{flat_map-cons}
 use Rattle.std.proofs.lemmas.List.Sums.{prefix_len-le-length}
 use Rattle.text_bytes.specs.Bytes.{is_printable}
+use Rattle.text_bytes.proofs.ListLemmas.{all_from}
 use Rattle.tester_types.specs.declared.wave.Table.{Table}
 use Rattle.stil_form.specs.Words.{fits_name}
 use Rattle.packed_code.specs.declared.instr.Instr.{Instr}
@@ -94,18 +95,14 @@ few_in_all code f is few =
     omega (arith, firsts_shorter (flat_map f code.execs), all, is.few_execs)
 
 -- the executives of a code name few tables and rows
-all_so : {A : Type 0} (P Q : A → Type 0) → ((x : A) → P x → Q x) → (xs : List A) → AllByRecursion P xs → AllByRecursion Q xs
-all_so P Q one [] all = tt
-all_so P Q one (x ∷ xs) all = (one x all.0, all_so P Q one xs all.1)
-
 pub few_tables : (code : Program) → IsProgram code → length (table_order code) < 2 ^ 64
 few_tables code is =
-    few_in_all code tables_in is (all_so ExecFits (λ e. length (tables_in e) ≤ 4194305)
+    few_in_all code tables_in is (all_from ExecFits (λ e. length (tables_in e) ≤ 4194305)
     (λ e fits. omega (arith, fits.1, length_flat run_table 1 e.instrs (tables_few e.instrs))) code.execs (execs_fit code is))
 
 pub few_rows : (code : Program) → IsProgram code → length (row_order code) < 2 ^ 64
 few_rows code is =
-    few_in_all code rows_in is (all_so ExecFits (λ e. length (rows_in e) ≤ 4194305)
+    few_in_all code rows_in is (all_from ExecFits (λ e. length (rows_in e) ≤ 4194305)
     (λ e fits. omega (arith, fits.1, length_flat run_row 1 e.instrs (rows_few e.instrs))) code.execs (execs_fit code is))
 
 -- ---- what is read
@@ -152,7 +149,7 @@ names_fit code is = record {
 pub texts_fit : (code : Program) → IsProgram code → (exec : ℕ) → IsText (exec_of code exec).name
 texts_fit code is exec =
     get_all (λ (e : Exec). IsText e.name) _ (record { short = omega arith; printable = refl }) code.execs exec
-    (all_so ExecFits (λ e. IsText e.name) (λ e fits. fits.0) code.execs (execs_fit code is))
+    (all_from ExecFits (λ e. IsText e.name) (λ e fits. fits.0) code.execs (execs_fit code is))
 
 -- and each Run and Loop runs as often as it may
 pub nests_fit : (code : Program) (nests : ℕ → Nest) → IsProgram code → AreNests code nests → (exec : ℕ) → exec < length code.execs

@@ -16,6 +16,7 @@ use Rattle.stil_tree.specs.declared.fault.TreeFault.TheVariants.{TooDeep}
 use Rattle.stil_tree.proofs.Steps.{step-semicolon, step-open, step-deep, step-close, closed-done}
 use Rattle.stil_tree.proofs.Runs.{run-append, run-failed, run-head, run-parses}
 use Rattle.stil_tree.proofs.Reached.{fault_is_found, forest_is_found}
+use Rattle.stil_ast.proofs.CheckedLemmas.{only_second}
 use Rattle.line_texts.specs.Said.{Said, no_more, space, statement, braced, a_sign, pieces_of, count_of, trees_at}
 use Rattle.line_texts.specs.Tests.{is_head, fits}
 use Rattle.line_texts.proofs.TreeLemmas.{head_is, said_parses}
@@ -80,14 +81,10 @@ close_on frames f at body inner close rest inside is d =
 
 -- ---- statements
 
--- what does not fit by its depth
-not_shaped : (head rest : Bool) → head ≡ true → (head && rest) ≡ false → rest ≡ false
-not_shaped head rest h e = sym (ap (λ (b : Bool). b && rest) h) ∙ e
-
 not_fits : (depth : ℕ) (head inside behind : Bool) → head ≡ true → depth < most_levels
     → ((nat_lt depth most_levels && head) && (inside && behind)) ≡ false → (inside && behind) ≡ false
 not_fits depth head inside behind h few e =
-    not_shaped (nat_lt depth most_levels && head) (inside && behind)
+    only_second (nat_lt depth most_levels && head) (inside && behind)
     (and_from (nat_lt depth most_levels) head (lt-ltb depth most_levels few) h) e
 
 -- statements that nest too deep, behind so many open blocks
@@ -104,7 +101,7 @@ too_deep frames done at before (statement head more) few shaped deep =
     let behind = here ++ (semicolon ∷ []) in
     let place = at + length tokens in
     let rest : fits (length frames) more ≡ false =
-    not_shaped (nat_lt 0 (count_of head) && is_head head) (fits (length frames) more) parts.0 deep in
+    only_second (nat_lt 0 (count_of head) && is_head head) (fits (length frames) more) parts.0 deep in
     subst (λ (ts : List Token). IsDeep (run at (going frames done at) ts))
     (sym (tokens_of-append before head (a_sign semicolon ∷ pieces_of more)))
     (head_on frames done at tokens (token_at here (Sign semicolon) (semicolon ∷ []) ∷ tokens_of behind (pieces_of more))

@@ -15,11 +15,12 @@ use Rattle.packed_code.specs.Letters.{is_place}
 use Rattle.packed_code.specs.Program.{Exec, Program}
 use Rattle.packed_code.specs.Cycles.{exec_of}
 use Rattle.packed_code.specs.Conditions.{IsSignal, IsWave, IsTable, IsRow, IsInstr, IsExec, IsProgram}
-use Rattle.packed_code.proofs.Lists.{all_at}
+use Rattle.packed_code.proofs.Lists.{all_at, all_flat, all_passing}
+use Rattle.packed_code.proofs.SizeLemmas.{behind_all}
 use Rattle.flat_parts.specs.Order.{run_table, tables_in, firsts, table_order, row_order}
 use Rattle.flat_parts.specs.FlatText.{name_of, is_plain, has_plain_names}
 use Rattle.flat_parts.specs.FlatBlocks.{no_table, table_numbered}
-use Rattle.flat_said.proofs.ListLemmas.{all_flat, all_or, all_behind, all_both, all_tested, all_range}
+use Rattle.flat_said.proofs.ListLemmas.{all_or, all_both, all_range}
 use Rattle.flat_said.proofs.SaysLemmas.{IsQuotable}
 use Rattle.flat_said.proofs.WordLemmas.{name_is}
 use Rattle.flat_said.proofs.TimingLemmas.{IsSayableWave, IsSayableTable}
@@ -39,9 +40,9 @@ pub signals_are : (code : Program) → IsProgram code → has_plain_names code �
 signals_are code is plain =
     all_both (λ signal. list_all is_printable signal.name ≡ true) (λ signal. is_plain signal.name ≡ true) _
     (λ signal printable apart. name_is signal.name apart printable) code.signals
-    (all_behind IsSignal (λ signal. list_all is_printable signal.name ≡ true) (λ before signal s. s.name.text.printable) [] code.signals
+    (behind_all IsSignal (λ signal. list_all is_printable signal.name ≡ true) (λ before signal s. s.name.text.printable) [] code.signals
     is.signals)
-    (all_tested (λ signal. is_plain signal.name) code.signals (plain_parts code plain).0)
+    (all_passing (λ signal. is_plain signal.name) code.signals (plain_parts code plain).0)
 
 -- no name
 nothing_quotable : IsQuotable double_quote []
@@ -65,9 +66,9 @@ execs_are code is plain exec =
     all_or (λ (e : Exec). IsQuotable double_quote e.name) code.execs exec _
     (all_both (λ (e : Exec). list_all is_printable e.name ≡ true) (λ (e : Exec). is_plain e.name ≡ true) _
     (λ e printable apart. name_is e.name apart printable) code.execs
-    (all_behind (λ before e. IsExec (length code.signals) code.tables code.rows e) (λ (e : Exec). list_all is_printable e.name ≡ true)
+    (behind_all (λ before e. IsExec (length code.signals) code.tables code.rows e) (λ (e : Exec). list_all is_printable e.name ≡ true)
     (λ before e x. x.name.printable) [] code.execs is.execs)
-    (all_tested (λ (e : Exec). is_plain e.name) code.execs (plain_parts code plain).1))
+    (all_passing (λ (e : Exec). is_plain e.name) code.execs (plain_parts code plain).1))
     nothing_quotable
 
 -- ---- tables
@@ -76,7 +77,7 @@ execs_are code is plain exec =
 table_is : (code : Program) → ((signal : ℕ) → IsQuotable double_quote (name_of code signal)) → (before : List Table) (table : Table)
     → IsTable (length code.signals) before table → IsSayableTable code table
 table_is code names before table is =
-    all_behind (IsWave (length code.signals) table.period _) (IsSayableWave code)
+    behind_all (IsWave (length code.signals) table.period _) (IsSayableWave code)
     (λ earlier wave w. record { name = names wave.signal; letter = w.letter }) [] table.waves is.waves
 
 -- the table of a number
@@ -84,7 +85,7 @@ pub table_sayable : (code : Program) → IsProgram code → ((signal : ℕ) → 
     → IsSayableTable code (table_numbered code number)
 table_sayable code is names number =
     all_or (IsSayableTable code) code.tables (get_or (table_order code) number 0) no_table
-    (all_behind (IsTable (length code.signals)) (IsSayableTable code) (table_is code names) [] code.tables is.tables) tt
+    (behind_all (IsTable (length code.signals)) (IsSayableTable code) (table_is code names) [] code.tables is.tables) tt
 
 -- ---- the tables that Runs name
 
@@ -108,7 +109,7 @@ exec_tables : (code : Program) (exec : Exec) → IsExec (length code.signals) co
     → AllByRecursion (λ table. table < length code.tables) (tables_in exec)
 exec_tables code exec is =
     all_flat (λ table. table < length code.tables) run_table exec.instrs
-    (all_behind (λ before instr. IsInstr code.tables code.rows instr)
+    (behind_all (λ before instr. IsInstr code.tables code.rows instr)
     (λ instr. AllByRecursion (λ table. table < length code.tables) (run_table instr))
     (λ before instr i. instr_table code.tables code.rows instr i) [] exec.instrs is.instrs)
 
@@ -117,7 +118,7 @@ pub order_there : (code : Program) → IsProgram code → AllByRecursion (λ tab
 order_there code is =
     all_firsts (λ table. table < length code.tables) (flat_map tables_in code.execs)
     (all_flat (λ table. table < length code.tables) tables_in code.execs
-    (all_behind (λ before exec. IsExec (length code.signals) code.tables code.rows exec)
+    (behind_all (λ before exec. IsExec (length code.signals) code.tables code.rows exec)
     (λ exec. AllByRecursion (λ table. table < length code.tables) (tables_in exec))
     (λ before exec e. exec_tables code exec e) [] code.execs is.execs))
 
@@ -137,11 +138,11 @@ row_sayable code is number =
     let row = get_or (row_order code) number 0 in
     let places =
     all_or (λ (r : List ℕ). list_all is_place r ≡ true) code.rows row []
-    (all_behind (IsRow (length code.signals)) (λ (r : List ℕ). list_all is_place r ≡ true) (λ before r x. x.letters) [] code.rows
+    (behind_all (IsRow (length code.signals)) (λ (r : List ℕ). list_all is_place r ≡ true) (λ before r x. x.letters) [] code.rows
     is.rows) refl in
     let few =
     all_or (λ (r : List ℕ). length r ≤ length code.signals) code.rows row []
-    (all_behind (IsRow (length code.signals)) (λ (r : List ℕ). length r ≤ length code.signals) (λ before r x. omega (arith, x.places)) []
+    (behind_all (IsRow (length code.signals)) (λ (r : List ℕ). length r ≤ length code.signals) (λ before r x. omega (arith, x.places)) []
     code.rows is.rows)
     (omega arith) in
     record { places = places; few = few }

@@ -2,8 +2,6 @@
 use Rattle.std.proofs.Common.{◌≡◌, ℕ, zero, suc, ◌+◌, ◌<◌, Bool, true, false, not, cond, List, [], ◌∷◌, ◌++◌, get_or, refl, ap, ◌∙◌, arith}
 use Rattle.std.specs.List.{AllByRecursion, list_all, list_any, filter, flat_map, range_with_len}
 use Rattle.std.proofs.lemmas.Bool.{and_parts, not-true, or_from}
-use Rattle.text_bytes.proofs.ListLemmas.{all_append}
-use Rattle.packed_code.specs.Conditions.{EachBehind}
 
 -- ---- what holds of each item
 
@@ -12,34 +10,17 @@ pub all_any : {X : Type 0} (Q : X → Type 0) → ((x : X) → Q x) → (xs : Li
 all_any Q each [] = tt
 all_any Q each (x ∷ xs) = (each x, all_any Q each xs)
 
--- what is made of each item
-pub all_flat : {X Y : Type 0} (P : Y → Type 0) (f : X → List Y) (xs : List X) → AllByRecursion (λ x. AllByRecursion P (f x)) xs
-    → AllByRecursion P (flat_map f xs)
-all_flat P f [] all = tt
-all_flat P f (x ∷ xs) all = all_append P (f x) (flat_map f xs) all.0 (all_flat P f xs all.1)
-
 -- the item at an index, or the default
 pub all_or : {X : Type 0} (P : X → Type 0) (xs : List X) (i : ℕ) (d : X) → AllByRecursion P xs → P d → P (get_or xs i d)
 all_or P [] i d all none = none
 all_or P (x ∷ xs) zero d all none = all.0
 all_or P (x ∷ xs) (suc i) d all none = all_or P xs i d all.1 none
 
--- items that are as they should be behind those before them
-pub all_behind : {X : Type 0} (Fits : List X → X → Type 0) (P : X → Type 0) → ((before : List X) (x : X) → Fits before x → P x)
-    → (before xs : List X) → EachBehind Fits before xs → AllByRecursion P xs
-all_behind Fits P each before [] all = tt
-all_behind Fits P each before (x ∷ xs) all = (each before x all.0, all_behind Fits P each (before ++ x ∷ []) xs all.1)
-
 -- what two lists of facts say
 pub all_both : {X : Type 0} (P Q R : X → Type 0) → ((x : X) → P x → Q x → R x) → (xs : List X) → AllByRecursion P xs → AllByRecursion Q xs
     → AllByRecursion R xs
 all_both P Q R each [] p q = tt
 all_both P Q R each (x ∷ xs) p q = (each x p.0 q.0, all_both P Q R each xs p.1 q.1)
-
--- a test of all
-pub all_tested : {X : Type 0} (test : X → Bool) (xs : List X) → list_all test xs ≡ true → AllByRecursion (λ x. test x ≡ true) xs
-all_tested test [] h = tt
-all_tested test (x ∷ xs) h = let parts = and_parts (test x) (list_all test xs) h in (parts.0, all_tested test xs parts.1)
 
 -- the numbers of a range
 pub all_range : (from n most : ℕ) → from + n ≡ most → AllByRecursion (λ i. i < most) (range_with_len from n)

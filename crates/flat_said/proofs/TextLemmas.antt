@@ -13,12 +13,13 @@ use Rattle.line_texts.specs.Said.{Said, no_more, statement, a_sign, each_said, w
 use Rattle.line_texts.specs.Lexemes.{lexemes_in}
 use Rattle.line_texts.proofs.PieceLemmas.{reads_pieces}
 use Rattle.line_texts.proofs.LexemeLemmas.{lexemes_of-pieces}
+use Rattle.packed_code.proofs.SizeLemmas.{behind_all}
 use Rattle.flat_parts.specs.FlatText.{text_of, with_feed, signal_lines, timing_lines, row_lines, pattern_lines, burst_line, exec_line, executives, flat_text, has_plain_names}
 use Rattle.flat_parts.specs.Nests.{Nest, nothing, instrs_in}
 use Rattle.flat_parts.proofs.NestLemmas.{IsRest-nests}
 use Rattle.flat_said.specs.FlatSaid.{signals_said, timing_said, rows_said, pattern_said, burst_said, exec_said}
 use Rattle.flat_said.specs.Laws.{AreNests, flat_pieces, flat_tokens}
-use Rattle.flat_said.proofs.ListLemmas.{all_any, all_behind, all_range}
+use Rattle.flat_said.proofs.ListLemmas.{all_any, all_range}
 use Rattle.flat_said.proofs.SaysLemmas.{Says, says_as, says_then, says_statement, says_line, Heads, heads_word, heads_word_blank, heads_sign, heads_last_word, dot_is, IsPlainWord, plain_word_is}
 use Rattle.flat_said.proofs.BlockLemmas.{text_of-cons, text_of-append, says_line_each, says_lines_each}
 use Rattle.flat_said.proofs.TableLemmas.{signals_say}
@@ -57,7 +58,7 @@ nests_from (e ∷ execs) all =
 pub nests_of : (code : Program) → IsProgram code → (nests : ℕ → Nest) × AreNests code nests
 nests_of code is =
     nests_from code.execs
-    (all_behind (λ before e. IsExec (length code.signals) code.tables code.rows e)
+    (behind_all (λ before e. IsExec (length code.signals) code.tables code.rows e)
     (λ e. (nest : Nest) × (e.instrs ≡ instrs_in nest ++ Done ∷ [])) (λ before e x. IsRest-nests e.instrs x.whole.rest) [] code.execs
     is.execs)
 

@@ -1,5 +1,5 @@
--- Read Meaning first (which cycles instructions stand for; Nesting, Whole, Count and Course go on with it), then Program
--- (what a code has), Conditions (what is so of every code), Spelling (its saved bytes) and Cycles.
+-- Read Meaning first (which cycles instructions stand for; Nesting, Whole, Count and Course go on with it), then
+-- Program (what a code has), Conditions (what is so of every code), Spelling (its saved bytes) and Cycles.
 pub mod Rows
 pub mod Program
 pub mod Letters

@@ -8,9 +8,10 @@ use Rattle.std.proofs.lemmas.Bool.{ltb-true}
 use Rattle.std.proofs.lemmas.List.{map-append, length-map, length-replicate, append-nil}
 use Rattle.text_bytes.specs.Texts.{key_texts}
 use Rattle.text_bytes.proofs.ListLemmas.{list_any-map}
+use Rattle.answers.specs.Answers.{Blames}
 use Rattle.answers.specs.Reading.{and_then, stepping}
 use Rattle.stil_ast.specs.Data.Texts.{same}
-use Rattle.stil_ast.specs.Faults.Found.{fault_at, unless, refuse_if, IsRefusal}
+use Rattle.stil_ast.specs.Faults.Found.{fault_at, unless, refuse_if}
 use Rattle.stil_ast.specs.Faults.SignalFaults.{signals_fault, groups_fault}
 use Rattle.stil_ast.specs.Meaning.Signals.{Signal, Group, declared}
 use Rattle.stil_ast.specs.declared.fault.StilFault.{StilFault}
@@ -20,7 +21,7 @@ use Rattle.stil_ast.specs.Data.Refusal.{StilRefusal}
 use Rattle.answers.specs.declared.short.Short.TheVariants as refusal
 use Rattle.signal_groups.specs.declared.table.Declared.{Declared}
 use Rattle.signal_groups.specs.Table.{IsSound}
-use Rattle.signal_groups.specs.Begun.{Begun, Tells, begun_in, begun_of, with_signal, signal_said, group_said, decl_said}
+use Rattle.signal_groups.specs.Begun.{Begun, begun_in, begun_of, with_signal, signal_said, group_said, decl_said}
 
 -- items one after another, and then others
 stepping-append : {S E F : Type 0} (step : S → E → Result S F) (s : S) (xs ys : List E)
@@ -169,21 +170,16 @@ groups_few before (g ∷ groups) e few =
     by_tests false false t r more = cc
     by_tests false true t r more = more (ltb-true (length before) 4096 t) r
 
--- a refusal has the fault of what was answered
-told_fault : {X : Type 0} (fault : Option StilFault) (x new : X) (e : StilRefusal) → Tells new (Err e) (answered fault x)
-    → IsRefusal fault e
-told_fault fault x new refusal.NoMemory h = tt
-told_fault fault x new (refusal.Fault f) h = answered_err fault x f h
-
 named_said : (keys : List (Vec ℕ Global)) (groups : List Group) → keys ≡ []
     → stepping group_said (key_texts keys) groups ≡ answered (groups_fault [] groups) (map (λ (g : Group). g.name) groups)
 named_said keys groups e = ap (λ ks. stepping group_said (key_texts ks) groups) e ∙ groups_said [] groups
 
-pub names_refused : (keys : List (Vec ℕ Global)) (groups : List Group) (new : List (List ℕ)) (e : StilRefusal) → keys ≡ []
-    → Tells new (Err e) (stepping group_said (key_texts keys) groups) → IsRefusal (groups_fault [] groups) e
-names_refused keys groups new e none h =
-    told_fault (groups_fault [] groups) (map (λ (g : Group). g.name) groups) new e
-    (subst (λ (w : Result (List (List ℕ)) StilFault). Tells new (Err e) w) (named_said keys groups none) h)
+-- what is blamed is the first fault of the names
+pub names_refused : (keys : List (Vec ℕ Global)) (groups : List Group) (e : StilRefusal) → keys ≡ []
+    → ((f : StilFault) → e ≡ refusal.Fault f → stepping group_said (key_texts keys) groups ≡ Err f)
+    → Blames (groups_fault [] groups) e
+names_refused keys groups e none h = λ f is.
+    answered_err (groups_fault [] groups) (map (λ (g : Group). g.name) groups) f (sym (named_said keys groups none) ∙ h f is)
 
 pub names_taken : (keys : List (Vec ℕ Global)) (groups : List Group) (new : List (List ℕ)) → keys ≡ []
     → stepping group_said (key_texts keys) groups ≡ Ok new
@@ -198,12 +194,13 @@ begun_said keys kept signals e f =
     ap (λ ks. stepping signal_said (begun_in ks kept) signals) e
     ∙ ap (λ ds. stepping signal_said (begun_in [] ds) signals) f ∙ signals_said [] signals
 
-pub signals_refused : (keys : List (Vec ℕ Global)) (kept : List Declared) (signals : List Signal) (new : Begun) (e : StilRefusal)
-    → keys ≡ [] → kept ≡ [] → Tells new (Err e) (stepping signal_said (begun_in keys kept) signals)
-    → IsRefusal (signals_fault [] signals) e
-signals_refused keys kept signals new e none empty h =
-    told_fault (signals_fault [] signals) (begun_of signals) new e
-    (subst (λ (w : Result Begun StilFault). Tells new (Err e) w) (begun_said keys kept signals none empty) h)
+-- what is blamed is the first fault of the signals
+pub signals_refused : (keys : List (Vec ℕ Global)) (kept : List Declared) (signals : List Signal) (e : StilRefusal)
+    → keys ≡ [] → kept ≡ []
+    → ((f : StilFault) → e ≡ refusal.Fault f → stepping signal_said (begun_in keys kept) signals ≡ Err f)
+    → Blames (signals_fault [] signals) e
+signals_refused keys kept signals e none empty h = λ f is.
+    answered_err (signals_fault [] signals) (begun_of signals) f (sym (begun_said keys kept signals none empty) ∙ h f is)
 
 pub signals_taken : (keys : List (Vec ℕ Global)) (kept : List Declared) (signals : List Signal) (new : Begun)
     → keys ≡ [] → kept ≡ [] → stepping signal_said (begun_in keys kept) signals ≡ Ok new

@@ -17,10 +17,9 @@ use Rattle.stil_ast.specs.declared.fault.StilFault.{StilFault}
 use Rattle.stil_ast.specs.declared.fault.StilKind.{StilKind}
 use Rattle.stil_ast.specs.declared.fault.StilKind.TheVariants.{Cyclic, UnknownName}
 use Rattle.stil_ast.specs.Data.Refusal.{StilRefusal}
-use Rattle.answers.specs.declared.short.Short.TheVariants as refusal
 use Rattle.signal_groups.specs.Table.{Table, table_of, with_members}
 use Rattle.signal_groups.specs.Lookup.{number_in, known_with, terms_kind}
-use Rattle.signal_groups.specs.Begun.{FirstTells}
+use Rattle.answers.specs.Answers.{Blames}
 use Rattle.signal_groups.specs.Graph.{needed_unless, needed_by, needed_in, needs_at, reaches, is_done, IsStuck, AreBelow, kind_at, or_cyclic, faults_from}
 use Rattle.signal_groups.specs.Settled.{IsBegun, IsNamed, WereSettled, Completes}
 use Rattle.signal_groups.proofs.GraphLemmas.{waits_for_itself}
@@ -226,10 +225,9 @@ pub completes-refused : (names : Names) (groups : List Group) (table : Table) (k
     (e : StilRefusal) → IsBegun names groups table
     → kinds ≡ map (λ (g : Group). terms_kind table (terms_of g.text)) groups
     → graph ≡ map (λ (g : Group). needed_in table.texts table.groups (terms_of g.text)) groups
-    → FirstTells (Err e) (faults_from (kind_at kinds graph) 0 groups) → Completes names (Err e)
-completes-refused names groups table kinds graph refusal.NoMemory h ek eg told = tt
-completes-refused names groups table kinds graph (refusal.Fault f) h ek eg told =
-    sym (faults-first names groups table kinds graph h ek eg) ∙ told
+    → Blames (faults_from (kind_at kinds graph) 0 groups) e → Completes names (Err e)
+completes-refused names groups table kinds graph e h ek eg told = λ fault is.
+    sym (faults-first names groups table kinds graph h ek eg) ∙ told fault is
 
 faults_clean : (kind : ℕ → Option StilKind) (n : ℕ) (groups : List Group) → ((k : ℕ) → k < length groups → kind (n + k) ≡ None)
     → faults_from kind n groups ≡ None

@@ -1,5 +1,5 @@
 -- Signals and names of groups as they are taken one after another, up to the first fault.
-use Rattle.std.specs.Prelude.{◌≡◌, ℕ, List, [], ◌∷◌, ◌++◌, Vec, Option, Some, None, Result, Ok, Err, nat_le, nat_lt, length, map, if◌then◌else◌}
+use Rattle.std.specs.Prelude.{ℕ, List, [], ◌∷◌, ◌++◌, Vec, Option, Result, Ok, Err, nat_le, nat_lt, length, map, if◌then◌else◌}
 use Rattle.std.specs.List.{list_any}
 use Rattle.std.specs.declared.alloc.Global.{Global}
 use Rattle.text_bytes.specs.Limits.{longest_name, most_signals}
@@ -10,8 +10,6 @@ use Rattle.stil_ast.specs.Faults.Found.{fault_at}
 use Rattle.stil_ast.specs.Meaning.Signals.{Signal, Group, signals_place, declared}
 use Rattle.stil_ast.specs.declared.fault.StilFault.{StilFault}
 use Rattle.stil_ast.specs.declared.fault.StilKind.TheVariants.{Twice, OutOfRange}
-use Rattle.stil_ast.specs.Data.Refusal.{StilRefusal}
-use Rattle.answers.specs.declared.short.Short.TheVariants as refusal
 use Rattle.stil_ast.specs.declared.signal.SignalDecl.{SignalDecl}
 use Rattle.tester_types.specs.declared.signal.Direction.{Direction}
 use Rattle.signal_groups.specs.declared.table.Declared.{Declared}
@@ -60,17 +58,6 @@ group_said names g =
     if list_any (λ n. same n g.name) names then Err (fault_at g.place Twice)
     else if nat_lt (length names) 4096 then Ok (names ++ g.name ∷ []) else Err (fault_at g.place OutOfRange)
 
--- a refusal has this fault, or memory was short
-abbrev pub Refuses : StilRefusal → StilFault → Type 0
-Refuses refusal.NoMemory wanted = Unit {0}
-Refuses (refusal.Fault fault) wanted = fault ≡ wanted
-
--- an answer is what is wanted, or memory was short
-abbrev pub Tells : {X : Type 0} → X → Result (Unit {0}) StilRefusal → Result X StilFault → Type 0
-Tells new (Ok done) wanted = wanted ≡ Ok new
-Tells new (Err refusal.NoMemory) wanted = Unit {0}
-Tells new (Err (refusal.Fault fault)) wanted = wanted ≡ Err fault
-
 -- a signal that a declaration declares under this text
 abbrev pub signal_as : SignalDecl → List ℕ → Option (List ℕ) → Signal
 signal_as d text base = record { text = text; base = base; direction = d.direction; place = signals_place d.line }
@@ -78,9 +65,3 @@ signal_as d text base = record { text = text; base = base; direction = d.directi
 -- the signals of a declaration are taken, up to the first that is refused
 abbrev pub decl_said : Begun → SignalDecl → Result Begun StilFault
 decl_said b d = stepping signal_said b (declared d)
-
--- what is refused has the first fault, if there is one, or memory was short
-abbrev pub FirstTells : Result (Unit {0}) StilRefusal → Option StilFault → Type 0
-FirstTells (Ok done) wanted = wanted ≡ None
-FirstTells (Err refusal.NoMemory) wanted = Unit {0}
-FirstTells (Err (refusal.Fault fault)) wanted = wanted ≡ Some fault

@@ -1,9 +1,9 @@
 -- What is known while groups are given their signals.
-use Rattle.std.specs.Prelude.{◌≡◌, ℕ, Bool, List, [], Some, None, Result, Ok, Err, map}
+use Rattle.std.specs.Prelude.{◌≡◌, ℕ, Bool, List, [], None, Result, map}
 use Rattle.stil_ast.specs.Faults.SignalFaults.{groups_fault, group_fault}
 use Rattle.stil_ast.specs.Faults.Found.{first_in}
 use Rattle.stil_ast.specs.Data.Refusal.{StilRefusal}
-use Rattle.answers.specs.declared.short.Short.TheVariants as refusal
+use Rattle.answers.specs.Answers.{Finds}
 use Rattle.stil_ast.specs.Meaning.GroupReading.{terms_of}
 use Rattle.stil_ast.specs.Meaning.Members.{combined_text}
 use Rattle.stil_ast.specs.Meaning.Signals.{Signal, Group, Names}
@@ -42,6 +42,4 @@ pub record IsBegun (names : Names) (groups : List Group) (table : Table) : Type 
 
 -- the table of names whose groups have no fault, or the first fault
 abbrev pub Completes : Names → Result Table StilRefusal → Type 0
-Completes names (Ok table) = (first_in (group_fault names) names.groups ≡ None) × (table ≡ table_of names)
-Completes names (Err refusal.NoMemory) = Unit {0}
-Completes names (Err (refusal.Fault fault)) = first_in (group_fault names) names.groups ≡ Some fault
+Completes names result = Finds (first_in (group_fault names) names.groups) (λ table. table ≡ table_of names) result

@@ -1,9 +1,10 @@
 //! Signals, and groups by their names, or the first fault of their declarations.
 
-ghost use Rattle.std.specs.Prelude.{◌≡◌, ℕ, List, [], None, length, map, replicate, IfOk, IfErr};
+ghost use Rattle.std.specs.Prelude.{◌≡◌, ℕ, List, [], length, map, replicate, IfOk};
 ghost use Rattle.std.specs.List.{flat_map};
 ghost use Rattle.text_bytes.specs.Texts.{key_texts};
-ghost use Rattle.stil_ast.specs.Faults.Found.{or_else, IsRefusal};
+ghost use Rattle.answers.specs.Answers.{Finds};
+ghost use Rattle.stil_ast.specs.Faults.Found.{or_else};
 ghost use Rattle.stil_ast.specs.Faults.SignalFaults.{signals_fault, groups_fault};
 ghost use Rattle.stil_ast.specs.Meaning.Signals.{Group, declared, names_of};
 ghost use Rattle.signal_groups.specs.Begun.{begun_in, begun_of};
@@ -23,9 +24,8 @@ fn signals_of(
     alloc: Global,
     decls: &[SignalDecl],
 ) -> Result<(IndexSet<Vec<u8>>, Vec<Declared>), StilRefusal>
-    ensures found { IfOk result (λ made. (signals_fault [] (flat_map declared decls.now) ≡ None)
-        × (begun_in made.0.keys made.1.items ≡ begun_of (flat_map declared decls.now))) }
-    ensures fault { IfErr result (IsRefusal (signals_fault [] (flat_map declared decls.now))) }
+    ensures { Finds (signals_fault [] (flat_map declared decls.now))
+        (λ made. begun_in made.0.keys made.1.items ≡ begun_of (flat_map declared decls.now)) result }
 {
     let mut texts = IndexSet::new(alloc);
     let mut kept = Vec::new(alloc);
@@ -37,9 +37,8 @@ fn signals_of(
 
 /// The names of groups.
 fn called(alloc: Global, groups: &[Located<'_>]) -> Result<IndexSet<Vec<u8>>, StilRefusal>
-    ensures found { IfOk result (λ names. (groups_fault [] (map group_at groups.now) ≡ None)
-        × (key_texts names.keys ≡ map (λ (g : Group). g.name) (map group_at groups.now))) }
-    ensures fault { IfErr result (IsRefusal (groups_fault [] (map group_at groups.now))) }
+    ensures { Finds (groups_fault [] (map group_at groups.now))
+        (λ names. key_texts names.keys ≡ map (λ (g : Group). g.name) (map group_at groups.now)) result }
 {
     let mut names = IndexSet::new(alloc);
     match take_names(alloc, &mut names, groups) {
@@ -66,12 +65,10 @@ pub(crate) fn begin(
     groups: &[Located<'_>],
 ) -> Result<SignalTable, StilRefusal>
     requires groups { map group_at groups.now ≡ (names_of blocks.now).groups }
-    ensures signals { IfOk result (λ _. signals_fault [] (names_of blocks.now).signals ≡ None) }
-    ensures groups { IfOk result (λ _. groups_fault [] (names_of blocks.now).groups ≡ None) }
-    ensures begun { IfOk result (λ table. IsBegun (names_of blocks.now) (map group_at groups.now) table) }
+    ensures begun { Finds (or_else (signals_fault [] (names_of blocks.now).signals)
+        (groups_fault [] (names_of blocks.now).groups))
+        (λ table. IsBegun (names_of blocks.now) (map group_at groups.now) table) result }
     ensures members { IfOk result (λ table. length table.members ≡ length groups.now) }
-    ensures fault { IfErr result (IsRefusal (or_else (signals_fault [] (names_of blocks.now).signals)
-        (groups_fault [] (names_of blocks.now).groups))) }
 {
     let (texts, declared) = signals_of(alloc, blocks.signals.as_slice())?;
     let names = called(alloc, groups)?;

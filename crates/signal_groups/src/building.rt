@@ -4,9 +4,10 @@ ghost use Rattle.std.specs.Prelude.{◌≡◌, ◌⊎◌, None, Some, IfOk, IfEr
 ghost use Rattle.stil_ast.specs.Meaning.Signals.{names_of};
 ghost use Rattle.stil_ast.specs.Faults.SignalFaults.{fourth_fault};
 ghost use Rattle.stil_ast.specs.declared.fault.StilFault.{StilFault};
+ghost use Rattle.answers.specs.Answers.{Finds};
 ghost use Rattle.answers.specs.declared.short.Short.TheVariants as refusal;
 ghost use Rattle.signal_groups.specs.Table.{table_of};
-ghost use Rattle.signal_groups.specs.Fault.{IsFourth, Fourth};
+ghost use Rattle.signal_groups.specs.Fault.{IsFourth};
 
 use crate::begin::begin;
 use crate::complete::complete;
@@ -30,7 +31,7 @@ pub fn build(alloc: Global, blocks: &Blocks) -> Result<SignalTable, StilRefusal>
 
 /// The same, with what is answered as one fact.
 fn built(alloc: Global, blocks: &Blocks) -> Result<SignalTable, StilRefusal>
-    ensures { Fourth blocks.now result }
+    ensures { Finds (fourth_fault blocks.now) (λ table. table ≡ table_of (names_of blocks.now)) result }
 {
     let groups = groups_in(alloc, blocks.groups.as_slice())?;
     match begin(alloc, blocks, groups.as_slice()) {

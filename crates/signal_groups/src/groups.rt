@@ -1,20 +1,20 @@
 //! The groups of SignalGroups blocks, and their names up to the first fault (IEEE 1450-1999, clause 15).
 
-ghost use Rattle.std.specs.Prelude.{◌≡◌, ◌∷◌, [], ◌++◌, ℕ, List, Err, false, map, codes, IfOk, OnOk};
+ghost use Rattle.std.specs.Prelude.{◌≡◌, ◌∷◌, [], ◌++◌, ℕ, List, Some, false, map, codes, IfOk, OnOk};
 ghost use Rattle.std.specs.List.{list_any, flat_map};
 ghost use Rattle.text_bytes.specs.Texts.{key_texts};
+ghost use Rattle.answers.specs.Answers.{Blames, Gives};
 ghost use Rattle.answers.specs.Reading.{stepping};
 ghost use Rattle.stil_ast.specs.Data.Texts.{same};
 ghost use Rattle.stil_ast.specs.Faults.Found.{fault_at};
 ghost use Rattle.stil_ast.specs.Meaning.Signals.{grouped, groups_place};
 ghost use Rattle.stil_ast.specs.declared.signal.GroupBlock.{GroupBlock};
-ghost use Rattle.signal_groups.specs.Begun.{group_said, Refuses, Tells};
+ghost use Rattle.signal_groups.specs.Begun.{group_said};
 ghost use Rattle.signal_groups.specs.Located.{group_at};
 
 use indexmap::IndexSet;
 use std::alloc::{AllocError, Global};
-use stil_ast::{GroupBlock, GroupDecl, StilFault, StilKind, StilRefusal};
-use tester_types::Items;
+use stil_ast::{GroupBlock, GroupDecl, StilKind, StilRefusal, told};
 use text_bytes::MOST_GROUPS;
 
 /// A group, and the block in which it stands.
@@ -24,31 +24,11 @@ pub(crate) struct Located<'a> {
     pub(crate) decl: &'a GroupDecl,
 }
 
-/// The fault of a SignalGroups block of this name.
-pub(crate) fn fault_of(
-    alloc: Global,
-    block: &[u8],
-    line: u32,
-    kind: StilKind,
-) -> Result<StilFault, AllocError>
-    ensures { IfOk result (λ fault. fault ≡ fault_at (groups_place block.now line) kind) }
-{
-    Ok(StilFault {
-        kind,
-        block: Items::from_slice(alloc, b"SignalGroups")?,
-        name: Items::from_slice(alloc, block)?,
-        line,
-    })
-}
-
 /// The refusal of a line in a SignalGroups block of this name.
 pub(crate) fn refused(alloc: Global, block: &[u8], line: u32, kind: StilKind) -> StilRefusal
-    ensures { Refuses result (fault_at (groups_place block.now line) kind) }
+    ensures { Blames (Some (fault_at (groups_place block.now line) kind)) result }
 {
-    match fault_of(alloc, block, line, kind) {
-        Ok(fault) => StilRefusal::Fault(fault),
-        Err(_) => StilRefusal::NoMemory,
-    }
+    told(alloc, b"SignalGroups", block, line, kind)
 }
 
 /// Puts the groups of a block behind the others.
@@ -103,8 +83,8 @@ fn take(
     names: &mut IndexSet<Vec<u8>>,
     group: &Located<'_>,
 ) -> Result<(), StilRefusal>
-    ensures { Tells (key_texts names.new.keys) result
-        (group_said (key_texts names.old.keys) (group_at group.now)) }
+    ensures { Gives (λ _. key_texts names.new.keys)
+        (group_said (key_texts names.old.keys) (group_at group.now)) result }
 {
     let name = group.decl.name.as_slice();
     if has_name(names, name) {
@@ -123,8 +103,8 @@ pub(crate) fn take_names(
     names: &mut IndexSet<Vec<u8>>,
     groups: &[Located<'_>],
 ) -> Result<(), StilRefusal>
-    ensures { Tells (key_texts names.new.keys) result
-        (stepping group_said (key_texts names.old.keys) (map group_at groups.now)) }
+    ensures { Gives (λ _. key_texts names.new.keys)
+        (stepping group_said (key_texts names.old.keys) (map group_at groups.now)) result }
 {
     for group in groups {
         take(alloc, names, group)?;

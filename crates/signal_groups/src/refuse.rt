@@ -1,7 +1,7 @@
 //! The first fault of the texts of groups (IEEE 1450-1999, clause 15).
 
-ghost use Rattle.std.specs.Prelude.{◌≡◌, ◌<◌, ℕ, None, Some, Err, length, map, IfOk};
-ghost use Rattle.signal_groups.specs.Begun.{FirstTells};
+ghost use Rattle.std.specs.Prelude.{◌≡◌, ◌<◌, ℕ, None, Some, length, map, IfOk};
+ghost use Rattle.answers.specs.Answers.{Blames, Passes};
 ghost use Rattle.signal_groups.specs.Graph.{AreBelow, kind_at, faults_from};
 ghost use Rattle.signal_groups.specs.Located.{group_at};
 
@@ -42,7 +42,7 @@ fn first_refused(
     requires below { AreBelow graph.now }
     requires each { length groups.now ≡ length graph.now }
     requires count { length kinds.now ≡ length graph.now }
-    ensures { FirstTells result (faults_from (kind_at kinds.now graph.now) 0 (map group_at groups.now)) }
+    ensures { Passes (faults_from (kind_at kinds.now graph.now) 0 (map group_at groups.now)) result }
 {
     for (place, group) in groups.iter().enumerate() {
         if let Some(kind) = kind_at(alloc, kinds, graph, place)? {
@@ -63,7 +63,7 @@ pub(crate) fn refusal(
     requires each { length groups.now ≡ length graph.now }
     requires count { length kinds.now ≡ length graph.now }
     requires some { faults_from (kind_at kinds.now graph.now) 0 (map group_at groups.now) ≡ None → ⊥ }
-    ensures { FirstTells (Err result) (faults_from (kind_at kinds.now graph.now) 0 (map group_at groups.now)) }
+    ensures { Blames (faults_from (kind_at kinds.now graph.now) 0 (map group_at groups.now)) result }
 {
     match first_refused(alloc, groups, kinds, graph) {
         Err(refusal) => refusal,

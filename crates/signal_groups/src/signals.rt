@@ -1,35 +1,28 @@
 //! The signals of Signals blocks, up to their first fault (IEEE 1450-1999, clause 14).
 
-ghost use Rattle.std.specs.Prelude.{◌≡◌, false, ℕ, List, None, Some, Err, map, codes, IfOk, OnOk};
+ghost use Rattle.std.specs.Prelude.{◌≡◌, false, ℕ, List, [], None, Some, map, codes, IfOk, OnOk};
 ghost use Rattle.std.specs.List.{list_any, flat_map};
 ghost use Rattle.text_bytes.specs.Texts.{key_texts};
+ghost use Rattle.answers.specs.Answers.{Blames, Gives};
 ghost use Rattle.answers.specs.Reading.{stepping};
 ghost use Rattle.stil_ast.specs.Data.Texts.{same, indices, indexed};
 ghost use Rattle.stil_ast.specs.Faults.Found.{fault_at};
 ghost use Rattle.stil_ast.specs.Meaning.Signals.{signals_place, declared_as, declared};
-ghost use Rattle.signal_groups.specs.Begun.{Begun, begun_in, signal_said, with_signal, signal_as, decl_said, Refuses, Tells};
+ghost use Rattle.signal_groups.specs.Begun.{Begun, begun_in, signal_said, with_signal, signal_as, decl_said};
 
 use crate::items::{index_at, index_count, indexed};
 use crate::table::Declared;
 use indexmap::IndexSet;
 use std::alloc::{AllocError, Global};
-use stil_ast::{IndexRange, SignalDecl, StilFault, StilKind, StilRefusal};
+use stil_ast::{IndexRange, SignalDecl, StilKind, StilRefusal, told};
 use tester_types::{Items, Text};
 use text_bytes::{LONGEST_NAME, MOST_SIGNALS};
 
 /// The refusal of a declaration.
 fn refused(alloc: Global, decl: &SignalDecl, kind: StilKind) -> StilRefusal
-    ensures { Refuses result (fault_at (signals_place decl.now.line) kind) }
+    ensures { Blames (Some (fault_at (signals_place decl.now.line) kind)) result }
 {
-    match Items::from_slice(alloc, b"Signals") {
-        Ok(block) => StilRefusal::Fault(StilFault {
-            kind,
-            block,
-            name: Items::from_vec(Vec::new(alloc)),
-            line: decl.line,
-        }),
-        Err(_) => StilRefusal::NoMemory,
-    }
+    told(alloc, b"Signals", &[], decl.line, kind)
 }
 
 /// Whether a text stands among these.
@@ -68,8 +61,8 @@ fn take(
     base: Option<Text>,
     decl: &SignalDecl,
 ) -> Result<(), StilRefusal>
-    ensures { Tells (begun_in texts.new.keys kept.new.items) result
-        (signal_said (begun_in texts.old.keys kept.old.items) (signal_as decl.now text.items base)) }
+    ensures { Gives (λ _. begun_in texts.new.keys kept.new.items)
+        (signal_said (begun_in texts.old.keys kept.old.items) (signal_as decl.now text.items base)) result }
 {
     if has_text(texts, text.as_slice()) {
         return Err(refused(alloc, decl, StilKind::Twice));
@@ -92,9 +85,9 @@ fn take_at(
     index: u32,
     decl: &SignalDecl,
 ) -> Result<(), StilRefusal>
-    ensures { Tells (begun_in texts.new.keys kept.new.items) result
+    ensures { Gives (λ _. begun_in texts.new.keys kept.new.items)
         (signal_said (begun_in texts.old.keys kept.old.items)
-        (signal_as decl.now (indexed decl.now.name index) (Some decl.now.name))) }
+        (signal_as decl.now (indexed decl.now.name index) (Some decl.now.name))) result }
 {
     let text = indexed(alloc, decl.name.as_slice(), index)?;
     let base = Items::from_slice(alloc, decl.name.as_slice())?;
@@ -109,11 +102,14 @@ fn take_range(
     range: IndexRange,
     decl: &SignalDecl,
 ) -> Result<(), StilRefusal>
-    ensures { Tells (begun_in texts.new.keys kept.new.items) result
-        (stepping signal_said (begun_in texts.old.keys kept.old.items) (declared_as decl.now (Some range))) }
+    ensures { Gives (λ _. begun_in texts.new.keys kept.new.items)
+        (stepping signal_said (begun_in texts.old.keys kept.old.items) (declared_as decl.now (Some range))) result }
 {
     for place in 0..index_count(range) {
-        take_at(alloc, texts, kept, index_at(range, place), decl)?;
+        match take_at(alloc, texts, kept, index_at(range, place), decl) {
+            Ok(()) => {}
+            Err(refusal) => return Err(refusal),
+        }
     }
     Ok(())
 }
@@ -125,8 +121,8 @@ fn take_declared(
     kept: &mut Vec<Declared>,
     decl: &SignalDecl,
 ) -> Result<(), StilRefusal>
-    ensures { Tells (begun_in texts.new.keys kept.new.items) result
-        (decl_said (begun_in texts.old.keys kept.old.items) decl.now) }
+    ensures { Gives (λ _. begun_in texts.new.keys kept.new.items)
+        (decl_said (begun_in texts.old.keys kept.old.items) decl.now) result }
 {
     match decl.range {
         None => {
@@ -144,8 +140,8 @@ fn take_each(
     kept: &mut Vec<Declared>,
     decls: &[SignalDecl],
 ) -> Result<(), StilRefusal>
-    ensures { Tells (begun_in texts.new.keys kept.new.items) result
-        (stepping decl_said (begun_in texts.old.keys kept.old.items) decls.now) }
+    ensures { Gives (λ _. begun_in texts.new.keys kept.new.items)
+        (stepping decl_said (begun_in texts.old.keys kept.old.items) decls.now) result }
 {
     for decl in decls {
         take_declared(alloc, texts, kept, decl)?;
@@ -160,8 +156,8 @@ pub(crate) fn take_signals(
     kept: &mut Vec<Declared>,
     decls: &[SignalDecl],
 ) -> Result<(), StilRefusal>
-    ensures { Tells (begun_in texts.new.keys kept.new.items) result
-        (stepping signal_said (begun_in texts.old.keys kept.old.items) (flat_map declared decls.now)) }
+    ensures { Gives (λ _. begun_in texts.new.keys kept.new.items)
+        (stepping signal_said (begun_in texts.old.keys kept.old.items) (flat_map declared decls.now)) result }
 {
     take_each(alloc, texts, kept, decls)
 }

@@ -1,22 +1,7 @@
 -- What holds of each item of lists that are made from others.
-use Rattle.std.proofs.Common.{ℕ, zero, suc, List, [], ◌∷◌, ◌++◌, map, take, drop}
-use Rattle.std.specs.List.{AllByRecursion, flat_map}
+use Rattle.std.proofs.Common.{ℕ, zero, suc, List, [], ◌∷◌, ◌++◌, take, drop}
+use Rattle.std.specs.List.{AllByRecursion}
 use Rattle.text_bytes.proofs.ListLemmas.{all_append}
-
--- what holds of anything holds of each
-pub All-of_any : {X : Type 0} (P : X → Type 0) (xs : List X) → ((x : X) → P x) → AllByRecursion P xs
-All-of_any P [] any = tt
-All-of_any P (x ∷ xs) any = (any x, All-of_any P xs any)
-
-pub All-map : {X Y : Type 0} (P : Y → Type 0) (f : X → Y) (xs : List X) → AllByRecursion (λ (x : X). P (f x)) xs
-    → AllByRecursion P (map f xs)
-All-map P f [] all = tt
-All-map P f (x ∷ xs) all = (all.0, All-map P f xs all.1)
-
-pub All-flat_map : {X Y : Type 0} (P : Y → Type 0) (f : X → List Y) (xs : List X)
-    → AllByRecursion (λ (x : X). AllByRecursion P (f x)) xs → AllByRecursion P (flat_map f xs)
-All-flat_map P f [] all = tt
-All-flat_map P f (x ∷ xs) all = all_append P (f x) (flat_map f xs) all.0 (All-flat_map P f xs all.1)
 
 pub All-push : {X : Type 0} (P : X → Type 0) (xs : List X) (x : X) → AllByRecursion P xs → P x
     → AllByRecursion P (xs ++ x ∷ [])

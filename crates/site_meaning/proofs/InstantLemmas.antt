@@ -20,9 +20,9 @@ use Rattle.edge_gen.proofs.InstantLemmas.{All-instants}
 use Rattle.edge_gen.proofs.InsideLemmas.{found_passes, all_reversed, own_events}
 use Rattle.die_sim.specs.Die.{Device}
 use Rattle.strobe_check.specs.Entry.{Entry}
+use Rattle.packed_code.proofs.Lists.{all_of_any, all_mapped, all_flat}
 use Rattle.plan_rows.specs.Rows.{skews_at}
 use Rattle.lot_plan.specs.Skews.{skew_by}
-use Rattle.site_meaning.proofs.AllLemmas.{All-of_any, All-map, All-flat_map}
 use Rattle.site_meaning.specs.Playing.{Stand, Going, Along, Whose, PlayedMoment, FitStand, along_of, whose_next, after_moment, entry_of, moments_in, moments_played, played_cycle, after_cycle}
 use Rattle.site_meaning.specs.Part.{Part, IsPart, lot_in, skews_in, stand_for}
 
@@ -52,12 +52,12 @@ times_inside period skew (e ∷ events) h =
 row_inside : (table : Table) (row : List ℕ) (skews : List ℤ) → keeps_inside table skews ≡ true
     → AllByRecursion (λ (n : ℕ). n < table.period) (times_of (signals_of table row skews))
 row_inside table row skews all =
-    All-flat_map (λ (n : ℕ). n < table.period) (λ (signal : ℕ × List Event). map (λ (e : Event). e.time) signal.1)
+    all_flat (λ (n : ℕ). n < table.period) (λ (signal : ℕ × List Event). map (λ (e : Event). e.time) signal.1)
     (signals_of table row skews)
-    (All-map (λ (signal : ℕ × List Event). AllByRecursion (λ (n : ℕ). n < table.period) (map (λ (e : Event). e.time) signal.1))
+    (all_mapped (λ (signal : ℕ × List Event). AllByRecursion (λ (n : ℕ). n < table.period) (map (λ (e : Event). e.time) signal.1))
     (λ (place : ℕ × ℕ). (place.0, map (moved (skew_of skews place.0)) (events_of table.waves place.0 place.1)))
     (enumerate_from 0 row)
-    (All-of_any (λ (place : ℕ × ℕ). AllByRecursion (λ (n : ℕ). n < table.period)
+    (all_of_any (λ (place : ℕ × ℕ). AllByRecursion (λ (n : ℕ). n < table.period)
     (map (λ (e : Event). e.time) (map (moved (skew_of skews place.0)) (events_of table.waves place.0 place.1))))
     (enumerate_from 0 row)
     (λ place. times_inside table.period (skew_of skews place.0) (events_of table.waves place.0 place.1)

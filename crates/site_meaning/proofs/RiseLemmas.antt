@@ -16,7 +16,8 @@ use Rattle.edge_gen.specs.Moments.{Rises, times_of, instants, moment_at, moments
 use Rattle.edge_gen.proofs.InstantLemmas.{instants_are}
 use Rattle.die_sim.specs.Die.{Device}
 use Rattle.strobe_check.specs.Entry.{Entry}
-use Rattle.site_meaning.proofs.AllLemmas.{All-map, all_parts}
+use Rattle.packed_code.proofs.Lists.{all_mapped}
+use Rattle.site_meaning.proofs.AllLemmas.{all_parts}
 use Rattle.site_meaning.specs.Playing.{Stand, Going, Along, Whose, PlayedMoment, PlayedCycle, FitStand, along_of, whose_next, after_moment, entry_of, moments_in, moments_played, played_cycle, after_cycle}
 use Rattle.site_meaning.specs.Trials.{played, is_hit, lost_at, behind_cycle, reached}
 use Rattle.site_meaning.specs.Rising.{instants_of, instants_in}
@@ -94,7 +95,7 @@ cycle_rises stand exec going cycle =
 from_instants : (now : ℕ) (cs : List PlayedCycle) → From now cs → AllByRecursion (λ (n : ℕ). now ≤ n) (instants_in cs)
 from_instants now [] all = tt
 from_instants now (c ∷ cs) all =
-    all_append (λ (n : ℕ). now ≤ n) (instants_of c) (instants_in cs) (All-map (λ (n : ℕ). now ≤ n) (λ (m : PlayedMoment). m.at) c.moments all.0)
+    all_append (λ (n : ℕ). now ≤ n) (instants_of c) (instants_in cs) (all_mapped (λ (n : ℕ). now ≤ n) (λ (m : PlayedMoment). m.at) c.moments all.0)
     (from_instants now cs all.1)
 
 pub played_rises : (stand : Stand) (exec : ℕ) (going : Going) (cycles : List Cycle) → FitStand stand
@@ -105,7 +106,7 @@ played_rises stand exec going (cycle ∷ cycles) fit =
     let next = after_cycle stand going cycle in
     rises_on next.time (instants_of (played_cycle stand exec going cycle)) (instants_in (played stand exec next cycles))
     (cycle_rises stand exec going cycle) (played_rises stand exec next cycles fit)
-    (All-map (λ (n : ℕ). n < next.time) (λ (m : PlayedMoment). m.at) (played_cycle stand exec going cycle).moments
+    (all_mapped (λ (n : ℕ). n < next.time) (λ (m : PlayedMoment). m.at) (played_cycle stand exec going cycle).moments
     (cycle_before stand exec going cycle fit))
     (from_instants next.time (played stand exec next cycles) (played-from stand exec next cycles))
 

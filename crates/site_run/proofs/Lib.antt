@@ -2,6 +2,7 @@ mod StandardFacts
 pub mod HitLemmas
 pub mod RunLemmas
 pub mod TapeLemmas
+pub mod MadeLemmas
 pub mod MoveLemmas
 pub mod PolledLemmas
 pub mod ArrivalLemmas

@@ -14,11 +14,11 @@ use Rattle.packed_code.specs.Conditions.{IsProgram}
 use Rattle.packed_code.specs.Cycles.{period_of}
 use Rattle.die_sim.specs.Die.{Device}
 use Rattle.die_sim.specs.Socket.{Calls}
+use Rattle.packed_code.proofs.Lists.{all_of_any}
 use Rattle.site_meaning.specs.Playing.{Stand, Going, Along, along_of, driven, after_moment, after_moments, moments_in, after_cycle}
 use Rattle.site_meaning.specs.Part.{Part, stand_for}
 use Rattle.site_meaning.specs.Trials.{after_cycles}
 use Rattle.site_meaning.specs.Polls.{Running, Seat, rests, arrived, next_cycles}
-use Rattle.site_meaning.proofs.AllLemmas.{All-of_any}
 use Rattle.site_run.specs.declared.run.Move.{Move}
 use Rattle.cycle_run.specs.Tape.{call_at, call_of, calls_in, calls_of_cycle, with_calls}
 use Rattle.cycle_run.specs.Cycle.{IsCallAt}
@@ -90,7 +90,7 @@ module _ (at : ℕ) (early own late : Calls) (before : AllAt (λ t. t < at) earl
 pub before_zero : (calls : Calls) → calls_before 0 calls ≡ []
 before_zero calls =
     keeps_none (λ (c : Call). nat_lt c.0 0) calls
-    (All-of_any (λ (c : Call). nat_lt c.0 0 ≡ false) calls (λ c. le-ltb c.0 0 (omega arith)))
+    (all_of_any (λ (c : Call). nat_lt c.0 0 ≡ false) calls (λ c. le-ltb c.0 0 (omega arith)))
 
 -- ---- the calls of moments and of cycles
 

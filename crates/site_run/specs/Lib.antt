@@ -1,3 +1,4 @@
+pub mod Station
 pub mod Taped
 pub mod Seat
 pub mod Contact

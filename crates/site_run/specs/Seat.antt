@@ -117,6 +117,14 @@ StandsLater old new move.More = (old.way.time < new.way.time) × (0 < new.done)
 StandsLater old new move.Next = (old.way.time < new.way.time) × (new.done ≡ 0)
 StandsLater old new (move.Ends verdict) = IfSome (contact_by verdict) (λ at. old.way.time ≤ at)
 
+-- what is so of a try that made this move: it can be run again where it goes on, and later than before, and its checker
+-- keeps as many fails
+pub record HasMoved (code : Program) (device : Device) (told : Told) (old new : Run) (made : Move) : Type 0 where
+  pub fits : GoesOnSo code device told new made
+  pub seen : IsSeen new.way.bench.checker
+  pub keep : new.way.bench.checker.count.keep ≡ old.way.bench.checker.count.keep
+  pub later : StandsLater old new made
+
 -- ---- a try from its load up to its first batch
 
 -- a try that has no cycle

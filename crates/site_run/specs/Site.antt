@@ -1,12 +1,14 @@
 -- A site as a poll sees it, and what is so of it between two calls.
 use Rattle.std.specs.Prelude.{◌≡◌, ℕ, ◌+◌, ◌<◌, ◌≤◌, ◌==◌, if◌then◌else◌, Option, Some, None, IfSome, length, nat_lt, false}
 use Rattle.std.specs.Option.{option_map}
+use Rattle.packed_code.specs.Conditions.{IsProgram}
 use Rattle.packed_code.specs.Cycles.{cycles_of}
 use Rattle.pattern_mem.specs.Memory.{Memory}
 use Rattle.die_sim.specs.Die.{device_of}
 use Rattle.die_sim.specs.Socket.{Told}
 use Rattle.plan_rows.specs.Rows.{sites_of, lot_of, dies_at}
 use Rattle.lot_plan.specs.Bound.{Bound, image_of}
+use Rattle.lot_plan.specs.Refusal.{IsBound}
 use Rattle.lot_plan.specs.Skews.{site_skews}
 use Rattle.site_meaning.specs.Polls.{Running, Seat, Step, goes, ends, unloaded, before_batch, arrived, stepped_try, taken_at, poll}
 use Rattle.site_meaning.specs.Part.{Part, part_of}
@@ -17,6 +19,7 @@ use Rattle.site_run.specs.declared.trial.Outcome.TheVariants as outcome
 use Rattle.site_run.specs.declared.run.Run.{Run}
 use Rattle.site_run.specs.declared.run.Move.{Move}
 use Rattle.site_run.specs.declared.run.Move.TheVariants as move
+use Rattle.site_run.specs.declared.task.Task.{Task}
 use Rattle.site_run.specs.declared.site.Site.{Site}
 use Rattle.site_run.specs.declared.site.BatchEnd.{BatchEnd}
 use Rattle.site_run.specs.declared.site.BatchEnd.TheVariants as end
@@ -136,6 +139,26 @@ pub record IsPolled (plan : Bound) (stops : ℕ) (old new : Site) (told told' : 
   pub lost : IfSome contact (IsLostInPoll (part_of plan old.site) (seat_of stops told old))
   pub polled : seat_of stops told' new ≡ poll (part_of plan old.site) contact (seat_of stops told old)
   pub tape : IsTaped contact (calls_of_poll (part_of plan old.site) (seat_of stops told old)) told.tape told'.tape
+
+-- ---- a poll
+
+-- a site that is handed this task works: it was started over its memory and its plan, and has a die left
+pub record Works {R : Type 0} (task : Task R) (told : Told) (site : Site) : Type 0 where
+  pub bound : IsBound task.plan.now
+  pub program : IsProgram task.mem.now.code
+  pub of : IsSiteOf task.mem.now task.plan.now told site
+  pub die : site.die < length (dies_at site.site task.plan.now.rows)
+
+-- the number that it has taken behind it
+abbrev pub taken_with : ℕ → Site → ℕ
+taken_with stops site = if nat_lt site.state.taken stops then stops else site.state.taken
+
+-- it can be polled again, but for the try that runs and the number taken
+pub record Leaves {R : Type 0} (task : Task R) (told told' : Told) (old new : Site) : Type 0 where
+  pub pass : new.pass ≡ old.pass
+  pub held : HoldsSchedules task.mem.now.code (site_skews task.plan.now old.site) new.schedules
+  pub rest : KeepsRest old new
+  pub count : told.count ≤ told'.count
 
 -- the outcome of a move: a try that goes on does so as it is
 abbrev pub IsOutcomeOf : Run → Move → Outcome → Type 0

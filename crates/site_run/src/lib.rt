@@ -8,6 +8,8 @@ mod laws;
 mod run;
 mod site;
 mod state;
+mod station;
+mod task;
 mod trial;
 
 pub use fault::SiteFault;

@@ -9,19 +9,19 @@ ghost use Rattle.site_meaning.specs.Polls.{Seat, first_seat, with_word, with_tri
 ghost use Rattle.packed_code.specs.Cycles.{cycles_of};
 ghost use Rattle.die_sim.specs.Die.{device_of};
 ghost use Rattle.lot_plan.specs.Bound.{image_of};
-ghost use Rattle.lot_plan.specs.Skews.{site_skews};
 ghost use Rattle.std.specs.Option.{option_map};
 ghost use Rattle.site_run.specs.declared.site.BatchEnd.TheVariants as BatchEnd;
 ghost use Rattle.site_run.specs.Taped.{IsTaped, calls_of_next};
-ghost use Rattle.cycle_run.specs.Step.{HoldsSchedules};
-ghost use Rattle.site_run.specs.Seat.{running_of, IsRunOn, IsSeen, IsMove, contact_of, GoesOnSo, StandsLater};
+ghost use Rattle.site_run.specs.Seat.{running_of, IsRunOn, IsMove, contact_of, HasMoved};
 ghost use Rattle.site_run.specs.Touchdown.{IsIdle, IsTouchdown, RunsPolls};
-ghost use Rattle.site_run.specs.Site.{seat_of, try_of, IsSiteOf, IsSeatOf, Advances, OutcomeFits, KeepsRest, Steps, IsPolled, without_record, end_of};
+ghost use Rattle.site_run.specs.Site.{seat_of, try_of, IsSiteOf, IsSeatOf, taken_with, Works, Leaves, Advances, OutcomeFits, Steps, IsPolled, without_record, end_of};
 
 use crate::arrival::{Arrival, arrive};
 use crate::fault::SiteFault;
 use crate::run::{Move, Run, run_batch};
 use crate::state::SiteState;
+use crate::station::{Setup, Station};
+use crate::task::Task;
 use crate::trial::{Outcome, is_ordered, is_tried_again, outcome_of, without_cycles};
 use die_sim::Socket;
 use edge_gen::Schedules;
@@ -164,101 +164,81 @@ impl Site {
     /// What comes of a try that stands before its next batch: a live stop ends it, else the plan's order does, else it runs.
     fn before_batch<R: Wait, K: Socket>(
         &mut self,
-        rt: &R,
-        mem: &PatternMem,
-        plan: &BoundPlan,
+        task: &Task<R>,
         socket: &mut K,
         run: &mut Run,
-        stops: u64,
     ) -> Result<Move, NoMemory>
-        requires site { IsSiteOf mem.now plan.now (K.told socket.old) self.old }
-        requires die { self.old.die < length (dies_at self.old.site plan.now.rows) }
-        requires runs { IsRunOn mem.now.code
-            (device_of (image_of plan.now self.old.site self.old.die (try_of self.old))) (K.told socket.old) run.old }
-        requires more { run.old.done < length (cycles_of mem.now.code run.old.way.exec) }
-        requires keep { run.old.way.bench.checker.count.keep ≡ (lot_of plan.now.rows).keep }
-        ensures polled { IfOk result (λ move. (part : Part) (seat : Seat) → part ≡ part_of plan.now self.old.site
-            → IsSeatOf stops self.old seat
+        requires works { Works task.now (K.told socket.old) self.old }
+        requires runs { IsRunOn task.now.mem.now.code
+            (device_of (image_of task.now.plan.now self.old.site self.old.die (try_of self.old)))
+            (K.told socket.old) run.old }
+        requires more { run.old.done < length (cycles_of task.now.mem.now.code run.old.way.exec) }
+        requires keep { run.old.way.bench.checker.count.keep ≡ (lot_of task.now.plan.now.rows).keep }
+        ensures polled { IfOk result (λ move. (part : Part) (seat : Seat)
+            → part ≡ part_of task.now.plan.now self.old.site → IsSeatOf task.now.stops self.old seat
             → IsMove (try_of self.old) (K.told socket.new) run.new move
             (before_batch part (contact_of move) seat (running_of (K.told socket.old) run.old))) }
-        ensures fits { IfOk result (λ move. GoesOnSo mem.now.code
-            (device_of (image_of plan.now self.old.site self.old.die (try_of self.old)))
-            (K.told socket.new) run.new move) }
-        ensures seen { IfOk result (λ move. IsSeen run.new.way.bench.checker) }
-        ensures keep { IfOk result (λ move. run.new.way.bench.checker.count.keep ≡ (lot_of plan.now.rows).keep) }
-        ensures later { IfOk result (λ move. StandsLater run.old run.new move) }
-        ensures tape { IfOk result (λ move. (part : Part) (seat : Seat) → part ≡ part_of plan.now self.old.site
-            → IsSeatOf stops self.old seat
+        ensures moved { IfOk result (λ move. HasMoved task.now.mem.now.code
+            (device_of (image_of task.now.plan.now self.old.site self.old.die (try_of self.old)))
+            (K.told socket.new) run.old run.new move) }
+        ensures tape { IfOk result (λ move. (part : Part) (seat : Seat)
+            → part ≡ part_of task.now.plan.now self.old.site → IsSeatOf task.now.stops self.old seat
             → IsTaped (contact_of move) (calls_of_next part seat (running_of (K.told socket.old) run.old))
             (K.told socket.old).tape (K.told socket.new).tape) }
         ensures cause { IfOk result (λ move. IfSome (contact_of move)
             (λ _. HasRisen (K.told socket.old).count (K.told socket.new).count)) }
-        ensures live { IfOk result (λ move. IfSome (contact_of move) (λ _. nat_lt self.old.state.taken stops ≡ false)) }
-        ensures taken { self.new.state.taken
-            ≡ (if nat_lt self.old.state.taken stops then stops else self.old.state.taken) }
-        ensures pass { self.new.pass ≡ self.old.pass }
-        ensures held { HoldsSchedules mem.now.code (site_skews plan.now self.old.site) self.new.schedules }
-        ensures site { self.new.site ≡ self.old.site }
-        ensures die { self.new.die ≡ self.old.die }
-        ensures dies { self.new.dies ≡ self.old.dies }
-        ensures trials { self.new.trials ≡ self.old.trials }
+        ensures live { IfOk result (λ move. IfSome (contact_of move)
+            (λ _. nat_lt self.old.state.taken task.now.stops ≡ false)) }
+        ensures taken { self.new.state.taken ≡ taken_with task.now.stops self.old }
+        ensures leaves { Leaves task.now (K.told socket.old) (K.told socket.new) self.old self.new }
         ensures running { self.new.running ≡ self.old.running }
-        ensures waiting { self.new.waiting ≡ self.old.waiting }
-        ensures spent { self.new.spent ≡ self.old.spent }
-        ensures count { (K.told socket.old).count ≤ (K.told socket.new).count }
     {
-        let _sites = plan.sites();
+        let plan = task.plan;
         let number = self.number();
-        if self.state.poll(stops) {
-            return Ok(Move::Ends(Verdict::Stopped(run.batch, By::Desk(stops))));
+        if self.state.poll(task.stops) {
+            return Ok(Move::Ends(Verdict::Stopped(run.batch, By::Desk(task.stops))));
         }
         if is_ordered(plan.stop(self.site, self.die, number), run.batch) {
             return Ok(Move::Ends(Verdict::Stopped(run.batch, By::Plan)));
         }
-        run_batch(
-            rt,
-            self.alloc,
-            mem,
-            &mut self.pass,
-            &mut self.schedules,
+        let setup = Setup {
+            alloc: self.alloc,
+            mem: task.mem,
+            image: plan.image(self.site, self.die, number),
+            skews: plan.skews(self.site),
+        };
+        let mut station = Station {
+            rt: task.rt,
+            pass: &mut self.pass,
+            schedules: &mut self.schedules,
             socket,
-            plan.image(self.site, self.die, number),
-            plan.skews(self.site),
-            run,
-            plan.batch(),
-        )
+        };
+        run_batch(&setup, &mut station, run, plan.batch())
     }
 
     /// Runs a try that stands before its next batch.
     fn go<R: Wait, K: Socket>(
         &mut self,
-        rt: &R,
-        mem: &PatternMem,
-        plan: &BoundPlan,
+        task: &Task<R>,
         socket: &mut K,
         run: Run,
-        stops: u64,
     ) -> Result<Outcome, NoMemory>
-        requires site { IsSiteOf mem.now plan.now (K.told socket.old) self.old }
-        requires die { self.old.die < length (dies_at self.old.site plan.now.rows) }
-        requires runs { IsRunOn mem.now.code
-            (device_of (image_of plan.now self.old.site self.old.die (try_of self.old))) (K.told socket.old) run }
-        requires more { run.done < length (cycles_of mem.now.code run.way.exec) }
-        requires keep { run.way.bench.checker.count.keep ≡ (lot_of plan.now.rows).keep }
-        ensures advances { IfOk result (λ outcome. Advances plan.now stops self.old (K.told socket.old)
-            (K.told socket.new) run outcome) }
-        ensures fits { IfOk result (λ outcome. OutcomeFits mem.now plan.now (K.told socket.new) self.old outcome) }
-        ensures taken { self.new.state.taken
-            ≡ (if nat_lt self.old.state.taken stops then stops else self.old.state.taken) }
-        ensures pass { self.new.pass ≡ self.old.pass }
-        ensures held { HoldsSchedules mem.now.code (site_skews plan.now self.old.site) self.new.schedules }
-        ensures rest { KeepsRest self.old self.new }
+        requires works { Works task.now (K.told socket.old) self.old }
+        requires runs { IsRunOn task.now.mem.now.code
+            (device_of (image_of task.now.plan.now self.old.site self.old.die (try_of self.old)))
+            (K.told socket.old) run }
+        requires more { run.done < length (cycles_of task.now.mem.now.code run.way.exec) }
+        requires keep { run.way.bench.checker.count.keep ≡ (lot_of task.now.plan.now.rows).keep }
+        ensures advances { IfOk result (λ outcome. Advances task.now.plan.now task.now.stops self.old
+            (K.told socket.old) (K.told socket.new) run outcome) }
+        ensures fits { IfOk result (λ outcome. OutcomeFits task.now.mem.now task.now.plan.now
+            (K.told socket.new) self.old outcome) }
+        ensures taken { self.new.state.taken ≡ taken_with task.now.stops self.old }
+        ensures leaves { Leaves task.now (K.told socket.old) (K.told socket.new) self.old self.new }
         ensures running { self.new.running ≡ self.old.running }
-        ensures count { (K.told socket.old).count ≤ (K.told socket.new).count }
     {
-        let _sites = plan.sites();
         let mut run = run;
-        match self.before_batch(rt, mem, plan, socket, &mut run, stops) {
+        match self.before_batch(task, socket, &mut run) {
             Ok(moved) => Ok(outcome_of(self.alloc, run, self.number(), moved)),
             Err(fault) => Err(fault),
         }
@@ -267,30 +247,28 @@ impl Site {
     /// Loads the die of a try, and runs it up to the end of its first batch.
     fn begin<R: Wait, K: Socket>(
         &mut self,
-        rt: &R,
-        mem: &PatternMem,
-        plan: &BoundPlan,
+        task: &Task<R>,
         socket: &mut K,
-        stops: u64,
     ) -> Result<Outcome, NoMemory>
-        requires site { IsSiteOf mem.now plan.now (K.told socket.old) self.old }
-        requires die { self.old.die < length (dies_at self.old.site plan.now.rows) }
+        requires works { Works task.now (K.told socket.old) self.old }
         requires none { self.old.running ≡ None }
-        ensures steps { IfOk result (λ outcome. Steps plan.now stops self.old (K.told socket.old)
-            (K.told socket.new) outcome self.new.state.taken) }
-        ensures fits { IfOk result (λ outcome. OutcomeFits mem.now plan.now (K.told socket.new) self.old outcome) }
-        ensures pass { self.new.pass ≡ self.old.pass }
-        ensures held { HoldsSchedules mem.now.code (site_skews plan.now self.old.site) self.new.schedules }
-        ensures rest { KeepsRest self.old self.new }
+        ensures steps { IfOk result (λ outcome. Steps task.now.plan.now task.now.stops self.old
+            (K.told socket.old) (K.told socket.new) outcome self.new.state.taken) }
+        ensures fits { IfOk result (λ outcome. OutcomeFits task.now.mem.now task.now.plan.now
+            (K.told socket.new) self.old outcome) }
+        ensures leaves { Leaves task.now (K.told socket.old) (K.told socket.new) self.old self.new }
         ensures running { self.new.running ≡ self.old.running }
-        ensures count { (K.told socket.old).count ≤ (K.told socket.new).count }
     {
-        let _sites = plan.sites();
-        let _signals = mem.code().signals();
+        let plan = task.plan;
         let number = self.number();
-        let image = plan.image(self.site, self.die, number);
-        match arrive(self.alloc, mem, image, plan.keep(), socket) {
-            Ok(Arrival::Goes(run)) => self.go(rt, mem, plan, socket, run, stops),
+        let setup = Setup {
+            alloc: self.alloc,
+            mem: task.mem,
+            image: plan.image(self.site, self.die, number),
+            skews: plan.skews(self.site),
+        };
+        match arrive(&setup, plan.keep(), socket) {
+            Ok(Arrival::Goes(run)) => self.go(task, socket, run),
             Ok(Arrival::Ends(verdict)) => {
                 Ok(Outcome::Ends(without_cycles(self.alloc, number, verdict)))
             }
@@ -301,26 +279,20 @@ impl Site {
     /// Runs the try that runs or is next up to the end of its next batch.
     fn advance<R: Wait, K: Socket>(
         &mut self,
-        rt: &R,
-        mem: &PatternMem,
-        plan: &BoundPlan,
+        task: &Task<R>,
         socket: &mut K,
-        stops: u64,
     ) -> Result<Outcome, NoMemory>
-        requires site { IsSiteOf mem.now plan.now (K.told socket.old) self.old }
-        requires die { self.old.die < length (dies_at self.old.site plan.now.rows) }
-        ensures steps { IfOk result (λ outcome. Steps plan.now stops self.old (K.told socket.old)
-            (K.told socket.new) outcome self.new.state.taken) }
-        ensures fits { IfOk result (λ outcome. OutcomeFits mem.now plan.now (K.told socket.new) self.old outcome) }
-        ensures pass { self.new.pass ≡ self.old.pass }
-        ensures held { HoldsSchedules mem.now.code (site_skews plan.now self.old.site) self.new.schedules }
-        ensures rest { KeepsRest self.old self.new }
+        requires works { Works task.now (K.told socket.old) self.old }
+        ensures steps { IfOk result (λ outcome. Steps task.now.plan.now task.now.stops self.old
+            (K.told socket.old) (K.told socket.new) outcome self.new.state.taken) }
+        ensures fits { IfOk result (λ outcome. OutcomeFits task.now.mem.now task.now.plan.now
+            (K.told socket.new) self.old outcome) }
+        ensures leaves { Leaves task.now (K.told socket.old) (K.told socket.new) self.old self.new }
         ensures running { self.new.running ≡ None }
-        ensures count { (K.told socket.old).count ≤ (K.told socket.new).count }
     {
         match self.running.take() {
-            Some(run) => self.go(rt, mem, plan, socket, run, stops),
-            None => self.begin(rt, mem, plan, socket, stops),
+            Some(run) => self.go(task, socket, run),
+            None => self.begin(task, socket),
         }
     }
 
@@ -356,7 +328,15 @@ impl Site {
         ensures number { OnOk result (self.new.site ≡ self.old.site) }
         ensures count { (K.told socket.old).count ≤ (K.told socket.new).count }
     {
-        match self.advance(rt, mem, plan, socket, stops) {
+        let task = Task {
+            rt,
+            mem,
+            plan,
+            stops,
+        };
+        let _sites = plan.sites();
+        let _signals = mem.code().signals();
+        match self.advance(&task, socket) {
             Ok(Outcome::Goes(run)) => {
                 let end = end_of(run.done);
                 let _none = self.running.replace(run);

@@ -107,7 +107,8 @@ none_is_hash (item ∷ items) e =
     let parts = or_parts (is_hash item) (list_any is_hash items) e in
     and_from (is_not_hash item) (list_all is_not_hash items) (ap not parts.0) (none_is_hash items parts.1)
 
-only_second : (a b : Bool) → a ≡ true → (a && b) ≡ false → b ≡ false
+-- where the first is so and not both, the second isn't
+pub only_second : (a b : Bool) → a ≡ true → (a && b) ≡ false → b ≡ false
 only_second true b e f = f
 only_second false b e f = cc
 

@@ -16,6 +16,10 @@ pub or_else-none : (a b : Option StilFault) → or_else a b ≡ None → (a ≡ 
 or_else-none None b e = (refl, e)
 or_else-none (Some fault) b e = cc
 
+-- where both are none, there is none
+pub none_both : (a b : Option StilFault) → a ≡ None → b ≡ None → or_else a b ≡ None
+none_both a b first second = ap (λ (o : Option StilFault). or_else o b) first ∙ second
+
 pub or_else-both : (a b c : Option StilFault) → or_else a (or_else b c) ≡ or_else (or_else a b) c
 or_else-both None b c = refl
 or_else-both (Some f) b c = refl

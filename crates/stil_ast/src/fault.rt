@@ -126,7 +126,8 @@ fn fault_of(
     line: u32,
     kind: StilKind,
 ) -> Result<StilFault, AllocError>
-    ensures { IfOk result (λ fault. fault ≡ fault_at (record { block = block.now; name = name.now; line = line }) kind) }
+    ensures { IfOk result
+        (λ fault. fault ≡ fault_at (record { block = block.now; name = name.now; line = line }) kind) }
 {
     Ok(StilFault {
         kind,

@@ -10,7 +10,7 @@ use Rattle.answers.specs.declared.short.Short.TheVariants as refusal
 use Rattle.stil_ast.proofs.FoundLemmas.{not_both, one_fault}
 use Rattle.packed_code.specs.Program.{Program}
 use Rattle.stil_program.specs.Front.{IsFront, IsRefusedFor}
-use Rattle.burst_exec.specs.Finding.{Finds}
+use Rattle.answers.specs.Answers.{Finds}
 use Rattle.stil_program.specs.Program.{IsTextFault, IsTextOf, IsBlocksCode, IsProgramOf, IsCompiledText, IsRefusal}
 use Rattle.stil_program.specs.Working.{first_fault, IsCompiledOf, Answers}
 use Rattle.stil_program.specs.declared.text.CompiledText.{CompiledText}
@@ -35,8 +35,7 @@ with_lines blocks (Ok c) code execs none is same found short = (
     lines_are = found.1 ∙ ap (λ (es : List ExecDecl). map (λ (e : ExecDecl). e.line) es) same;
   },
 )
-with_lines blocks (Err refusal.NoMemory) code execs none is same found short = tt
-with_lines blocks (Err (refusal.Fault f)) code execs none is same found short = absurd cc
+with_lines blocks (Err r) code execs none is same found short = λ f at. let memory : r ≡ refusal.NoMemory = short in cc
 
 -- what is answered of a text's blocks is answered of the text
 pub by_blocks : (bytes : List ℕ) (blocks : Blocks) (r : Result CompiledText StilRefusal) → IsFront bytes (read_as blocks)
@@ -50,7 +49,7 @@ by_blocks bytes blocks (Ok c) read h = record {
   lines_are = h.1.lines_are;
 }
 by_blocks bytes blocks (Err refusal.NoMemory) read h = tt
-by_blocks bytes blocks (Err (refusal.Fault f)) read h = (read_as blocks, read, sym h)
+by_blocks bytes blocks (Err (refusal.Fault f)) read h = (read_as blocks, read, sym (h f refl))
 
 -- such a text has none
 pub no_fault : (bytes : List ℕ) (blocks : Blocks) → IsTextOf bytes blocks → IsTextFault bytes None

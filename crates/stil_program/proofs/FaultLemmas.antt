@@ -17,7 +17,7 @@ use Rattle.packed_code.specs.Program.{Program}
 use Rattle.stil_program.proofs.FrontLemmas.{one_front}
 use Rattle.time_expr.specs.TimesOf.{times_of}
 use Rattle.burst_exec.specs.Executives.{AreAllOf, IsExecFault}
-use Rattle.burst_exec.specs.Finding.{Finds}
+use Rattle.answers.specs.Answers.{Finds}
 use Rattle.cycle_comp.specs.Compiled.{IsCodeOf, code_fault}
 use Rattle.stil_program.specs.Program.{IsTextFault, IsBlocksCode}
 use Rattle.stil_program.specs.Working.{first_fault}
@@ -31,9 +31,8 @@ module _ (blocks : Blocks) where
   -- a fault of signals and groups
   pub by_fourth : (r : StilRefusal) → (r ≡ refusal.NoMemory) ⊎ IsFourth blocks r → IsRefusal (first_fault blocks) r
   unfolding first_fault
-  by_fourth refusal.NoMemory h = tt
-  by_fourth (refusal.Fault f) (inl none) = cc
-  by_fourth (refusal.Fault f) (inr h) =
+  by_fourth r (inl short) = λ f is. cc
+  by_fourth r (inr h) = λ f is.
       let same : h.fault ≡ f = let e = h.is in cc in
       ap (λ (o : Option StilFault). or_else o (or_else (fifth_fault times_of blocks) (sixth_fault times_of blocks))) h.first
       ∙ ap Some same
@@ -42,9 +41,8 @@ module _ (blocks : Blocks) where
   pub by_fifth : (r : StilRefusal) → fourth_fault blocks ≡ None → (r ≡ refusal.NoMemory) ⊎ IsExecFault blocks r
       → IsRefusal (first_fault blocks) r
   unfolding first_fault
-  by_fifth refusal.NoMemory none h = tt
-  by_fifth (refusal.Fault f) none (inl short) = cc
-  by_fifth (refusal.Fault f) none (inr h) =
+  by_fifth r none (inl short) = λ f is. cc
+  by_fifth r none (inr h) = λ f is.
       let same : h.fault ≡ f = let e = h.is in cc in
       ap (λ (o : Option StilFault). or_else o (or_else (fifth_fault times_of blocks) (sixth_fault times_of blocks))) none
       ∙ (ap (λ (o : Option StilFault). or_else o (sixth_fault times_of blocks)) h.first ∙ ap Some same)
@@ -63,5 +61,4 @@ module _ (blocks : Blocks) where
       → IfErr r (IsRefusal (code_fault (names_of blocks) xs)) → Finds (first_fault blocks) (IsBlocksCode blocks) r
   by_sixth (Ok code) xs none also are found fault =
       (sixth_is xs none also are ∙ found.0, record { executives = xs; are = are; code_is = found.1 })
-  by_sixth (Err refusal.NoMemory) xs none also are found fault = tt
-  by_sixth (Err (refusal.Fault f)) xs none also are found fault = sixth_is xs none also are ∙ fault
+  by_sixth (Err r) xs none also are found fault = λ f is. sixth_is xs none also are ∙ fault f is

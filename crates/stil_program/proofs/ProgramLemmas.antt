@@ -20,8 +20,8 @@ use Rattle.packed_code.specs.Meaning.{Means}
 use Rattle.packed_code.specs.Program.{Program}
 use Rattle.packed_code.specs.Cycles.{exec_of, cycles_of}
 use Rattle.time_expr.specs.TimesOf.{times_of}
+use Rattle.wave_tables.proofs.TakenLemmas.{drop_found}
 use Rattle.burst_exec.specs.Executives.{AreExecutives}
-use Rattle.burst_exec.proofs.ListLemmas.{drop_next}
 use Rattle.cycle_comp.specs.Compiled.{chain_of, least_of, read_cycle, read_cycles, IsExecOf}
 use Rattle.stil_program.specs.Program.{IsBlocksCode}
 use Rattle.stil_program.proofs.ExecLemmas.{as_many, tables_are as tables_of_all, cut_of, least_same}
@@ -48,7 +48,7 @@ dated_length period vectors =
 -- a list at a place
 at_place : {A : Type 0} (xs : List A) (n : ℕ) (x : A) → slice_get xs n ≡ Some x → xs ≡ take n xs ++ x ∷ drop (n + 1) xs
 at_place {A} xs n x at =
-    sym (take-append-drop n xs) ∙ ap (λ (l : List A). take n xs ++ l) (drop_next xs n x at)
+    sym (take-append-drop n xs) ∙ ap (λ (l : List A). take n xs ++ l) (drop_found xs n x at)
 
 module _ (blocks : Blocks) (code : Program) (is : IsBlocksCode blocks code) where
   -- there are as many executives

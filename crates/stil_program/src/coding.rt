@@ -6,7 +6,7 @@ ghost use Rattle.stil_ast.specs.Data.OneText.{AreOfOneText};
 ghost use Rattle.stil_ast.specs.declared.executive.ExecDecl.{ExecDecl};
 ghost use Rattle.stil_ast.specs.declared.fault.StilFault.{StilFault};
 ghost use Rattle.answers.specs.declared.short.Short.TheVariants as refusal;
-ghost use Rattle.burst_exec.specs.Finding.{Finds};
+ghost use Rattle.answers.specs.Answers.{Finds};
 ghost use Rattle.stil_program.specs.Program.{IsTextFault, IsBlocksCode, IsProgramOf, IsCompiledText, IsRefusal};
 ghost use Rattle.stil_program.specs.Working.{first_fault, IsCompiledOf, Answers};
 ghost use Rattle.stil_program.specs.declared.text.CompiledText.{CompiledText};

@@ -13,6 +13,8 @@ mod record;
 mod record_list;
 mod signal;
 mod wave;
+mod wave_list;
+mod wave_search;
 
 pub use cycle::{Cycle, LookList, Moment, MomentList, PushList};
 pub use desk::{Ask, Desk, Gate, ListDesk, OpenGate, SilentDesk};
@@ -25,6 +27,5 @@ pub use printing::{Piece, Printed, put_all, put_each};
 pub use record::{By, Fail, FailList, Record, Trial, TrialList, Verdict};
 pub use record_list::RecordList;
 pub use signal::Direction;
-pub use wave::{
-    Act, Event, EventList, Look, Push, Table, TableList, Text, TextList, Wave, WaveList,
-};
+pub use wave::{Act, Event, EventList, Look, Push, Table, TableList, Text, TextList, Wave};
+pub use wave_list::WaveList;

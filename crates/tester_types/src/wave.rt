@@ -1,6 +1,7 @@
 //! Waveforms: what a signal does in a cycle, and the tables that say so.
 
 use crate::items::Items;
+use crate::wave_list::WaveList;
 
 /// A text as its bytes.
 pub type Text = Items<u8>;
@@ -58,9 +59,6 @@ pub struct Wave {
     pub letter: u8,
     pub events: EventList,
 }
-
-/// Waves in order.
-pub type WaveList = Items<Wave>;
 
 /// A waveform table (IEEE 1450, WaveformTable).
 #[derive(Debug, Drop)]

@@ -129,7 +129,8 @@ fn index_of<'a>(
     alloc: Global,
     picked: &'a [Picked<'a>],
 ) -> Result<IndexMap<&'a [u8], &'a Picked<'a>>, StilRefusal>
-    ensures { Finds (picked_fault [] (variables_of picked.now)) (λ index. Keeps (variables_of picked.now) index) result }
+    ensures { Finds (picked_fault [] (variables_of picked.now)) (λ index. Keeps (variables_of picked.now) index)
+        result }
 {
     let mut index = IndexMap::new(alloc);
     for (place, variable) in picked.iter().enumerate() {

@@ -21,10 +21,10 @@ use Rattle.die_sim.specs.Socket.{Calls}
 use Rattle.site_meaning.specs.Playing.{Stand, Going, Along, Whose, PlayedMoment, FitStand, along_of, whose_next, driven, is_driven, after_moment, entry_of, moments_in, moments_played, played_cycle, after_cycle}
 use Rattle.site_meaning.specs.Trials.{played}
 use Rattle.site_meaning.specs.Rising.{instants_of}
-use Rattle.site_meaning.proofs.AllLemmas.{All-map}
 use Rattle.site_meaning.proofs.InstantLemmas.{cycle_from, cycle_before}
 use Rattle.site_meaning.proofs.RiseLemmas.{played-ats, played_rises}
 use Rattle.strobe_check.specs.Entry.{Entry}
+use Rattle.packed_code.proofs.Lists.{all_mapped}
 use Rattle.cycle_run.specs.Tape.{call_at, calls_in, calls_of_cycle}
 use Rattle.cycle_run.specs.Batch.{calls_of_cycles}
 use Rattle.cycle_run.specs.Cycle.{stand_of}
@@ -119,10 +119,10 @@ cycle_calls stand going cycle vars signals fit small there of =
     let end = (after_cycle stand going cycle).time in
     all_moments stand.device vars signals end small there (along_of going) going.time moments
     (subst (AllByRecursion (λ (n : ℕ). going.time ≤ n)) same
-    (All-map (λ (n : ℕ). going.time ≤ n) (λ (m : PlayedMoment). m.at) (played_cycle stand 0 going cycle).moments (cycle_from stand 0 going cycle)))
+    (all_mapped (λ (n : ℕ). going.time ≤ n) (λ (m : PlayedMoment). m.at) (played_cycle stand 0 going cycle).moments (cycle_from stand 0 going cycle)))
     (subst edge.Rises same (cycle_rises stand going cycle fit))
     (subst (AllByRecursion (λ (n : ℕ). n < end)) same
-    (All-map (λ (n : ℕ). n < end) (λ (m : PlayedMoment). m.at) (played_cycle stand 0 going cycle).moments (cycle_before stand 0 going cycle fit)))
+    (all_mapped (λ (n : ℕ). n < end) (λ (m : PlayedMoment). m.at) (played_cycle stand 0 going cycle).moments (cycle_before stand 0 going cycle fit)))
     of
 
 -- ---- cycles of a program

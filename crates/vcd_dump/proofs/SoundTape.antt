@@ -12,6 +12,7 @@ use Rattle.packed_code.specs.Cycles.{timed, period_of, exec_of, cycles_of}
 use Rattle.packed_code.specs.Walk.{IsOf}
 use Rattle.packed_code.proofs.WalkLemmas.{exec_is, begins_over}
 use Rattle.die_sim.specs.Die.{device_of}
+use Rattle.packed_code.proofs.Lists.{all_flat}
 use Rattle.plan_rows.specs.Rows.{dies_at}
 use Rattle.lot_plan.specs.Bound.{Bound, image_of}
 use Rattle.lot_plan.specs.Skews.{site_skews}
@@ -19,7 +20,7 @@ use Rattle.lot_plan.specs.Refusal.{IsBound}
 use Rattle.site_meaning.specs.Playing.{Stand, starting}
 use Rattle.site_meaning.specs.Part.{part_of}
 use Rattle.site_meaning.specs.Trials.{trial, uncut}
-use Rattle.site_meaning.proofs.AllLemmas.{All-take, All-flat_map}
+use Rattle.site_meaning.proofs.AllLemmas.{All-take}
 use Rattle.cycle_run.specs.Batch.{calls_of_cycles}
 use Rattle.site_run.specs.Taped.{all_cycles, calls_of_try}
 use Rattle.site_run.proofs.PlanLemmas.{is_planned}
@@ -60,7 +61,7 @@ execs_named code a (suc n) is few = (exec_named code a is (omega (arith, few)), 
 all_named : (code : Program) → IsProgram code → AreNamed code (all_cycles code)
 unfolding all_cycles
 all_named code is =
-    All-flat_map (λ (cycle : Cycle). IsOf code cycle.table cycle.row) (cycles_of code) (range_with_len 0 (length code.execs))
+    all_flat (λ (cycle : Cycle). IsOf code cycle.table cycle.row) (cycles_of code) (range_with_len 0 (length code.execs))
     (execs_named code 0 (length code.execs) is (omega arith))
 
 -- ---- and they are few

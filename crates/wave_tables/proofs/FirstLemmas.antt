@@ -1,5 +1,5 @@
 -- The first fault of items that are judged one after another.
-use Rattle.std.proofs.Common.{◌≡◌, ℕ, suc, ◌+◌, ◌<◌, ◌≤◌, List, [], ◌∷◌, ◌++◌, Option, Some, None, length, get_or, drop, refl, sym, ap, ◌∙◌, arith}
+use Rattle.std.proofs.Common.{◌≡◌, ℕ, suc, ◌+◌, ◌<◌, ◌≤◌, List, Option, Some, None, length, get_or, drop, sym, ap, ◌∙◌, arith}
 use Rattle.std.specs.List.{enumerate_from}
 use Rattle.std.specs.Prelude.{slice_get}
 use Rattle.wave_tables.proofs.TakenLemmas.{drop_found}
@@ -9,9 +9,7 @@ use Rattle.std.specs.Prelude.{Result, Ok, Err, OnOk, IfErr}
 use Rattle.stil_ast.specs.Data.Places.{Place}
 use Rattle.stil_ast.specs.Faults.Found.{or_else, first_in}
 use Rattle.stil_ast.specs.declared.fault.StilFault.{StilFault}
-use Rattle.wave_tables.specs.declared.trouble.Trouble.{Trouble}
-use Rattle.wave_tables.specs.declared.trouble.Trouble.TheVariants.{NoMemory, At}
-use Rattle.wave_tables.specs.Check.{IsAt}
+use Rattle.wave_tables.specs.Check.{Trouble, IsAt}
 
 -- what follows from an answer's fact
 pub ok_then : {A B : Type 0} (r : Result A B) {P Q : Type 0} → (P → Q) → OnOk r P → OnOk r Q
@@ -25,17 +23,12 @@ err_then (Err b) f h = f b h
 
 -- the fault of the first of two
 pub at_first : (place : Place) (a b : Option StilFault) (e : Trouble) → IsAt place a e → IsAt place (or_else a b) e
-at_first place a b NoMemory h = tt
-at_first place a b (At kind line) h = ap (λ (o : Option StilFault). or_else o b) h
+at_first place a b e h = λ at same. ap (λ (o : Option StilFault). or_else o b) (h at same)
 
 -- the fault of the second, where the first has none
 pub at_second : (place : Place) (a b : Option StilFault) (e : Trouble) → a ≡ None → IsAt place b e
     → IsAt place (or_else a b) e
 at_second place a b e none h = rw none h
-
--- none of two
-pub none_both : (a b : Option StilFault) → a ≡ None → b ≡ None → or_else a b ≡ None
-none_both a b first second = ap (λ (o : Option StilFault). or_else o b) first ∙ second
 
 -- none of those before has a fault: the first is that of those from here on
 pub first_step : {X : Type 0} (f : X → Option StilFault) (xs : List X) (i : ℕ) (x : X) → i < length xs

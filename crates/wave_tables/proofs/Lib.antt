@@ -1,5 +1,4 @@
-pub mod WaveLemmas
-pub mod PlaceLemmas
+pub mod SetLemmas
 pub mod StandardFacts
 pub mod ScopeLemmas
 pub mod SourceLemmas

@@ -1,8 +1,9 @@
 -- Known look-ups.
 use Rattle.std.proofs.Common.{◌≡◌, List, [], ◌∷◌, Some, None, refl}
+use Rattle.tester_types.specs.Waves.{wave_key}
 use Rattle.tester_types.specs.declared.wave.Wave.{Wave}
 use Rattle.tester_types.specs.declared.wave.Table.{Table}
-use Rattle.wave_tables.specs.Waves.{wave_key, wave_in}
+use Rattle.wave_tables.specs.Waves.{wave_in}
 
 -- a wave without events
 abbrev still : Wave

@@ -100,7 +100,7 @@ behind_at bs xs i b are within is =
     ap (λ l. slice_get l i) (sym are) ∙ slice_get-map (λ b. b.now) bs i
     ∙ ap (option_map (λ b. b.now)) (slice_get-get_or bs i b within ∙ ap Some (sym is))
 
-front_found : {X : Type 0} (xs : List X) (i : ℕ) (x : X) → slice_get xs i ≡ Some x
+pub front_found : {X : Type 0} (xs : List X) (i : ℕ) (x : X) → slice_get xs i ≡ Some x
     → take (i + 1) xs ≡ take i xs ++ x ∷ []
 front_found [] i x at = cc
 front_found (y ∷ ys) zero x at = let same : y ≡ x = cc in ap (λ z. z ∷ []) same

@@ -1,14 +1,10 @@
 -- What is answered of an executive's tables.
-use Rattle.std.specs.Prelude.{◌≡◌, ℕ, List, Option, None, Result, Ok, Err}
-use Rattle.stil_ast.specs.Faults.Found.{IsRefusal}
+use Rattle.std.specs.Prelude.{◌≡◌, ℕ, List, None, Result, Ok, Err}
 use Rattle.stil_ast.specs.Meaning.Tables.{made_tables}
 use Rattle.stil_ast.specs.Faults.TableFaults.{Timed, tables_fault}
-use Rattle.stil_ast.specs.declared.fault.StilFault.{StilFault}
-use Rattle.stil_ast.specs.Data.Refusal.{StilRefusal}
 use Rattle.tester_types.specs.declared.wave.Table.{Table}
 use Rattle.expr_text.specs.Ratio.{Ratio}
-use Rattle.wave_tables.specs.declared.trouble.Trouble.{Trouble}
-use Rattle.wave_tables.specs.Check.{IsAt}
+use Rattle.wave_tables.specs.Check.{Trouble, IsAt}
 
 -- all tables that are judged so
 abbrev pub tables_in : Timed Ratio → List Table
@@ -18,8 +14,3 @@ tables_in t = made_tables t.times t.vars t.names t.place t.tables
 abbrev pub IsSet : Timed Ratio → ℕ → Result (List Table) Trouble → Type 0
 IsSet t before (Ok set) = (tables_fault t before ≡ None) × (set ≡ tables_in t)
 IsSet t before (Err trouble) = IsAt t.place (tables_fault t before) trouble
-
--- these tables where there is no fault, else the refusal
-abbrev pub IsBuilt : Option StilFault → List Table → Result (List Table) StilRefusal → Type 0
-IsBuilt fault tables (Ok set) = (fault ≡ None) × (set ≡ tables)
-IsBuilt fault tables (Err e) = IsRefusal fault e

@@ -15,13 +15,18 @@ use Rattle.expr_text.specs.Ratio.{Ratio}
 use Rattle.stil_ast.specs.Data.Places.{Place}
 use Rattle.stil_ast.specs.Faults.Found.{fault_at, on_line, unless, or_else, first_in}
 use Rattle.stil_ast.specs.declared.fault.StilFault.{StilFault}
-use Rattle.wave_tables.specs.declared.trouble.Trouble.{Trouble}
-use Rattle.wave_tables.specs.declared.trouble.Trouble.TheVariants.{NoMemory, At}
+use Rattle.answers.specs.declared.short.Short.{Short}
+use Rattle.answers.specs.declared.short.Short.TheVariants.{Fault}
+use Rattle.wave_tables.specs.declared.trouble.LineFault.{LineFault}
+
+-- want of memory, or a fault at a line
+abbrev pub Trouble : Type 0
+Trouble = Short LineFault
 
 -- the fault is that which is answered, unless memory ran out
 abbrev pub IsAt : Place → Option StilFault → Trouble → Type 0
-IsAt place fault NoMemory = Unit {0}
-IsAt place fault (At kind line) = fault ≡ Some (fault_at (on_line place line) kind)
+IsAt place fault trouble =
+    (at : LineFault) → trouble ≡ Fault at → fault ≡ Some (fault_at (on_line place at.line) at.kind)
 
 -- the fault of a waveform's events
 abbrev pub wave_fault : Timed Ratio → ℤ → WaveDecl → Option StilFault

@@ -1,6 +1,6 @@
 -- Read Scope first (what the tables are made from), then Sources (which waveform counts), Own, ReadWaves and Made
 -- (how the code holds waveforms), Lineage (tables made of others), Standing and Check (what is refused), Rows (the
--- waves of a table), Firsts (where the waves of each signal begin), and Built last (what is answered).
+-- waves of a table), and Built last (what is answered).
 pub mod Letters
 pub mod Scope
 pub mod Sources
@@ -8,7 +8,6 @@ pub mod Own
 pub mod ReadWaves
 pub mod Lineage
 pub mod Waves
-pub mod Firsts
 pub mod Check
 pub mod Made
 pub mod Standing

@@ -4,18 +4,18 @@ ghost use Rattle.std.specs.Prelude.{◌≡◌, ◌⊎◌, ◌<◌, Option, Some,
 ghost use Rattle.signal_groups.specs.Table.{table_of};
 ghost use Rattle.stil_ast.specs.Data.OneText.{AreOfOneText};
 ghost use Rattle.stil_ast.specs.Faults.ExecutiveFaults.{timed_of};
-ghost use Rattle.stil_ast.specs.Faults.Found.{fault_at, on_line, IsRefusal};
 ghost use Rattle.stil_ast.specs.Faults.TableFaults.{tables_fault};
 ghost use Rattle.stil_ast.specs.Meaning.Executive.{exec_tables, exec_value, table_list, timing_place};
 ghost use Rattle.stil_ast.specs.Meaning.Signals.{names_of};
 ghost use Rattle.stil_ast.specs.declared.executive.ExecDecl.{ExecDecl};
 ghost use Rattle.stil_ast.specs.declared.fault.StilFault.{StilFault};
+ghost use Rattle.answers.specs.Answers.{Blames, Finds};
 ghost use Rattle.answers.specs.declared.short.Short.TheVariants as refusal;
 ghost use Rattle.time_expr.specs.TimeIn.{AreNames};
 ghost use Rattle.time_expr.specs.TimesOf.{times_of};
 ghost use Rattle.wave_tables.specs.Letters.{are_lettered};
 ghost use Rattle.wave_tables.specs.Scope.{timed};
-ghost use Rattle.wave_tables.specs.Built.{IsSet, IsBuilt};
+ghost use Rattle.wave_tables.specs.Built.{IsSet};
 ghost use Rattle.wave_tables.specs.Check.{IsAt};
 
 use crate::asked::{tables_named, timing_name};
@@ -27,9 +27,8 @@ use crate::set::WaveSet;
 use crate::times::read_tables;
 use crate::trouble::Trouble;
 use signal_groups::SignalTable;
-use std::alloc::{AllocError, Global};
-use stil_ast::{Blocks, ExecDecl, StilFault, StilKind, StilRefusal};
-use tester_types::Text;
+use std::alloc::Global;
+use stil_ast::{Blocks, ExecDecl, StilRefusal, told};
 use time_expr::{TimeTexts, Vars};
 
 /// The waveform tables of the executive with this index: those of the Timing blocks that it names, in text order, each
@@ -68,6 +67,28 @@ pub fn build(
         → tables_fault (timed_of times_of blocks.now e) before ≡ Some f
         → MatchResult result (λ _. ⊥) (λ r. (r ≡ refusal.NoMemory) ⊎ (r ≡ refusal.Fault f)) }
 {
+    built(alloc, blocks, exec, signals, vars, texts, before)
+}
+
+/// The same in one clause.
+fn built(
+    alloc: Global,
+    blocks: &Blocks,
+    exec: usize,
+    signals: &SignalTable,
+    vars: &Vars,
+    texts: &TimeTexts,
+    before: u32,
+) -> Result<WaveSet, StilRefusal>
+    requires text { AreOfOneText blocks.now }
+    requires executive { exec < length blocks.now.executives }
+    requires signals { signals.now ≡ table_of (names_of blocks.now) }
+    requires vars { (e : ExecDecl) → slice_get blocks.now.executives exec ≡ Some e
+        → AreNames (exec_value times_of blocks.now e) vars.now }
+    ensures { (e : ExecDecl) → slice_get blocks.now.executives exec ≡ Some e
+        → Finds (tables_fault (timed_of times_of blocks.now e) before)
+        (λ set. set ≡ table_list times_of blocks.now e) result }
+{
     built_for(
         alloc,
         blocks,
@@ -92,8 +113,8 @@ pub(crate) fn built_for(
     requires lettered { are_lettered (exec_tables blocks.now exec.now) ≡ true }
     requires signals { signals.now ≡ table_of (names_of blocks.now) }
     requires vars { AreNames (exec_value times_of blocks.now exec.now) vars.now }
-    ensures { IsBuilt (tables_fault (timed_of times_of blocks.now exec.now) before)
-        (table_list times_of blocks.now exec.now) result }
+    ensures { Finds (tables_fault (timed_of times_of blocks.now exec.now) before)
+        (λ set. set ≡ table_list times_of blocks.now exec.now) result }
 {
     let tables = tables_named(alloc, blocks.timings.as_slice(), timing_name(exec))?;
     let scope = Scope {
@@ -125,32 +146,12 @@ fn set_of(alloc: Global, scope: &Scope, before: u64) -> Result<WaveSet, Trouble>
     }
 }
 
-/// A fault at a line of an executive's Timing blocks.
-fn fault_at(
-    alloc: Global,
-    exec: &ExecDecl,
-    kind: StilKind,
-    line: u32,
-) -> Result<StilFault, AllocError>
-    ensures { IfOk result (λ f. f ≡ fault_at (on_line (timing_place exec.now) line) kind) }
-{
-    Ok(StilFault {
-        kind,
-        block: Text::from_slice(alloc, b"Timing")?,
-        name: Text::from_slice(alloc, timing_name(exec))?,
-        line,
-    })
-}
-
 /// The refusal for a fault of an executive's tables.
 fn refusal_of(alloc: Global, exec: &ExecDecl, trouble: Trouble) -> StilRefusal
-    ensures { (fault : Option StilFault) → IsAt (timing_place exec.now) fault trouble → IsRefusal fault result }
+    ensures { (fault : Option StilFault) → IsAt (timing_place exec.now) fault trouble → Blames fault result }
 {
     match trouble {
         Trouble::NoMemory => StilRefusal::NoMemory,
-        Trouble::At(kind, line) => match fault_at(alloc, exec, kind, line) {
-            Ok(fault) => StilRefusal::Fault(fault),
-            Err(_) => StilRefusal::NoMemory,
-        },
+        Trouble::Fault(at) => told(alloc, b"Timing", timing_name(exec), at.line, at.kind),
     }
 }

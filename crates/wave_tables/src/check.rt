@@ -15,7 +15,7 @@ ghost use Rattle.wave_tables.specs.Check.{IsAt, wave_fault, reference_fault, lat
 use crate::lineage::{Whole, table_of};
 use crate::scope::Scope;
 use crate::times::{ReadEvent, ReadTime};
-use crate::trouble::Trouble;
+use crate::trouble::{Trouble, fault};
 use std::alloc::Global;
 use stil_ast::{EventDecl, Named, SigRef, SignalWaves, StilKind, WaveDecl};
 use text_bytes::LONGEST_PERIOD;
@@ -35,12 +35,12 @@ fn check_inherit(scope: &Scope, wholes: &[Option<Whole>], named: &Named) -> Resu
         (inherit_fault (timed scope.now).place (timed scope.now).tables named.now) e) }
 {
     match table_of(scope.tables(), named.name.as_slice()) {
-        None => Err(Trouble::At(StilKind::UnknownName, named.line)),
+        None => Err(fault(StilKind::UnknownName, named.line)),
         Some(table) => {
             if is_there(wholes, table) {
                 Ok(())
             } else {
-                Err(Trouble::At(StilKind::Cyclic, named.line))
+                Err(fault(StilKind::Cyclic, named.line))
             }
         }
     }
@@ -60,14 +60,14 @@ pub(crate) fn check_period(
         → IsAt (timed scope.now).place (with_period (timed scope.now) line text rest) e) }
 {
     match period {
-        None => Err(Trouble::At(StilKind::NoPeriod, line)),
+        None => Err(fault(StilKind::NoPeriod, line)),
         Some(read) => match read.time {
-            Err(kind) => Err(Trouble::At(kind, read.line)),
+            Err(kind) => Err(fault(kind, read.line)),
             Ok(time) => {
                 if 1 <= time && time <= LONGEST_PERIOD as i128 {
                     Ok(time as u64)
                 } else {
-                    Err(Trouble::At(StilKind::OutOfRange, read.line))
+                    Err(fault(StilKind::OutOfRange, read.line))
                 }
             }
         },
@@ -112,12 +112,12 @@ fn check_event(
 {
     let read = scope.time(alloc, &event.time)?;
     match read.time {
-        Err(kind) => Err(Trouble::At(kind, read.line)),
+        Err(kind) => Err(fault(kind, read.line)),
         Ok(time) => {
             if time < 0 || time >= i128::from(period) {
-                Err(Trouble::At(StilKind::EventOutside, read.line))
+                Err(fault(StilKind::EventOutside, read.line))
             } else if time < i128::from(before) {
-                Err(Trouble::At(StilKind::EventOrder, read.line))
+                Err(fault(StilKind::EventOrder, read.line))
             } else {
                 Ok(time as u64)
             }
@@ -178,7 +178,7 @@ fn check_reference(alloc: Global, scope: &Scope, signals: &SignalWaves) -> Resul
 {
     match scope.kind(alloc, &signals.reference) {
         Ok(None) => Ok(()),
-        Ok(Some(kind)) => Err(Trouble::At(kind, line_of(signals))),
+        Ok(Some(kind)) => Err(fault(kind, line_of(signals))),
         Err(_) => Err(Trouble::NoMemory),
     }
 }
@@ -229,7 +229,7 @@ pub(crate) fn check_late(period: u64, events: &[ReadEvent]) -> Result<(), Troubl
 {
     for event in events {
         if is_late(period, event) {
-            return Err(Trouble::At(StilKind::EventOutside, event.time.line));
+            return Err(fault(StilKind::EventOutside, event.time.line));
         }
     }
     Ok(())

@@ -16,7 +16,7 @@ use crate::scope::Scope;
 use crate::source::Source;
 use crate::standing::{Heir, check_inherited};
 use crate::times::ReadWave;
-use crate::trouble::Trouble;
+use crate::trouble::{Trouble, fault};
 use std::alloc::Global;
 use stil_ast::{StilKind, TableDecl};
 use tester_types::Items;
@@ -53,7 +53,7 @@ fn check_count(
     if total <= MOST_WAVES as u64 {
         Ok(total)
     } else {
-        Err(Trouble::At(StilKind::TooLarge, table.line))
+        Err(fault(StilKind::TooLarge, table.line))
     }
 }
 

@@ -5,7 +5,6 @@
 mod asked;
 mod building;
 mod check;
-mod firsts;
 mod judge;
 mod laws;
 mod lineage;

@@ -1,30 +1,24 @@
 //! Why tables are refused.
 
 ghost use Rattle.std.specs.Prelude.{◌≡◌};
-ghost use Rattle.wave_tables.specs.declared.trouble.Trouble.TheVariants.{NoMemory};
+ghost use Rattle.answers.specs.declared.short.Short.TheVariants.{Fault};
 
-use std::alloc::{AllocError, AllocFailed};
+use answers::Short;
 use stil_ast::StilKind;
 
-/// Want of memory, or a fault of this kind at this line of the executive's Timing blocks.
+/// A fault of this kind at this line of the executive's Timing blocks.
 #[derive(Clone, Copy, Debug, PartialEq, Eq)]
-pub(crate) enum Trouble {
-    NoMemory,
-    At(StilKind, u32),
+pub(crate) struct LineFault {
+    pub(crate) kind: StilKind,
+    pub(crate) line: u32,
 }
 
-impl From<AllocError> for Trouble {
-    ghost from_gives = { λ _ trouble. trouble ≡ NoMemory };
+/// Want of memory, or a fault at a line.
+pub(crate) type Trouble = Short<LineFault>;
 
-    fn from(_error: AllocError) -> Trouble {
-        Trouble::NoMemory
-    }
-}
-
-impl<T: Drop> From<AllocFailed<T>> for Trouble {
-    ghost from_gives = { λ _ trouble. trouble ≡ NoMemory };
-
-    fn from(_error: AllocFailed<T>) -> Trouble {
-        Trouble::NoMemory
-    }
+/// The refusal for a fault of this kind at this line.
+pub(crate) fn fault(kind: StilKind, line: u32) -> Trouble
+    ensures { result ≡ Fault (record { kind = kind; line = line }) }
+{
+    Short::Fault(LineFault { kind, line })
 }

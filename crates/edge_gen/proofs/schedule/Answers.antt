@@ -1,7 +1,7 @@
-use Rattle.std.proofs.Common.{◌∙◌, ap, subst}
+use Rattle.std.proofs.Common.{◌∙◌, ap}
 use Rattle.std.proofs.lemmas.Result.{IfOk-weaker}
 use Rattle.std.specs.List.{enumerate_from}
-use Rattle.edge_gen.specs.Step.{ArePlaces, dated_in, grouped}
+use Rattle.edge_gen.specs.Step.{dated_in, grouped}
 use Rattle.edge_gen.proofs.MomentLemmas.{grouped-moments_of}
 use Rattle.edge_gen.proofs.schedule.Goals as goal
 
@@ -13,7 +13,7 @@ returns c =
     let places = c.in_ok-places.places.items in
     let sorted = c.sort.new.events.items in
     let listed = c.as_slice-listed.ensures in
-    let are = subst (λ waves. ArePlaces waves waves row places) listed c.in_ok-places.ensures in
+    let are = c.in_ok-places.ensures in
     let gathered = c.in_ok-events.ensures ∙ ap (λ l. dated_in c.as_slice-listed.result.now skews (enumerate_from 0 l)) c.deref.ensures.value
     ∙ ap (λ waves. dated_in waves skews (enumerate_from 0 places)) listed in
     let are_moments = grouped-moments_of table row places skews c.args.start _ sorted are gathered c.in_ok-sort.ensures.same c.in_ok-sort.ensures.stable in

@@ -1,10 +1,10 @@
 -- How the first fault of several rules is found.
-use Rattle.std.specs.Prelude.{◌≡◌, ℕ, Bool, true, false, List, [], ◌∷◌, Option, Some, None, codes}
+use Rattle.std.specs.Prelude.{ℕ, Bool, true, false, List, [], ◌∷◌, Option, Some, None, codes}
 use Rattle.stil_ast.specs.Data.Places.{Place, Body, of_pattern, of_macro, of_procedure, Origin, Titles}
 use Rattle.stil_ast.specs.declared.fault.StilFault.{StilFault}
 use Rattle.stil_ast.specs.declared.fault.StilKind.{StilKind}
 use Rattle.stil_ast.specs.Data.Refusal.{StilRefusal}
-use Rattle.answers.specs.declared.short.Short.TheVariants as refusal
+use Rattle.answers.specs.Answers.{Blames}
 
 -- a fault of this kind at this place
 abbrev pub fault_at : Place → StilKind → StilFault
@@ -53,5 +53,4 @@ first_in rule (x ∷ xs) = or_else (rule x) (first_in rule xs)
 
 -- a refusal has the fault that is there, or memory was short
 abbrev pub IsRefusal : Option StilFault → StilRefusal → Type 0
-IsRefusal fault refusal.NoMemory = Unit {0}
-IsRefusal fault (refusal.Fault first) = fault ≡ Some first
+IsRefusal fault short = Blames fault short

@@ -1,6 +1,6 @@
 use Rattle.std.proofs.Common.{◌≡◌, List, None, refl, ap, ◌∙◌, subst, get_or}
 use Rattle.std.proofs.lemmas.Option.{get_or_from_slice_get}
-use Rattle.stil_ast.specs.Faults.Found.{IsRefusal}
+use Rattle.answers.specs.Answers.{Blames}
 use Rattle.signal_groups.specs.Table.{table_of}
 use Rattle.stil_ast.specs.Meaning.Resolved.{outs_of}
 use Rattle.stil_ast.specs.Meaning.Signals.{names_of}
@@ -24,7 +24,7 @@ returns-clause-taken c = λ e at.
     for_patterns names e c.args.progress.now c.in-Err-trees_of.refusal stage.0
     (subst (λ (b : Blocks). c.args.signals.now ≡ table_of (names_of b) → c.args.outs.now ≡ outs_of (names_of b)
     → IsStageOf b c.args.progress.now.waves e c.in-Ok.stage
-    → IsRefusal (played_fault b e (order_of b e) c.args.progress.now.walked) c.in-Err-trees_of.refusal)
+    → Blames (played_fault b e (order_of b e) c.args.progress.now.walked) c.in-Err-trees_of.refusal)
     c.blocks-blocks.ensures (c.in-Err-trees_of.ensures.runs c.args.progress.now.waves e) c.requires.signals c.requires.outs stage.1)
 
 pub returns-in-Ok-trees_of-clause-taken : goal.returns-in-Ok-trees_of-clause-taken

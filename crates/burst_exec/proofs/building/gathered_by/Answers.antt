@@ -1,9 +1,9 @@
-use Rattle.std.proofs.Common.{List, sym, ap, ◌∙◌, subst}
+use Rattle.std.proofs.Common.{◌≡◌, List, Some, sym, ap, ◌∙◌, subst}
 use Rattle.signal_groups.specs.Table.{table_of}
 use Rattle.stil_ast.specs.Meaning.ExecutiveData.{Executive}
 use Rattle.stil_ast.specs.Meaning.Signals.{names_of}
 use Rattle.stil_ast.specs.declared.blocks.Blocks.{Blocks}
-use Rattle.burst_exec.specs.Gathered.{IsGathering}
+use Rattle.burst_exec.specs.Gathered.{IsGathering, text_fault}
 use Rattle.burst_exec.proofs.GatherLemmas.{starts}
 use Rattle.burst_exec.proofs.building.gathered_by.Goals as goal
 
@@ -20,3 +20,7 @@ take_all-requires-clause-none c =
 
 pub take_all-requires-clause-carried : goal.take_all-requires-clause-carried
 take_all-requires-clause-carried c = c.new-progress.ensures.carried c.in_ok-names.names
+
+pub returns : goal.returns
+returns c = λ first same.
+    subst (λ (b : Blocks). text_fault b ≡ Some first) c.in_ok-names.ensures (c.in-Err.ensures first same)

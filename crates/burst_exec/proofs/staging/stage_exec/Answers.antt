@@ -1,5 +1,5 @@
 use Rattle.std.proofs.Common.{◌≡◌, None}
-use Rattle.stil_ast.specs.Faults.Found.{IsRefusal}
+use Rattle.answers.specs.Answers.{Blames}
 use Rattle.stil_ast.specs.declared.blocks.Blocks.{Blocks}
 use Rattle.burst_exec.specs.Staged.{values_fault, waves_fault, ends_fault, tables_of, chains_of}
 use Rattle.burst_exec.proofs.StagedLemmas.{in_blocks, for_names, for_values, for_tables, for_chains, for_nothing, waves_there}
@@ -12,7 +12,7 @@ pub returns-in-Err-valued-clause-staged : goal.returns-in-Err-valued-clause-stag
 returns-in-Err-valued-clause-staged c = λ e at.
     let names = c.args.names.now in
     for_values names c.args.before e c.in-Err-valued.refusal (c.in-Ok.ensures e at).0
-    (in_blocks c.blocks-2.result.now names c.args.exec e (λ (b : Blocks). IsRefusal (values_fault b e) c.in-Err-valued.refusal)
+    (in_blocks c.blocks-2.result.now names c.args.exec e (λ (b : Blocks). Blames (values_fault b e) c.in-Err-valued.refusal)
     c.blocks-2.ensures (c.in-Err-valued.ensures e) at)
 
 pub returns-in-Err-tabled-clause-staged : goal.returns-in-Err-tabled-clause-staged
@@ -21,7 +21,7 @@ returns-in-Err-tabled-clause-staged c = λ e at.
     let values = in_blocks c.blocks-2.result.now names c.args.exec e (λ (b : Blocks). values_fault b e ≡ None)
     c.blocks-2.ensures (λ h. (c.in-Ok-valued.ensures e h).0) at in
     for_tables names c.args.before e c.in-Err-tabled.refusal (c.in-Ok.ensures e at).0 values
-    (in_blocks c.blocks-3.result.now names c.args.exec e (λ (b : Blocks). IsRefusal (waves_fault b c.args.before e) c.in-Err-tabled.refusal)
+    (in_blocks c.blocks-3.result.now names c.args.exec e (λ (b : Blocks). Blames (waves_fault b c.args.before e) c.in-Err-tabled.refusal)
     c.blocks-3.ensures (c.in-Err-tabled.ensures e) at)
 
 pub returns-clause-staged : goal.returns-clause-staged
@@ -32,7 +32,7 @@ returns-clause-staged c = λ e at.
     let tables = in_blocks c.blocks-3.result.now names c.args.exec e (λ (b : Blocks). waves_fault b c.args.before e ≡ None)
     c.blocks-3.ensures (λ h. (c.in-Ok-tabled.ensures e h).0) at in
     for_chains names c.args.before e c.in-Err-chained.refusal (c.in-Ok.ensures e at).0 values tables
-    (in_blocks c.blocks-4.result.now names c.args.exec e (λ (b : Blocks). IsRefusal (ends_fault b e) c.in-Err-chained.refusal)
+    (in_blocks c.blocks-4.result.now names c.args.exec e (λ (b : Blocks). Blames (ends_fault b e) c.in-Err-chained.refusal)
     c.blocks-4.ensures (c.in-Err-chained.ensures.found e) at)
 
 pub returns-in-Ok-chained-clause-staged : goal.returns-in-Ok-chained-clause-staged

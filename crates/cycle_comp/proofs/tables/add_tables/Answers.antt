@@ -1,6 +1,6 @@
 use Rattle.std.proofs.Common.{◌∙◌, ◌++◌, ◌∷◌, [], take, sym, ap, append_assoc, List}
 use Rattle.tester_types.specs.declared.wave.Table.{Table}
-use Rattle.burst_exec.proofs.ListLemmas.{take_next}
+use Rattle.wave_tables.proofs.TakenLemmas.{front_found}
 use Rattle.cycle_comp.proofs.tables.add_tables.Goals as goal
 
 pub loop-table-preserved : goal.loop-table-preserved
@@ -9,4 +9,4 @@ loop-table-preserved c =
     ∙ (ap (λ (ts : List Table). ts ++ c.in_ok-copy_table.field-0 ∷ []) c.loop-table.invariant
     ∙ (append_assoc c.args.tables.now.items (take c.loop-table.table c.args.set.now) (c.in_ok-copy_table.field-0 ∷ [])
     ∙ ap (λ (ts : List Table). c.args.tables.now.items ++ ts)
-    (sym (take_next c.args.set.now c.loop-table.table c.in_ok-copy_table.field-0 c.in_ok-copy_table.ensures))))
+    (sym (front_found c.args.set.now c.loop-table.table c.in_ok-copy_table.field-0 c.in_ok-copy_table.ensures))))

@@ -1,10 +1,16 @@
+use Rattle.die_sim.specs.Settling.{drivers_of}
 use Rattle.die_sim.proofs.WalkLemmas.{Refreshes-then, HaveLevels-more}
 use Rattle.die_sim.proofs.settle.refresh_each.Goals as goal
 
 pub loop-n-preserved : goal.loop-n-preserved
-loop-n-preserved c = record {
-  refreshes = Refreshes-then c.args.net.now.net.drivers c.args.fixed.now c.args.held.now c.args.levels.now.items c.loop-n.levels.items c.refresh_net.new.levels.items c.args.pending.now c.loop-n.pending c.refresh_net.new.pending c.loop-n.invariant.refreshes c.refresh_net.ensures.refreshes;
-  each = HaveLevels-more c.args.net.now.net.drivers c.args.fixed.now c.args.held.now c.loop-n.levels.items c.refresh_net.new.levels.items c.loop-n.pending c.refresh_net.new.pending c.args.nets.now c.loop-n.n-index c.loop-n-test.true c.refresh_net.ensures.refreshes c.refresh_net.ensures.here c.loop-n.invariant.each;
-  seats = c.refresh_net.ensures.seats;
-  rest = c.refresh_net.ensures.rest;
-}
+loop-n-preserved c =
+    let w = c.args.wiring.now in
+    let held = c.args.held.now in
+    let start = c.args.nets.now in
+    let old = c.loop-n.nets in
+    let new = c.refresh_net.new.nets in
+    record {
+      refreshes = Refreshes-then (drivers_of w) w.fixed.items held start.levels.items old.levels.items new.levels.items start.pending old.pending new.pending c.loop-n.invariant.refreshes c.refresh_net.ensures.refreshes;
+      each = HaveLevels-more (drivers_of w) w.fixed.items held old.levels.items new.levels.items old.pending new.pending c.args.list.now c.loop-n.n-index c.loop-n-test.true c.refresh_net.ensures.refreshes c.refresh_net.ensures.here c.loop-n.invariant.each;
+      nets = c.refresh_net.ensures.nets;
+    }

@@ -1,7 +1,12 @@
-use Rattle.std.proofs.Common.{take}
-use Rattle.edge_gen.specs.Step.{ArePlaces}
+use Rattle.std.proofs.Common.{◌≡◌, ℕ, ◌<◌, length}
+use Rattle.std.specs.Prelude.{slice_get, slice_index}
+use Rattle.edge_gen.specs.Signals.{wave_of}
 use Rattle.edge_gen.proofs.waves.places.Given as goal
 
--- what was seen up to here gives the places
-abbrev pub invariant-loop-place : goal.invariant-loop-place
-invariant-loop-place l = ArePlaces l.waves (take l.place l.waves) l.row l.places.items
+-- the signals up to here have their places
+abbrev pub invariant-loop-signal : goal.invariant-loop-signal
+invariant-loop-signal l = record {
+  each : (signal : ℕ) → signal < l.signal
+      → slice_get l.waves (slice_index l.places.items signal) ≡ wave_of l.waves signal (slice_index l.row signal);
+  long : length l.places.items ≡ l.signal;
+}

@@ -1,74 +1,62 @@
-use Rattle.std.proofs.Common.{◌∙◌, drop, arith, refl, ap, sym}
-use Rattle.std.proofs.lemmas.Result.{err_from_is_err_and}
-use Rattle.die_sim.specs.Die.{device_of}
-use Rattle.pattern_mem.specs.Cursor.{cycles_to_come}
-use Rattle.cycle_run.specs.Cycle.{point_at, stand_of}
-use Rattle.cycle_run.specs.Batch.{between_at}
-use Rattle.cycle_run.proofs.BatchLemmas.{plays_none, plays-more, stops-more, drop-next}
+use Rattle.std.proofs.Common.{◌+◌, ◌∙◌, arith, ap, refl, rules, sym, subst}
+use Rattle.packed_code.specs.Program.{Program}
+use Rattle.packed_code.specs.Cycles.{period_of}
+use Rattle.cycle_run.specs.Cycle.{going_at, stand_of, PlaysCycle}
+use Rattle.cycle_run.specs.Step.{StopsCycle}
+use Rattle.cycle_run.proofs.BatchLemmas.{period_is}
+use Rattle.site_run.specs.declared.batch.Underway.{Underway}
+use Rattle.site_run.specs.Station.{device_in, point_of}
+use Rattle.site_run.proofs.MadeLemmas.{makes_none, makes_one, makes_more, stops_at, stops_more, keeps_none}
 use Rattle.site_run.proofs.batch.make_cycles.Goals as goal
 
 pub loop-init : goal.loop-init
-loop-init g c =
-    let way = c.args.way.now in
-    record {
-      plays = plays_none (stand_of c.args.mem.now.code c.args.skews.now (device_of c.args.image.now)) way.exec
-          (between_at (point_at way.bench.checker way.bench.last.items (g.K.Socket.told c.args.socket.now)) way.time way.number);
-      coming = refl;
-      between = c.requires.between;
-      exec = refl;
-      number = omega arith;
-      time = omega arith;
-      later = omega arith;
-      of = c.requires.of;
-      pass = refl;
-      held = c.requires.held;
-      room = c.requires.room;
-      loaded = refl;
-      count = omega arith;
-    }
+loop-init g c = record {
+  makes = makes_none c.args.setup.now (g.K.Socket.told c.args.station.now.socket.now) c.args.way.now c.requires.goes_on;
+  serves = c.requires.serves;
+  keeps = keeps_none g.K.Socket.told c.args.station.now;
+}
 
-pub returns-in_err-make_next-clause-stops : goal.returns-in_err-make_next-clause-stops
-returns-in_err-make_next-clause-stops g c =
-    let way = c.args.way.now in
-    let now = c.loop.way in
-    let then = c.make_next.new.way in
-    let code = c.args.mem.now.code in
-    let before = c.loop.invariant in
-    let p = err_from_is_err_and c.from_residual.result c.from_residual.ensures.1 in
-    rw (p.1, p.2)
-    (stops-more (stand_of code c.args.skews.now (device_of c.args.image.now)) way.exec now.exec c.loop.counter c.args.cycles
-    (cycles_to_come code way.cursor) (cycles_to_come code now.cursor)
-    (between_at (point_at way.bench.checker way.bench.last.items (g.K.Socket.told c.args.socket.now)) way.time way.number)
-    (between_at (point_at now.bench.checker now.bench.last.items (g.K.Socket.told c.loop.socket)) now.time now.number)
-    (between_at (point_at then.bench.checker then.bench.last.items (g.K.Socket.told c.make_next.new.socket)) then.time then.number)
-    c.in_err-make_next.field-0.0 c.loop-test.true before.exec before.coming before.plays c.in_err-make_next.ensures.stops)
+pub returns-in-Err-make_cycle-clause-stops : goal.returns-in-Err-make_cycle-clause-stops
+returns-in-Err-make_cycle-clause-stops g c =
+    let setup = c.args.setup.now in
+    let way = c.loop.way in
+    let told = g.K.Socket.told c.loop.station.socket.now in
+    let told' = g.K.Socket.told c.make_cycle.new.socket in
+    let cycle = c.in-Ok.cycle in
+    let why = c.in-Err-make_cycle.stop in
+    let new : Underway = record way { cursor = c.next_cycle.new.cursor; bench = c.make_cycle.new.bench } in
+    let stops = subst (λ (p : Program). StopsCycle (stand_of p setup.skews.now (device_in setup)) way.exec
+    (going_at (point_of told way) way.time way.number) cycle (point_of told way) (point_of told' new) why)
+    c.code.ensures c.in-Err-make_cycle.ensures.stops in
+    stops_more setup c.loop.counter (g.K.Socket.told c.args.station.now.socket.now) told told' c.args.way.now way new c.loop.invariant.makes
+    c.args.cycles why c.loop-test.true (stops_at setup told told' way new cycle c.in-Ok.ensures.given why stops refl)
 
 pub loop-preserved : goal.loop-preserved
 loop-preserved g c =
-    let way = c.args.way.now in
-    let now = c.loop.way in
-    let then = c.make_next.new.way in
-    let code = c.args.mem.now.code in
-    let before = c.loop.invariant in
-    let made = c.in_ok-make_next.ensures in
-    let i = c.loop.counter in
+    let setup = c.args.setup.now in
+    let way = c.loop.way in
+    let told = g.K.Socket.told c.loop.station.socket.now in
+    let told' = g.K.Socket.told c.make_cycle.new.socket in
+    let cycle = c.in-Ok.cycle in
+    let new : Underway = record {
+      exec = way.exec;
+      cursor = c.next_cycle.new.cursor;
+      number = way.number + 1;
+      time = way.time + c.from.result;
+      bench = c.make_cycle.new.bench;
+    } in
+    let plays = subst (λ (p : Program). PlaysCycle (stand_of p setup.skews.now (device_in setup)) way.exec
+    (going_at (point_of told way) way.time way.number) cycle (point_of told way) (point_of told' new))
+    c.code.ensures c.in-Ok-make_cycle.ensures.plays in
+    let period = c.from.ensures ∙ sym (period_is _ cycle.table c.table.result.now c.table.ensures.found)
+    ∙ ap (λ (p : Program). period_of p.tables cycle.table) c.code-in-loop.ensures in
     record {
-      plays = plays-more (stand_of code c.args.skews.now (device_of c.args.image.now)) way.exec now.exec i
-          (cycles_to_come code way.cursor) (cycles_to_come code now.cursor)
-          (between_at (point_at way.bench.checker way.bench.last.items (g.K.Socket.told c.args.socket.now)) way.time way.number)
-          (between_at (point_at now.bench.checker now.bench.last.items (g.K.Socket.told c.loop.socket)) now.time now.number)
-          (between_at (point_at then.bench.checker then.bench.last.items (g.K.Socket.told c.make_next.new.socket)) then.time then.number)
-          before.exec before.coming before.plays made.plays;
-      coming = made.coming ∙ ap (drop 1) before.coming ∙ sym (drop-next i (cycles_to_come code way.cursor));
-      between = made.between;
-      exec = made.exec ∙ before.exec;
-      number = omega (arith, made.number, before.number);
-      time = omega (arith, made.time, before.time);
-      later = omega (arith, made.later, before.later);
-      of = made.of;
-      pass = made.pass ∙ before.pass;
-      held = made.held;
-      room = made.room;
-      loaded = made.loaded ∙ before.loaded;
-      count = omega (arith, before.count, made.count);
+      makes = makes_more setup c.loop.counter (g.K.Socket.told c.args.station.now.socket.now) told told' c.args.way.now way new
+          c.loop.invariant.makes
+          (makes_one setup told told' way new cycle c.in-Ok.ensures.given plays
+          (record { of = c.in-Ok.ensures.of; room = c.in-Ok-make_cycle.ensures.room; between = c.in-Ok-make_cycle.ensures.between })
+          refl refl (ap (λ n. way.time + n) period)
+          (omega (arith, period, c.from.ensures, c.table.ensures.period.0)) (omega (arith, period, c.from.ensures, c.table.ensures.period.1)));
+      serves = search rules;
+      keeps = search rules;
     }

@@ -1,6 +1,5 @@
-use Rattle.std.proofs.Common.{◌≤◌, ◌+◌, length, arith, ap, subst}
+use Rattle.std.proofs.Common.{◌≤◌, ◌+◌, length, arith, ap}
 use Rattle.packed_code.specs.Program.{Program}
-use Rattle.packed_code.specs.Conditions.{IsProgram}
 use Rattle.packed_code.specs.Cycles.{cycles_of}
 use Rattle.site_run.specs.Seat.{running_of}
 use Rattle.packed_code.proofs.WalkLemmas.{length-cycles}
@@ -10,24 +9,24 @@ use Rattle.site_run.proofs.run.settle.Goals as goal
 pub returns-then-run-cycles-clause-polled : goal.returns-then-run-cycles-clause-polled
 returns-then-run-cycles-clause-polled c = λ part number told is.
     let run = c.args.run.now in
-    let code = c.args.mem.now.code in
-    let count = length-cycles c.code-code.result.now run.way.exec in
-    let all = ap (λ (p : Program). length (cycles_of p run.way.exec)) c.code-code.ensures in
+    let code = c.args.setup.now.mem.now.code in
+    let count = length-cycles c.code.result.now run.way.exec in
+    let all = ap (λ (p : Program). length (cycles_of p run.way.exec)) c.code.ensures in
     settled_more part number (running_of told run) code is (omega (arith, c.if-run-cycles.true, c.cycles.ensures, count, all))
 
 pub returns-then-run-cycles-clause-fits : goal.returns-then-run-cycles-clause-fits
 returns-then-run-cycles-clause-fits c = λ device told r.
     let run = c.args.run.now in
-    let count = length-cycles c.code-code.result.now run.way.exec in
-    let all = ap (λ (p : Program). length (cycles_of p run.way.exec)) c.code-code.ensures in
+    let count = length-cycles c.code.result.now run.way.exec in
+    let all = ap (λ (p : Program). length (cycles_of p run.way.exec)) c.code.ensures in
     (r, omega (arith, c.if-run-cycles.true, c.cycles.ensures, count, all))
 
 pub returns-then-total-gt0-clause-polled : goal.returns-then-total-gt0-clause-polled
 returns-then-total-gt0-clause-polled c = λ part number told is.
     let run = c.args.run.now in
-    let code = c.args.mem.now.code in
-    let count = length-cycles c.code-code.result.now run.way.exec in
-    let all = ap (λ (p : Program). length (cycles_of p run.way.exec)) c.code-code.ensures in
+    let code = c.args.setup.now.mem.now.code in
+    let count = length-cycles c.code.result.now run.way.exec in
+    let all = ap (λ (p : Program). length (cycles_of p run.way.exec)) c.code.ensures in
     let total = total_is run.way.bench.checker c.total.result c.requires.seen c.total.ensures in
     settled_fail part number (running_of told run) code is (omega (arith, c.if-run-cycles.false, c.cycles.ensures, count, all))
     (omega (arith, c.if-total-gt0.true, total))
@@ -35,9 +34,9 @@ returns-then-total-gt0-clause-polled c = λ part number told is.
 pub returns-clause-polled : goal.returns-clause-polled
 returns-clause-polled c =
     let run = c.args.run.now in
-    let code = c.args.mem.now.code in
-    let count = length-cycles c.code-code.result.now run.way.exec in
-    let all = ap (λ (p : Program). length (cycles_of p run.way.exec)) c.code-code.ensures in
+    let code = c.args.setup.now.mem.now.code in
+    let count = length-cycles c.code.result.now run.way.exec in
+    let all = ap (λ (p : Program). length (cycles_of p run.way.exec)) c.code.ensures in
     let over : length (cycles_of code run.way.exec) ≤ run.done = omega (arith, c.if-run-cycles.false, c.cycles.ensures, count, all) in
     let total = total_is run.way.bench.checker c.total.result c.requires.seen c.total.ensures in
     let none : run.way.bench.checker.count.total ≤ 0 = omega (arith, c.if-total-gt0.false, total) in
@@ -47,7 +46,6 @@ returns-clause-polled c =
 pub returns-clause-fits : goal.returns-clause-fits
 returns-clause-fits c =
     let run = c.args.run.now in
-    let code = c.args.mem.now.code in
-    let program = subst (λ (p : Program). IsProgram p) c.code-code.ensures c.signals-signals.ensures.conditions in
+    let code = c.args.setup.now.mem.now.code in
     fits_on code run c.onward.new.run (run.way.exec + 1) c.onward.result
-    (λ device told r. comes_before code device told run program r) c.onward.ensures.fits
+    (λ device told r. comes_before code device told run c.requires.set_up.program r) c.onward.ensures.fits

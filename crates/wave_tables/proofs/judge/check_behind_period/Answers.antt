@@ -1,10 +1,9 @@
 use Rattle.std.proofs.Common.{pos}
 use Rattle.stil_ast.specs.Faults.Found.{first_in}
 use Rattle.stil_ast.specs.Faults.TableFaults.{signal_fault, inherited_fault}
-use Rattle.wave_tables.proofs.FirstLemmas.{none_both}
-use Rattle.wave_tables.specs.declared.trouble.Trouble.{Trouble}
+use Rattle.stil_ast.proofs.FoundLemmas.{none_both}
 use Rattle.wave_tables.specs.Scope.{timed}
-use Rattle.wave_tables.specs.Check.{count_fault, behind_period, IsFree, IsRefusedBy}
+use Rattle.wave_tables.specs.Check.{Trouble, count_fault, behind_period, IsFree, IsRefusedBy}
 use Rattle.wave_tables.proofs.FirstLemmas.{ok_then, err_then, at_second}
 use Rattle.wave_tables.proofs.judge.check_behind_period.Goals as goal
 

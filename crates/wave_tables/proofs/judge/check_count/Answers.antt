@@ -1,4 +1,4 @@
-use Rattle.std.proofs.Common.{◌≡◌, ◌+◌, ℕ, Bool, true, false, None, length, nat_le, ap, ◌∙◌, arith}
+use Rattle.std.proofs.Common.{◌≡◌, ◌+◌, ℕ, Bool, true, false, Some, None, length, nat_le, sym, ap, ◌∙◌, arith}
 use Rattle.std.proofs.lemmas.Grind.{common_steps}
 use Rattle.std.proofs.lemmas.Bool.{le-leb}
 use Rattle.std.proofs.lemmas.Bool.Decides.{nat_tests}
@@ -6,6 +6,7 @@ use Rattle.text_bytes.specs.Limits.{most_waves}
 use Rattle.stil_ast.specs.Faults.Found.{unless, fault_at, on_line}
 use Rattle.stil_ast.specs.Meaning.Tables.{waveforms, wave_count}
 use Rattle.stil_ast.specs.declared.fault.StilKind.TheVariants.{TooLarge}
+use Rattle.wave_tables.specs.declared.trouble.LineFault.{LineFault}
 use Rattle.wave_tables.specs.Scope.{timed}
 use Rattle.wave_tables.specs.Rows.{slot_count}
 use Rattle.wave_tables.proofs.RowLemmas.{counted}
@@ -33,7 +34,7 @@ returns-then-total-clause-fits c = λ base at.
     ∙ ap (λ (b : Bool). unless b (fault_at (on_line t.place c.args.table.now.line) TooLarge) None) few
 
 pub returns-else-total-clause-fault : goal.returns-else-total-clause-fault
-returns-else-total-clause-fault c = λ base at.
+returns-else-total-clause-fault c = λ base at blamed same.
     let t = timed c.args.scope.now in
     let sum : c.in_ok-total.total ≡ c.args.before + c.in_ok-count.count = grind (arith, common_steps) in
     let whole : c.in_ok-total.total
@@ -42,5 +43,8 @@ returns-else-total-clause-fault c = λ base at.
     (c.in_ok-count.ensures ∙ ap (slot_count c.args.slots.now) c.in_ok-signals.ensures
     ∙ counted t c.args.number c.args.slots.now c.requires.maps) in
     let many : nat_le c.in_ok-total.total most_waves ≡ false = grind (arith, nat_tests) in
+    let made = c.fault.ensures in
+    let is : blamed ≡ record { kind = TooLarge; line = c.args.table.now.line } = cc in
     count_is t base c.args.before c.in_ok-total.total c.args.number c.args.table.now at whole
     ∙ ap (λ (b : Bool). unless b (fault_at (on_line t.place c.args.table.now.line) TooLarge) None) many
+    ∙ ap (λ (f : LineFault). Some (fault_at (on_line t.place f.line) f.kind)) (sym is)

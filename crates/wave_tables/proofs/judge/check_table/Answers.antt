@@ -1,9 +1,8 @@
 use Rattle.stil_ast.specs.Faults.Found.{first_in}
 use Rattle.stil_ast.specs.Faults.TableFaults.{inherit_fault, table_fault}
-use Rattle.wave_tables.proofs.FirstLemmas.{none_both}
-use Rattle.wave_tables.specs.declared.trouble.Trouble.{Trouble}
+use Rattle.stil_ast.proofs.FoundLemmas.{none_both}
 use Rattle.wave_tables.specs.Scope.{timed}
-use Rattle.wave_tables.specs.Check.{behind_names, IsFree, IsRefusedBy}
+use Rattle.wave_tables.specs.Check.{Trouble, behind_names, IsFree, IsRefusedBy}
 use Rattle.wave_tables.proofs.FirstLemmas.{ok_then, err_then, at_second}
 use Rattle.wave_tables.proofs.TableLemmas.{free_at}
 use Rattle.wave_tables.proofs.judge.check_table.Goals as goal

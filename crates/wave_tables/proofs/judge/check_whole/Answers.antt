@@ -1,9 +1,8 @@
 use Rattle.std.proofs.Common.{◌∙◌, sym, subst, pos, Option}
 use Rattle.stil_ast.specs.Meaning.Tables.{period_text}
 use Rattle.stil_ast.specs.declared.fault.StilFault.{StilFault}
-use Rattle.wave_tables.specs.declared.trouble.Trouble.{Trouble}
 use Rattle.wave_tables.specs.Scope.{timed}
-use Rattle.wave_tables.specs.Check.{IsAt, behind_period, behind_names, IsFree, IsRefusedBy}
+use Rattle.wave_tables.specs.Check.{Trouble, IsAt, behind_period, behind_names, IsFree, IsRefusedBy}
 use Rattle.wave_tables.proofs.FirstLemmas.{ok_then, err_then}
 use Rattle.wave_tables.proofs.judge.check_whole.Goals as goal
 
