@@ -11,7 +11,7 @@ _stil() {
     lot:2 | grade:2 | dump:2) endings="stil saved" ;;
     lot:3 | grade:3 | dump:3) endings="csv" ;;
     dump:4)
-        COMPREPLY=($(compgen -W "$(seq 0 15)" -- "$word"))
+        COMPREPLY=($(compgen -W "$(seq 0 63)" -- "$word"))
         return
         ;;
     *) return ;;

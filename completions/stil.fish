@@ -25,4 +25,4 @@ complete -c stil -n $first -l prove -d 'build the program from the sources, whic
 complete -c stil -n '__stil_at 2 check cycles events save flat' -k -a '(__stil_files .stil)'
 complete -c stil -n '__stil_at 2 lot grade dump' -k -a '(__stil_files .stil .saved)'
 complete -c stil -n '__stil_at 3 lot grade dump' -k -a '(__stil_files .csv)'
-complete -c stil -n '__stil_at 4 dump' -a '(seq 0 15)'
+complete -c stil -n '__stil_at 4 dump' -a '(seq 0 63)'

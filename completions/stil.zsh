@@ -24,7 +24,7 @@ _stil() {
         (check:3|cycles:3|events:3|save:3|flat:3) _files -g '*.stil(-.)' ;;
         (lot:3|grade:3|dump:3) _files -g '*.(stil|saved)(-.)' ;;
         (lot:4|grade:4|dump:4) _files -g '*.csv(-.)' ;;
-        (dump:5) compadd {0..15} ;;
+        (dump:5) compadd {0..63} ;;
     esac
 }
 _stil "$@"
