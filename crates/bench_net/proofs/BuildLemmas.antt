@@ -9,14 +9,15 @@ use Rattle.std.specs.Cmp.Lexicographic.{bytes_decides}
 use Rattle.std.proofs.lemmas.List.{length-map}
 use Rattle.std.proofs.lemmas.List.Elements.{All-nil, All-cons, All-head, All-tail, All-map}
 use Rattle.std.proofs.lemmas.Bool.{and_parts, cases_Bool, eqb-true, eqb-false, ltb-false, both_ways, not-false, not-true}
+use Rattle.bench_net.specs.Gates.{is_single, takes_not}
 use Rattle.bench_net.specs.declared.gate.GateKind.{GateKind}
 use Rattle.bench_net.specs.declared.gate.Function.TheVariants.{Logic, Register}
 use Rattle.bench_net.specs.declared.gate.Driver.{Driver}
 use Rattle.bench_net.specs.declared.gate.Driver.TheVariants.{Input, Dff, Gate}
-use Rattle.bench_net.specs.Wiring.{driver_at, gate_at, pins_at, is_gate, pins_of, is_single, is_settled, IsWired, IsReached, AreReaders}
+use Rattle.bench_net.specs.Wiring.{driver_at, gate_at, pins_at, is_gate, pins_of, is_settled, IsWired, IsReached, AreReaders}
 use Rattle.bench_net.specs.Circuit.{Net, IsWhole, number}
 use Rattle.bench_net.specs.Line.{Form, nothing, input, output, gate, Says}
-use Rattle.bench_net.specs.Net.{Reads, named, names, shown, drives, driver_of, driver_for, net_of, takes_not, wrong_arity, head_of, arity_fault, IsDriven}
+use Rattle.bench_net.specs.Net.{Reads, named, names, shown, drives, driver_of, driver_for, net_of, wrong_arity, head_of, arity_fault, IsDriven}
 use Rattle.bench_net.specs.Fault.{IsReachedLine, IsLoopLine, IsFirstLoop}
 use Rattle.bench_net.specs.Numbers.{HasPins, IsNetOf, looped, loop_fault}
 use Rattle.bench_net.specs.Sorting.{AreWithin, IsSorted}

@@ -1,60 +1,24 @@
 -- The parts of a line say one thing at most, and what the code takes them to say is it.
-use Rattle.std.proofs.Common.{◌≡◌, ℕ, ◌<◌, true, false, ◌||◌, List, [], ◌∷◌, length, Option, Some, None, refl, sym, ap, ◌∙◌, subst, arith, inl, inr}
+use Rattle.std.proofs.Common.{◌≡◌, ℕ, ◌<◌, true, false, List, [], ◌∷◌, length, Option, Some, None, refl, sym, ap, ◌∙◌, subst, arith}
 use Rattle.std.specs.Prelude.{codes, Result, Ok, Err, IfOk, MatchOption}
 use Rattle.std.specs.List.{AllPass}
 use Rattle.std.specs.Option.{option_map, option_and_then}
 use Rattle.std.specs.Str.{bytes_eq, str_to_ascii_lowercase, str_eq_ignore_ascii_case}
 use Rattle.std.specs.Cmp.Lexicographic.{bytes_decides}
 use Rattle.std.proofs.lemmas.List.Elements.{All-nil, All-cons, All-head, All-tail}
-use Rattle.std.proofs.lemmas.Bool.{cond_both, or_cases}
-use Rattle.bench_net.specs.declared.gate.GateKind.TheVariants.{And, Nand, Or, Nor, Xor, Xnor, Not, Buf}
+use Rattle.std.proofs.lemmas.Bool.{cond_both}
+use Rattle.bench_net.specs.Gates.{function_of}
 use Rattle.bench_net.specs.declared.gate.Function.{Function}
-use Rattle.bench_net.specs.declared.gate.Function.TheVariants.{Logic, Register}
 use Rattle.bench_net.specs.declared.line.Line.{Line}
 use Rattle.bench_net.specs.declared.line.Delimiter.TheVariants.{Open, Close, Comma, Equals}
-use Rattle.bench_net.specs.Line.{Lexeme, word, delimiter, Form, nothing, input, output, gate, is_net, is_keyword, listed, Writes, Says, Spells}
-use Rattle.bench_net.specs.Step.{function_named, function_of, enclosed_of, last_pin, pins_read, call_of, declared_of, after_word, line_of}
+use Rattle.bench_net.specs.Line.{Lexeme, word, delimiter, Form, nothing, input, output, gate, is_net, listed, Writes, Says, Spells}
+use Rattle.bench_net.specs.Step.{enclosed_of, last_pin, pins_read, call_of, declared_of, after_word, line_of}
 use Rattle.bench_net.specs.Views.{form_of}
 use Rattle.bench_net.proofs.LineLemmas.{one_spelling}
 
 lower_is : (w k : List ℕ) → str_eq_ignore_ascii_case w k ≡ true → str_to_ascii_lowercase w
     ≡ str_to_ascii_lowercase k
 lower_is w k e = (bytes_decides (str_to_ascii_lowercase w) (str_to_ascii_lowercase k)).0 e
-
-function-keyword : (f : Function) (w : List ℕ) → is_keyword f w ≡ true → function_of w ≡ Some f
-function-keyword (Logic And) w k = ap function_named (lower_is w (codes "AND") k)
-function-keyword (Logic Nand) w k = ap function_named (lower_is w (codes "NAND") k)
-function-keyword (Logic Or) w k = ap function_named (lower_is w (codes "OR") k)
-function-keyword (Logic Nor) w k = ap function_named (lower_is w (codes "NOR") k)
-function-keyword (Logic Xor) w k = ap function_named (lower_is w (codes "XOR") k)
-function-keyword (Logic Xnor) w k = ap function_named (lower_is w (codes "XNOR") k)
-function-keyword (Logic Not) w k = ap function_named (lower_is w (codes "NOT") k)
-function-keyword (Logic Buf) w k =
-    elim (or_cases (str_eq_ignore_ascii_case w (codes "BUF"))
-    (str_eq_ignore_ascii_case w (codes "BUFF")) k) [
-      | inl e ↦ ap function_named (lower_is w (codes "BUF") e)
-      | inr e ↦ ap function_named (lower_is w (codes "BUFF") e)
-    ]
-function-keyword Register w k = ap function_named (lower_is w (codes "DFF") k)
-
--- what a function read says of its keyword
-abbrev FunctionIs : List ℕ → Option Function → Type 0
-FunctionIs w None = Unit {0}
-FunctionIs w (Some f) = is_keyword f w ≡ true
-
-function_is : (w : List ℕ) → FunctionIs w (function_of w)
-function_is w =
-    cond_both (str_eq_ignore_ascii_case w (codes "AND")) _ _ (FunctionIs w) (λ e. e) (λ _.
-    cond_both (str_eq_ignore_ascii_case w (codes "NAND")) _ _ (FunctionIs w) (λ e. e) (λ _.
-    cond_both (str_eq_ignore_ascii_case w (codes "OR")) _ _ (FunctionIs w) (λ e. e) (λ _.
-    cond_both (str_eq_ignore_ascii_case w (codes "NOR")) _ _ (FunctionIs w) (λ e. e) (λ _.
-    cond_both (str_eq_ignore_ascii_case w (codes "XOR")) _ _ (FunctionIs w) (λ e. e) (λ _.
-    cond_both (str_eq_ignore_ascii_case w (codes "XNOR")) _ _ (FunctionIs w) (λ e. e) (λ _.
-    cond_both (str_eq_ignore_ascii_case w (codes "NOT")) _ _ (FunctionIs w) (λ e. e) (λ _.
-    cond_both (str_eq_ignore_ascii_case w (codes "BUF")
-    || str_eq_ignore_ascii_case w (codes "BUFF")) _ _ (FunctionIs w) (λ e. e) (λ _.
-    cond_both (str_eq_ignore_ascii_case w (codes "DFF")) _ _ (FunctionIs w) (λ e. e)
-    (λ _. tt)))))))))
 
 pins_read-listed : (pins : List (List ℕ)) → 0 < length pins → AllPass is_net pins
     → pins_read (listed pins) ≡ Some pins
@@ -77,8 +41,7 @@ line_of-Writes (input n) ps h = ap line_of h.3 ∙ rw (h.1, h.2) refl
 line_of-Writes (output n) ps h = ap line_of h.3 ∙ rw (output_no_input h.0 h.1, h.1, h.2) refl
 line_of-Writes (gate n f pins) ps h =
     ap line_of h.5
-    ∙ rw (h.2) (ap (option_and_then (λ g. option_map (gate n g) (pins_read (listed pins))))
-    (function-keyword f h.0 h.1)
+    ∙ rw (h.2) (ap (option_and_then (λ g. option_map (gate n g) (pins_read (listed pins)))) h.1
     ∙ ap (option_map (gate n f)) (pins_read-listed pins h.3 h.4))
 
 -- what a net read in parentheses says of the parts
@@ -155,15 +118,15 @@ output_is : (w : List ℕ) (ps : List Lexeme) → str_eq_ignore_ascii_case w (co
 output_is w ps e None h = tt
 output_is w ps e (Some n) h = (w, e, h.0, ap (λ t. word w ∷ delimiter Open ∷ t) h.1)
 
-gate_is : (n w : List ℕ) (ps : List Lexeme) → is_net n ≡ true → (f : Function) → is_keyword f w
-    ≡ true → (o : Option (List (List ℕ))) → PinsAre ps o
+gate_is : (n w : List ℕ) (ps : List Lexeme) → is_net n ≡ true → (f : Function) → function_of w
+    ≡ Some f → (o : Option (List (List ℕ))) → PinsAre ps o
     → FormIs (word n ∷ delimiter Equals ∷ word w ∷ delimiter Open ∷ ps) (option_map (gate n f) o)
 gate_is n w ps e f k None h = tt
 gate_is n w ps e f k (Some pins) h =
     (w, k, e, h.0, h.1, ap (λ t. word n ∷ delimiter Equals ∷ word w ∷ delimiter Open ∷ t) h.2)
 
 function_then : (n w : List ℕ) (ps : List Lexeme) → is_net n ≡ true → (o : Option Function)
-    → FunctionIs w o → FormIs (word n ∷ delimiter Equals ∷ word w ∷ delimiter Open ∷ ps)
+    → function_of w ≡ o → FormIs (word n ∷ delimiter Equals ∷ word w ∷ delimiter Open ∷ ps)
     (option_and_then (λ f. option_map (gate n f) (pins_read ps)) o)
 function_then n w ps e None h = tt
 function_then n w ps e (Some f) h = gate_is n w ps e f h (pins_read ps) (pins_are ps)
@@ -177,7 +140,7 @@ call_is n e (word w ∷ word v ∷ ps) = tt
 call_is n e (word w ∷ delimiter Close ∷ ps) = tt
 call_is n e (word w ∷ delimiter Comma ∷ ps) = tt
 call_is n e (word w ∷ delimiter Equals ∷ ps) = tt
-call_is n e (word w ∷ delimiter Open ∷ ps) = function_then n w ps e (function_of w) (function_is w)
+call_is n e (word w ∷ delimiter Open ∷ ps) = function_then n w ps e (function_of w) refl
 
 declared_is : (w : List ℕ) (ps : List Lexeme) → FormIs (word w ∷ delimiter Open ∷ ps) (declared_of w ps)
 declared_is w ps =

@@ -2,11 +2,12 @@
 use Rattle.std.proofs.Common.{◌≡◌, ℕ, zero, suc, ◌<◌, ◌||◌, List, [], ◌∷◌, ◌++◌, true, false, refl, Some, None, arith}
 use Rattle.std.specs.Prelude.{codes, All, ◌==◌, nat_lt}
 use Rattle.std.specs.Str.Lines.{lines}
+use Rattle.bench_net.specs.Gates.{function_of}
 use Rattle.bench_net.specs.Wiring.{gate_at, pins_at, IsUnreached}
 use Rattle.bench_net.specs.declared.gate.GateKind.TheVariants.{And, Nand, Xor, Not, Buf}
 use Rattle.bench_net.specs.declared.gate.Function.TheVariants.{Logic, Register}
 use Rattle.bench_net.specs.declared.gate.Driver.TheVariants.{Input, Dff, Gate}
-use Rattle.bench_net.specs.Line.{Form, input, output, gate, is_keyword}
+use Rattle.bench_net.specs.Line.{Form, input, output, gate}
 use Rattle.bench_net.specs.Net.{names, net_of, arity_fault, twice_fault, missing_fault}
 
 -- a flip-flop that reads its own gate: INPUT(a), OUTPUT(q), q = DFF(d), d = XOR(a, q)
@@ -25,10 +26,10 @@ toggle_outputs : (net_of toggle).outputs ≡ false ∷ true ∷ false ∷ []
 toggle_outputs = refl
 
 -- a keyword in mixed case
-mixed_case : is_keyword (Logic Nand) (codes "nAnD") ≡ true
+mixed_case : function_of (codes "nAnD") ≡ Some (Logic Nand)
 mixed_case = refl
 
-buff_is_buf : is_keyword (Logic Buf) (codes "buff") ≡ true
+buff_is_buf : function_of (codes "buff") ≡ Some (Logic Buf)
 buff_is_buf = refl
 
 -- a name's case counts

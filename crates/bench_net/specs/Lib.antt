@@ -1,3 +1,4 @@
+pub mod Gates
 pub mod Wiring
 pub mod Circuit
 pub mod Inside

@@ -1,12 +1,11 @@
 -- What a line of a bench text says, by its spelling: an input, an output, or a net with its
 -- function and the nets that this reads.
-use Rattle.std.specs.Prelude.{◌≡◌, ◌==◌, ℕ, ◌<◌, Bool, true, false, not, ◌&&◌, ◌||◌, nat_le, List, [], ◌∷◌, ◌++◌, length, codes}
+use Rattle.std.specs.Prelude.{◌≡◌, ◌==◌, ℕ, ◌<◌, Bool, true, false, not, ◌&&◌, ◌||◌, nat_le, List, [], ◌∷◌, ◌++◌, length, codes, Some}
 use Rattle.std.specs.List.{AllPass}
 use Rattle.std.specs.Str.{str_eq_ignore_ascii_case}
 use Rattle.text_bytes.specs.Limits.{longest_name}
-use Rattle.bench_net.specs.declared.gate.GateKind.TheVariants.{And, Nand, Or, Nor, Xor, Xnor, Not, Buf}
+use Rattle.bench_net.specs.Gates.{function_of}
 use Rattle.bench_net.specs.declared.gate.Function.{Function}
-use Rattle.bench_net.specs.declared.gate.Function.TheVariants.{Logic, Register}
 use Rattle.bench_net.specs.declared.line.Delimiter.{Delimiter}
 use Rattle.bench_net.specs.declared.line.Delimiter.TheVariants.{Open, Close, Comma, Equals}
 
@@ -83,19 +82,6 @@ pub data Form : Type 0 where
 abbrev pub is_net : List ℕ → Bool
 is_net name = nat_le (length name) longest_name
 
--- the keyword of a function, in any case of its letters; BUF and BUFF are one function
-abbrev pub is_keyword : Function → List ℕ → Bool
-is_keyword (Logic And) w = str_eq_ignore_ascii_case w (codes "AND")
-is_keyword (Logic Nand) w = str_eq_ignore_ascii_case w (codes "NAND")
-is_keyword (Logic Or) w = str_eq_ignore_ascii_case w (codes "OR")
-is_keyword (Logic Nor) w = str_eq_ignore_ascii_case w (codes "NOR")
-is_keyword (Logic Xor) w = str_eq_ignore_ascii_case w (codes "XOR")
-is_keyword (Logic Xnor) w = str_eq_ignore_ascii_case w (codes "XNOR")
-is_keyword (Logic Not) w = str_eq_ignore_ascii_case w (codes "NOT")
-is_keyword (Logic Buf) w = str_eq_ignore_ascii_case w (codes "BUF")
-    || str_eq_ignore_ascii_case w (codes "BUFF")
-is_keyword Register w = str_eq_ignore_ascii_case w (codes "DFF")
-
 -- the net's name in parentheses
 abbrev pub enclosed : List ℕ → List Lexeme
 enclosed n = delimiter Open ∷ word n ∷ delimiter Close ∷ []
@@ -113,7 +99,7 @@ Writes (input n) parts = (w : List ℕ) × (str_eq_ignore_ascii_case w (codes "I
     × (is_net n ≡ true) × (parts ≡ word w ∷ enclosed n)
 Writes (output n) parts = (w : List ℕ) × (str_eq_ignore_ascii_case w (codes "OUTPUT") ≡ true)
     × (is_net n ≡ true) × (parts ≡ word w ∷ enclosed n)
-Writes (gate n f pins) parts = (w : List ℕ) × (is_keyword f w ≡ true) × (is_net n ≡ true)
+Writes (gate n f pins) parts = (w : List ℕ) × (function_of w ≡ Some f) × (is_net n ≡ true)
     × (0 < length pins) × AllPass is_net pins
     × (parts ≡ word n ∷ delimiter Equals ∷ word w ∷ delimiter Open ∷ listed pins)
 

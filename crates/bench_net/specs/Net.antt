@@ -1,16 +1,17 @@
 -- The net list that the lines of a bench text name.
-use Rattle.std.specs.Prelude.{◌≡◌, ℕ, ◌<◌, ◌≤◌, Bool, false, not, ◌==◌, nat_lt, List, [], ◌∷◌, ◌++◌, length, map, fold, Option, Some, None, if◌then◌else◌}
+use Rattle.std.specs.Prelude.{◌≡◌, ℕ, ◌<◌, ◌≤◌, Bool, false, not, List, [], ◌∷◌, ◌++◌, length, map, fold, Option, Some, None, if◌then◌else◌}
 use Rattle.std.specs.List.{list_any, flat_map, filter_map, find, AllZip}
 use Rattle.std.specs.Option.{option_map_or}
 use Rattle.std.specs.Str.{bytes_eq}
 use Rattle.std.specs.Str.Lines.{lines}
 use Rattle.text_bytes.specs.Texts.{added}
-use Rattle.text_bytes.specs.Limits.{most_nets, most_inputs}
+use Rattle.text_bytes.specs.Limits.{most_nets}
+use Rattle.bench_net.specs.Gates.{takes_not}
 use Rattle.bench_net.specs.declared.gate.Function.{Function}
 use Rattle.bench_net.specs.declared.gate.Function.TheVariants.{Logic, Register}
 use Rattle.bench_net.specs.declared.gate.Driver.{Driver}
 use Rattle.bench_net.specs.declared.gate.Driver.TheVariants.{Input, Dff, Gate}
-use Rattle.bench_net.specs.Wiring.{is_single, IsReached}
+use Rattle.bench_net.specs.Wiring.{IsReached}
 use Rattle.bench_net.specs.Circuit.{Net, number}
 use Rattle.bench_net.specs.Line.{Form, nothing, input, output, gate, Says}
 
@@ -79,12 +80,6 @@ net_of forms = record {
   drivers = map (driver_for forms) (names forms);
   outputs = map (λ name. list_any (bytes_eq name) (filter_map shown forms)) (names forms);
 }
-
--- whether a function can't take so many nets: NOT, BUF, BUFF and DFF take one, any other at most
--- 1,024
-abbrev pub takes_not : Function → ℕ → Bool
-takes_not (Logic kind) pins = if is_single kind then not (pins == 1) else nat_lt most_inputs pins
-takes_not Register pins = not (pins == 1)
 
 -- the net of a line whose function can't take so many nets
 abbrev pub wrong_arity : Form → Option (List ℕ)

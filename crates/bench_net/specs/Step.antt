@@ -1,10 +1,8 @@
 -- What the code computes of a line; no public clause cites it.
-use Rattle.std.specs.Prelude.{◌==◌, ℕ, suc, ◌||◌, List, [], ◌∷◌, take, drop, Option, Some, None, if◌then◌else◌, codes}
+use Rattle.std.specs.Prelude.{◌==◌, ℕ, suc, List, [], ◌∷◌, take, drop, Option, Some, None, if◌then◌else◌, codes}
 use Rattle.std.specs.Option.{option_map, option_and_then}
-use Rattle.std.specs.Str.{bytes_eq, str_to_ascii_lowercase, str_eq_ignore_ascii_case}
-use Rattle.bench_net.specs.declared.gate.GateKind.TheVariants.{And, Nand, Or, Nor, Xor, Xnor, Not, Buf}
-use Rattle.bench_net.specs.declared.gate.Function.{Function}
-use Rattle.bench_net.specs.declared.gate.Function.TheVariants.{Logic, Register}
+use Rattle.std.specs.Str.{str_eq_ignore_ascii_case}
+use Rattle.bench_net.specs.Gates.{function_of}
 use Rattle.bench_net.specs.declared.line.Delimiter.TheVariants.{Open, Close, Comma, Equals}
 use Rattle.bench_net.specs.Line.{is_gap, is_name_byte, is_net, Lexeme, word, delimiter, Form, nothing, input, output, gate}
 
@@ -41,25 +39,6 @@ front_step (b ∷ bs) =
     if is_name_byte b then begins (word (take (name_len (b ∷ bs)) (b ∷ bs)))
     (drop (name_len (b ∷ bs)) (b ∷ bs))
     else delimiter_step b bs
-
--- the function of a keyword in lower case
-abbrev pub function_named : List ℕ → Option Function
-function_named w =
-    if bytes_eq w (str_to_ascii_lowercase (codes "AND")) then Some (Logic And)
-    else (if bytes_eq w (str_to_ascii_lowercase (codes "NAND")) then Some (Logic Nand)
-    else (if bytes_eq w (str_to_ascii_lowercase (codes "OR")) then Some (Logic Or)
-    else (if bytes_eq w (str_to_ascii_lowercase (codes "NOR")) then Some (Logic Nor)
-    else (if bytes_eq w (str_to_ascii_lowercase (codes "XOR")) then Some (Logic Xor)
-    else (if bytes_eq w (str_to_ascii_lowercase (codes "XNOR")) then Some (Logic Xnor)
-    else (if bytes_eq w (str_to_ascii_lowercase (codes "NOT")) then Some (Logic Not)
-    else (if bytes_eq w (str_to_ascii_lowercase (codes "BUF"))
-    || bytes_eq w (str_to_ascii_lowercase (codes "BUFF")) then Some (Logic Buf)
-    else (if bytes_eq w (str_to_ascii_lowercase (codes "DFF")) then Some Register
-    else None))))))))
-
--- the function of a keyword
-abbrev pub function_of : List ℕ → Option Function
-function_of w = function_named (str_to_ascii_lowercase w)
 
 -- the net in parentheses, behind the opening one
 abbrev pub enclosed_of : List Lexeme → Option (List ℕ)

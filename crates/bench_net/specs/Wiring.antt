@@ -4,8 +4,7 @@
 use Rattle.std.specs.Prelude.{◌≡◌, ◌==◌, ℕ, ◌<◌, ◌≤◌, Bool, true, false, not, ◌||◌, cond, List, [], length, take, slice_index, slice_index_or, All, count_by}
 use Rattle.std.specs.List.{list_any}
 use Rattle.text_bytes.specs.Limits.{most_inputs}
-use Rattle.bench_net.specs.declared.gate.GateKind.{GateKind}
-use Rattle.bench_net.specs.declared.gate.GateKind.TheVariants.{And, Nand, Or, Nor, Xor, Xnor, Not, Buf}
+use Rattle.bench_net.specs.Gates.{is_single}
 use Rattle.bench_net.specs.declared.gate.Driver.{Driver}
 use Rattle.bench_net.specs.declared.gate.Driver.TheVariants.{Input, Dff, Gate}
 
@@ -32,17 +31,6 @@ gate_at drivers n = is_gate (driver_at drivers n)
 -- the nets that the net's gate reads
 abbrev pub pins_at : List Driver → ℕ → List ℕ
 pins_at drivers n = pins_of (driver_at drivers n)
-
--- a gate that takes exactly one pin
-abbrev pub is_single : GateKind → Bool
-is_single And = false
-is_single Nand = false
-is_single Or = false
-is_single Nor = false
-is_single Xor = false
-is_single Xnor = false
-is_single Not = true
-is_single Buf = true
 
 -- a driver reads nets of the netlist alone, and has as many pins as its kind takes
 abbrev pub IsWired : ℕ → Driver → Type 0

@@ -3,35 +3,15 @@ ghost use Rattle.std.specs.Prelude.{◌≡◌, ◌==◌, not, slice_index, None,
 ghost use Rattle.std.specs.Option.{option_map};
 ghost use Rattle.std.specs.List.{find, list_all, flat_map};
 ghost use Rattle.text_bytes.specs.Texts.{key_texts};
-ghost use Rattle.bench_net.specs.Wiring.{is_single};
-ghost use Rattle.bench_net.specs.Net.{used, takes_not, wrong_arity, arity_fault};
+ghost use Rattle.bench_net.specs.Net.{used, wrong_arity, arity_fault};
 ghost use Rattle.bench_net.specs.Numbers.{lacks, looped, loop_fault};
 ghost use Rattle.bench_net.specs.Circuit.{number};
 ghost use Rattle.bench_net.specs.Views.{form_of, texts};
 
-use crate::gate::{Function, GateKind};
+use crate::gate::takes_not;
 use crate::line::Line;
 use crate::numbers::number;
 use indexmap::IndexSet;
-use text_bytes::MOST_INPUTS;
-
-/// Whether a gate takes exactly one net.
-fn is_single(kind: GateKind) -> bool
-    ensures { result ≡ is_single kind }
-{
-    matches!(kind, GateKind::Not | GateKind::Buf)
-}
-
-/// Whether a function can't take so many nets.
-fn takes_not(function: Function, pins: usize) -> bool
-    ensures { result ≡ takes_not function pins }
-{
-    match function {
-        Function::Logic(kind) if is_single(kind) => pins != 1,
-        Function::Logic(_) => pins > MOST_INPUTS,
-        Function::Register => pins != 1,
-    }
-}
 
 /// The net of a line whose function can't take so many nets.
 fn wrong_arity<'a>(line: &Line<'a>) -> Option<&'a [u8]>

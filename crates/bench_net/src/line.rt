@@ -1,12 +1,11 @@
 //! One line of a text as what it says.
 ghost use Rattle.std.specs.Prelude.{◌≡◌, ◌==◌, ℕ, ◌||◌, ◌≤◌, Some, None, List, ◌∷◌, map, length, take, drop, IfOk, MatchOption};
-ghost use Rattle.std.specs.Str.{str_eq_ignore_ascii_case};
 ghost use Rattle.std.specs.Option.{option_map};
 ghost use Rattle.bench_net.specs.Line.{is_gap, is_name_byte, is_net, Lexeme, word, Spells, Says, Form};
-ghost use Rattle.bench_net.specs.Step.{skipped, name_len, delimiter_step, front_step, function_of, enclosed_of, pins_read, call_of, declared_of, after_word, led_of, line_of};
+ghost use Rattle.bench_net.specs.Step.{skipped, name_len, delimiter_step, front_step, enclosed_of, pins_read, call_of, declared_of, after_word, led_of, line_of};
 ghost use Rattle.bench_net.specs.Views.{lexeme_of, delimiter_part, step_of_front, texts, form_of};
 
-use crate::gate::{Function, GateKind};
+use crate::gate::{Function, function_of, is_word};
 use std::alloc::{AllocError, Global};
 use text_bytes::LONGEST_NAME;
 
@@ -126,45 +125,11 @@ fn front_of(text: &[u8]) -> Front<'_>
     }
 }
 
-/// Whether the word is this keyword, in any case of its letters.
-fn is_word(word: &[u8], keyword: &[u8]) -> bool
-    ensures { result ≡ str_eq_ignore_ascii_case word.now keyword.now }
-{
-    word.eq_ignore_ascii_case(keyword)
-}
-
 /// Whether a name is short enough for a net.
 fn is_net(name: &[u8]) -> bool
     ensures { result ≡ is_net name.now }
 {
     name.len() <= LONGEST_NAME
-}
-
-/// The function of a keyword.
-fn function_of(word: &[u8]) -> Option<Function>
-    ensures { result ≡ function_of word.now }
-{
-    if is_word(word, b"AND") {
-        Some(Function::Logic(GateKind::And))
-    } else if is_word(word, b"NAND") {
-        Some(Function::Logic(GateKind::Nand))
-    } else if is_word(word, b"OR") {
-        Some(Function::Logic(GateKind::Or))
-    } else if is_word(word, b"NOR") {
-        Some(Function::Logic(GateKind::Nor))
-    } else if is_word(word, b"XOR") {
-        Some(Function::Logic(GateKind::Xor))
-    } else if is_word(word, b"XNOR") {
-        Some(Function::Logic(GateKind::Xnor))
-    } else if is_word(word, b"NOT") {
-        Some(Function::Logic(GateKind::Not))
-    } else if is_word(word, b"BUF") || is_word(word, b"BUFF") {
-        Some(Function::Logic(GateKind::Buf))
-    } else if is_word(word, b"DFF") {
-        Some(Function::Register)
-    } else {
-        None
-    }
 }
 
 /// The parts of a line, or `None` where it isn't made of parts.

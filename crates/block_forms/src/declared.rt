@@ -8,6 +8,7 @@ ghost use Rattle.block_forms.specs.Heads.{is_declared, count_under};
 use indexmap::{IndexMap, IndexSet};
 use std::alloc::{AllocError, Global};
 use std::marker::Model;
+use std::mem;
 
 /// Names under titles, in the order in which they were declared.
 #[derive(Drop)]
@@ -71,6 +72,20 @@ impl<'a> Declared<'a> {
             index,
             counts,
         })
+    }
+
+    /// Adds a name under a title. Where there is no memory for it, no names are left.
+    pub fn add(
+        &mut self,
+        alloc: Global,
+        title: &'a [u8],
+        called: &'a [u8],
+    ) -> Result<(), AllocError>
+        ensures { OnOk result (self.new ≡ self.old ++ (title.now, called.now) ∷ []) }
+    {
+        let known = mem::replace(self, Declared::new(alloc)).with(title, called)?;
+        let _none = mem::replace(self, known);
+        Ok(())
     }
 }
 

@@ -68,13 +68,6 @@ impl<'a> Exec<'a> {
         &self.tables
     }
 
-    /// Its scan chains.
-    pub fn chains(&self) -> &Chains
-        ensures { result.now ≡ self.now.chains }
-    {
-        &self.chains
-    }
-
     /// The flat trees of its patterns, in running order.
     pub fn flats(&self) -> &[FlatList]
         ensures { map (λ (t : Tree). t.flat) self.now.trees ≡ result.now }
@@ -89,6 +82,35 @@ impl<'a> Exec<'a> {
     {
         self.titles[tree]
     }
+
+    /// Its name, its tables and its chains, to be kept elsewhere.
+    pub fn into_parts(self) -> ExecParts
+        ensures name { result.name ≡ self.entry.name }
+        ensures tables { result.tables ≡ self.entry.tables }
+        ensures chains { result.chains ≡ self.entry.chains }
+    {
+        let Exec {
+            name,
+            line: _,
+            tables,
+            chains,
+            titles: _,
+            flats: _,
+        } = self;
+        ExecParts {
+            name,
+            tables,
+            chains,
+        }
+    }
+}
+
+/// What of an executive is kept in its code: its name, its tables and its chains.
+#[derive(Drop)]
+pub struct ExecParts {
+    pub name: Text,
+    pub tables: WaveSet,
+    pub chains: Chains,
 }
 
 /// The executives of a text, in text order.
@@ -112,10 +134,10 @@ impl<'a> Model for ExecList<'a> {
 }
 
 impl<'a> ExecList<'a> {
-    /// The executives in text order.
-    pub fn as_slice(&self) -> &[Exec<'a>]
-        ensures { result.now ≡ self.now }
+    /// The executives in text order, to be taken one by one.
+    pub fn into_vec(self) -> Vec<Exec<'a>>
+        ensures { result.items ≡ self.entry }
     {
-        self.execs.as_slice()
+        self.execs
     }
 }

@@ -13,4 +13,4 @@ mod staging;
 mod trees;
 
 pub use building::executives;
-pub use exec::{Exec, ExecList};
+pub use exec::{Exec, ExecList, ExecParts};

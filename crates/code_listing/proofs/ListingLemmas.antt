@@ -116,11 +116,11 @@ instrs-all code exec all = ap instrs_among (take_all exec code.execs (omega (ari
 -- ---- rows and tables of a code
 
 -- a row has a character for each signal
-pub row-long : (code : Program) (row : ℕ) (letters : List ℕ) → IsProgram code → slice_get code.rows row ≡ Some letters
-    → length letters ≡ length code.signals
-row-long code row letters program is =
-    let within = slice_get_within code.rows row letters is in
-    let same = get_or_from_slice_get code.rows row letters [] is in
+pub row-long : (code : Program) (row : ℕ) (characters : List ℕ) → IsProgram code → slice_get code.rows row ≡ Some characters
+    → length characters ≡ length code.signals
+row-long code row characters program is =
+    let within = slice_get_within code.rows row characters is in
+    let same = get_or_from_slice_get code.rows row characters [] is in
     ap length (sym same) ∙ (behind_at (IsRow (length code.signals)) [] code.rows row [] program.rows within).places
 
 -- each event of a table stays inside its cycle where no signal has a skew

@@ -1,5 +1,4 @@
 -- Read Listing first (what is listed), then Text (what is printed of it), then Lines (what stands after a fault).
-pub mod Letters
 pub mod Listing
 pub mod Text
 pub mod Lines

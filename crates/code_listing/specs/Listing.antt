@@ -4,7 +4,7 @@ use Rattle.std.specs.List.{enumerate_from, flat_map, range_with_len}
 use Rattle.tester_types.specs.declared.wave.Table.{Table}
 use Rattle.tester_types.specs.declared.cycle.Cycle.{Cycle}
 use Rattle.packed_code.specs.Program.{Program}
-use Rattle.packed_code.specs.Conditions.{letters_of}
+use Rattle.packed_code.specs.Conditions.{characters_of}
 use Rattle.packed_code.specs.Cycles.{cycles_of, exec_of}
 
 -- a cycle: its number and its start in its executive, its table, and its row, which has the character of each signal, 0
@@ -31,7 +31,7 @@ listed code cycle = record {
   number = cycle.0;
   start = cycle.1.start;
   table = slice_index_or code.tables cycle.1.table no_table;
-  row = letters_of code.rows cycle.1.row;
+  row = characters_of code.rows cycle.1.row;
 }
 
 -- an executive of a code

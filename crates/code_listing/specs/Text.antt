@@ -10,7 +10,7 @@ use Rattle.packed_code.specs.Program.{Exec, Program}
 use Rattle.packed_code.specs.Cycles.{pages_of}
 use Rattle.edge_gen.specs.Signals.{no_skews}
 use Rattle.edge_gen.specs.Moments.{moments_of}
-use Rattle.code_listing.specs.Letters.{push_letter, look_letter}
+use Rattle.tester_types.specs.Acts.{push_letter, look_letter}
 use Rattle.code_listing.specs.Listing.{Listed, ListedExec, cycles_in, time_of}
 
 -- how many cycles executives have
@@ -29,8 +29,8 @@ check_text code =
     ++ codes " pages " ++ decimal (length (pages_of code)) ++ codes "\n"
 
 -- a character of a signal, `-` for none
-abbrev pub letter_or_dash : ℕ → ℕ
-letter_or_dash letter = if letter == 0 then 45 else letter
+abbrev pub character_or_dash : ℕ → ℕ
+character_or_dash character = if character == 0 then 45 else character
 
 -- the line of an executive, by its number and its name
 abbrev pub exec_line : ListedExec → List ℕ
@@ -59,7 +59,7 @@ row_line number start table row =
 
 -- the same of a cycle
 abbrev pub cycle_line : Listed → List ℕ
-cycle_line cycle = row_line cycle.number cycle.start cycle.table.name (map letter_or_dash cycle.row)
+cycle_line cycle = row_line cycle.number cycle.start cycle.table.name (map character_or_dash cycle.row)
 
 -- the dated cycles of executives
 abbrev pub cycles_text : List ListedExec → List ℕ
@@ -69,9 +69,9 @@ cycles_text execs = listing_text cycle_line execs
 abbrev pub names_of : Program → List (List ℕ)
 names_of code = map (λ signal. signal.name) code.signals
 
--- an act of a signal, by its name, a sign, and a letter
+-- an act of a signal, by its name, a sign, and a character
 abbrev pub act_words : List ℕ → List ℕ → List ℕ → List ℕ
-act_words name sign letter = codes " " ++ printed_name name ++ sign ++ letter
+act_words name sign character = codes " " ++ printed_name name ++ sign ++ character
 
 -- a drive
 abbrev pub push_words : List (List ℕ) → ℕ × Push → List ℕ

@@ -4,25 +4,25 @@ ghost use Rattle.std.specs.Prelude.{◌≡◌, ◌≤◌, OnErr, length, map};
 ghost use Rattle.tester_types.specs.Outside.{HasRisen, Puts};
 ghost use Rattle.packed_code.specs.Walk.{IsOf};
 ghost use Rattle.code_listing.specs.Listing.{listed};
-ghost use Rattle.code_listing.specs.Text.{cycle_line, row_line, letter_or_dash};
+ghost use Rattle.code_listing.specs.Text.{cycle_line, row_line, character_or_dash};
 
 use packed_code::Code;
 use tester_types::{Cycle, Piece, Sink, SinkFault, put_each};
 
 /// A character of a signal, `-` for none.
-fn letter_or_dash(letter: u8) -> u8
-    ensures { result ≡ letter_or_dash letter }
+fn character_or_dash(character: u8) -> u8
+    ensures { result ≡ character_or_dash character }
 {
-    if letter == 0 { b'-' } else { letter }
+    if character == 0 { b'-' } else { character }
 }
 
 /// Puts the characters of all signals into a row.
-fn show(row: &mut [u8], letters: &[u8])
-    requires { length row.old ≡ length letters.now }
-    ensures { row.new ≡ map letter_or_dash letters.now }
+fn show(row: &mut [u8], characters: &[u8])
+    requires { length row.old ≡ length characters.now }
+    ensures { row.new ≡ map character_or_dash characters.now }
 {
-    for place in 0..letters.len() {
-        row[place] = letter_or_dash(letters[place]);
+    for place in 0..characters.len() {
+        row[place] = character_or_dash(characters[place]);
     }
 }
 

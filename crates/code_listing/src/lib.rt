@@ -4,12 +4,10 @@
 mod check;
 mod cycles;
 mod fault;
-mod letters;
 mod listing;
 mod moments;
 mod room;
 
 pub use check::{cycle_total, put_check};
 pub use fault::ListFault;
-pub use letters::{look_letter, push_letter};
 pub use listing::{put_cycles, put_events};

@@ -11,11 +11,12 @@ ghost use Rattle.code_listing.specs.Text.{names_of, push_words, look_words, act_
 ghost use Rattle.code_listing.specs.Text.{moment_line, head_line, moments_head, moments_text};
 
 use crate::fault::ListFault;
-use crate::letters::{look_letter, push_letter};
 use edge_gen::schedule;
 use packed_code::Code;
 use std::alloc::Global;
-use tester_types::{Cycle, Look, Moment, Piece, Push, Sink, SinkFault, put_all, put_each};
+use tester_types::{
+    Cycle, Look, Moment, Piece, Push, Sink, SinkFault, look_letter, push_letter, put_all, put_each,
+};
 
 /// The name of a signal, empty where there is none.
 fn name_at(code: &Code, signal: u16) -> &[u8]
@@ -77,9 +78,9 @@ fn put_act<'a, K: Sink>(
     sink: &mut K,
     name: &'a [u8],
     sign: &'a [u8],
-    letter: &'a [u8],
+    character: &'a [u8],
 ) -> Result<(), SinkFault>
-    ensures puts { Puts (K.told sink.old) (act_words name.now sign.now letter.now) result (K.told sink.new) }
+    ensures puts { Puts (K.told sink.old) (act_words name.now sign.now character.now) result (K.told sink.new) }
     ensures count { K.faults sink.old ≤ K.faults sink.new }
     ensures cause { OnErr result (HasRisen (K.faults sink.old) (K.faults sink.new)) }
 {
@@ -87,7 +88,7 @@ fn put_act<'a, K: Sink>(
         Piece::Text(b" "),
         Piece::Name(name),
         Piece::Text(sign),
-        Piece::Text(letter),
+        Piece::Text(character),
     ];
     put_each(sink, &words)
 }

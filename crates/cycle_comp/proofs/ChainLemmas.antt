@@ -1,5 +1,5 @@
 -- The chains of an executive without a fault meet the conditions on a code's chains.
-use Rattle.std.proofs.Common.{◌≡◌, ℕ, suc, ◌+◌, ◌<◌, ◌≤◌, ◌&&◌, ◌==◌, Bool, true, false, List, [], ◌∷◌, ◌++◌, length, map, Option, Some, None, refl, arith, if◌then◌else◌}
+use Rattle.std.proofs.Common.{◌≡◌, ℕ, suc, ◌+◌, ◌<◌, ◌≤◌, ◌&&◌, ◌==◌, Bool, true, false, List, [], ◌∷◌, ◌++◌, length, map, Option, Some, None, refl, subst, ◌∙◌, arith, if◌then◌else◌}
 use Rattle.std.specs.Prelude.{nat_le, nat_eq}
 use Rattle.std.specs.List.{list_all, list_any, flat_map, AllByRecursion}
 use Rattle.std.proofs.lemmas.Bool.{and_parts, leb-true}
@@ -12,7 +12,7 @@ use Rattle.stil_ast.specs.Data.BlockForms.{is_chain_decl, is_chain_stmt, is_cell
 use Rattle.stil_ast.specs.Data.Forms.{is_absent_or, is_range, is_line, is_name_ref, all_differ}
 use Rattle.stil_ast.specs.Data.Texts.{same, is_name, names_with}
 use Rattle.stil_ast.specs.Faults.Found.{first_in}
-use Rattle.stil_ast.specs.Meaning.Chains.{Chain, cells_of, out_in, cells_in, scan_out_of, chain_with, distinct_chains, chains_of, chain_stmt_fault, chain_fault, chains_fault}
+use Rattle.stil_ast.specs.Meaning.Chains.{Chain, cells_of, out_in, cells_in, scan_out_of, chain_with, chains_of, chain_stmt_fault, chain_fault, chains_fault}
 use Rattle.stil_ast.specs.Meaning.Signals.{Names, Signal}
 use Rattle.stil_ast.specs.declared.name.NameRef.{NameRef}
 use Rattle.stil_ast.specs.declared.scan.CellsDecl.{CellsDecl}
@@ -21,6 +21,9 @@ use Rattle.stil_ast.specs.declared.scan.ChainStmt.TheVariants.{Length, In, Out, 
 use Rattle.stil_ast.specs.declared.scan.ChainDecl.{ChainDecl}
 use Rattle.stil_ast.proofs.FoundLemmas.{or_else-none}
 use Rattle.scan_chain.specs.Short.{is_short}
+use Rattle.scan_chain.specs.Working.{distinct_behind, faults_behind}
+use Rattle.scan_chain.proofs.CellLemmas.{declared_chains}
+use Rattle.scan_chain.proofs.WorkingLemmas.{distinct_behind-none, faults_behind-none}
 use Rattle.tester_types.specs.declared.signal.Direction.TheVariants as direction
 use Rattle.packed_code.specs.Conditions.{IsName, IsChain}
 use Rattle.packed_code.proofs.Lists.{all_each, all_passing}
@@ -102,7 +105,7 @@ one_chain names block d (Some out) is form fine =
 
 -- chains without a repeated end
 distinct_are : (P : Chain → Type 0) (before chains : List Chain) → AllByRecursion P before → AllByRecursion P chains
-    → AllByRecursion P (distinct_chains before chains)
+    → AllByRecursion P (distinct_behind before chains)
 distinct_are P before [] all more = all
 distinct_are P before (c ∷ chains) all more =
     distinct_are P (if list_any (λ (b : Chain). b.scan_out == c.scan_out) before then before else before ++ c ∷ [])
@@ -113,34 +116,35 @@ distinct_are P before (c ∷ chains) all more =
     kept false = all_append P before (c ∷ []) all (more.0, tt)
 
 -- the first fault of chains is that of one of them
-each_fine : (names : Names) (block : List ℕ) (before decls : List ChainDecl) → chains_fault names block before decls ≡ None
+each_fine : (names : Names) (block : List ℕ) (before decls : List ChainDecl) → faults_behind names block before decls ≡ None
     → AllByRecursion (λ (d : ChainDecl). first_in (chain_stmt_fault names block) d.stmts ≡ None) decls
 each_fine names block before [] fine = tt
 each_fine names block before (d ∷ decls) fine =
-    let p = or_else-none (chain_fault names block before d) (chains_fault names block (before ++ d ∷ []) decls) fine in
+    let p = or_else-none (chain_fault names block before d) (faults_behind names block (before ++ d ∷ []) decls) fine in
     let here = refused_not (list_any (λ (b : ChainDecl). same b.name d.name) before) _ _ p.0 in
     (here.1, each_fine names block (before ++ d ∷ []) decls p.1)
 
 -- the chains of declarations in their form
 pub chains_are : (names : Names) (block : List ℕ) (decls : List ChainDecl) → list_all is_chain_decl decls ≡ true
-    → chains_fault names block [] decls ≡ None → AllByRecursion (IsGoodChain (length names.signals)) (chains_of names decls)
+    → chains_fault names block decls ≡ None → AllByRecursion (IsGoodChain (length names.signals)) (chains_of names decls)
 chains_are names block decls forms fine =
-    distinct_are (IsGoodChain (length names.signals)) [] _ tt
+    subst (AllByRecursion (IsGoodChain (length names.signals))) (distinct_behind-none (declared_chains names decls))
+    (distinct_are (IsGoodChain (length names.signals)) [] (declared_chains names decls) tt
     (all_flat_map (λ (d : ChainDecl). chain_with d (scan_out_of names (out_in d.stmts)))
     (λ (d : ChainDecl). (is_chain_decl d ≡ true) × (first_in (chain_stmt_fault names block) d.stmts ≡ None))
     (IsGoodChain (length names.signals))
     (λ d is. one_chain names block d (scan_out_of names (out_in d.stmts)) refl is.0 is.1) decls
-    (all_both _ _ decls (all_passing is_chain_decl decls forms) (each_fine names block [] decls fine)))
+    (all_both _ _ decls (all_passing is_chain_decl decls forms) (each_fine names block [] decls (faults_behind-none names block decls ∙ fine)))))
 
 -- ---- how many
 
-distinct_few : (before chains : List Chain) → length (distinct_chains before chains) ≤ length before + length chains
+distinct_few : (before chains : List Chain) → length (distinct_behind before chains) ≤ length before + length chains
 distinct_few before [] = omega arith
 distinct_few before (c ∷ chains) =
     by (list_any (λ (b : Chain). b.scan_out == c.scan_out) before) (λ b. distinct_few b chains)
   where
-    by : (b : Bool) → ((b : List Chain) → length (distinct_chains b chains) ≤ length b + length chains)
-        → length (distinct_chains (if b then before else before ++ c ∷ []) chains) ≤ length before + suc (length chains)
+    by : (b : Bool) → ((b : List Chain) → length (distinct_behind b chains) ≤ length b + length chains)
+        → length (distinct_behind (if b then before else before ++ c ∷ []) chains) ≤ length before + suc (length chains)
     by true go = omega (arith, go before)
     by false go = omega (arith, go (before ++ c ∷ []), length-append before (c ∷ []))
 
@@ -159,7 +163,8 @@ with_few names (d ∷ decls) =
 pub chains_few : (names : Names) (decls : List ChainDecl) → length (chains_of names decls) ≤ length decls
 chains_few names decls =
     let all = flat_map (λ (d : ChainDecl). chain_with d (scan_out_of names (out_in d.stmts))) decls in
-    omega (arith, distinct_few [] all, with_few names decls)
+    subst (λ (cs : List Chain). length cs ≤ length decls) (distinct_behind-none all)
+    (omega (arith, distinct_few [] all, with_few names decls))
 
 -- ---- chains of the code
 

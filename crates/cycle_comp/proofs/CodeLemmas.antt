@@ -55,9 +55,9 @@ at_cut (y ∷ a) b x d = at_cut a b x d
 
 -- a wave stands behind the one before it
 behind_last : (waves c d : List Wave) (w : Wave) → AreInOrder waves → waves ≡ c ++ w ∷ d
-    → option_map_or (is_behind w.signal w.letter) (last_of c) true ≡ true
+    → option_map_or (is_behind w.signal w.character) (last_of c) true ≡ true
 behind_last waves c d w order is = elim (ends c) [
-  | inl none ↦ ap (λ (l : List Wave). option_map_or (is_behind w.signal w.letter) (last_of l) true) none
+  | inl none ↦ ap (λ (l : List Wave). option_map_or (is_behind w.signal w.character) (last_of l) true) none
   | inr some ↦
       let l : Wave = some.1 in
       let whole : waves ≡ some.0 ++ l ∷ (w ∷ d) =
@@ -73,23 +73,23 @@ behind_last waves c d w order is = elim (ends c) [
       subst (λ (v : Wave). key_in v < key_in w) first
       (subst (λ (v : Wave). key_in (get_or waves (length some.0) w) < key_in v) second
       (order.rising (length some.0) (length (some.0 ++ l ∷ [])) w (omega (arith, size)) (omega (arith, long)))) in
-      let low : l.letter < 256 =
-      subst (λ (v : Wave). v.letter < 256) first (order.bytes (length some.0) w (omega (arith, long, size))) in
-      let own : w.letter < 256 =
-      subst (λ (v : Wave). v.letter < 256) second (order.bytes (length (some.0 ++ l ∷ [])) w (omega (arith, long))) in
-      ap (λ (x : List Wave). option_map_or (is_behind w.signal w.letter) (last_of x) true) some.2
-      ∙ ap (λ (o : Option Wave). option_map_or (is_behind w.signal w.letter) o true) (last_of_push some.0 l)
+      let low : l.character < 256 =
+      subst (λ (v : Wave). v.character < 256) first (order.bytes (length some.0) w (omega (arith, long, size))) in
+      let own : w.character < 256 =
+      subst (λ (v : Wave). v.character < 256) second (order.bytes (length (some.0 ++ l ∷ [])) w (omega (arith, long))) in
+      ap (λ (x : List Wave). option_map_or (is_behind w.signal w.character) (last_of x) true) some.2
+      ∙ ap (λ (o : Option Wave). option_map_or (is_behind w.signal w.character) o true) (last_of_push some.0 l)
       ∙ rises l keys low own
 ]
   where
-    rises : (l : Wave) → key_in l < key_in w → l.letter < 256 → w.letter < 256 → is_behind w.signal w.letter l ≡ true
+    rises : (l : Wave) → key_in l < key_in w → l.character < 256 → w.character < 256 → is_behind w.signal w.character l ≡ true
     rises l keys low own = elim (cases_lt l.signal w.signal) [
       | inl less ↦ or_left (nat_lt l.signal w.signal) _ (lt-ltb l.signal w.signal less)
       | inr more ↦
           let same : l.signal ≡ w.signal = omega (arith, keys, own, more) in
-          let less : l.letter < w.letter = omega (arith, keys, same) in
+          let less : l.character < w.character = omega (arith, keys, same) in
           or_right (nat_lt l.signal w.signal) _
-          (and_from (l.signal == w.signal) (nat_lt l.letter w.letter) (eq-eqb l.signal w.signal same) (lt-ltb l.letter w.letter less))
+          (and_from (l.signal == w.signal) (nat_lt l.character w.character) (eq-eqb l.signal w.signal same) (lt-ltb l.character w.character less))
     ]
 
 -- a table behind others, where all have not too many waves
@@ -112,7 +112,7 @@ table_is signals tables before after t good order few is =
           let long : length t.waves ≡ length c + suc (length d) = ap length cut ∙ length-append c (w ∷ d) in
           record {
             signal = its.signal;
-            letter = its.letter;
+            character = its.character;
             order = behind_last t.waves c d w order cut;
             room = omega (arith, split, few, long);
             few = its.few;

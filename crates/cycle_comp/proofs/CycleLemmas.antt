@@ -13,11 +13,11 @@ use Rattle.stil_ast.specs.Meaning.State.{Vector}
 use Rattle.stil_ast.specs.Meaning.Cycles.{Dated, dated, starts_at}
 use Rattle.stil_ast.specs.Meaning.ExecutiveData.{row_of, period_at, table_at, vector_period}
 use Rattle.packed_code.specs.declared.instr.Entry.{Entry}
-use Rattle.packed_code.specs.Conditions.{letters_of}
+use Rattle.packed_code.specs.Conditions.{characters_of}
 use Rattle.packed_code.specs.Cycles.{period_of, timed}
 use Rattle.cycle_comp.specs.Entries.{IsEntry, AreEntries}
-use Rattle.cycle_comp.specs.Compiled.{letter_of, table_in, read_cycle}
-use Rattle.cycle_comp.proofs.VectorLemmas.{IsLetter}
+use Rattle.cycle_comp.specs.Compiled.{character_of, table_in, read_cycle}
+use Rattle.cycle_comp.proofs.VectorLemmas.{IsCharacter}
 
 -- a vector whose table stands in the code behind others, and whose characters can be read again
 pub record IsRead (first : ℕ) (own tables : List Table) (v : Vector) : Type 0 where
@@ -25,10 +25,10 @@ pub record IsRead (first : ℕ) (own tables : List Table) (v : Vector) : Type 0 
   pub table_is : v.table ≡ Some table
   pub room : first + table ≤ 65535
   pub stands : slice_get tables (first + table) ≡ slice_get own table
-  pub letters : AllByRecursion IsLetter v.letters
+  pub characters : AllByRecursion IsCharacter v.characters
 
 -- a character is not 0
-one_again : (c : Option ℕ) → IsLetter c → letter_of (unwrap_or c 0) ≡ c
+one_again : (c : Option ℕ) → IsCharacter c → character_of (unwrap_or c 0) ≡ c
 unfolding is_character
 one_again None is = refl
 one_again (Some c) is = by (c == 0) refl
@@ -37,12 +37,12 @@ one_again (Some c) is = by (c == 0) refl
     by true zeroed = absurd (false≢true (ap is_character (sym (eqb-true c 0 zeroed)) ∙ is))
     by false other = refl
 
-letters_again : (letters : List (Option ℕ)) → AllByRecursion IsLetter letters
-    → map letter_of (map (λ (c : Option ℕ). unwrap_or c 0) letters) ≡ letters
-letters_again [] all = refl
-letters_again (c ∷ letters) all =
-    ap (λ (d : Option ℕ). d ∷ map letter_of (map (λ (c : Option ℕ). unwrap_or c 0) letters)) (one_again c all.0)
-    ∙ ap (λ (ds : List (Option ℕ)). c ∷ ds) (letters_again letters all.1)
+characters_again : (characters : List (Option ℕ)) → AllByRecursion IsCharacter characters
+    → map character_of (map (λ (c : Option ℕ). unwrap_or c 0) characters) ≡ characters
+characters_again [] all = refl
+characters_again (c ∷ characters) all =
+    ap (λ (d : Option ℕ). d ∷ map character_of (map (λ (c : Option ℕ). unwrap_or c 0) characters)) (one_again c all.0)
+    ∙ ap (λ (ds : List (Option ℕ)). c ∷ ds) (characters_again characters all.1)
 
 -- a table behind the first one is one of these
 table_behind : (first table : ℕ) → table_in first (first + table) ≡ Some table
@@ -75,13 +75,13 @@ module _ (first : ℕ) (own tables : List Table) (rows : List (List ℕ)) where
   one_cycle number start v e is entry =
       let table : table_in first e.table ≡ v.table =
       ap (table_in first) (table_at_first v e is entry) ∙ (table_behind first is.table ∙ sym is.table_is) in
-      let row : letters_of rows e.row ≡ row_of v = get_or_from_slice_get rows e.row (row_of v) [] entry.row in
-      let letters : map letter_of (letters_of rows e.row) ≡ v.letters =
-      ap (map letter_of) row ∙ letters_again v.letters is.letters in
+      let row : characters_of rows e.row ≡ row_of v = get_or_from_slice_get rows e.row (row_of v) [] entry.row in
+      let characters : map character_of (characters_of rows e.row) ≡ v.characters =
+      ap (map character_of) row ∙ characters_again v.characters is.characters in
       ap (λ (x : Vector). record { number = number; start = start; vector = x })
-      (ap (λ (t : Option ℕ). record { table = t; letters = map letter_of (letters_of rows e.row); mark = e.mark }) table
-      ∙ (ap (λ (l : List (Option ℕ)). record { table = v.table; letters = l; mark = e.mark }) letters
-      ∙ ap (λ (m : ℕ). record { table = v.table; letters = v.letters; mark = m }) entry.mark))
+      (ap (λ (t : Option ℕ). record { table = t; characters = map character_of (characters_of rows e.row); mark = e.mark }) table
+      ∙ (ap (λ (l : List (Option ℕ)). record { table = v.table; characters = l; mark = e.mark }) characters
+      ∙ ap (λ (m : ℕ). record { table = v.table; characters = v.characters; mark = m }) entry.mark))
 
   -- the start of the vector behind others
   start_behind : (before : List Vector) (v : Vector) (vectors : List Vector)

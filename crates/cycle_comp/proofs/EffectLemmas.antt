@@ -4,7 +4,7 @@ use Rattle.std.proofs.lemmas.Bool.{eqb-true}
 use Rattle.std.proofs.lemmas.List.{length-set, get_or-set_same, get_or-set_other}
 use Rattle.std.specs.Prelude.{slice_index_or}
 use Rattle.stil_ast.specs.Meaning.State.{State}
-use Rattle.stil_ast.specs.Meaning.Dealing.{with_letter}
+use Rattle.stil_ast.specs.Meaning.Dealing.{with_character}
 use Rattle.stil_ast.specs.Meaning.Running.{Ran, times}
 use Rattle.stil_ast.specs.Meaning.Flat.{Flat, done, table, character, back, cycle, repeat, save, saved, flat_run}
 
@@ -110,24 +110,24 @@ tabled-looped (suc n) a now = tabled-again a now
 
 -- ---- how many signals there are
 
-times-length : (n : ℕ) (f : State → Ran State) → ((s : State) → length (f s).here.letters ≡ length s.letters)
-    → (s : State) → length (times n f s).here.letters ≡ length s.letters
+times-length : (n : ℕ) (f : State → Ran State) → ((s : State) → length (f s).here.characters ≡ length s.characters)
+    → (s : State) → length (times n f s).here.characters ≡ length s.characters
 times-length zero f e s = refl
 times-length (suc n) f e s = times-length n f e (f s).here ∙ e s
 
-saved-length : (putting : Bool) (s : State) (r : Ran State) → length r.here.letters ≡ length s.letters
-    → length (saved putting s r).here.letters ≡ length s.letters
+saved-length : (putting : Bool) (s : State) (r : Ran State) → length r.here.characters ≡ length s.characters
+    → length (saved putting s r).here.characters ≡ length s.characters
 saved-length true s r e = refl
 saved-length false s r e = e
 
-pub run-length : (f : Flat) (base s : State) → length (flat_run f base s).here.letters ≡ length s.letters
+pub run-length : (f : Flat) (base s : State) → length (flat_run f base s).here.characters ≡ length s.characters
 run-length done base s = refl
-run-length (table t rest) base s = run-length rest base (record { table = Some t; letters = s.letters })
+run-length (table t rest) base s = run-length rest base (record { table = Some t; characters = s.characters })
 run-length (character signal c rest) base s =
-    run-length rest base (with_letter signal (Some c) s) ∙ length-set s.letters signal (Some c)
+    run-length rest base (with_character signal (Some c) s) ∙ length-set s.characters signal (Some c)
 run-length (back signal rest) base s =
-    let h = slice_index_or base.letters signal None in
-    run-length rest base (with_letter signal h s) ∙ length-set s.letters signal h
+    let h = slice_index_or base.characters signal None in
+    run-length rest base (with_character signal h s) ∙ length-set s.characters signal h
 run-length (cycle mark spot rest) base s = run-length rest base s
 run-length (repeat count body rest) base s =
     run-length rest base (times count (flat_run body base) s).here
@@ -142,16 +142,16 @@ eqb_false-differs : (a b : ℕ) → eqb a b ≡ false → a ≡ b → ⊥
 eqb_false-differs a b e same = grind arith
 
 abbrev at : State → ℕ → Option ℕ
-at s x = get_or s.letters x None
+at s x = get_or s.characters x None
 
 -- a signal gets a character, or another one does
-set-cond : (b : Bool) (signal x : ℕ) (c : Option ℕ) (s : State) → eqb signal x ≡ b → x < length s.letters
-    → at (with_letter signal c s) x ≡ cond b c (at s x)
+set-cond : (b : Bool) (signal x : ℕ) (c : Option ℕ) (s : State) → eqb signal x ≡ b → x < length s.characters
+    → at (with_character signal c s) x ≡ cond b c (at s x)
 set-cond true signal x c s e within =
     let same : signal ≡ x = eqb-true signal x e in
-    ap (λ (y : ℕ). at (with_letter y c s) x) same ∙ get_or-set_same s.letters x c None within
+    ap (λ (y : ℕ). at (with_character y c s) x) same ∙ get_or-set_same s.characters x c None within
 set-cond false signal x c s e within =
-    get_or-set_other s.letters signal x c None (λ eq. absurd (eqb_false-differs signal x e (sym eq)))
+    get_or-set_other s.characters signal x c None (λ eq. absurd (eqb_false-differs signal x e (sym eq)))
 
 -- given, or held
 given-cond : (b : Bool) (c : ℕ) (h now : Option ℕ) → cond b (Some c) now ≡ changed (cond b (given c) kept) h now
@@ -164,9 +164,9 @@ held-cond true signal x base now e = ap (at base) (eqb-true signal x e)
 held-cond false signal x base now e = refl
 
 times-at : (n : ℕ) (f : State → Ran State) (x : ℕ) (change : Change) (h : Option ℕ)
-    → ((s : State) → length (f s).here.letters ≡ length s.letters)
-    → ((s : State) → x < length s.letters → at (f s).here x ≡ changed change h (at s x))
-    → (s : State) → x < length s.letters → at (times n f s).here x ≡ changed (in_loop n change) h (at s x)
+    → ((s : State) → length (f s).here.characters ≡ length s.characters)
+    → ((s : State) → x < length s.characters → at (f s).here x ≡ changed change h (at s x))
+    → (s : State) → x < length s.characters → at (times n f s).here x ≡ changed (in_loop n change) h (at s x)
 times-at zero f x change h sized one s within = refl
 times-at (suc n) f x change h sized one s within =
     times-at n f x change h sized one (f s).here (subst (λ (k : ℕ). x < k) (sym (sized s)) within)
@@ -178,19 +178,19 @@ saved-at : (putting : Bool) (s : State) (r : Ran State) (x : ℕ) (change : Chan
 saved-at true s r x change h e = refl
 saved-at false s r x change h e = e ∙ changed-saved change h (at s x)
 
-pub run-at : (f : Flat) (x : ℕ) (base s : State) → x < length s.letters
+pub run-at : (f : Flat) (x : ℕ) (base s : State) → x < length s.characters
     → at (flat_run f base s).here x ≡ changed (change_of x f) (at base x) (at s x)
 run-at done x base s within = refl
-run-at (table t rest) x base s within = run-at rest x base (record { table = Some t; letters = s.letters }) within
+run-at (table t rest) x base s within = run-at rest x base (record { table = Some t; characters = s.characters }) within
 run-at (character signal c rest) x base s within =
-    let now = with_letter signal (Some c) s in
-    run-at rest x base now (subst (λ (k : ℕ). x < k) (sym (length-set s.letters signal (Some c))) within)
+    let now = with_character signal (Some c) s in
+    run-at rest x base now (subst (λ (k : ℕ). x < k) (sym (length-set s.characters signal (Some c))) within)
     ∙ (ap (changed (change_of x rest) (at base x)) (set-cond (eqb signal x) signal x (Some c) s refl within ∙ given-cond (eqb signal x) c (at base x) (at s x))
     ∙ changed-followed (cond (eqb signal x) (given c) kept) (change_of x rest) (at base x) (at s x))
 run-at (back signal rest) x base s within =
     let h = at base signal in
-    let now = with_letter signal h s in
-    run-at rest x base now (subst (λ (k : ℕ). x < k) (sym (length-set s.letters signal h)) within)
+    let now = with_character signal h s in
+    run-at rest x base now (subst (λ (k : ℕ). x < k) (sym (length-set s.characters signal h)) within)
     ∙ (ap (changed (change_of x rest) (at base x)) (set-cond (eqb signal x) signal x h s refl within ∙ held-cond (eqb signal x) signal x base (at s x) refl)
     ∙ changed-followed (cond (eqb signal x) held kept) (change_of x rest) (at base x) (at s x))
 run-at (cycle mark spot rest) x base s within = run-at rest x base s within
@@ -227,10 +227,10 @@ saved-table false s r change e = e
 pub run-table : (f : Flat) (base s : State) → (flat_run f base s).here.table ≡ tabled (table_of f) s.table
 run-table done base s = refl
 run-table (table t rest) base s =
-    run-table rest base (record { table = Some t; letters = s.letters })
+    run-table rest base (record { table = Some t; characters = s.characters })
     ∙ tabled-followed (Some t) (table_of rest) s.table
-run-table (character signal c rest) base s = run-table rest base (with_letter signal (Some c) s)
-run-table (back signal rest) base s = run-table rest base (with_letter signal (slice_index_or base.letters signal None) s)
+run-table (character signal c rest) base s = run-table rest base (with_character signal (Some c) s)
+run-table (back signal rest) base s = run-table rest base (with_character signal (slice_index_or base.characters signal None) s)
 run-table (cycle mark spot rest) base s = run-table rest base s
 run-table (repeat count body rest) base s =
     run-table rest base (times count (flat_run body base) s).here

@@ -43,10 +43,10 @@ abs_lt (pos a) (pos b) p h = ltb-true a b h
 abs_lt (pos a) (negsuc b) p h = absurd cc
 abs_lt (negsuc a) b p h = absurd cc
 
-module _ {V : Type 0} (t : Timed V) (letters : List ℕ) (letter : ℕ) (period : ℤ) where
+module _ {V : Type 0} (t : Timed V) (characters : List ℕ) (character : ℕ) (period : ℤ) where
   -- the event for the character
   abbrev here : EventDecl → Option Event
-  here e = event_of t.times t.vars t.place letters letter e
+  here e = event_of t.times t.vars t.place characters character e
 
   -- one event, if it is there for the character
   put : (r : Result ℤ StilFault) (z : ℤ) (act : Option Act) (acc rest : List Event) → r ≡ Ok z
@@ -80,6 +80,6 @@ module _ {V : Type 0} (t : Timed V) (letters : List ℕ) (letter : ℕ) (period 
       let lates = or_else-none (late_event t period e) (first_in (late_event t period) es) late in
       let below : int_lt z period ≡ true = late_none (on_line t.place e.time.line) period _ z at.1 lates.0 in
       let up : nat_abs before ≤ nat_abs z = abs_le before z low rises.0 in
-      put (time_at t.times t.vars t.place e.time) z (act_of letters letter e.acts) acc (filter_map here es) at.1 from below
+      put (time_at t.times t.vars t.place e.time) z (act_of characters character e.acts) acc (filter_map here es) at.1 from below
       (omega (arith, last, up))
       (λ more is. events_each own z es more rises.1 lates.1 from is)

@@ -9,7 +9,7 @@ use Rattle.stil_ast.specs.Meaning.Flattening.{joined}
 use Rattle.stil_ast.specs.Meaning.ExecutiveData.{distinct_rows}
 use Rattle.packed_code.specs.declared.instr.Entry.{Entry}
 use Rattle.packed_code.specs.declared.instr.Instr.{Instr}
-use Rattle.cycle_comp.specs.Known.{row_of_letters}
+use Rattle.cycle_comp.specs.Known.{row_of_characters}
 use Rattle.cycle_comp.specs.Writing.{looped, row_in, flats_run}
 use Rattle.cycle_comp.specs.Passes.{entry_in, with_entry, later_passes, passes, with_passes, vector_at, written, flats_written, IsExact}
 use Rattle.cycle_comp.proofs.SameLemmas.{same_code-refl}
@@ -48,7 +48,7 @@ exact-joined first front last base s old mid new made rows after now here grows 
 -- ---- a vector
 
 pub exact-vector : (first : ℕ) (s : State) (mark t short number : ℕ) (old new : List Instr) (rows : List (List ℕ))
-    → s.table ≡ Some t → slice_get rows number ≡ Some (row_of_letters s.letters) → short ≡ min (first + t) 65535
+    → s.table ≡ Some t → slice_get rows number ≡ Some (row_of_characters s.characters) → short ≡ min (first + t) 65535
     → new ≡ with_entry (record { table = short; row = number; mark = mark }) old
     → IsExact first (λ entry code. with_entry (entry (vector_at s mark)) code) old new rows
 exact-vector first s mark t short number old new rows e at is put = λ all on.

@@ -4,9 +4,8 @@ use Rattle.text_bytes.proofs.ListLemmas.{all_append}
 use Rattle.tester_types.specs.declared.wave.Table.{Table}
 use Rattle.stil_ast.specs.Meaning.Running.{Made}
 use Rattle.stil_ast.specs.declared.fault.StilKind.{StilKind}
-use Rattle.cycle_comp.specs.Writing.{often, fault_kind, AreFine, IsFirst, IsStopped}
-use Rattle.cycle_comp.specs.declared.trouble.Trouble.{Trouble}
-use Rattle.cycle_comp.specs.declared.trouble.Trouble.TheVariants.{NoMemory, At}
+use Rattle.cycle_comp.specs.Writing.{often, fault_kind, AreFine, IsFirst, IsStopped, Trouble}
+use Rattle.answers.specs.declared.short.Short.TheVariants.{NoMemory, Fault}
 
 pub fine-append : (tables : List Table) (made more : List Made) → AreFine tables made → AreFine tables more
     → AreFine tables (made ++ more)
@@ -27,7 +26,7 @@ first-alone tables m kind e =
 pub stopped-behind : (tables : List Table) (before made : List Made) (t : Trouble) → AreFine tables before
     → IsStopped tables made t → IsStopped tables (before ++ made) t
 stopped-behind tables before made NoMemory p s = tt
-stopped-behind tables before made (At place kind) p s = record {
+stopped-behind tables before made (Fault at) p s = record {
   before = before ++ s.before;
   at = s.at;
   after = s.after;
@@ -41,7 +40,7 @@ stopped-behind tables before made (At place kind) p s = record {
 pub stopped-before : (tables : List Table) (made after : List Made) (t : Trouble)
     → IsStopped tables made t → IsStopped tables (made ++ after) t
 stopped-before tables made after NoMemory s = tt
-stopped-before tables made after (At place kind) s = record {
+stopped-before tables made after (Fault at) s = record {
   before = s.before;
   at = s.at;
   after = s.after ++ after;

@@ -30,22 +30,22 @@ same_option-true (Some a) (Some b) e = ap (λ (n : ℕ). Some n) (eqb-true a b e
 same_option-true None (Some b) e = absurd cc
 same_option-true (Some a) None e = absurd cc
 
-same_letters-true : (a b : List (Option ℕ)) → pointwise same_option a b ≡ true → a ≡ b
-same_letters-true [] [] e = refl
-same_letters-true [] (c ∷ b) e = absurd cc
-same_letters-true (c ∷ a) [] e = absurd cc
-same_letters-true (c ∷ a) (d ∷ b) e =
+same_characters-true : (a b : List (Option ℕ)) → pointwise same_option a b ≡ true → a ≡ b
+same_characters-true [] [] e = refl
+same_characters-true [] (c ∷ b) e = absurd cc
+same_characters-true (c ∷ a) [] e = absurd cc
+same_characters-true (c ∷ a) (d ∷ b) e =
     let both = and_parts (same_option c d) (pointwise same_option a b) e in
     ap (λ (x : Option ℕ). x ∷ a) (same_option-true c d both.0)
-    ∙ ap (λ (xs : List (Option ℕ)). d ∷ xs) (same_letters-true a b both.1)
+    ∙ ap (λ (xs : List (Option ℕ)). d ∷ xs) (same_characters-true a b both.1)
 
 same_vector-true : (v w : Vector) → same_vector v w ≡ true → v ≡ w
 same_vector-true v w e =
-    let last = and_parts (same_option v.table w.table && pointwise same_option v.letters w.letters) (eqb v.mark w.mark) e in
-    let both = and_parts (same_option v.table w.table) (pointwise same_option v.letters w.letters) last.0 in
-    ap (λ (t : Option ℕ). record { table = t; letters = v.letters; mark = v.mark }) (same_option-true v.table w.table both.0)
-    ∙ (ap (λ (cs : List (Option ℕ)). record { table = w.table; letters = cs; mark = v.mark }) (same_letters-true v.letters w.letters both.1)
-    ∙ ap (λ (m : ℕ). record { table = w.table; letters = w.letters; mark = m }) (eqb-true v.mark w.mark last.1))
+    let last = and_parts (same_option v.table w.table && pointwise same_option v.characters w.characters) (eqb v.mark w.mark) e in
+    let both = and_parts (same_option v.table w.table) (pointwise same_option v.characters w.characters) last.0 in
+    ap (λ (t : Option ℕ). record { table = t; characters = v.characters; mark = v.mark }) (same_option-true v.table w.table both.0)
+    ∙ (ap (λ (cs : List (Option ℕ)). record { table = w.table; characters = cs; mark = v.mark }) (same_characters-true v.characters w.characters both.1)
+    ∙ ap (λ (m : ℕ). record { table = w.table; characters = w.characters; mark = m }) (eqb-true v.mark w.mark last.1))
 
 same_vectors-true : (a b : List Vector) → pointwise same_vector a b ≡ true → a ≡ b
 same_vectors-true [] [] e = refl

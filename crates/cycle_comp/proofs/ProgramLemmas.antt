@@ -20,7 +20,7 @@ use Rattle.packed_code.specs.Meaning.{Means}
 use Rattle.packed_code.specs.declared.parts.CodeChain.{CodeChain}
 use Rattle.packed_code.specs.Program.{Exec, Program}
 use Rattle.packed_code.specs.Cycles.{timed, period_of, exec_of}
-use Rattle.packed_code.specs.Conditions.{IsText, IsChain, IsInstr, IsExec, has_waves, waves_of, letters_of}
+use Rattle.packed_code.specs.Conditions.{IsText, IsChain, IsInstr, IsExec, has_waves, waves_of, characters_of}
 use Rattle.packed_code.proofs.Lists.{all_each}
 use Rattle.wave_tables.specs.Waves.{AreInOrder}
 use Rattle.cycle_comp.specs.Entries.{IsEntry}
@@ -30,7 +30,7 @@ use Rattle.cycle_comp.proofs.EachLemmas.{all_map, all_cut, all_both}
 use Rattle.cycle_comp.proofs.TableLemmas.{IsGoodTable}
 use Rattle.cycle_comp.proofs.ChainLemmas.{IsGoodChain, code_chains}
 use Rattle.cycle_comp.proofs.RowLemmas.{IsGoodRow}
-use Rattle.cycle_comp.proofs.VectorLemmas.{IsRunnable, vectors_runnable, waves_in, row_has, HasGoodWaves, letters_are, row_places}
+use Rattle.cycle_comp.proofs.VectorLemmas.{IsRunnable, vectors_runnable, waves_in, row_has, HasGoodWaves, characters_are, row_places}
 use Rattle.cycle_comp.proofs.InstrLemmas.{Runs, each_run, runs_back, entries_all, vectors_back}
 use Rattle.cycle_comp.proofs.CycleLemmas.{IsRead, read_all}
 use Rattle.packed_code.proofs.PageLemmas.{slice_get_left, slice_get_right}
@@ -100,8 +100,8 @@ module _ (signals : ℕ) (tables : List Table) (rows : List (List ℕ)) where
       table_is = is.runs.table_is;
       room = omega (arith, room, is.low);
       stands = stands is.runs.table is.low;
-      letters =
-          letters_are signals (slice_get e.tables is.runs.table) 0 v.letters
+      characters =
+          characters_are signals (slice_get e.tables is.runs.table) 0 v.characters
           (good_waves is.runs.table (slice_get e.tables is.runs.table) refl) is.runs.waves;
     }
 
@@ -112,21 +112,21 @@ module _ (signals : ℕ) (tables : List Table) (rows : List (List ℕ)) where
     -- what a code wants of a cycle
     abbrev IsWanted : Entry → Type 0
     IsWanted entry =
-        (entry.row < length rows) × (has_waves (waves_of tables entry.table) 0 (letters_of rows entry.row) ≡ true)
+        (entry.row < length rows) × (has_waves (waves_of tables entry.table) 0 (characters_of rows entry.row) ≡ true)
 
     wanted : (v : Vector) (entry : Entry) → IsHere v → IsEntry first rows v entry → IsWanted entry
     wanted v entry is run =
         let table : entry.table ≡ first + is.runs.table =
         omega (arith, run.table is.runs.table is.runs.table_is, room, is.low) in
-        let row : letters_of rows entry.row ≡ row_of v = get_or_from_slice_get rows entry.row (row_of v) [] run.row in
+        let row : characters_of rows entry.row ≡ row_of v = get_or_from_slice_get rows entry.row (row_of v) [] run.row in
         let waves : waves_of tables entry.table ≡ waves_in (slice_get e.tables is.runs.table) =
         ap (waves_of tables) table
         ∙ ap (λ (o : Option Table). option_map_or (λ (t : Table). t.waves) o []) (stands is.runs.table is.low)
         ∙ of_table (slice_get e.tables is.runs.table) in (
           slice_get_within rows entry.row (row_of v) run.row,
-          ap (λ (ws : List Wave). has_waves ws 0 (letters_of rows entry.row)) waves
+          ap (λ (ws : List Wave). has_waves ws 0 (characters_of rows entry.row)) waves
               ∙ ap (has_waves (waves_in (slice_get e.tables is.runs.table)) 0) row
-              ∙ row_has (slice_get e.tables is.runs.table) 0 v.letters is.runs.waves,
+              ∙ row_has (slice_get e.tables is.runs.table) 0 v.characters is.runs.waves,
         )
       where
         of_table : (o : Option Table) → option_map_or (λ (t : Table). t.waves) o [] ≡ waves_in o
@@ -177,10 +177,10 @@ module _ (signals : ℕ) (tables : List Table) (rows : List (List ℕ)) where
     -- a row of one of its vectors
     row_good : (v : Vector) → IsHere v → IsGoodRow signals (row_of v)
     row_good v is = record {
-      places = length-map v.letters (λ (c : Option ℕ). unwrap_or c 0) ∙ is.runs.long;
-      letters =
-          row_places v.letters
-          (letters_are signals (slice_get e.tables is.runs.table) 0 v.letters
+      places = length-map v.characters (λ (c : Option ℕ). unwrap_or c 0) ∙ is.runs.long;
+      characters =
+          row_places v.characters
+          (characters_are signals (slice_get e.tables is.runs.table) 0 v.characters
           (good_waves is.runs.table (slice_get e.tables is.runs.table) refl) is.runs.waves);
     }
 

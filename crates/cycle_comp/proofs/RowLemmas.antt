@@ -4,13 +4,13 @@ use Rattle.std.specs.List.{list_all, AllByRecursion}
 use Rattle.std.proofs.lemmas.List.{append-nil}
 use Rattle.stil_ast.specs.Data.Texts.{has_name}
 use Rattle.stil_ast.specs.Meaning.ExecutiveData.{distinct_rows}
-use Rattle.packed_code.specs.Letters.{is_place}
+use Rattle.packed_code.specs.RowBytes.{is_place}
 use Rattle.packed_code.specs.Conditions.{EachBehind, IsRow}
 
 -- a row with a character or none for each signal
 pub record IsGoodRow (signals : ℕ) (row : List ℕ) : Type 0 where
   pub places : length row ≡ signals
-  pub letters : list_all is_place row ≡ true
+  pub characters : list_all is_place row ≡ true
 
 -- one more item, as it should be behind all
 pub each_push : {A : Type 0} (Fits : List A → A → Type 0) (before items : List A) (x : A)
@@ -30,7 +30,7 @@ with_row : (signals : ℕ) (before : List (List ℕ)) (row : List ℕ) (b : Bool
 with_row signals before row true is each good = each
 with_row signals before row false is each good =
     each_push (IsRow signals) [] before row each
-    (record { places = good.places; letters = good.letters; fresh = is })
+    (record { places = good.places; characters = good.characters; fresh = is })
 
 -- rows, each once
 pub rows_are : (signals : ℕ) (before rows : List (List ℕ)) → EachBehind (IsRow signals) [] before

@@ -75,5 +75,5 @@ no_table : trees_fault [] (tree (cycle 0 (line 7) done) ∷ []) (start_of 1)
 no_table = refl
 
 -- the second table of an executive whose first one is number 3 in the code
-second_table : (e : Entry) → IsEntry 3 [] (record { table = Some 1; letters = []; mark = 0 }) e → e.table ≡ 4
+second_table : (e : Entry) → IsEntry 3 [] (record { table = Some 1; characters = []; mark = 0 }) e → e.table ≡ 4
 second_table e is = is.table 1 refl

@@ -1,5 +1,5 @@
 -- The steps of the code's loops: one chain, table, signal or executive more.
-use Rattle.std.proofs.Common.{◌≡◌, ℕ, zero, suc, ◌+◌, ◌<◌, ◌≤◌, true, List, [], ◌∷◌, ◌++◌, length, map, take, get_or, Option, Some, refl, sym, ap, ◌∙◌, arith}
+use Rattle.std.proofs.Common.{◌≡◌, ℕ, zero, suc, ◌+◌, ◌≤◌, true, List, [], ◌∷◌, ◌++◌, length, map, take, Option, Some, refl, sym, ap, ◌∙◌, arith}
 use Rattle.std.specs.Prelude.{slice_get}
 use Rattle.std.specs.List.{list_all}
 use Rattle.std.proofs.lemmas.Bool.{and_parts}
@@ -12,15 +12,32 @@ use Rattle.scan_chain.specs.Short.{is_short}
 use Rattle.scan_chain.specs.declared.chain.ScanChain.{ScanChain}
 use Rattle.wave_tables.proofs.TakenLemmas.{front_found}
 use Rattle.packed_code.specs.declared.parts.CodeSignal.{CodeSignal}
-use Rattle.cycle_comp.specs.Compiled.{signal_of}
+use Rattle.packed_code.specs.declared.parts.CodeChain.{CodeChain}
+use Rattle.cycle_comp.specs.Compiled.{signal_of, chain_of}
 
--- a chain of short ones is short
-pub short-at : (chains : List ScanChain) (i : ℕ) (d : ScanChain) → list_all is_short (chains_in chains) ≡ true
-    → i < length chains → is_short (chain_in (get_or chains i d)) ≡ true
-short-at [] i d short low = absurd (omega (arith, low))
-short-at (c ∷ chains) zero d short low = (and_parts (is_short (chain_in c)) (list_all is_short (chains_in chains)) short).0
-short-at (c ∷ chains) (suc i) d short low =
-    short-at chains i d (and_parts (is_short (chain_in c)) (list_all is_short (chains_in chains)) short).1 (omega (arith, low))
+-- the first of short chains is short
+pub short-front : (c : ScanChain) (rest all : List ScanChain) → all ≡ c ∷ rest
+    → list_all is_short (chains_in all) ≡ true → is_short (chain_in c) ≡ true
+short-front c rest all is short =
+    (and_parts (is_short (chain_in c)) (list_all is_short (chains_in rest))
+    (ap (λ (cs : List ScanChain). list_all is_short (chains_in cs)) (sym is) ∙ short)).0
+
+-- and so are those behind it
+pub short-rest : (c : ScanChain) (rest all : List ScanChain) → all ≡ c ∷ rest
+    → list_all is_short (chains_in all) ≡ true → list_all is_short (chains_in rest) ≡ true
+short-rest c rest all is short =
+    (and_parts (is_short (chain_in c)) (list_all is_short (chains_in rest))
+    (ap (λ (cs : List ScanChain). list_all is_short (chains_in cs)) (sym is) ∙ short)).1
+
+-- one chain more
+pub chains-push : (made : List CodeChain) (chains : List ScanChain) (c : ScanChain) (m : CodeChain)
+    → made ≡ map chain_of (chains_in chains) → m ≡ chain_of (chain_in c)
+    → made ++ m ∷ [] ≡ map chain_of (chains_in (chains ++ c ∷ []))
+chains-push made chains c m were is =
+    ap (λ (ms : List CodeChain). ms ++ m ∷ []) were
+    ∙ (ap (λ (x : CodeChain). map chain_of (chains_in chains) ++ x ∷ []) is
+    ∙ (sym (map-append chain_of (chains_in chains) (chain_in c ∷ []))
+    ∙ ap (map chain_of) (sym (map-append chain_in chains (c ∷ [])))))
 
 -- what is found among items that are mapped
 got_map : {A B : Type 0} (f : A → B) (xs : List A) (i : ℕ) (y : B) → slice_get (map f xs) i ≡ Some y
@@ -49,12 +66,12 @@ signal-next signals i text dir named directed =
     same x y e = cc
 
 -- the tables of the first executives are not more than all
-pub tables-take : (es : List Executive) (i : ℕ) → length (tables_of (take i es)) ≤ length (tables_of es)
-tables-take [] i = none i
-  where
-    none : (i : ℕ) → length (tables_of (take i [])) ≤ 0
-    none zero = omega arith
-    none (suc i) = omega arith
-tables-take (e ∷ es) zero = omega arith
-tables-take (e ∷ es) (suc i) =
-    omega (arith, length-append e.tables (tables_of (take i es)), length-append e.tables (tables_of es), tables-take es i)
+pub tables-front : (front rest : List Executive) → length (tables_of front) ≤ length (tables_of (front ++ rest))
+tables-front [] rest = omega arith
+tables-front (e ∷ front) rest =
+    omega (
+      arith,
+      length-append e.tables (tables_of front),
+      length-append e.tables (tables_of (front ++ rest)),
+      tables-front front rest,
+    )

@@ -88,7 +88,7 @@ module _ (blocks : Blocks) (one : AreOfOneText blocks) where
   -- the faults that an executive hasn't
   pub record HasNone (waves : ℕ) (d : ExecDecl) : Type 0 where
     pub tables : tables_fault (timed_of times_of blocks d) waves ≡ None
-    pub chains : chains_fault (names_of blocks) (exec_scans blocks d) [] (chains_named blocks.scans (exec_scans blocks d)) ≡ None
+    pub chains : chains_fault (names_of blocks) (exec_scans blocks d) (chains_named blocks.scans (exec_scans blocks d)) ≡ None
 
   has_none : (before : List ExecDecl) (d : ExecDecl) → exec_fault times_of blocks before d ≡ None
       → HasNone (sum_by (exec_waves blocks) before) d
@@ -97,7 +97,7 @@ module _ (blocks : Blocks) (one : AreOfOneText blocks) where
       let second = or_else-none (variables_fault times_of (picked blocks d)) _ first.1 in
       let third = or_else-none (tables_fault (timed_of times_of blocks d) (sum_by (exec_waves blocks) before)) _ second.1 in
       let fourth = or_else-none
-      (chains_fault (names_of blocks) (exec_scans blocks d) [] (chains_named blocks.scans (exec_scans blocks d))) _ third.1 in
+      (chains_fault (names_of blocks) (exec_scans blocks d) (chains_named blocks.scans (exec_scans blocks d))) _ third.1 in
       record { tables = third.0; chains = fourth.0 }
 
   -- how many tables are made

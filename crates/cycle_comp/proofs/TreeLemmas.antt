@@ -32,7 +32,7 @@ measure_flats (t ∷ trees) =
 kind-some : (tables : List Table) (titles : Titles) (m : Made) (table : Option ℕ) (kind : StilKind)
     → kind_under tables m table ≡ Some kind → made_fault tables titles m table ≡ Some (fault_in titles m.place kind)
 kind-some tables titles m None kind e = let same : NoTable ≡ kind = cc in ap (λ (k : StilKind). Some (fault_in titles m.place k)) same
-kind-some tables titles m (Some table) kind e = some_unless (have_waves (slice_get tables table) 0 m.vector.letters) e
+kind-some tables titles m (Some table) kind e = some_unless (have_waves (slice_get tables table) 0 m.vector.characters) e
   where
     some_unless : (b : Bool) → cond b None (Some NoWave) ≡ Some kind
         → unless b (fault_in titles m.place NoWave) None ≡ Some (fault_in titles m.place kind)
@@ -42,7 +42,7 @@ kind-some tables titles m (Some table) kind e = some_unless (have_waves (slice_g
 kind-none : (tables : List Table) (titles : Titles) (m : Made) (table : Option ℕ)
     → kind_under tables m table ≡ None → made_fault tables titles m table ≡ None
 kind-none tables titles m None e = absurd cc
-kind-none tables titles m (Some table) e = none_unless (have_waves (slice_get tables table) 0 m.vector.letters) e
+kind-none tables titles m (Some table) e = none_unless (have_waves (slice_get tables table) 0 m.vector.characters) e
   where
     none_unless : (b : Bool) → cond b None (Some NoWave) ≡ None → unless b (fault_in titles m.place NoWave) None ≡ None
     none_unless true e = refl

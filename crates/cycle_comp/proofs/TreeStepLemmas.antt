@@ -8,9 +8,8 @@ use Rattle.flat_tree.specs.Items.{item_front}
 use Rattle.flat_tree.specs.declared.steps.FlatItem.{FlatItem}
 use Rattle.flat_tree.proofs.FlatLemmas.{joined-done, item_front-joined, front_more}
 use Rattle.packed_code.specs.declared.instr.Instr.{Instr}
-use Rattle.cycle_comp.specs.Writing.{Walked, IsStopped}
+use Rattle.cycle_comp.specs.Writing.{Walked, IsStopped, Trouble}
 use Rattle.cycle_comp.specs.Passes.{written, IsExact}
-use Rattle.cycle_comp.specs.declared.trouble.Trouble.{Trouble}
 use Rattle.cycle_comp.proofs.WalkedLemmas.{walked-still}
 use Rattle.cycle_comp.proofs.ListLemmas.{walked-joined, stopped-joined}
 use Rattle.cycle_comp.proofs.ExactLemmas.{exact-joined}

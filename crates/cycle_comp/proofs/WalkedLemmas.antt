@@ -9,8 +9,7 @@ use Rattle.stil_ast.proofs.RunLemmas.{with_made}
 use Rattle.stil_ast.proofs.FlatSteps.{then_run-still}
 use Rattle.packed_code.specs.declared.instr.Instr.{Instr}
 use Rattle.cycle_comp.specs.Counting.{vector_count}
-use Rattle.cycle_comp.specs.Writing.{often, Wrote, Walked, IsStopped}
-use Rattle.cycle_comp.specs.declared.trouble.Trouble.{Trouble}
+use Rattle.cycle_comp.specs.Writing.{often, Wrote, Walked, IsStopped, Trouble}
 use Rattle.cycle_comp.proofs.CountLemmas.{run-count}
 use Rattle.cycle_comp.proofs.FaultLemmas.{stopped-behind, stopped-before}
 use Rattle.cycle_comp.proofs.SettleLemmas.{settles}

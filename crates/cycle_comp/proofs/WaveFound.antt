@@ -21,13 +21,13 @@ found-any : {A : Type 0} (p : A → Bool) (xs : List A) → is_some (find p xs) 
 found-any p [] = refl
 found-any p (x ∷ xs) = is_some-cond (p x) x (find p xs) ∙ ap (λ (b : Bool). p x || b) (found-any p xs)
 
-defined-found : (table : Option Table) (signal letter : ℕ)
-    → is_some (find (is_wave signal letter) (waves_at table)) ≡ is_defined table signal letter
-defined-found None signal letter = refl
-defined-found (Some t) signal letter = found-any (is_wave signal letter) t.waves
+defined-found : (table : Option Table) (signal character : ℕ)
+    → is_some (find (is_wave signal character) (waves_at table)) ≡ is_defined table signal character
+defined-found None signal character = refl
+defined-found (Some t) signal character = found-any (is_wave signal character) t.waves
 
-pub wave-defined : {A : Type 0} (f : A → Wave) (tables : List Table) (table signal letter : ℕ) (found : Option A)
-    → option_map f found ≡ wave_in tables table signal letter
-    → is_some found ≡ is_defined (slice_get tables table) signal letter
-wave-defined f tables table signal letter found e =
-    sym (is_some-map f found) ∙ (ap is_some e ∙ defined-found (slice_get tables table) signal letter)
+pub wave-defined : {A : Type 0} (f : A → Wave) (tables : List Table) (table signal character : ℕ) (found : Option A)
+    → option_map f found ≡ wave_in tables table signal character
+    → is_some found ≡ is_defined (slice_get tables table) signal character
+wave-defined f tables table signal character found e =
+    sym (is_some-map f found) ∙ (ap is_some e ∙ defined-found (slice_get tables table) signal character)

@@ -14,7 +14,7 @@ use Rattle.stil_ast.specs.Faults.Found.{on_line, first_in}
 use Rattle.stil_ast.specs.Faults.SignalFaults.{kind_fault}
 use Rattle.stil_ast.specs.Faults.TableFaults.{Timed, events_fault, late_event, late_waveform, signal_fault, is_waveform, stands, line_of}
 use Rattle.stil_ast.specs.Meaning.Members.{members, reference_kind}
-use Rattle.stil_ast.specs.Meaning.Tables.{Waveform, unnumbered, numbered, own_waveforms, defines, waveform_of, event_of, events_of, wave_with, waves_of, characters}
+use Rattle.stil_ast.specs.Meaning.Tables.{Waveform, unnumbered, numbered, own_waveforms, defines, waveform_of, event_of, events_of, wave_with, waves_of, every_character}
 use Rattle.stil_ast.specs.Meaning.Times.{time_at}
 use Rattle.stil_ast.specs.declared.timing.EventDecl.{EventDecl}
 use Rattle.stil_ast.specs.declared.timing.WaveDecl.{WaveDecl}
@@ -32,14 +32,14 @@ use Rattle.cycle_comp.proofs.FoundLemmas.{first_all, found_all, any_at, all_belo
 -- a wave of so many signals whose events a period holds
 pub record IsGoodWave (signals period : ℕ) (w : Wave) : Type 0 where
   pub signal : w.signal < signals
-  pub letter : is_character w.letter ≡ true
+  pub character : is_character w.character ≡ true
   pub few : length w.events ≤ 16
   pub events : EachBehind (IsEvent period) [] w.events
 
 -- all waveform characters are such
-all_characters : AllByRecursion (λ (c : ℕ). is_character c ≡ true) characters
+all_characters : AllByRecursion (λ (c : ℕ). is_character c ≡ true) every_character
 unfolding is_character
-all_characters = all_passing is_character characters refl
+all_characters = all_passing is_character every_character refl
 
 module _ {V : Type 0} (t : Timed V) where
   -- a waveform of a table with this period
@@ -67,7 +67,7 @@ module _ {V : Type 0} (t : Timed V) where
         table = table;
         number = 0;
         signals = members t.names s.reference;
-        letters = w.letters;
+        characters = w.characters;
         events = w.events;
       }) s.waves)
   of_reference table period s fine form =
@@ -87,7 +87,7 @@ module _ {V : Type 0} (t : Timed V) where
       few_events w form =
           leb-true (length w.events) most_events
           (and_parts _ (nat_le (length w.events) most_events)
-          (and_parts _ (list_all (is_event (length w.letters)) w.events) form).0).1
+          (and_parts _ (list_all (is_event (length w.characters)) w.events) form).0).1
 
   -- the own waveforms of a table
   pub own_are : (table : ℕ) (period : ℤ) (d : TableDecl) → first_in (signal_fault t period) d.waveforms ≡ None
@@ -122,12 +122,12 @@ module _ {V : Type 0} (t : Timed V) where
               not_late period (pos 0) w.events
               (subst (λ (z : ℤ). events_fault t z (pos 0) w.events ≡ None) (is.heir (eqb-true w.table table own)) is.fine)
           | inr other ↦
-              let parts = and_parts (list_any (λ x. x == s) w.signals) (list_any (λ x. x == c) w.letters) here in
+              let parts = and_parts (list_any (λ x. x == s) w.signals) (list_any (λ x. x == c) w.characters) here in
               let itself : is_waveform w (waveform_of all s c) ≡ true =
               ap (is_waveform w) found ∙ and_from (w.table == w.table) (w.number == w.number) (eq-eqb w.table w.table refl) (eq-eqb w.number w.number refl) in
               let standing : stands all w ≡ true =
-              any_at (λ signal. list_any (λ letter. is_waveform w (waveform_of all signal letter)) w.letters) s w.signals parts.0
-              (any_at (λ letter. is_waveform w (waveform_of all s letter)) c w.letters parts.1 itself) in
+              any_at (λ signal. list_any (λ character. is_waveform w (waveform_of all signal character)) w.characters) s w.signals parts.0
+              (any_at (λ character. is_waveform w (waveform_of all s character)) c w.characters parts.1 itself) in
               let both : (not (w.table == table) && stands all w) ≡ true =
               and_from (not (w.table == table)) (stands all w) (ap not other) standing in
               ap (λ (b : Bool). first_in (late_event t period) (if b then w.events else [])) (sym both) ∙ is.late
@@ -137,19 +137,19 @@ module _ {V : Type 0} (t : Timed V) where
     one_wave : (signals s c : ℕ) (o : Option Waveform) (wave : Wave) → AllByRecursion (IsJudged table period all) all
         → s < signals → is_character c ≡ true → waveform_of all s c ≡ o
         → wave_with t.times t.vars t.place s c o ≡ Some wave → IsGoodWave signals (nat_abs period) wave
-    one_wave signals s c None wave judged low letter found is = absurd (none-some wave is)
-    one_wave signals s c (Some w) wave judged low letter found is =
-        let made : Wave = record { signal = s; letter = c; events = events_of t.times t.vars t.place c w } in
+    one_wave signals s c None wave judged low character found is = absurd (none-some wave is)
+    one_wave signals s c (Some w) wave judged low character found is =
+        let made : Wave = record { signal = s; character = c; events = events_of t.times t.vars t.place c w } in
         let same : made ≡ wave = cc in
         let here = found_all (IsJudged table period all) (defines s c) (reverse all) w
         (all_reverse (IsJudged table period all) all judged) found in
         let timely = in_time w s c here.0 found here.1 in
         subst (IsGoodWave signals (nat_abs period)) same (record {
           signal = low;
-          letter = letter;
-          few = omega (arith, here.0.few, fewer (event_of t.times t.vars t.place w.letters c) w.events);
+          character = character;
+          few = omega (arith, here.0.few, fewer (event_of t.times t.vars t.place w.characters c) w.events);
           events =
-              events_each t w.letters c period here.0.own (pos 0) w.events [] here.0.fine timely refl (omega arith);
+              events_each t w.characters c period here.0.own (pos 0) w.events [] here.0.fine timely refl (omega arith);
         })
 
     -- all waves of a table
@@ -158,8 +158,8 @@ module _ {V : Type 0} (t : Timed V) where
     waves_are signals judged =
         all_flat_map _ (λ (s : ℕ). s < signals) (IsGoodWave signals (nat_abs period))
         (λ s low. all_filter_map _ (λ (c : ℕ). is_character c ≡ true) (IsGoodWave signals (nat_abs period))
-        (λ c wave letter is. one_wave signals s c (waveform_of all s c) wave judged low letter refl is)
-        characters all_characters)
+        (λ c wave character is. one_wave signals s c (waveform_of all s c) wave judged low character refl is)
+        every_character all_characters)
         (upwards 0 signals) (below signals)
       where
         below : (n : ℕ) → AllByRecursion (λ (s : ℕ). s < n) (upwards 0 n)

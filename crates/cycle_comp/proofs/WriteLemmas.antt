@@ -16,10 +16,9 @@ use Rattle.packed_code.specs.declared.instr.Instr.TheVariants.{Done}
 use Rattle.packed_code.proofs.CountLemmas.{cycle_count-length}
 use Rattle.cycle_comp.specs.Entries.{AreEntries}
 use Rattle.cycle_comp.specs.Written.{flats_of, made_in, HasEachOnce, IsWritten, IsTold, IsFaulty, IsRefusal}
-use Rattle.cycle_comp.specs.Writing.{row_in, flats_run, flats_measure, Wrote, AreStopped}
+use Rattle.cycle_comp.specs.Writing.{row_in, flats_run, flats_measure, Wrote, AreStopped, WriteError}
 use Rattle.cycle_comp.specs.Passes.{entry_in, flats_written, IsExact}
-use Rattle.cycle_comp.specs.declared.fault.WriteError.{WriteError}
-use Rattle.cycle_comp.specs.declared.fault.WriteError.TheVariants.{NoMemory, Fault}
+use Rattle.answers.specs.declared.short.Short.TheVariants.{NoMemory, Fault}
 use Rattle.cycle_comp.proofs.BodyLemmas.{puts-nothing, puts_means}
 use Rattle.cycle_comp.proofs.StandLemmas.{stands-nothing, stands_whole}
 use Rattle.cycle_comp.proofs.NumberLemmas.{distinct_rows-once, goes_on-here}

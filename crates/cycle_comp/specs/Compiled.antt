@@ -13,7 +13,7 @@ use Rattle.packed_code.specs.declared.parts.CodeSignal.{CodeSignal}
 use Rattle.packed_code.specs.declared.parts.CodeChain.{CodeChain}
 use Rattle.tester_types.specs.declared.cycle.Cycle.{Cycle}
 use Rattle.packed_code.specs.Program.{Program}
-use Rattle.packed_code.specs.Conditions.{letters_of}
+use Rattle.packed_code.specs.Conditions.{characters_of}
 use Rattle.packed_code.specs.Cycles.{cycles_of, exec_of}
 
 -- a signal of a code
@@ -25,8 +25,8 @@ abbrev pub chain_of : Chain → CodeChain
 chain_of c = record { name = c.name; out = c.scan_out; length = c.length; cells = c.cells }
 
 -- what a row has for a signal, as a character: 0 is none
-abbrev pub letter_of : ℕ → Option ℕ
-letter_of byte = if byte == 0 then None else Some byte
+abbrev pub character_of : ℕ → Option ℕ
+character_of byte = if byte == 0 then None else Some byte
 
 -- the table of a code as one of an executive whose first table has the number `first` in the code: none where it stands
 -- before these
@@ -41,7 +41,7 @@ read_cycle first rows cycle = record {
   start = cycle.1.start;
   vector = record {
     table = table_in first cycle.1.table;
-    letters = map letter_of (letters_of rows cycle.1.row);
+    characters = map character_of (characters_of rows cycle.1.row);
     mark = cycle.1.mark;
   };
 }

@@ -24,24 +24,25 @@ known s table row =
     record { told = s.told; latest = Some (record { table = table; row = row }); changed = []; moves = s.moves }
 
 -- a row of bytes: the character of each signal, 0 for none
-abbrev pub row_of_letters : List (Option ℕ) → List ℕ
-row_of_letters letters = map (λ (c : Option ℕ). unwrap_or c 0) letters
+abbrev pub row_of_characters : List (Option ℕ) → List ℕ
+row_of_characters characters = map (λ (c : Option ℕ). unwrap_or c 0) characters
 
 -- whether the table of this number defines the character of a signal, if it has one
 abbrev pub has_wave_at : List Table → ℕ → List (Option ℕ) → ℕ → Bool
-has_wave_at tables table letters signal =
-    has_wave (slice_get tables table) signal (slice_index_or letters signal None)
+has_wave_at tables table characters signal =
+    has_wave (slice_get tables table) signal (slice_index_or characters signal None)
 
 -- the latest vector's table defines the characters of all signals that haven't changed since
 abbrev pub AreJudged : List Table → Known → Type 0
 AreJudged tables s =
     (l : Latest) (signal : ℕ) → s.latest ≡ Some l → has_signal s.changed signal ≡ false →
-    has_wave_at tables l.table s.told.letters signal ≡ true
+    has_wave_at tables l.table s.told.characters signal ≡ true
 
 -- where no signal has changed since, the latest vector's row is that of the state
 abbrev pub IsNumbered : List (List ℕ) → Known → Type 0
 IsNumbered rows s =
-    (l : Latest) → s.latest ≡ Some l → s.changed ≡ [] → slice_get rows l.row ≡ Some (row_of_letters s.told.letters)
+    (l : Latest) → s.latest ≡ Some l → s.changed ≡ []
+    → slice_get rows l.row ≡ Some (row_of_characters s.told.characters)
 
 -- what a state knows is so
 pub record IsKnown (tables : List Table) (rows : List (List ℕ)) (s : Known) : Type 0 where

@@ -4,7 +4,7 @@ use Rattle.std.specs.Prelude.{◌≡◌, ℕ, zero, suc, ◌+◌, ◌==◌, ◌&
 use Rattle.std.specs.Cmp.Lexicographic.{pointwise}
 use Rattle.stil_ast.specs.Data.Texts.{same}
 use Rattle.stil_ast.specs.Meaning.State.{State, Vector}
-use Rattle.stil_ast.specs.Meaning.Dealing.{with_letter}
+use Rattle.stil_ast.specs.Meaning.Dealing.{with_character}
 use Rattle.stil_ast.specs.Meaning.Running.{Ran, times, outside}
 use Rattle.stil_ast.specs.Meaning.Flat.{Flat, done, table, character, back, cycle, repeat, save, saved, flat_run}
 use Rattle.stil_ast.specs.Meaning.ExecutiveData.{row_of}
@@ -92,15 +92,15 @@ with_passes (suc (suc n)) write run s code = code ++ passes n (write s []) (writ
 
 -- a vector of a state, with its mark
 abbrev pub vector_at : State → ℕ → Vector
-vector_at s mark = record { table = s.table; letters = s.letters; mark = mark }
+vector_at s mark = record { table = s.table; characters = s.characters; mark = mark }
 
 -- the instructions of a tree behind others, where each vector has this entry
 abbrev pub written : (Vector → Entry) → Flat → State → State → List Instr → List Instr
 written e done base s code = code
-written e (table t rest) base s code = written e rest base (record { table = Some t; letters = s.letters }) code
-written e (character signal c rest) base s code = written e rest base (with_letter signal (Some c) s) code
+written e (table t rest) base s code = written e rest base (record { table = Some t; characters = s.characters }) code
+written e (character signal c rest) base s code = written e rest base (with_character signal (Some c) s) code
 written e (back signal rest) base s code =
-    written e rest base (with_letter signal (slice_index_or base.letters signal None) s) code
+    written e rest base (with_character signal (slice_index_or base.characters signal None) s) code
 written e (cycle mark spot rest) base s code = written e rest base s (with_entry (e (vector_at s mark)) code)
 written e (repeat count body rest) base s code =
     written e rest base (times count (flat_run body base) s).here

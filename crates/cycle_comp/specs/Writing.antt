@@ -18,10 +18,9 @@ use Rattle.packed_code.specs.Meaning.{on_top, bodies}
 use Rattle.packed_code.specs.Whole.{IsRest}
 use Rattle.cycle_comp.specs.Entries.{AreEntries}
 use Rattle.cycle_comp.specs.declared.fault.VectorFault.{VectorFault}
-use Rattle.cycle_comp.specs.declared.fault.WriteError.{WriteError}
-use Rattle.cycle_comp.specs.declared.fault.WriteError.TheVariants as errors
-use Rattle.cycle_comp.specs.declared.trouble.Trouble.{Trouble}
-use Rattle.cycle_comp.specs.declared.trouble.Trouble.TheVariants as trouble
+use Rattle.answers.specs.declared.short.Short.TheVariants as errors
+use Rattle.answers.specs.declared.short.Short.{Short}
+use Rattle.cycle_comp.specs.declared.trouble.PlaceFault.{PlaceFault}
 
 -- ---- instructions
 
@@ -57,7 +56,8 @@ looped times body = Loop times ∷ (body ++ End ∷ [])
 
 -- a vector of a state, with its mark, whose V stands in this place
 abbrev pub made_at : State → ℕ → Origin → Made
-made_at s mark place = record { vector = record { table = s.table; letters = s.letters; mark = mark }; place = place }
+made_at s mark place =
+    record { vector = record { table = s.table; characters = s.characters; mark = mark }; place = place }
 
 -- so often one after another
 unfoldable pub often : {A : Type 0} → ℕ → List A → List A
@@ -67,7 +67,8 @@ often (suc n) items = items ++ often n items
 -- why a vector with this table, or without one, can't run
 abbrev pub kind_under : List Table → Made → Option ℕ → Option StilKind
 kind_under tables m None = Some NoTable
-kind_under tables m (Some table) = if have_waves (slice_get tables table) 0 m.vector.letters then None else Some NoWave
+kind_under tables m (Some table) =
+    if have_waves (slice_get tables table) 0 m.vector.characters then None else Some NoWave
 
 -- why a vector can't run
 abbrev pub fault_kind : List Table → Made → Option StilKind
@@ -87,15 +88,23 @@ pub record IsFirst (tables : List Table) (made : List Made) (place : Origin) (ki
   pub kind_is : fault_kind tables at ≡ Some kind
   pub place_is : at.place ≡ place
 
+-- want of memory, or a vector that can't run, by its place
+abbrev pub Trouble : Type 0
+Trouble = Short PlaceFault
+
+-- want of memory, or a vector that can't run, by its tree and its place
+abbrev pub WriteError : Type 0
+WriteError = Short VectorFault
+
 -- why writing stopped
 abbrev pub IsStopped : List Table → List Made → Trouble → Type 0
-IsStopped tables made trouble.NoMemory = Unit {0}
-IsStopped tables made (trouble.At place kind) = IsFirst tables made place kind
+IsStopped tables made errors.NoMemory = Unit {0}
+IsStopped tables made (errors.Fault at) = IsFirst tables made at.place at.kind
 
 -- the same of the tree of a number
 abbrev pub IsOfTree : ℕ → Trouble → WriteError → Type 0
-IsOfTree tree trouble.NoMemory e = e ≡ errors.NoMemory
-IsOfTree tree (trouble.At place kind) e = e ≡ errors.Fault (record { tree = tree; place = place; kind = kind })
+IsOfTree tree errors.NoMemory e = e ≡ errors.NoMemory
+IsOfTree tree (errors.Fault at) e = e ≡ errors.Fault (record { tree = tree; place = at.place; kind = at.kind })
 
 -- ---- what was written
 

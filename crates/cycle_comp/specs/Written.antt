@@ -14,8 +14,8 @@ use Rattle.packed_code.specs.Meaning.{Means}
 use Rattle.packed_code.specs.Whole.{IsWhole}
 use Rattle.cycle_comp.specs.Entries.{AreEntries}
 use Rattle.cycle_comp.specs.declared.fault.VectorFault.{VectorFault}
-use Rattle.cycle_comp.specs.declared.fault.WriteError.{WriteError}
-use Rattle.cycle_comp.specs.declared.fault.WriteError.TheVariants as errors
+use Rattle.cycle_comp.specs.Writing.{WriteError}
+use Rattle.answers.specs.declared.short.Short.TheVariants as errors
 
 -- the flat trees of an executive
 abbrev pub flats_of : List Tree → List Flat

@@ -9,37 +9,36 @@ ghost use Rattle.cycle_comp.specs.Compiled.{chain_of};
 use packed_code::{CodeChain, CodeChainList};
 use scan_chain::{Chains, ScanChain};
 use std::alloc::{AllocError, Global};
-use tester_types::Text;
 
-/// A chain of the code, which shares the names of its cells.
-fn copy_chain(alloc: Global, chain: &ScanChain) -> Result<CodeChain, AllocError>
-    requires { is_short (chain_in chain.now) ≡ true }
-    ensures { IfOk result (λ c. c ≡ chain_of (chain_in chain.now)) }
+/// A chain of the code, from that of an executive.
+fn code_chain(chain: ScanChain) -> CodeChain
+    requires { is_short (chain_in chain) ≡ true }
+    ensures { result ≡ chain_of (chain_in chain) }
 {
-    Ok(CodeChain {
-        name: Text::from_slice(alloc, chain.name.as_slice())?,
+    CodeChain {
+        name: chain.name,
         out: chain.scan_out,
         length: chain.length as u32,
-        cells: chain.cells.share()?,
-    })
+        cells: chain.cells,
+    }
 }
 
-/// The chains of the code, from those of an executive.
-fn copy_each(alloc: Global, chains: &[ScanChain]) -> Result<CodeChainList, AllocError>
-    requires { list_all is_short (chains_in chains.now) ≡ true }
-    ensures { IfOk result (λ list. list ≡ map chain_of (chains_in chains.now)) }
+/// The same of several chains.
+fn code_each(alloc: Global, chains: Vec<ScanChain>) -> Result<CodeChainList, AllocError>
+    requires { list_all is_short (chains_in chains.items) ≡ true }
+    ensures { IfOk result (λ list. list ≡ map chain_of (chains_in chains.items)) }
 {
-    let mut list = Vec::new(alloc);
+    let mut list = Vec::with_capacity(alloc, chains.len())?;
     for chain in chains {
-        list.push(copy_chain(alloc, chain)?)?;
+        list.push(code_chain(chain))?;
     }
     Ok(CodeChainList::from_vec(list))
 }
 
-/// The same of all chains.
-pub(crate) fn copy_chains(alloc: Global, chains: &Chains) -> Result<CodeChainList, AllocError>
-    requires { list_all is_short chains.now ≡ true }
-    ensures { IfOk result (λ list. list ≡ map chain_of chains.now) }
+/// The chains of the code, from those of an executive.
+pub(crate) fn code_chains(alloc: Global, chains: Chains) -> Result<CodeChainList, AllocError>
+    requires { list_all is_short chains ≡ true }
+    ensures { IfOk result (λ list. list ≡ map chain_of chains) }
 {
-    copy_each(alloc, chains.as_slice())
+    code_each(alloc, chains.into_vec())
 }

@@ -18,19 +18,18 @@ ghost use Rattle.cycle_comp.specs.OfText.{AreOfText};
 ghost use Rattle.cycle_comp.specs.Working.{HasPut, IsBuilt, IsFit, rows_fault};
 
 use crate::building::Building;
-use crate::chains::copy_chains;
+use crate::chains::code_chains;
 use crate::inside::check_instrs;
 use crate::refusing::{exec_refusal, write_refusal};
 use crate::signals::signal_list;
 use crate::sizes::checked_measure;
-use crate::tables::add_tables;
 use crate::trees::write;
-use burst_exec::{Exec, ExecList};
+use burst_exec::{Exec, ExecList, ExecParts};
 use packed_code::{Code, CodeExec, CodeExecList, InstrList, RowList, pack};
 use signal_groups::SignalTable;
 use std::alloc::{AllocError, Global};
 use stil_ast::{StilKind, StilRefusal};
-use tester_types::{TableList, Text};
+use tester_types::TableList;
 use text_bytes::MOST_ROW_CHARACTERS;
 
 /// The instructions of an executive whose first table has this number in the code.
@@ -65,27 +64,33 @@ fn check_rows(alloc: Global, signals: u16, exec: &Exec, rows: &RowList) -> Resul
     Ok(())
 }
 
-/// Puts what was made of an executive behind those before it. Its instructions are looked at once more, and packed.
+/// Puts what was made of an executive behind those before it; its name, tables and chains move there. Its instructions
+/// are looked at once more, and packed.
 fn put_exec(
     alloc: Global,
-    exec: &Exec,
+    exec: Exec,
     instrs: InstrList,
     building: &mut Building,
 ) -> Result<(), AllocError>
     requires whole { IsWhole instrs }
-    requires fit { IsFit exec.now }
-    ensures { OnOk result (HasPut exec.now instrs building.old building.new) }
+    requires fit { IsFit exec }
+    ensures { OnOk result (HasPut exec.entry instrs building.old building.new) }
 {
     check_instrs(
         instrs.as_slice(),
         building.tables.len(),
         exec.tables().len(),
     )?;
-    let name = Text::from_slice(alloc, exec.name())?;
-    let chains = copy_chains(alloc, exec.chains())?;
+    let ExecParts {
+        name,
+        tables,
+        chains,
+    } = exec.into_parts();
+    let chains = code_chains(alloc, chains)?;
     let packed = pack(alloc, instrs.as_slice())?;
     building.execs.push(CodeExec::new(name, chains, packed))?;
-    add_tables(alloc, exec.tables(), &mut building.tables)?;
+    let mut tables = tables.into_vec();
+    building.tables.append(&mut tables)?;
     Ok(())
 }
 
@@ -93,26 +98,26 @@ fn put_exec(
 fn add_exec(
     alloc: Global,
     signals: u16,
-    exec: &Exec,
+    exec: Exec,
     building: &mut Building,
 ) -> Result<(), StilRefusal>
     requires few { length building.old.tables.items < 2 ^ 16 }
-    requires fit { IsFit exec.now }
+    requires fit { IsFit exec }
     requires measure { building.old.measure ≤ most_measure }
     ensures { (before : List Executive) → IsBuilt signals before building.old
-        → Finds (compile_fault signals before exec.now)
-        (λ _. IsBuilt signals (before ++ exec.now ∷ []) building.new) result }
+        → Finds (compile_fault signals before exec.entry)
+        (λ _. IsBuilt signals (before ++ exec.entry ∷ []) building.new) result }
 {
-    let measure = match checked_measure(alloc, signals, exec, building.measure) {
+    let measure = match checked_measure(alloc, signals, &exec, building.measure) {
         Ok(measure) => measure,
         Err(refusal) => return Err(refusal),
     };
     let first = building.tables.len() as u16;
-    let instrs = match exec_instrs(alloc, first, signals, exec, &mut building.rows) {
+    let instrs = match exec_instrs(alloc, first, signals, &exec, &mut building.rows) {
         Ok(instrs) => instrs,
         Err(refusal) => return Err(refusal),
     };
-    match check_rows(alloc, signals, exec, &building.rows) {
+    match check_rows(alloc, signals, &exec, &building.rows) {
         Ok(()) => {}
         Err(refusal) => return Err(refusal),
     }
@@ -125,13 +130,14 @@ fn add_exec(
 fn build_each(
     alloc: Global,
     signals: u16,
-    execs: &[Exec],
+    execs: Vec<Exec>,
     building: &mut Building,
 ) -> Result<(), StilRefusal>
-    requires few { length (tables_of execs.now) < 2 ^ 16 }
-    requires fit { All IsFit execs.now }
+    requires few { length (tables_of execs.items) < 2 ^ 16 }
+    requires fit { All IsFit execs.items }
     requires empty { IsBuilt signals [] building.old }
-    ensures { Finds (compile_faults signals [] execs.now) (λ _. IsBuilt signals execs.now building.new) result }
+    ensures { Finds (compile_faults signals [] execs.entry.items)
+        (λ _. IsBuilt signals execs.entry.items building.new) result }
 {
     for exec in execs {
         match add_exec(alloc, signals, exec, building) {
@@ -143,10 +149,10 @@ fn build_each(
 }
 
 /// All executives.
-fn build_all(alloc: Global, signals: u16, execs: &[Exec]) -> Result<Building, StilRefusal>
-    requires few { length (tables_of execs.now) < 2 ^ 16 }
-    requires fit { All IsFit execs.now }
-    ensures { Finds (compile_faults signals [] execs.now) (IsBuilt signals execs.now) result }
+fn build_all(alloc: Global, signals: u16, execs: Vec<Exec>) -> Result<Building, StilRefusal>
+    requires few { length (tables_of execs.items) < 2 ^ 16 }
+    requires fit { All IsFit execs.items }
+    ensures { Finds (compile_faults signals [] execs.entry.items) (IsBuilt signals execs.entry.items) result }
 {
     let mut building = Building {
         tables: Vec::new(alloc),
@@ -167,16 +173,16 @@ fn build_all(alloc: Global, signals: u16, execs: &[Exec]) -> Result<Building, St
 /// The first fault refuses, executive by executive: TooLarge where their measure goes above 2^22 with this one,
 /// TooManyCycles above 2^48 cycles, NoTable or NoWave at the first faulty vector in time, and TooLarge where the rows so
 /// far have more than 2^28 characters.
-pub fn compile(alloc: Global, signals: &SignalTable, execs: &ExecList) -> Result<Code, StilRefusal>
-    requires { AreOfText signals.now execs.now }
+pub fn compile(alloc: Global, signals: &SignalTable, execs: ExecList) -> Result<Code, StilRefusal>
+    requires { AreOfText signals.now execs }
     ensures found { (names : Names) → signals.now ≡ table_of names
-        → IfOk result (λ code. (code_fault names execs.now ≡ None) × IsCodeOf names execs.now code) }
-    ensures only { (names : Names) → signals.now ≡ table_of names → code_fault names execs.now ≡ None
+        → IfOk result (λ code. (code_fault names execs.entry ≡ None) × IsCodeOf names execs.entry code) }
+    ensures only { (names : Names) → signals.now ≡ table_of names → code_fault names execs.entry ≡ None
         → IfErr result (λ r. r ≡ refusal.NoMemory) }
     ensures fault { (names : Names) → signals.now ≡ table_of names
-        → IfErr result (IsRefusal (code_fault names execs.now)) }
+        → IfErr result (IsRefusal (code_fault names execs.entry)) }
     ensures refused { (names : Names) (f : StilFault) → signals.now ≡ table_of names
-        → code_fault names execs.now ≡ Some f
+        → code_fault names execs.entry ≡ Some f
         → MatchResult result (λ _. ⊥) (IsRefusal (Some f)) }
 {
     let count = signals.count() as u16;
@@ -185,7 +191,7 @@ pub fn compile(alloc: Global, signals: &SignalTable, execs: &ExecList) -> Result
         rows,
         execs,
         measure: _,
-    } = build_all(alloc, count, execs.as_slice())?;
+    } = build_all(alloc, count, execs.into_vec())?;
     let signals = signal_list(alloc, signals)?;
     let tables = TableList::from_vec(tables);
     Ok(Code::new(signals, tables, rows, CodeExecList::from_vec(execs)))

@@ -1,10 +1,7 @@
 //! Why no instructions are written.
 
-ghost use Rattle.std.specs.Prelude.{◌≡◌};
-ghost use Rattle.cycle_comp.specs.declared.fault.WriteError.TheVariants.{NoMemory};
-
+use answers::Short;
 use flat_tree::Origin;
-use std::alloc::{AllocError, AllocFailed};
 use stil_ast::StilKind;
 
 /// A vector that can't run.
@@ -18,25 +15,5 @@ pub struct VectorFault {
     pub kind: StilKind,
 }
 
-/// Why no instructions are written.
-#[derive(Drop)]
-pub enum WriteError {
-    NoMemory,
-    Fault(VectorFault),
-}
-
-impl From<AllocError> for WriteError {
-    ghost from_gives = { λ _ error. error ≡ NoMemory };
-
-    fn from(_error: AllocError) -> WriteError {
-        WriteError::NoMemory
-    }
-}
-
-impl<T: Drop> From<AllocFailed<T>> for WriteError {
-    ghost from_gives = { λ _ error. error ≡ NoMemory };
-
-    fn from(_error: AllocFailed<T>) -> WriteError {
-        WriteError::NoMemory
-    }
-}
+/// Why no instructions are written: want of memory, or the first vector that can't run.
+pub type WriteError = Short<VectorFault>;

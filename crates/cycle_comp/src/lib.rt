@@ -13,7 +13,6 @@ mod refusing;
 mod signals;
 mod sizes;
 mod state;
-mod tables;
 mod trees;
 mod trouble;
 mod waves;

@@ -3,10 +3,10 @@
 ghost use Rattle.std.specs.Prelude.{◌≡◌, ◌+◌, ◌<◌, ◌^◌, ℕ, ◌∷◌, [], List, Some, true, slice_get, slice_index_or, IfOk, IfSome, OnOk};
 ghost use Rattle.std.specs.List.{list_all};
 ghost use Rattle.stil_ast.specs.Meaning.State.{start_of};
-ghost use Rattle.stil_ast.specs.Meaning.Dealing.{with_letter};
+ghost use Rattle.stil_ast.specs.Meaning.Dealing.{with_character};
 ghost use Rattle.stil_ast.specs.Meaning.ExecutiveData.{distinct_rows};
 ghost use Rattle.stil_ast.specs.Faults.CodeFaults.{have_waves};
-ghost use Rattle.cycle_comp.specs.Known.{row_of_letters, has_wave_at, AreJudged, IsNumbered, Keeps, Moves, IsNoted, unknown, known};
+ghost use Rattle.cycle_comp.specs.Known.{row_of_characters, has_wave_at, AreJudged, IsNumbered, Keeps, Moves, IsNoted, unknown, known};
 
 use crate::waves::{has_wave, have_waves};
 use packed_code::RowList;
@@ -28,7 +28,7 @@ struct Latest {
 #[derive(Drop)]
 pub(crate) struct State {
     table: Option<u16>,
-    letters: Vec<Option<u8>>,
+    characters: Vec<Option<u8>>,
     latest: Option<Latest>,
     changed: Vec<u16>,
     moves: u64,
@@ -41,13 +41,13 @@ impl Model for State {
     ghost Value = { Known };
 
     ghost view = { λ s. record {
-      told = record { table = s.table; letters = s.letters.items };
+      told = record { table = s.table; characters = s.characters.items };
       latest = s.latest;
       changed = s.changed.items;
       moves = s.moves;
     } };
 
-    ghost invariant = { λ s. length s.letters.items ≤ 2 ^ 16 };
+    ghost invariant = { λ s. length s.characters.items ≤ 2 ^ 16 };
 }
 
 impl State {
@@ -55,10 +55,10 @@ impl State {
     pub(crate) fn start(alloc: Global, signals: u16) -> Result<State, AllocError>
         ensures { IfOk result (λ s. s ≡ unknown (start_of signals)) }
     {
-        let letters = vec![in alloc; None; usize::from(signals)]?;
+        let characters = vec![in alloc; None; usize::from(signals)]?;
         Ok(State {
             table: None,
-            letters,
+            characters,
             latest: None,
             changed: Vec::new(alloc),
             moves: 0,
@@ -69,12 +69,12 @@ impl State {
     pub(crate) fn copy(&self) -> Result<State, AllocError>
         ensures { IfOk result (λ s. s ≡ self.now) }
     {
-        let alloc = *self.letters.allocator();
-        let letters = Vec::from_slice(alloc, self.letters.as_slice())?;
+        let alloc = *self.characters.allocator();
+        let characters = Vec::from_slice(alloc, self.characters.as_slice())?;
         let changed = Vec::from_slice(alloc, self.changed.as_slice())?;
         Ok(State {
             table: self.table,
-            letters,
+            characters,
             latest: self.latest,
             changed,
             moves: self.moves,
@@ -89,18 +89,18 @@ impl State {
     }
 
     /// The character of a signal; none of a signal that isn't counted.
-    pub(crate) fn letter(&self, signal: u16) -> Option<u8>
-        ensures { result ≡ slice_index_or self.now.told.letters signal None }
+    pub(crate) fn character(&self, signal: u16) -> Option<u8>
+        ensures { result ≡ slice_index_or self.now.told.characters signal None }
     {
-        match self.letters.get(usize::from(signal)) {
-            Some(letter) => *letter,
+        match self.characters.get(usize::from(signal)) {
+            Some(character) => *character,
             None => None,
         }
     }
 
     /// Sets the table.
     pub(crate) fn set_table(&mut self, table: u16)
-        ensures told { self.new.told ≡ record { table = Some table; letters = self.old.told.letters } }
+        ensures told { self.new.told ≡ record { table = Some table; characters = self.old.told.characters } }
         ensures known { Keeps self.old self.new }
         ensures moves { Moves self.old self.new }
     {
@@ -111,15 +111,15 @@ impl State {
     }
 
     /// Sets the character of a signal; nothing of a signal that isn't counted.
-    pub(crate) fn set(&mut self, signal: u16, letter: Option<u8>)
-        ensures told { self.new.told ≡ with_letter signal letter self.old.told }
+    pub(crate) fn set(&mut self, signal: u16, character: Option<u8>)
+        ensures told { self.new.told ≡ with_character signal character self.old.told }
         ensures known { Keeps self.old self.new }
         ensures moves { Moves self.old self.new }
     {
         let place = usize::from(signal);
-        if place < self.letters.len() {
-            if self.letters[place] != letter {
-                self.letters[place] = letter;
+        if place < self.characters.len() {
+            if self.characters[place] != character {
+                self.characters[place] = character;
                 self.moves = self.moves.saturating_add(1);
                 self.note(signal);
             }
@@ -144,7 +144,7 @@ impl State {
     fn note(&mut self, signal: u16)
         ensures { IsNoted signal self.old self.new }
     {
-        if self.latest.is_some() && self.changed.len() < self.letters.len() {
+        if self.latest.is_some() && self.changed.len() < self.characters.len() {
             match self.changed.push(signal) {
                 Ok(()) => return,
                 Err(_) => {}
@@ -158,20 +158,20 @@ impl State {
     /// have changed since.
     pub(crate) fn has_waves(&self, tables: &WaveSet, table: u16) -> bool
         requires { AreJudged tables.now self.now }
-        ensures { result ≡ have_waves (slice_get tables.now table) 0 self.now.told.letters }
+        ensures { result ≡ have_waves (slice_get tables.now table) 0 self.now.told.characters }
     {
         match self.latest {
             Some(latest) if latest.table == table => self.changed_have_waves(tables, table),
-            _ => have_waves(tables, table, self.letters.as_slice()),
+            _ => have_waves(tables, table, self.characters.as_slice()),
         }
     }
 
     /// Whether the table defines the characters of the signals that have changed.
     fn changed_have_waves(&self, tables: &WaveSet, table: u16) -> bool
-        ensures { result ≡ list_all (has_wave_at tables.now table self.now.told.letters) self.now.changed }
+        ensures { result ≡ list_all (has_wave_at tables.now table self.now.told.characters) self.now.changed }
     {
         for signal in self.changed.as_slice() {
-            if !has_wave(tables, table, *signal, self.letter(*signal)) {
+            if !has_wave(tables, table, *signal, self.character(*signal)) {
                 return false;
             }
         }
@@ -183,9 +183,9 @@ impl State {
     pub(crate) fn number(&self, rows: &mut RowList) -> Result<u32, AllocError>
         requires { IsNumbered rows.old self.now }
         ensures number { IfOk result
-            (λ number. slice_get rows.new number ≡ Some (row_of_letters self.now.told.letters)) }
+            (λ number. slice_get rows.new number ≡ Some (row_of_characters self.now.told.characters)) }
         ensures rows { OnOk result
-            (rows.new ≡ distinct_rows rows.old (row_of_letters self.now.told.letters ∷ [])) }
+            (rows.new ≡ distinct_rows rows.old (row_of_characters self.now.told.characters ∷ [])) }
     {
         match self.known_row() {
             Some(row) => Ok(row),
@@ -196,7 +196,7 @@ impl State {
     /// The number of its row, if it is known.
     fn known_row(&self) -> Option<u32>
         ensures { (rows : List (List ℕ)) → IsNumbered rows self.now
-            → IfSome result (λ row. slice_get rows row ≡ Some (row_of_letters self.now.told.letters)) }
+            → IfSome result (λ row. slice_get rows row ≡ Some (row_of_characters self.now.told.characters)) }
     {
         match self.latest {
             Some(latest) if self.changed.is_empty() => Some(latest.row),
@@ -206,10 +206,10 @@ impl State {
 
     /// The row: a byte for each signal, 0 where it has no character.
     fn row(&self) -> Result<Vec<u8>, AllocError>
-        ensures { IfOk result (λ row. row.items ≡ row_of_letters self.now.told.letters) }
+        ensures { IfOk result (λ row. row.items ≡ row_of_characters self.now.told.characters) }
     {
-        let alloc = *self.letters.allocator();
-        row_of(alloc, self.letters.as_slice())
+        let alloc = *self.characters.allocator();
+        row_of(alloc, self.characters.as_slice())
     }
 
     /// Takes note of a vector that was made in it, under this table and with the row of this number.
@@ -222,12 +222,12 @@ impl State {
 }
 
 /// The row of characters.
-fn row_of(alloc: Global, letters: &[Option<u8>]) -> Result<Vec<u8>, AllocError>
-    ensures { IfOk result (λ row. row.items ≡ row_of_letters letters.now) }
+fn row_of(alloc: Global, characters: &[Option<u8>]) -> Result<Vec<u8>, AllocError>
+    ensures { IfOk result (λ row. row.items ≡ row_of_characters characters.now) }
 {
-    let mut row = Vec::with_capacity(alloc, letters.len())?;
-    for letter in letters {
-        row.push(letter.unwrap_or(0))?;
+    let mut row = Vec::with_capacity(alloc, characters.len())?;
+    for character in characters {
+        row.push(character.unwrap_or(0))?;
     }
     Ok(row)
 }

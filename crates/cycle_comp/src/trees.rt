@@ -8,7 +8,7 @@ ghost use Rattle.stil_ast.specs.declared.fault.StilFault.{StilFault};
 ghost use Rattle.cycle_comp.specs.Written.{flats_of, IsWritten, IsFaulty, IsRefusal};
 ghost use Rattle.cycle_comp.specs.Writing.{flats_run, flats_measure, Wrote, IsOfTree, AreStopped};
 ghost use Rattle.cycle_comp.specs.Passes.{IsExact, flats_written};
-ghost use Rattle.cycle_comp.specs.declared.fault.WriteError.TheVariants as errors;
+ghost use Rattle.answers.specs.declared.short.Short.TheVariants as errors;
 
 use crate::fault::{VectorFault, WriteError};
 use crate::state::State;
@@ -66,7 +66,11 @@ fn of_tree(tree: usize, trouble: Trouble) -> WriteError
 {
     match trouble {
         Trouble::NoMemory => WriteError::NoMemory,
-        Trouble::At(place, kind) => WriteError::Fault(VectorFault { tree, place, kind }),
+        Trouble::Fault(at) => WriteError::Fault(VectorFault {
+            tree,
+            place: at.place,
+            kind: at.kind,
+        }),
     }
 }
 

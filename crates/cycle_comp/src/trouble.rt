@@ -1,31 +1,15 @@
 //! Why writing stops in a tree.
 
-ghost use Rattle.std.specs.Prelude.{◌≡◌};
-ghost use Rattle.cycle_comp.specs.declared.trouble.Trouble.TheVariants.{NoMemory};
-
+use answers::Short;
 use flat_tree::Origin;
-use std::alloc::{AllocError, AllocFailed};
 use stil_ast::StilKind;
 
-/// Want of memory, or a vector whose V stands here can't run.
+/// A vector whose V stands here can't run: it has no table, or its table doesn't define a signal's character.
 #[derive(Drop)]
-pub(crate) enum Trouble {
-    NoMemory,
-    At(Origin, StilKind),
+pub(crate) struct PlaceFault {
+    pub(crate) place: Origin,
+    pub(crate) kind: StilKind,
 }
 
-impl From<AllocError> for Trouble {
-    ghost from_gives = { λ _ trouble. trouble ≡ NoMemory };
-
-    fn from(_error: AllocError) -> Trouble {
-        Trouble::NoMemory
-    }
-}
-
-impl<T: Drop> From<AllocFailed<T>> for Trouble {
-    ghost from_gives = { λ _ trouble. trouble ≡ NoMemory };
-
-    fn from(_error: AllocFailed<T>) -> Trouble {
-        Trouble::NoMemory
-    }
-}
+/// Want of memory, or the first vector that can't run.
+pub(crate) type Trouble = Short<PlaceFault>;

@@ -10,7 +10,7 @@ ghost use Rattle.cycle_comp.specs.Passes.{IsExact, vector_at, with_entry, with_p
 
 use crate::output::{put_cycle, put_loop, put_passes};
 use crate::state::State;
-use crate::trouble::Trouble;
+use crate::trouble::{PlaceFault, Trouble};
 use flat_tree::{FlatItem, FlatList, Origin};
 use packed_code::{Entry, Instr, RowList};
 use std::alloc::Global;
@@ -46,10 +46,16 @@ fn write_vector(
     ensures stopped { IfErr result (IsStopped source.now.tables.now (made_at state.old.told mark place ∷ [])) }
 {
     let Some(table) = state.table() else {
-        return Err(Trouble::At(place, StilKind::NoTable));
+        return Err(Trouble::Fault(PlaceFault {
+            place,
+            kind: StilKind::NoTable,
+        }));
     };
     if !state.has_waves(source.tables, table) {
-        return Err(Trouble::At(place, StilKind::NoWave));
+        return Err(Trouble::Fault(PlaceFault {
+            place,
+            kind: StilKind::NoWave,
+        }));
     }
     let row = state.number(rows)?;
     let code_table = source.first.saturating_add(table);
@@ -123,12 +129,12 @@ fn write_item(
             state.set_table(table);
             Ok(())
         }
-        FlatItem::Character(signal, letter) => {
-            state.set(signal, Some(letter));
+        FlatItem::Character(signal, character) => {
+            state.set(signal, Some(character));
             Ok(())
         }
         FlatItem::Back(signal) => {
-            state.set(signal, base.letter(signal));
+            state.set(signal, base.character(signal));
             Ok(())
         }
         FlatItem::Cycle(mark, place) => write_vector(source, state, mark, place, code, rows),

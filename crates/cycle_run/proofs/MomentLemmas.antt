@@ -62,9 +62,9 @@ signals_from waves skews n row = map (λ (place : ℕ × ℕ). (place.0, events_
 drives_between : (waves : List Wave) (skews : List ℤ) (time n : ℕ) (row : List ℕ)
     → Between n (n + length row) (flat_map (drives_of time) (signals_from waves skews n row))
 drives_between waves skews time n [] = record { rises = tt; above = tt; below = tt }
-drives_between waves skews time n (letter ∷ row) =
+drives_between waves skews time n (character ∷ row) =
     let later = flat_map (drives_of time) (signals_from waves skews (n + 1) row) in
-    one_between n (n + length (letter ∷ row)) (last_or None (filter_map push_of (acts_at time (events_from waves skews (n, letter))))) later
+    one_between n (n + length (character ∷ row)) (last_or None (filter_map push_of (acts_at time (events_from waves skews (n, character))))) later
     (omega arith)
     (subst (λ (m : ℕ). Between (n + 1) m later) (plus-suc n (length row)) (drives_between waves skews time (n + 1) row))
 
@@ -86,8 +86,8 @@ events_inside period skew (event ∷ events) inside =
 all_numbered : (P : ℕ × ℕ → Type 0) (n : ℕ) (row : List ℕ) → ((k : ℕ) → k < length row → P (n + k, slice_index row k))
     → AllByRecursion P (enumerate_from n row)
 all_numbered P n [] each = tt
-all_numbered P n (letter ∷ row) each = (
-  subst (λ (m : ℕ). P (m, letter)) (none n) (each 0 (omega arith)),
+all_numbered P n (character ∷ row) each = (
+  subst (λ (m : ℕ). P (m, character)) (none n) (each 0 (omega arith)),
   all_numbered P (n + 1) row (λ k within. subst (λ (m : ℕ). P (m, slice_index row k)) (sym (plus-suc n k)) (each (suc k) (omega (arith, within)))),
 )
   where

@@ -9,7 +9,7 @@ use Rattle.tester_types.specs.declared.wave.Table.{Table}
 use Rattle.tester_types.specs.declared.cycle.Cycle.{Cycle}
 use Rattle.tester_types.specs.declared.cycle.Moment.{Moment}
 use Rattle.packed_code.specs.Program.{Program}
-use Rattle.packed_code.specs.Conditions.{letters_of}
+use Rattle.packed_code.specs.Conditions.{characters_of}
 use Rattle.edge_gen.specs.Moments.{moments_of, later}
 use Rattle.edge_gen.specs.Held.{Held, is_pair, is_held, HoldsOnly, asked}
 use Rattle.edge_gen.proofs.MomentLemmas.{moments_of-later}
@@ -24,7 +24,7 @@ pub schedule_is : (code : Program) (skews : List ℤ) (number place : ℕ) (tabl
     → slice_get code.tables number ≡ Some table → slice_get code.rows place ≡ Some row
     → schedule_of code skews (number, place) ≡ moments_of table row skews 0
 schedule_is code skews number place table row table_is row_is =
-    ap (λ (t : Option Table). option_map_or (λ u. moments_of u (letters_of code.rows place) skews 0) t []) table_is
+    ap (λ (t : Option Table). option_map_or (λ u. moments_of u (characters_of code.rows place) skews 0) t []) table_is
     ∙ ap (λ (l : List ℕ). moments_of table l skews 0) (get_or_from_slice_get code.rows place row [] row_is)
 
 -- its moments, as much later as a cycle starts, are those of the cycle
@@ -38,7 +38,7 @@ moments_are code skews device start cycle table row moments table_is row_is are 
     ap (map (later start)) are
     ∙ sym (moments_of-later table row skews start)
     ∙ ap (λ (l : List ℕ). moments_of table l skews start) (sym (get_or_from_slice_get code.rows cycle.row row [] row_is))
-    ∙ ap (λ (t : Option Table). option_map_or (λ u. moments_of u (letters_of code.rows cycle.row) skews start) t []) (sym table_is)
+    ∙ ap (λ (t : Option Table). option_map_or (λ u. moments_of u (characters_of code.rows cycle.row) skews start) t []) (sym table_is)
 
 -- ---- what is held
 

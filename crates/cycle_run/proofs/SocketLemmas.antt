@@ -13,7 +13,7 @@ use Rattle.bench_net.specs.declared.gate.Driver.TheVariants.{Input, Dff, Gate}
 use Rattle.bench_net.specs.Wiring.{driver_at}
 use Rattle.die_sim.specs.declared.image.Bind.{Bind}
 use Rattle.die_sim.specs.declared.image.Bind.TheVariants as bind
-use Rattle.die_sim.specs.Gates.{level_at}
+use Rattle.bench_net.specs.Gates.{level_at}
 use Rattle.die_sim.specs.Die.{Device, State, Settled, bind_at, is_clock, IsBoundTo, has_net}
 use Rattle.die_sim.specs.Moment.{edge, captured, IsStep}
 use Rattle.die_sim.specs.Socket.{Told, CanDrive, CanSense, Moves, Shows}

@@ -13,7 +13,7 @@ use Rattle.strobe_check.specs.Entry.{Entry}
 use Rattle.strobe_check.specs.Sensed.{is_sensed}
 use Rattle.strobe_check.specs.Fails.{fails}
 use Rattle.tester_types.specs.declared.record.Fail.{Fail}
-use Rattle.packed_code.specs.Conditions.{letters_of}
+use Rattle.packed_code.specs.Conditions.{characters_of}
 use Rattle.edge_gen.specs.Moments.{moments_of}
 use Rattle.edge_gen.specs.Held as schedules
 use Rattle.std.specs.Option.{option_map_or}
@@ -57,7 +57,7 @@ pub record FitsBench (signals : ℕ) (last : List Drive) (levels : List Level) :
 -- the moments, dated from 0, of the cycles with a table and a row of these numbers
 abbrev pub schedule_of : Program → List ℤ → ℕ × ℕ → List Moment
 schedule_of code skews pair =
-    option_map_or (λ table. moments_of table (letters_of code.rows pair.1) skews 0) (slice_get code.tables pair.0) []
+    option_map_or (λ table. moments_of table (characters_of code.rows pair.1) skews 0) (slice_get code.tables pair.0) []
 
 -- each schedule that is held is that of its numbers
 abbrev pub HoldsSchedules : Program → List ℤ → schedules.Held → Type 0

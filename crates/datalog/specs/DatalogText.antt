@@ -14,7 +14,7 @@ use Rattle.tester_types.specs.declared.record.Record.{Record}
 use Rattle.tester_types.specs.declared.record.Trial.{Trial}
 use Rattle.tester_types.specs.declared.record.Verdict.{Verdict}
 use Rattle.tester_types.specs.declared.record.Verdict.TheVariants as verdict
-use Rattle.code_listing.specs.Letters.{look_letter}
+use Rattle.tester_types.specs.Acts.{look_letter}
 use Rattle.packed_code.specs.declared.parts.CodeChain.{CodeChain}
 use Rattle.packed_code.specs.Program.{Program}
 use Rattle.packed_code.specs.Cycles.{exec_of}

@@ -1,14 +1,13 @@
 //! The cells of scan chains that fails name.
 
-ghost use Rattle.std.specs.Prelude.{◌≡◌, ◌==◌, ◌<◌, ◌≤◌, OnErr, length, slice_get};
+ghost use Rattle.std.specs.Prelude.{◌≡◌, ◌==◌, ◌<◌, ◌≤◌, OnErr, length};
 ghost use Rattle.std.specs.List.{find};
 ghost use Rattle.std.specs.Option.{option_copied};
-ghost use Rattle.tester_types.specs.Cells.{cell_behind, marked_cell};
 ghost use Rattle.tester_types.specs.Outside.{HasRisen, Puts};
 ghost use Rattle.datalog.specs.DatalogText.{chain_at, cell_in, cell_of, cell_words};
 
 use packed_code::{Code, CodeChain};
-use tester_types::{Fail, Piece, Sink, SinkFault, Text, put_each};
+use tester_types::{Fail, Piece, Sink, SinkFault, put_each};
 
 /// Puts the cell that a fail names, if it names one.
 pub(crate) fn put_cell<K: Sink>(sink: &mut K, code: &Code, fail: &Fail) -> Result<(), SinkFault>
@@ -32,8 +31,8 @@ pub(crate) fn put_cell_in<K: Sink>(
     ensures count { K.faults sink.old ≤ K.faults sink.new }
     ensures cause { OnErr result (HasRisen (K.faults sink.old) (K.faults sink.new)) }
 {
-    match marked_cell(mark, chain) {
-        Some(cell) => put_names(sink, chain.name.as_slice(), cell),
+    match chain.cells.marked(chain.length as usize, mark) {
+        Some(cell) => put_names(sink, chain.name.as_slice(), cell.as_slice()),
         None => Ok(()),
     }
 }
@@ -75,36 +74,4 @@ fn first_chain(chains: &[CodeChain], signal: u16) -> Option<&CodeChain>
         }
     }
     None
-}
-
-/// The name of the cell of a chain that a mark means.
-fn marked_cell(mark: u32, chain: &CodeChain) -> Option<&[u8]>
-    ensures { option_copied result ≡ marked_cell chain.now.length chain.now.cells mark }
-{
-    if mark == 0 {
-        None
-    } else {
-        cell_behind(mark - 1, chain)
-    }
-}
-
-/// The name of the cell whose character leaves a chain at this shift, from 0.
-fn cell_behind(shift: u32, chain: &CodeChain) -> Option<&[u8]>
-    ensures { option_copied result ≡ cell_behind chain.now.length chain.now.cells shift }
-{
-    if shift < chain.length {
-        name_at(chain.cells.as_slice(), chain.length - 1 - shift)
-    } else {
-        None
-    }
-}
-
-/// The name at a place, where there is one.
-fn name_at(cells: &[Text], place: u32) -> Option<&[u8]>
-    ensures { option_copied result ≡ slice_get cells.now place }
-{
-    match cells.get(place as usize) {
-        Some(cell) => Some(cell.as_slice()),
-        None => None,
-    }
 }

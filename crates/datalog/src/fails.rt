@@ -8,9 +8,8 @@ ghost use Rattle.datalog.specs.Printable.{IsKnown};
 
 use crate::cells::put_cell;
 use crate::letters::seen_letter;
-use code_listing::look_letter;
 use packed_code::Code;
-use tester_types::{Fail, Piece, Sink, SinkFault, put_all, put_each};
+use tester_types::{Fail, Piece, Sink, SinkFault, look_letter, put_all, put_each};
 
 /// Puts the lines of fails.
 pub(crate) fn put_fails<K: Sink>(sink: &mut K, code: &Code, fails: &[Fail]) -> Result<(), SinkFault>

@@ -15,7 +15,7 @@ use lot_plan::BoundPlan;
 use packed_code::Code;
 use tester_types::{Piece, Record, Sink, SinkFault, put_each};
 
-/// Puts the text of a sound record: its die's name, its tries, and its bin. It takes no memory.
+/// No command calls it alone: puts the text of a sound record, its die's name, its tries, and its bin. It takes no memory.
 pub fn print_record<K: Sink>(
     code: &Code,
     plan: &BoundPlan,

@@ -16,7 +16,7 @@ use Rattle.die_sim.specs.declared.table.Row.{Row}
 use Rattle.die_sim.specs.declared.table.Row.TheVariants.{And, Nand, Or, Nor, Xor, Xnor, Low, High}
 use Rattle.die_sim.specs.declared.cells.Cell.{Cell}
 use Rattle.die_sim.specs.declared.cells.Cell.TheVariants.{Pair, Many}
-use Rattle.die_sim.specs.Gates.{level_at, is_zero, is_one}
+use Rattle.bench_net.specs.Gates.{level_at, is_zero, is_one}
 use Rattle.die_sim.specs.Die.{stuck, with_fault, fixed_of, driven, wanted, own_level}
 use Rattle.die_sim.specs.Table.{gives, pair_of, row_of, single_row}
 use Rattle.die_sim.specs.Cells.{plain_row, row_for, with_row, row_in, no_cell, IsPair, HoldsPins, CanRead, gives_at, cell_gives, IsFront, AreWiredTo, AreWired, HaveRows, SamePins, IsStuck, AreStuck, AreCells}

@@ -9,7 +9,7 @@ use Rattle.bench_net.specs.declared.gate.Driver.TheVariants.{Input, Dff, Gate}
 use Rattle.bench_net.specs.declared.gate.GateKind.{GateKind}
 use Rattle.bench_net.specs.declared.gate.GateKind.TheVariants.{And, Nand, Or, Nor, Xor, Xnor, Not, Buf}
 use Rattle.bench_net.specs.Wiring.{driver_at, pins_of, pins_at, IsWired}
-use Rattle.die_sim.specs.Gates.{level_at, is_zero, is_one, zeros, ones, and_of, or_of, xor_of, negated, read, gate_of}
+use Rattle.bench_net.specs.Gates.{level_at, is_zero, is_one, zeros, ones, and_of, or_of, xor_of, negated, read, gate_of}
 use Rattle.die_sim.specs.Die.{driven, wanted}
 
 -- two tests that say the same of each element count the same

@@ -13,7 +13,7 @@ use Rattle.die_sim.specs.declared.image.Bind.{Bind}
 use Rattle.die_sim.specs.declared.image.Bind.TheVariants as bind
 use Rattle.die_sim.specs.declared.moment.Edge.{Edge}
 use Rattle.die_sim.specs.declared.moment.Edge.TheVariants.{Takes, Doubts, Keeps}
-use Rattle.die_sim.specs.Gates.{level_at}
+use Rattle.bench_net.specs.Gates.{level_at}
 use Rattle.die_sim.specs.Die.{bind_at}
 use Rattle.die_sim.specs.Moment.{captured, capture, agreed, Captures, drive_level, put_at, put_all}
 use Rattle.die_sim.specs.Walk.{is_flip_flop, StandsAt, AreFlipFlops, MayCapture}

@@ -7,7 +7,7 @@ use Rattle.bench_net.specs.declared.gate.Driver.{Driver}
 use Rattle.bench_net.specs.Wiring.{driver_at, gate_at, pins_at, IsWired, IsClosed, IsReached}
 use Rattle.bench_net.proofs.CallerLemmas.{reached_from_whole}
 use Rattle.bench_net.specs.Circuit.{Circuit, IsWhole}
-use Rattle.die_sim.specs.Gates.{level_at}
+use Rattle.bench_net.specs.Gates.{level_at}
 use Rattle.die_sim.specs.Die.{Settled}
 use Rattle.die_sim.specs.Walk.{same_level}
 use Rattle.die_sim.proofs.GateLemmas.{wanted-same}

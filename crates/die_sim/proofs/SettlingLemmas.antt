@@ -11,7 +11,7 @@ use Rattle.text_bytes.proofs.ListLemmas.{suc-plus}
 use Rattle.bench_net.specs.declared.gate.Driver.{Driver}
 use Rattle.bench_net.specs.Wiring.{driver_at, gate_at, pins_at, IsWired, IsOrder}
 use Rattle.bench_net.specs.Circuit.{Circuit, IsWhole}
-use Rattle.die_sim.specs.Gates.{level_at}
+use Rattle.bench_net.specs.Gates.{level_at}
 use Rattle.die_sim.specs.Die.{own_level, wanted, Settled, HasOneSettling}
 use Rattle.die_sim.specs.Spread.{Reads}
 use Rattle.die_sim.specs.Stepped.{own_levels, evaluated, levels_through, settled_levels}

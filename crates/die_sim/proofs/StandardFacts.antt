@@ -3,7 +3,7 @@ use Rattle.std.proofs.Common.{◌≡◌, [], ◌∷◌, refl}
 use Rattle.tester_types.specs.declared.level.Level.TheVariants.{Zero, One, X, Z}
 use Rattle.bench_net.specs.declared.gate.GateKind.TheVariants.{And, Nand, Or, Nor, Xor, Xnor, Not, Buf}
 use Rattle.die_sim.specs.declared.moment.Edge.TheVariants.{Takes, Doubts, Keeps}
-use Rattle.die_sim.specs.Gates.{gate_of}
+use Rattle.bench_net.specs.Gates.{gate_of}
 use Rattle.die_sim.specs.Moment.{edge, capture}
 
 -- an AND with a 0 and an unknown pin is 0, with a 1 and an off pin unknown

@@ -10,7 +10,7 @@ use Rattle.bench_net.specs.Wiring.{driver_at, gate_at, is_gate}
 use Rattle.die_sim.specs.declared.image.Bind.{Bind}
 use Rattle.die_sim.specs.declared.image.Bind.TheVariants as bind
 use Rattle.die_sim.specs.declared.moment.Edge.{Edge}
-use Rattle.die_sim.specs.Gates.{level_at}
+use Rattle.bench_net.specs.Gates.{level_at}
 use Rattle.die_sim.specs.Die.{own_level, driven, Settled, bind_at}
 use Rattle.die_sim.specs.Moment.{Captures, put_all}
 use Rattle.die_sim.specs.Spread.{IsSpread}

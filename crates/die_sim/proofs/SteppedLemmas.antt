@@ -12,7 +12,7 @@ use Rattle.bench_net.specs.Circuit.{Circuit, IsWhole}
 use Rattle.die_sim.specs.declared.image.Bind.{Bind}
 use Rattle.die_sim.specs.declared.image.Bind.TheVariants as bind
 use Rattle.die_sim.specs.declared.moment.Edge.{Edge}
-use Rattle.die_sim.specs.Gates.{level_at}
+use Rattle.bench_net.specs.Gates.{level_at}
 use Rattle.die_sim.specs.Die.{Device, State, Settled, IsFresh, bind_at}
 use Rattle.die_sim.specs.Moment.{edge, captured, Captures, drive_level, clock_after, put_at, put_all, IsStep}
 use Rattle.die_sim.specs.Stepped.{settled_levels, first_state, captured_levels, held_after, stepped}

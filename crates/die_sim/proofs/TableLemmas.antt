@@ -9,10 +9,9 @@ use Rattle.tester_types.specs.declared.level.Level.{Level}
 use Rattle.tester_types.specs.declared.level.Level.TheVariants.{Zero, One, X, Z}
 use Rattle.bench_net.specs.declared.gate.GateKind.{GateKind}
 use Rattle.bench_net.specs.declared.gate.GateKind.TheVariants as kind
-use Rattle.bench_net.specs.Wiring.{is_single}
 use Rattle.die_sim.specs.declared.table.Row.{Row}
 use Rattle.die_sim.specs.declared.table.Row.TheVariants.{And, Nand, Or, Nor, Xor, Xnor, Low, High}
-use Rattle.die_sim.specs.Gates.{level_at, is_zero, is_one, zeros, ones, negated, read, and_of, or_of, xor_of, gate_of}
+use Rattle.bench_net.specs.Gates.{level_at, is_zero, is_one, zeros, ones, negated, read, and_of, or_of, xor_of, gate_of, is_single}
 use Rattle.die_sim.specs.Walk.{same_level}
 use Rattle.die_sim.specs.Table.{entries, gives, pair_of, base_of, unit_of, row_of}
 use Rattle.die_sim.proofs.WalkLemmas.{same_level-true}

@@ -9,7 +9,7 @@ use Rattle.tester_types.specs.declared.level.Level.TheVariants.{Zero, One, X, Z}
 use Rattle.bench_net.specs.declared.gate.Driver.{Driver}
 use Rattle.bench_net.specs.declared.gate.Driver.TheVariants.{Input, Dff, Gate}
 use Rattle.bench_net.specs.Wiring.{driver_at, is_gate, gate_at, pins_at, IsWired, IsOrder}
-use Rattle.die_sim.specs.Gates.{level_at}
+use Rattle.bench_net.specs.Gates.{level_at}
 use Rattle.tester_types.specs.declared.level.Drive.{Drive}
 use Rattle.die_sim.specs.declared.image.Bind.{Bind}
 use Rattle.die_sim.specs.declared.image.Bind.TheVariants as bind

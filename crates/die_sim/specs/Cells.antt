@@ -10,7 +10,7 @@ use Rattle.die_sim.specs.declared.table.Row.{Row}
 use Rattle.die_sim.specs.declared.table.Row.TheVariants.{And, Low, High}
 use Rattle.die_sim.specs.declared.cells.Cell.{Cell}
 use Rattle.die_sim.specs.declared.cells.Cell.TheVariants.{Pair, Many}
-use Rattle.die_sim.specs.Gates.{level_at, zeros, ones}
+use Rattle.bench_net.specs.Gates.{level_at, zeros, ones}
 use Rattle.die_sim.specs.Table.{gives, pair_of, row_of, single_row}
 
 -- the row of a gate that isn't stuck

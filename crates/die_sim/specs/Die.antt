@@ -10,7 +10,7 @@ use Rattle.bench_net.specs.Circuit.{Circuit}
 use Rattle.die_sim.specs.declared.image.Bind.{Bind}
 use Rattle.die_sim.specs.declared.image.Bind.TheVariants as bind
 use Rattle.die_sim.specs.declared.image.StuckAt.{StuckAt}
-use Rattle.die_sim.specs.Gates.{level_at, gate_of}
+use Rattle.bench_net.specs.Gates.{level_at, gate_of}
 
 -- what is loaded into a socket: a circuit, its binding, with the number of the clock's signal if there is one, and
 -- its faults

@@ -1,4 +1,3 @@
-pub mod Gates
 pub mod Table
 pub mod Die
 pub mod Moment

@@ -12,7 +12,7 @@ use Rattle.die_sim.specs.declared.image.Bind.{Bind}
 use Rattle.die_sim.specs.declared.image.Bind.TheVariants as bind
 use Rattle.die_sim.specs.declared.moment.Edge.{Edge}
 use Rattle.die_sim.specs.declared.moment.Edge.TheVariants.{Takes, Doubts, Keeps}
-use Rattle.die_sim.specs.Gates.{level_at, read}
+use Rattle.bench_net.specs.Gates.{level_at, read}
 use Rattle.die_sim.specs.Die.{Device, State, bind_at, is_clock, Settled}
 
 -- the level of a drive

@@ -9,7 +9,7 @@ use Rattle.die_sim.specs.declared.wiring.Wiring.{Wiring}
 use Rattle.die_sim.specs.declared.wiring.Nets.{Nets}
 use Rattle.die_sim.specs.Cells.{AreCells}
 use Rattle.die_sim.specs.Die.{own_level}
-use Rattle.die_sim.specs.Gates.{level_at}
+use Rattle.bench_net.specs.Gates.{level_at}
 use Rattle.die_sim.specs.Pending.{AreSeats}
 use Rattle.die_sim.specs.Readers.{AreReaderPlaces}
 use Rattle.die_sim.specs.Waiting.{AreWakers, AreAtRest}

@@ -8,7 +8,7 @@ use Rattle.bench_net.specs.declared.gate.Driver.{Driver}
 use Rattle.bench_net.specs.Wiring.{driver_at}
 use Rattle.bench_net.specs.Circuit.{Circuit}
 use Rattle.die_sim.specs.declared.moment.Edge.{Edge}
-use Rattle.die_sim.specs.Gates.{level_at}
+use Rattle.bench_net.specs.Gates.{level_at}
 use Rattle.die_sim.specs.Die.{Device, State, own_level, wanted}
 use Rattle.die_sim.specs.Moment.{edge, captured, clock_after, put_all}
 

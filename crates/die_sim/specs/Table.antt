@@ -4,21 +4,14 @@ use Rattle.tester_types.specs.declared.level.Level.{Level}
 use Rattle.tester_types.specs.declared.level.Level.TheVariants.{Zero, One, X}
 use Rattle.bench_net.specs.declared.gate.GateKind.{GateKind}
 use Rattle.bench_net.specs.declared.gate.GateKind.TheVariants as kind
+use Rattle.die_sim.specs.declared.table.TheConstants.{TABLE}
 use Rattle.die_sim.specs.declared.table.Row.{Row}
 use Rattle.die_sim.specs.declared.table.Row.TheVariants.{And, Nand, Or, Nor, Xor, Xnor, Low, High}
-use Rattle.die_sim.specs.Gates.{is_zero, is_one, negated, and_of, or_of, xor_of}
+use Rattle.bench_net.specs.Gates.{is_zero, is_one, negated, and_of, or_of, xor_of}
 
 -- the table: for each row, each first and each second level what the row gives
 abbrev pub entries : List Level
-entries =
-    Zero ∷ Zero ∷ Zero ∷ Zero ∷ Zero ∷ One ∷ X ∷ X ∷ Zero ∷ X ∷ X ∷ X ∷ Zero ∷ X ∷ X ∷ X ∷
-    One ∷ One ∷ One ∷ One ∷ One ∷ Zero ∷ X ∷ X ∷ One ∷ X ∷ X ∷ X ∷ One ∷ X ∷ X ∷ X ∷
-    Zero ∷ One ∷ X ∷ X ∷ One ∷ One ∷ One ∷ One ∷ X ∷ One ∷ X ∷ X ∷ X ∷ One ∷ X ∷ X ∷
-    One ∷ Zero ∷ X ∷ X ∷ Zero ∷ Zero ∷ Zero ∷ Zero ∷ X ∷ Zero ∷ X ∷ X ∷ X ∷ Zero ∷ X ∷ X ∷
-    Zero ∷ One ∷ X ∷ X ∷ One ∷ Zero ∷ X ∷ X ∷ X ∷ X ∷ X ∷ X ∷ X ∷ X ∷ X ∷ X ∷
-    One ∷ Zero ∷ X ∷ X ∷ Zero ∷ One ∷ X ∷ X ∷ X ∷ X ∷ X ∷ X ∷ X ∷ X ∷ X ∷ X ∷
-    Zero ∷ Zero ∷ Zero ∷ Zero ∷ Zero ∷ Zero ∷ Zero ∷ Zero ∷ Zero ∷ Zero ∷ Zero ∷ Zero ∷ Zero ∷ Zero ∷ Zero ∷ Zero ∷
-    One ∷ One ∷ One ∷ One ∷ One ∷ One ∷ One ∷ One ∷ One ∷ One ∷ One ∷ One ∷ One ∷ One ∷ One ∷ One ∷ []
+entries = TABLE.now
 
 -- what a row gives for so many levels, of which so many are 0 and so many 1
 abbrev pub gives : Row → ℕ → ℕ → ℕ → Level

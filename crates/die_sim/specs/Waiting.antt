@@ -7,7 +7,7 @@ use Rattle.bench_net.specs.declared.gate.Driver.TheVariants.{Dff}
 use Rattle.bench_net.specs.Wiring.{driver_at}
 use Rattle.die_sim.specs.declared.moment.Edge.{Edge}
 use Rattle.die_sim.specs.declared.moment.Edge.TheVariants.{Takes, Keeps}
-use Rattle.die_sim.specs.Gates.{level_at, read}
+use Rattle.bench_net.specs.Gates.{level_at, read}
 use Rattle.die_sim.specs.Walk.{StandsAt, AreFlipFlops}
 
 -- the nets of flip-flops, for each net the link to the first that has it as D net, for each flip-flop the link to the

@@ -10,7 +10,7 @@ use Rattle.die_sim.specs.declared.image.Bind.{Bind}
 use Rattle.die_sim.specs.declared.image.Bind.TheVariants as bind
 use Rattle.die_sim.specs.declared.moment.Edge.{Edge}
 use Rattle.tester_types.specs.declared.level.Drive.{Drive}
-use Rattle.die_sim.specs.Gates.{level_at, is_zero, is_one}
+use Rattle.bench_net.specs.Gates.{level_at, is_zero, is_one}
 use Rattle.die_sim.specs.Die.{own_level, wanted, bind_at}
 use Rattle.die_sim.specs.Moment.{captured}
 use Rattle.die_sim.specs.Pending.{PendingGates, is_pending}

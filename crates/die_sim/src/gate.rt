@@ -1,6 +1,6 @@
 //! The level that a gate gives.
 ghost use Rattle.std.specs.Prelude.{◌≡◌, ◌<◌, length};
-ghost use Rattle.die_sim.specs.Gates.{read, level_at};
+ghost use Rattle.bench_net.specs.Gates.{read, level_at};
 ghost use Rattle.die_sim.specs.Table.{pair_of};
 
 use crate::table::{Row, looked_up};

@@ -85,7 +85,7 @@ pub struct StuckAt {
 /// Faults, no two of one net.
 pub type FaultList = Items<StuckAt>;
 
-/// Whether there is one fault at most, of a net of the netlist. An image may have such faults.
+/// Only tests call it: whether there is one fault at most, of a net of the netlist. An image may have such faults.
 pub fn is_one_fault(net: &Netlist, faults: &[StuckAt]) -> bool
     ensures { IsTrue result ↔ IsOneFault (length net.now.net.drivers) faults.now }
 {

@@ -1,6 +1,6 @@
 //! What a moment does to the clock, and to what inputs and flip-flops keep.
 ghost use Rattle.std.specs.Prelude.{◌≡◌, ℕ, ◌<◌, ◌≤◌, length};
-ghost use Rattle.die_sim.specs.Gates.{level_at};
+ghost use Rattle.bench_net.specs.Gates.{level_at};
 ghost use Rattle.die_sim.specs.Die.{bind_at};
 ghost use Rattle.bench_net.specs.Wiring.{IsWired};
 ghost use Rattle.bench_net.specs.Circuit.{IsWhole};

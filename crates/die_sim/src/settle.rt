@@ -5,7 +5,7 @@ ghost use Rattle.tester_types.specs.declared.level.Level.{Level};
 ghost use Rattle.tester_types.specs.declared.level.Level.TheVariants.{X};
 ghost use Rattle.bench_net.specs.Wiring.{driver_at, gate_at};
 ghost use Rattle.bench_net.specs.Circuit.{IsWhole};
-ghost use Rattle.die_sim.specs.Gates.{level_at};
+ghost use Rattle.bench_net.specs.Gates.{level_at};
 ghost use Rattle.die_sim.specs.Die.{own_level, Settled, IsNetBind, bind_at};
 ghost use Rattle.die_sim.specs.Pending.{is_pending, HasPlace, SameSeats, AreSeats, ActivatesEach, ActivatesReaders};
 ghost use Rattle.die_sim.specs.Walk.{same_level, is_flip_flop, HaveLevels, HasLevel, HaveDriven, Carries};

@@ -1,7 +1,7 @@
 //! What gates give, from one table over pairs of levels.
 ghost use Rattle.std.specs.Prelude.{◌≡◌, ℕ, ◌<◌, List, length, All};
 ghost use Rattle.tester_types.specs.declared.level.Level.{Level};
-ghost use Rattle.die_sim.specs.Gates.{zeros, ones};
+ghost use Rattle.bench_net.specs.Gates.{zeros, ones};
 ghost use Rattle.die_sim.specs.Table.{entries, base_of, unit_of, gives, pair_of, row_of, single_row};
 
 use bench_net::GateKind;
@@ -22,7 +22,7 @@ pub(crate) enum Row {
 }
 
 /// For each row, each first and each second level what the row gives.
-static TABLE: [Level; 128] = [
+const TABLE: &[Level] = &[
     // AND
     Zero, Zero, Zero, Zero, Zero, One, X, X, Zero, X, X, X, Zero, X, X, X,
     // NAND
@@ -45,7 +45,7 @@ static TABLE: [Level; 128] = [
 fn table() -> &'static [Level]
     ensures { result.now ≡ entries }
 {
-    &TABLE
+    TABLE
 }
 
 /// What a row gives for two levels.

@@ -1,20 +1,22 @@
 -- The statements of a drill's text are its blocks.
-use Rattle.std.proofs.Common.{◌≡◌, ℕ, ◌+◌, Bool, true, false, List, [], ◌∷◌, ◌++◌, take, drop, Some, None, Ok, refl, sym, ap, ◌∙◌, arith}
+use Rattle.std.proofs.Common.{◌≡◌, ℕ, ◌+◌, Bool, true, false, List, [], ◌∷◌, ◌++◌, take, drop, Some, None, Result, Ok, refl, sym, ap, ◌∙◌, arith}
 use Rattle.std.specs.Prelude.{codes}
 use Rattle.std.proofs.lemmas.List.{drop_at, drop-drop}
 use Rattle.text_bytes.specs.Bytes.{begins_name, is_printable, is_character}
 use Rattle.stil_lex.specs.Tokens.{spelled, tokens_of}
 use Rattle.stil_lex.specs.declared.token.Token.{Token}
 use Rattle.stil_tree.specs.Trees.{Trees, Entry, entries, plain}
+use Rattle.stil_form.specs.declared.fault.FormFault.{FormFault}
 use Rattle.stil_form.specs.Lexeme.{Lexeme, word, lexemes_of}
 use Rattle.stil_form.specs.Setting.{setting, line_at, lexemes_at, at_statement, unskipped}
-use Rattle.answers.specs.Reading.{and_then, stepping}
+use Rattle.answers.specs.Reading.{and_then, reading}
 use Rattle.stil_ast.specs.Data.Bodies.{written_of}
 use Rattle.stil_ast.specs.declared.blocks.Blocks.{Blocks}
 use Rattle.stil_ast.specs.declared.blocks.Pattern.{Pattern}
 use Rattle.stil_ast.specs.declared.signal.SignalDecl.{SignalDecl}
 use Rattle.stil_ast.specs.declared.timing.TimingBlock.{TimingBlock}
 use Rattle.stil_ast.specs.declared.executive.Burst.{Burst}
+use Rattle.stil_ast.specs.declared.executive.BurstItem.{BurstItem}
 use Rattle.stil_ast.specs.declared.executive.BurstWord.TheVariants as burst
 use Rattle.stil_ast.specs.declared.body.Step.TheVariants as step
 use Rattle.stil_ast.specs.declared.body.PatAction.TheVariants as action
@@ -24,13 +26,13 @@ use Rattle.pat_read.specs.Statements.{only_name}
 use Rattle.block_forms.specs.Heads.{where_so, nothing, title_of, behind_first, bare_block, named_block, titled_block}
 use Rattle.block_forms.specs.Keywords.{first_meaning}
 use Rattle.block_forms.specs.Named.{named_on}
-use Rattle.pattern_blocks.specs.Bursts.{burst_words, item_on, left_out, entry_step, by_word, burst_step, items_in}
-use Rattle.pattern_blocks.specs.Executives.{exec_said, with_named, exec_step, no_parts, exec_by, exec_in}
+use Rattle.pattern_blocks.specs.Bursts.{burst_words, item_on, where_empty, entry_item, by_word, names_in, judge_burst, items_in}
+use Rattle.pattern_blocks.specs.Executives.{exec_said, new_said, judge_exec, exec_called, exec_in}
 use Rattle.stil_read.specs.Top.{Top, top_step, start, finished, is_stil_1_0, behind_header, blocks_of, more_signals, more_timings, more_patterns, more_bursts, more_executives}
 use Rattle.line_texts.specs.Said.{Said, no_more, statement, pieces_of, count_of, trees_at, spaced}
 use Rattle.line_texts.specs.Lexemes.{lexemes_in}
 use Rattle.line_texts.proofs.LexemeLemmas.{lexemes_in-append}
-use Rattle.line_texts.proofs.SettingLemmas.{stepping-more, and_then-assoc, head_behind, unskipped_all, length-lexemes_in}
+use Rattle.line_texts.proofs.SettingLemmas.{stepping-more, head_behind, unskipped_all, length-lexemes_in}
 use Rattle.drill_fine.specs.Said.{signals_said, tables_said, body_said, burst_said, text_said}
 use Rattle.drill_fine.specs.Said as said
 use Rattle.line_texts.specs.Said as spoken
@@ -110,12 +112,12 @@ burst_named bytes tokens f h = ap (λ (ls : List Lexeme). at_statement f (where_
 
 entry_read : (bytes : List ℕ) (tokens : List Token) (f : ℕ)
     → take 1 (drop f (lexemes_of bytes tokens)) ≡ word (codes "p") ∷ []
-    → entry_step (setting bytes tokens []) [] (name_entry f)
-    ≡ Ok (record { word = burst.Entry; name = codes "p"; line = line_at tokens f } ∷ [])
+    → entry_item (setting bytes tokens []) (name_entry f)
+    ≡ Ok (record { word = burst.Entry; name = codes "p"; line = line_at tokens f })
 unfolding begins_name is_printable
 entry_read bytes tokens f h =
     ap (λ (ls : List Lexeme). and_then (at_statement f (only_name ls)) (λ called.
-    stepping left_out (item_on (setting bytes tokens []) (name_entry f) burst.Entry called ∷ []) [])) h
+    where_empty [] (item_on (setting bytes tokens []) (name_entry f) burst.Entry called))) h
 
 list_bare : (bytes : List ℕ) (tokens : List Token) (f : ℕ)
     → take 1 (drop f (lexemes_of bytes tokens)) ≡ word (codes "PatList") ∷ []
@@ -125,14 +127,15 @@ list_bare bytes tokens f h = ap (λ (ls : List Lexeme). at_statement f (where_so
 list_read : (bytes : List ℕ) (tokens : List Token) (f : ℕ)
     → take 1 (drop f (lexemes_of bytes tokens)) ≡ word (codes "PatList") ∷ []
     → take 1 (drop (f + 1 + 1) (lexemes_of bytes tokens)) ≡ word (codes "p") ∷ []
-    → burst_step (setting bytes tokens []) [] (list_entry f)
+    → judge_burst (setting bytes tokens []) [] (list_entry f)
     ≡ Ok (record { word = burst.Entry; name = codes "p"; line = line_at tokens (f + 1 + 1) } ∷ [])
 list_read bytes tokens f h0 h1 =
     let s = setting bytes tokens [] in
     ap (λ (ls : List Lexeme). by_word s [] (list_entry f) (first_meaning burst_words ls)) h0
-    ∙ ap (λ r. and_then r (λ _. stepping (entry_step s) [] (unskipped s (name_entry (f + 1 + 1) ∷ [])))) (list_bare bytes tokens f h0)
-    ∙ ap (λ (es : List Entry). stepping (entry_step s) [] es) (unskipped_all bytes tokens (name_entry (f + 1 + 1) ∷ []))
-    ∙ stepping-more (entry_step s) [] _ (name_entry (f + 1 + 1)) [] (entry_read bytes tokens (f + 1 + 1) h1)
+    ∙ ap (λ r. and_then r (λ _. reading (λ _ inner. entry_item s inner) [] (unskipped s (name_entry (f + 1 + 1) ∷ []))))
+    (list_bare bytes tokens f h0)
+    ∙ ap (λ (es : List Entry). reading (λ _ inner. entry_item s inner) [] es) (unskipped_all bytes tokens (name_entry (f + 1 + 1) ∷ []))
+    ∙ ap (λ (r : Result BurstItem FormFault). and_then r (λ x. Ok (x ∷ []))) (entry_read bytes tokens (f + 1 + 1) h1)
 
 items_read : (bytes : List ℕ) (tokens : List Token) (f : ℕ)
     → take 1 (drop f (lexemes_of bytes tokens)) ≡ word (codes "PatList") ∷ []
@@ -141,8 +144,10 @@ items_read : (bytes : List ℕ) (tokens : List Token) (f : ℕ)
     ≡ Ok (record { word = burst.Entry; name = codes "p"; line = line_at tokens (f + 1 + 1) } ∷ [])
 items_read bytes tokens f h0 h1 =
     let s = setting bytes tokens [] in
-    ap (λ (es : List Entry). stepping (burst_step s) [] es) (unskipped_all bytes tokens (list_entry f ∷ []))
-    ∙ stepping-more (burst_step s) [] _ (list_entry f) [] (list_read bytes tokens f h0 h1)
+    ap (λ (es : List Entry). and_then (reading (judge_burst s) [] es) (λ told. Ok (names_in told)))
+    (unskipped_all bytes tokens (list_entry f ∷ []))
+    ∙ ap (λ (r : Result (List BurstItem) FormFault). and_then (and_then r (λ x. Ok (x ∷ []))) (λ told. Ok (names_in told)))
+    (list_read bytes tokens f h0 h1)
 
 burst_read : (bytes : List ℕ) (tokens : List Token) (blocks : List SignalDecl) (timings : List TimingBlock) (patterns : List Pattern) (f : ℕ)
     → take 2 (drop f (lexemes_of bytes tokens)) ≡ word (codes "PatternBurst") ∷ word (codes "b") ∷ []
@@ -167,16 +172,16 @@ exec_titled : (bytes : List ℕ) (tokens : List Token) (f : ℕ)
     → titled_block (setting bytes tokens []) (exec_entry f) ≡ Ok []
 exec_titled bytes tokens f h = ap (λ (ls : List Lexeme). at_statement f (where_so true (title_of (behind_first ls)))) h
 
-parts_read : (bytes : List ℕ) (tokens : List Token) (f g : ℕ)
+named_read : (bytes : List ℕ) (tokens : List Token) (f g : ℕ)
     → take 2 (drop g (lexemes_of bytes tokens)) ≡ word (codes "PatternBurst") ∷ word (codes "b") ∷ []
-    → and_then (exec_step (setting bytes tokens []) no_parts (named_entry g)) (λ parts.
-    at_statement f (exec_by (line_at tokens f) [] parts parts.burst))
+    → and_then (reading (judge_exec (setting bytes tokens [])) [] (named_entry g ∷ [])) (λ told.
+    at_statement f (exec_called (line_at tokens f) [] told))
     ≡ Ok (drill_exec (line_at tokens f) (line_at tokens g))
 unfolding begins_name is_printable
-parts_read bytes tokens f g h =
-    ap (λ (ls : List Lexeme). and_then (and_then (at_statement g (exec_said false ls)) (λ told.
-    at_statement g (with_named no_parts told.0 (named_on (setting bytes tokens []) (named_entry g) told.1)))) (λ parts.
-    at_statement f (exec_by (line_at tokens f) [] parts parts.burst))) h
+named_read bytes tokens f g h =
+    ap (λ (ls : List Lexeme). and_then (and_then (and_then (at_statement g (exec_said false ls)) (λ one.
+    at_statement g (new_said [] (one.0, named_on (setting bytes tokens []) (named_entry g) one.1)))) (λ x. Ok (x ∷ []))) (λ told.
+    at_statement f (exec_called (line_at tokens f) [] told))) h
 
 exec_inside : (bytes : List ℕ) (tokens : List Token) (f : ℕ)
     → take 2 (drop (f + 1 + 1) (lexemes_of bytes tokens)) ≡ word (codes "PatternBurst") ∷ word (codes "b") ∷ []
@@ -184,10 +189,9 @@ exec_inside : (bytes : List ℕ) (tokens : List Token) (f : ℕ)
 exec_inside bytes tokens f h =
     let s = setting bytes tokens [] in
     let g = f + 1 + 1 in
-    ap (λ (es : List Entry). and_then (stepping (exec_step s) no_parts es) (λ parts.
-    at_statement f (exec_by (line_at tokens f) [] parts parts.burst))) (unskipped_all bytes tokens (named_entry g ∷ []))
-    ∙ and_then-assoc (exec_step s no_parts (named_entry g)) (λ parts. at_statement f (exec_by (line_at tokens f) [] parts parts.burst))
-    ∙ parts_read bytes tokens f g h
+    ap (λ (es : List Entry). and_then (reading (judge_exec s) [] es) (λ told.
+    at_statement f (exec_called (line_at tokens f) [] told))) (unskipped_all bytes tokens (named_entry g ∷ []))
+    ∙ named_read bytes tokens f g h
 
 exec_read : (bytes : List ℕ) (tokens : List Token) (blocks : List SignalDecl) (timings : List TimingBlock) (patterns : List Pattern)
     (bursts : List Burst) (f : ℕ)

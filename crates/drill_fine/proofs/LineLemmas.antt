@@ -1,10 +1,10 @@
 -- The lines of a drill's netlist say what they are to say.
-use Rattle.std.proofs.Common.{◌≡◌, ℕ, zero, suc, ◌+◌, ◌-◌, ◌≤◌, ◌<◌, Bool, true, false, not, cond, List, [], ◌∷◌, ◌++◌, length, take, refl, sym, ap, subst, ◌∙◌, arith, append_assoc, eqb, ne_eqb, length-append}
-use Rattle.std.specs.Prelude.{codes, decimal, slice_index, map, All, nat_le}
+use Rattle.std.proofs.Common.{◌≡◌, ℕ, zero, suc, ◌+◌, ◌-◌, ◌≤◌, ◌<◌, Bool, true, false, not, cond, List, [], ◌∷◌, ◌++◌, length, take, refl, sym, ap, subst, ◌∙◌, arith, append_assoc, eqb, length-append}
+use Rattle.std.specs.Prelude.{codes, decimal, slice_index, map, All}
 use Rattle.std.specs.List.{AllPass, AllZip, flat_map, list_all, range_with_len, slice_split}
 use Rattle.std.specs.Str.Lines.{lines, lines_of_parts, strip_carriage_return}
 use Rattle.std.proofs.lemmas.Bool.{le-leb, and_parts, and_from, not-true}
-use Rattle.std.proofs.lemmas.List.{get_or_at, append-nil}
+use Rattle.std.proofs.lemmas.List.{get_or_at}
 use Rattle.std.proofs.lemmas.List.Folds.{list_all-append}
 use Rattle.std.proofs.lemmas.Fmt.{decimal_digit}
 use Rattle.std.proofs.lemmas.List.Concat.{flat_map-cons}
@@ -14,7 +14,7 @@ use Rattle.std.proofs.lemmas.List.Sums.{AllPass-from_list_all}
 use Rattle.text_bytes.specs.Limits.{longest_name}
 use Rattle.text_bytes.proofs.DigitLemmas.{digit_cases}
 use Rattle.bench_net.specs.Step.{Step, ends, bad, begins, delimiter_step}
-use Rattle.bench_net.specs.Line.{is_gap, is_name_byte, Lexeme, word, Spells, Form, input, output, gate, is_net, is_keyword, Says}
+use Rattle.bench_net.specs.Line.{is_gap, is_name_byte, Lexeme, word, Spells, Form, input, output, is_net, Says}
 use Rattle.bench_net.specs.Net.{Reads}
 use Rattle.bench_net.proofs.TextLemmas.{lines_first}
 use Rattle.drill_fine.specs.Texts.{register_line, net_head, net_text}

@@ -46,7 +46,7 @@ tables_fine body a b c = refl
 
 -- its chains
 pub chains_fine : (body : Written) (a b c : ℕ)
-    → chains_fault (names_of (drill_blocks body a b c)) (exec_scans (drill_blocks body a b c) (drill_exec b c)) []
+    → chains_fault (names_of (drill_blocks body a b c)) (exec_scans (drill_blocks body a b c) (drill_exec b c))
     (chains_named (drill_blocks body a b c).scans (exec_scans (drill_blocks body a b c) (drill_exec b c))) ≡ None
 chains_fine body a b c = refl
 

@@ -72,7 +72,7 @@ measure_vectors tokens n at (i ∷ is) = omega (arith, measure_vectors tokens n 
 
 -- a state with this table and these characters
 abbrev pub state_with : List (Option ℕ) → State
-state_with letters = record { table = Some 0; letters = letters }
+state_with characters = record { table = Some 0; characters = characters }
 
 -- three characters, whatever they are
 abbrev pub three : Option ℕ → Option ℕ → Option ℕ → List (Option ℕ)
@@ -146,7 +146,7 @@ compiled_fine : (tokens : List Token) (n : ℕ) (is : List ℕ) (line : ℕ) →
 compiled_fine tokens n is line few =
     let flat = flat_vectors tokens n 72 is in
     let x = drill_executive (table 0 flat) line in
-    let base : State = record { table = None; letters = [] } in
+    let base : State = record { table = None; characters = [] } in
     let made = (flat_run flat base (state_with (three None None None))).made in
     let many : length made ≡ length is = made_count tokens n 72 is base None None None in
     let size : sum_by measure_of ([] ++ (x ∷ [])) ≡ length is = omega (arith, measure_vectors tokens n 72 is) in

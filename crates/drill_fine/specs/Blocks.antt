@@ -37,8 +37,12 @@ at_time text line acts = record { time = record { text = text; line = line }; ac
 
 -- the waves of a signal, declared on a line
 abbrev pub waved : List ℕ → List ℕ → ℕ → List EventDecl → SignalWaves
-waved called letters line events =
-    record { reference = named_signal called; waves = record { letters = letters; events = events } ∷ []; line = line }
+waved called characters line events =
+    record {
+      reference = named_signal called;
+      waves = record { characters = characters; events = events } ∷ [];
+      line = line;
+    }
 
 -- the waveform table
 abbrev pub drill_table : TableDecl

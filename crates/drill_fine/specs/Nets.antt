@@ -1,8 +1,8 @@
 -- What the lines of a drill's netlist say.
-use Rattle.std.specs.Prelude.{ℕ, zero, suc, ◌-◌, List, [], ◌∷◌, ◌++◌, map, codes, decimal, Option, Some, None}
+use Rattle.std.specs.Prelude.{ℕ, zero, suc, List, [], ◌∷◌, ◌++◌, map, codes, decimal, Option, Some, None}
 use Rattle.std.specs.List.{range_with_len}
+use Rattle.bench_net.specs.Gates.{function_of}
 use Rattle.bench_net.specs.Line.{Form, nothing, input, output, gate}
-use Rattle.bench_net.specs.Step.{function_of}
 
 -- the nets: the input, and behind it the registers in order
 abbrev pub net_at : ℕ → List ℕ

@@ -55,10 +55,10 @@ fit_rows table row skews long all = record {
   where
     found : (signal : ℕ) → IfSome (wave_of table.waves signal (slice_index row signal)) (λ wave. is_inside table.period skews wave ≡ true)
     found signal =
-        let letter = slice_index row signal in
-        let wave = find (is_wave signal letter) (reverse table.waves) in
-        cond_both (eqb letter 0) None wave (λ o. IfSome o (λ w. is_inside table.period skews w ≡ true)) (λ _. tt)
-        (λ _. found_passes (is_wave signal letter) (is_inside table.period skews) (reverse table.waves) (all_reversed (is_inside table.period skews) table.waves all))
+        let character = slice_index row signal in
+        let wave = find (is_wave signal character) (reverse table.waves) in
+        cond_both (eqb character 0) None wave (λ o. IfSome o (λ w. is_inside table.period skews w ≡ true)) (λ _. tt)
+        (λ _. found_passes (is_wave signal character) (is_inside table.period skews) (reverse table.waves) (all_reversed (is_inside table.period skews) table.waves all))
 
 -- ---- no skew
 

@@ -83,7 +83,7 @@ AreNumbered n (signal ∷ signals) = (signal.0 ≡ n) × AreNumbered (n + 1) sig
 AreNumbered-row : (f : ℕ × ℕ → List Event) (n : ℕ) (row : List ℕ)
     → AreNumbered n (map (λ place. (place.0, f place)) (enumerate_from n row))
 AreNumbered-row f n [] = tt
-AreNumbered-row f n (letter ∷ row) = (refl, AreNumbered-row f (n + 1) row)
+AreNumbered-row f n (character ∷ row) = (refl, AreNumbered-row f (n + 1) row)
 
 AreBelow-more : (n : ℕ) (before : List (ℕ × Push)) (push : Option Push) → AreBelow n before
     → AreBelow (n + 1) (before ++ drive_if n push)

@@ -39,13 +39,13 @@ find-passes test [] = tt
 find-passes test (x ∷ xs) = found-passes test x (find test xs) (test x) refl (find-passes test xs)
 
 -- the wave of a signal is of it
-pub wave_of-signal : (waves : List Wave) (signal letter : ℕ)
-    → IfSome (wave_of waves signal letter) (λ wave. wave.signal ≡ signal)
-wave_of-signal waves signal letter =
-    let found = find (is_wave signal letter) (reverse waves) in
-    let passes = find-passes (is_wave signal letter) (reverse waves) in
+pub wave_of-signal : (waves : List Wave) (signal character : ℕ)
+    → IfSome (wave_of waves signal character) (λ wave. wave.signal ≡ signal)
+wave_of-signal waves signal character =
+    let found = find (is_wave signal character) (reverse waves) in
+    let passes = find-passes (is_wave signal character) (reverse waves) in
     let own = IfSome_then found passes (λ wave is. eqb-true wave.signal signal (and_parts _ _ is).0) in
-    cond_both (eqb letter 0) None found (λ o. IfSome o (λ wave. wave.signal ≡ signal)) (λ _. tt) (λ _. own)
+    cond_both (eqb character 0) None found (λ o. IfSome o (λ wave. wave.signal ≡ signal)) (λ _. tt) (λ _. own)
 
 -- an event that is dated with a skew is one that was moved
 dated-moved : (signal : ℕ) (skew : ℤ) (events : List Event)
@@ -62,12 +62,12 @@ dated-own (Some wave) signal skew own =
     ap (λ s. map (dated s skew) wave.events) own ∙ dated-moved signal skew wave.events
 
 -- the events at the place of a signal's wave are the signal's
-dated_at-signal : (waves : List Wave) (skew : ℤ) (signal letter place : ℕ)
-    → slice_get waves place ≡ wave_of waves signal letter
-    → dated_at waves skew place ≡ dated_of (signal, map (moved skew) (events_of waves signal letter))
-dated_at-signal waves skew signal letter place is =
+dated_at-signal : (waves : List Wave) (skew : ℤ) (signal character place : ℕ)
+    → slice_get waves place ≡ wave_of waves signal character
+    → dated_at waves skew place ≡ dated_of (signal, map (moved skew) (events_of waves signal character))
+dated_at-signal waves skew signal character place is =
     ap (λ found. option_map_or (λ wave. map (dated wave.signal skew) wave.events) found []) is
-    ∙ dated-own (wave_of waves signal letter) signal skew (wave_of-signal waves signal letter)
+    ∙ dated-own (wave_of waves signal character) signal skew (wave_of-signal waves signal character)
 
 -- those of all signals, from number n on
 dated_in-from : (waves : List Wave) (skews : List ℤ) (n : ℕ) (row places : List ℕ) → length places ≡ length row
@@ -77,14 +77,14 @@ dated_in-from : (waves : List Wave) (skews : List ℤ) (n : ℕ) (row places : L
     (map (λ place. (place.0, map (moved (skew_of skews place.0)) (events_of waves place.0 place.1))) (enumerate_from n row))
 dated_in-from waves skews n [] [] long each = refl
 dated_in-from waves skews n [] (place ∷ places) long each = absurd (omega (arith, long))
-dated_in-from waves skews n (letter ∷ row) [] long each = absurd (omega (arith, long))
-dated_in-from waves skews n (letter ∷ row) (place ∷ places) long each =
-    let here = each zero (suc-le-suc zero-le) ∙ ap (λ s. wave_of waves s letter) (add-zero n) in
+dated_in-from waves skews n (character ∷ row) [] long each = absurd (omega (arith, long))
+dated_in-from waves skews n (character ∷ row) (place ∷ places) long each =
+    let here = each zero (suc-le-suc zero-le) ∙ ap (λ s. wave_of waves s character) (add-zero n) in
     let after = λ (k : ℕ) (lt : k < length row). each (suc k) (suc-le-suc lt)
     ∙ ap (λ s. wave_of waves s (slice_index row k)) (sym (plus-suc n k)) in
     let skew = skew_of skews n in
-    ap (λ l. l ++ dated_in waves skews (enumerate_from (n + 1) places)) (dated_at-signal waves skew n letter place here)
-    ∙ ap (λ l. dated_of (n, map (moved skew) (events_of waves n letter)) ++ l)
+    ap (λ l. l ++ dated_in waves skews (enumerate_from (n + 1) places)) (dated_at-signal waves skew n character place here)
+    ∙ ap (λ l. dated_of (n, map (moved skew) (events_of waves n character)) ++ l)
     (dated_in-from waves skews (n + 1) row places (omega (arith, long)) after)
 
 pub dated_in-places : (table : Table) (row places : List ℕ) (skews : List ℤ)

@@ -19,7 +19,7 @@ event time act = record { time = time; act = act }
 
 -- a wave of a signal and a character
 abbrev wave : ℕ → ℕ → List Event → Wave
-wave signal letter events = record { signal = signal; letter = letter; events = events }
+wave signal character events = record { signal = signal; character = character; events = events }
 
 -- a table of 100 ns
 abbrev table : List Wave → Table

@@ -11,12 +11,12 @@ use Rattle.tester_types.specs.declared.wave.Table.{Table}
 -- the wave of a signal with this character, which is 0 where it has none; of several waves that are listed for the two
 -- it is the last, since a later definition replaces an earlier one
 abbrev pub wave_of : List Wave → ℕ → ℕ → Option Wave
-wave_of waves signal letter =
-    if letter == 0 then None else find (is_wave signal letter) (reverse waves)
+wave_of waves signal character =
+    if character == 0 then None else find (is_wave signal character) (reverse waves)
 
 -- the signal's events in written order: none where it has no wave
 abbrev pub events_of : List Wave → ℕ → ℕ → List Event
-events_of waves signal letter = option_map_or (λ wave. wave.events) (wave_of waves signal letter) []
+events_of waves signal character = option_map_or (λ wave. wave.events) (wave_of waves signal character) []
 
 -- a time moved by a skew, in femtoseconds from the cycle's start; it isn't before the start
 abbrev pub moved_time : ℤ → ℕ → ℕ

@@ -5,8 +5,8 @@ ghost use Rattle.edge_gen.specs.Signals.{stays_inside, stay_inside, keeps_inside
 
 use tester_types::{Table, Wave};
 
-/// Whether each event of each waveform of a table stays inside the cycle where the skew of its signal, in
-/// femtoseconds, moves it. A signal beyond the skews has none.
+/// Only tests and measurements call it: whether each event of each waveform of a table stays inside the cycle where the skew
+/// of its signal, in femtoseconds, moves it. A signal beyond the skews has none.
 pub fn keep_inside(table: &Table, skews: &[i64]) -> bool
     ensures exact { result ≡ keeps_inside table.now skews.now }
     ensures rows { result ≡ true → (row : List ℕ) → length skews.now ≡ length row → FitSkews table.now row skews.now }

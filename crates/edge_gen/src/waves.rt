@@ -14,8 +14,8 @@ pub(crate) fn places(alloc: Global, waves: &WaveList, row: &[u8]) -> Result<Vec<
 {
     let mut places = Vec::with_capacity(alloc, row.len())?;
     let mut from = 0;
-    for (signal, letter) in row.iter().enumerate() {
-        let (place, next) = place_of(waves, from, signal, *letter);
+    for (signal, character) in row.iter().enumerate() {
+        let (place, next) = place_of(waves, from, signal, *character);
         places.push(place)?;
         from = next;
     }
@@ -23,13 +23,13 @@ pub(crate) fn places(alloc: Global, waves: &WaveList, row: &[u8]) -> Result<Vec<
 }
 
 /// The place of a signal's wave, or one past all waves where it has none, and where the search for that of a later signal begins.
-fn place_of(waves: &WaveList, from: usize, signal: usize, letter: u8) -> (usize, usize)
-    ensures { slice_get waves.now result.0 ≡ wave_of waves.now signal letter }
+fn place_of(waves: &WaveList, from: usize, signal: usize, character: u8) -> (usize, usize)
+    ensures { slice_get waves.now result.0 ≡ wave_of waves.now signal character }
 {
-    if letter == 0 {
+    if character == 0 {
         return (waves.len(), from);
     }
-    match waves.search(from, signal, letter) {
+    match waves.search(from, signal, character) {
         Ok(place) => (place, place),
         Err(next) => (waves.len(), next),
     }

@@ -6,10 +6,11 @@ use Rattle.expr_text.specs.declared.expr.Operator.{Operator}
 use Rattle.expr_text.specs.declared.expr.Operator.TheVariants.{Plus, Minus, Times, Over}
 use Rattle.expr_text.specs.declared.expr.Bound.{Bound}
 use Rattle.expr_text.specs.declared.token.Number.{Number}
+use Rattle.expr_text.specs.declared.reader.TheConstants.{MOST_PARENS}
 
 -- how many parentheses may stand one inside another
 abbrev pub most_parens : ℕ
-most_parens = 64
+most_parens = MOST_PARENS
 
 -- what joins operands: `*` and `/` in a term, `+` and `-` in a sum
 pub data Joint : Type 0 where

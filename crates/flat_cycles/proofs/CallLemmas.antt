@@ -9,7 +9,7 @@ use Rattle.packed_code.specs.declared.instr.Instr.TheVariants.{Done}
 use Rattle.packed_code.specs.Meaning.{Means}
 use Rattle.packed_code.proofs.NestingLemmas.{Means-Runs}
 use Rattle.packed_code.specs.Program.{Program}
-use Rattle.packed_code.specs.Conditions.{IsRow, letters_of}
+use Rattle.packed_code.specs.Conditions.{IsRow, characters_of}
 use Rattle.packed_code.specs.Cycles.{exec_of}
 use Rattle.packed_code.proofs.Lists.{behind_at}
 use Rattle.stil_ast.specs.Data.Places.{of_pattern, of_procedure}
@@ -38,16 +38,16 @@ use Rattle.flat_fine.proofs.LookupLemmas.{numbered_only}
 use Rattle.flat_fine.proofs.ScopeLemmas.{procedures_are}
 use Rattle.flat_cycles.proofs.FitLemmas.{IsRun, runs_fit}
 use Rattle.flat_cycles.proofs.PlayLemmas.{IsTextExec, own, own_play, exec_less, one_part, unmarked}
-use Rattle.flat_cycles.proofs.RowLemmas.{letters_or_none, AreKnown, body_makes}
+use Rattle.flat_cycles.proofs.RowLemmas.{characters_or_none, AreKnown, body_makes}
 use Rattle.flat_cycles.proofs.RunLemmas.{nest_cycles, nest_runs, OfRun, OfRuns, of_run, of_nest, vectors, vector_of, Calls, CanRun, Makes, nest_makes}
 
 -- the places at which no signal has a character
-abbrev pub no_letters : Program → List (Option ℕ)
-no_letters code = replicate (length code.signals) None
+abbrev pub no_characters : Program → List (Option ℕ)
+no_characters code = replicate (length code.signals) None
 
 -- the characters of a row of the code
-abbrev pub code_letters : Program → ℕ → List (Option ℕ)
-code_letters code row = letters_or_none (letters_of code.rows row)
+abbrev pub code_characters : Program → ℕ → List (Option ℕ)
+code_characters code row = characters_or_none (characters_of code.rows row)
 
 module _ (code : Program) (blocks : Blocks) (exec : ℕ) (e : ExecDecl) (text : IsTextExec code blocks exec e) where
   -- the pattern as it is run
@@ -63,14 +63,14 @@ module _ (code : Program) (blocks : Blocks) (exec : ℕ) (e : ExecDecl) (text : 
   known signal less = reference_members code (names_of blocks) signal text.program (names_are code blocks text.flat) less
 
   -- a row has a character for each signal
-  row_long : (row : ℕ) → row < length code.rows → length (letters_of code.rows row) ≡ length code.signals
+  row_long : (row : ℕ) → row < length code.rows → length (characters_of code.rows row) ≡ length code.signals
   row_long row less = (behind_at (IsRow (length code.signals)) [] code.rows row [] text.program.rows less).places
 
   -- a Call's procedure is the row of a Run
   pub record IsCalled (row : ℕ) : Type 0 where
     pub line : ℕ
     pub gifts : List Assignment
-    pub each : AllZip IsGift (given_from code 0 (letters_of code.rows row)) gifts
+    pub each : AllZip IsGift (given_from code 0 (characters_of code.rows row)) gifts
     pub body : slice_get own_part.setting.procedures (body_number own_scope.procedures (row_name code row))
         ≡ Some (resolved own_scope of_procedure (written.single line (VectorStep gifts) written.no_more))
 
@@ -85,12 +85,12 @@ module _ (code : Program) (blocks : Blocks) (exec : ℕ) (e : ExecDecl) (text : 
       text.flat.procedures.each (omega (arith, few)) (place_within order row fits.row_ordered) in
       let test = λ (x : BodyDef). same x.name (row_name code row) in
       let read = λ (x : BodyDef). resolved own_scope of_procedure x.body in
-      let letters : row_numbered code number ≡ letters_of code.rows row =
-      ap (letters_of code.rows) (get_or_from_slice_get order number row 0 (at_place order row fits.row_ordered)) in
+      let characters : row_numbered code number ≡ characters_of code.rows row =
+      ap (characters_of code.rows) (get_or_from_slice_get order number row 0 (at_place order row fits.row_ordered)) in
       record {
         line = d.2.line;
         gifts = d.2.gifts;
-        each = subst (λ (row : List ℕ). AllZip IsGift (given_from code 0 row) d.2.gifts) letters d.2.each;
+        each = subst (λ (row : List ℕ). AllZip IsGift (given_from code 0 row) d.2.gifts) characters d.2.each;
         body =
             ap (λ (ds : List BodyDef). slice_get (map read ds) (body_number ds (row_name code row))) (procedures_are code blocks text.flat)
             ∙ ap (slice_get (map read bodies)) (first_number test bodies number d.0 (only_first test bodies number d.0 d.1))
@@ -104,19 +104,19 @@ module _ (code : Program) (blocks : Blocks) (exec : ℕ) (e : ExecDecl) (text : 
 
   -- such a call makes the row's vector
   calls_row : (table row times : ℕ) → IsRun code exec table row times
-      → Calls code own_scope own_part.setting inner (no_letters code) (code_letters code) row
+      → Calls code own_scope own_part.setting inner (no_characters code) (code_characters code) row
   unfolding calls
   calls_row table row times fits h blank =
       let t = own_part.setting in
       let called = row_called table row times fits in
       let now = in_call t [] h in
       ap (λ (o : Option Statements). vectors (calls t deepest_calls o now).made) called.body
-      ∙ body_makes code own_scope t (unmarked code blocks exec e text) known (calls t 63) called.line (letters_of code.rows row)
+      ∙ body_makes code own_scope t (unmarked code blocks exec e text) known (calls t 63) called.line (characters_of code.rows row)
       called.gifts now (row_long row fits.has_row) called.each blank
 
   -- the vector of a cycle of the code
   abbrev pub own_vector : Entry → Vector
-  own_vector entry = vector_of code own_scope own_part.setting inner (no_letters code) (code_letters code) entry
+  own_vector entry = vector_of code own_scope own_part.setting inner (no_characters code) (code_characters code) entry
 
   -- the instructions of an executive by how they nest
   abbrev pub own_nest : Nest
@@ -141,19 +141,19 @@ module _ (code : Program) (blocks : Blocks) (exec : ℕ) (e : ExecDecl) (text : 
 
   -- no signal has a character
   abbrev pub IsBare : Here → Type 0
-  IsBare h = h.state.letters ≡ no_letters code
+  IsBare h = h.state.characters ≡ no_characters code
 
   -- the pattern makes the vectors of the code's cycles
   pub pattern_makes : (h : Here) → IsBare h
       → Makes IsBare (map own_vector (Means (exec_of code exec).instrs)) (run own_part.setting own_part.statements h)
   pattern_makes h bare =
       let t = own_part.setting in
-      let can = own_runs (CanRun code own_scope t inner (no_letters code) (code_letters code))
+      let can = own_runs (CanRun code own_scope t inner (no_characters code) (code_characters code))
       (λ table row times fits. (fits.some, calls_row table row times fits)) in
       subst (λ (entries : List Entry). Makes IsBare (map own_vector entries) (run t own_part.statements h)) own_cycles
       (subst (λ (w : Written). Makes IsBare (map own_vector (nest_cycles own_nest)) (run_list t inner (resolved own_scope of_pattern w) h))
       (sym (own code blocks exec e text).pattern_is.body)
-      (nest_makes code own_scope t inner (no_letters code) (code_letters code) own_nest h can bare))
+      (nest_makes code own_scope t inner (no_characters code) (code_characters code) own_nest h can bare))
 
   -- an executive begins without characters
   pub begins_bare : IsBare (outside (start_of (length (names_of blocks).signals)))

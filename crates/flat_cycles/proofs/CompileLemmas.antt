@@ -12,7 +12,7 @@ use Rattle.packed_code.specs.Meaning.{Means}
 use Rattle.packed_code.proofs.CountLemmas.{cycle_count-length}
 use Rattle.packed_code.specs.Program.{Program}
 use Rattle.packed_code.specs.Conditions as conditions
-use Rattle.packed_code.specs.Conditions.{IsProgram, letters_of}
+use Rattle.packed_code.specs.Conditions.{IsProgram, characters_of}
 use Rattle.packed_code.specs.Cycles.{exec_of}
 use Rattle.stil_ast.specs.Data.Places.{of_pattern, Titles}
 use Rattle.stil_ast.specs.Data.Written.{Written}
@@ -39,10 +39,10 @@ use Rattle.flat_fine.proofs.FaultLemmas.{IsLarge, large_none, large_or, large_un
 use Rattle.flat_fine.proofs.ExecLemmas.{each_so, exec_fits}
 use Rattle.flat_fine.proofs.ScopeLemmas.{each_at}
 use Rattle.flat_cycles.proofs.FitLemmas.{IsRun}
-use Rattle.flat_cycles.proofs.RowLemmas.{letters_or_none}
+use Rattle.flat_cycles.proofs.RowLemmas.{characters_or_none}
 use Rattle.flat_cycles.proofs.RunLemmas.{vectors}
 use Rattle.flat_cycles.proofs.PlayLemmas.{IsTextExec, own, exec_less, one_part}
-use Rattle.flat_cycles.proofs.CallLemmas.{code_letters, own_part, own_scope, own_nest, own_runs, own_vector, row_called, pattern_makes, begins_bare}
+use Rattle.flat_cycles.proofs.CallLemmas.{code_characters, own_part, own_scope, own_nest, own_runs, own_vector, row_called, pattern_makes, begins_bare}
 use Rattle.flat_cycles.proofs.TableLemmas.{TimesAre}
 use Rattle.flat_cycles.proofs.EntryLemmas.{IsEntry, entries, entries_fit, vector_same}
 use Rattle.flat_cycles.proofs.SteadyLemmas.{Passes, nest_steady}
@@ -56,13 +56,13 @@ one_by false new signal c e = refl
 
 -- a row has waves in a table where its characters have
 waves_as : (new : Table) (signal : ℕ) (row : List ℕ)
-    → have_waves (Some new) signal (letters_or_none row) ≡ conditions.has_waves new.waves signal row
+    → have_waves (Some new) signal (characters_or_none row) ≡ conditions.has_waves new.waves signal row
 waves_as new signal [] = refl
 waves_as new signal (c ∷ row) =
     let next : signal + 1 ≡ suc signal = omega arith in
     let first = (c == 0) || conditions.has_wave new.waves signal c in
-    ap (λ (b : Bool). b && have_waves (Some new) (signal + 1) (letters_or_none row)) (one_by (c == 0) new signal c refl)
-    ∙ ap (λ (n : ℕ). first && have_waves (Some new) n (letters_or_none row)) next
+    ap (λ (b : Bool). b && have_waves (Some new) (signal + 1) (characters_or_none row)) (one_by (c == 0) new signal c refl)
+    ∙ ap (λ (n : ℕ). first && have_waves (Some new) n (characters_or_none row)) next
     ∙ ap (λ (b : Bool). first && b) (waves_as new (suc signal) row)
 
 -- ---- vectors without a fault
@@ -71,7 +71,7 @@ waves_as new signal (c ∷ row) =
 record IsWaved (tables : List Table) (v : Vector) : Type 0 where
   place : ℕ
   table : v.table ≡ Some place
-  waves : have_waves (slice_get tables place) 0 v.letters ≡ true
+  waves : have_waves (slice_get tables place) 0 v.characters ≡ true
 
 no_fault : (tables : List Table) (titles : Titles) (made : List Made) → AllByRecursion (IsWaved tables) (vectors made)
     → first_in (vector_fault tables titles) made ≡ None
@@ -173,12 +173,12 @@ module _ {V : Type 0} (times : Times V) (times_are : TimesAre times) (code : Pro
   vector_waved : (entry : Entry) → IsEntry code exec entry → IsWaved x.tables (own_vector code blocks exec e text entry)
   vector_waved entry fits =
       let v = vector_same times times_are code blocks exec e text entry fits in
-      let row = letters_of code.rows entry.row in
+      let row = characters_of code.rows entry.row in
       record {
         place = v.place;
         table = v.table;
         waves =
-            ap (λ (o : Option Table). have_waves o 0 (code_letters code entry.row)) v.same.there
+            ap (λ (o : Option Table). have_waves o 0 (code_characters code entry.row)) v.same.there
             ∙ waves_as v.same.new 0 row
             ∙ ap (λ (ws : List Wave). conditions.has_waves ws 0 row)
             (v.same.waves ∙ sym (ap (λ (o : Option Table). option_map_or (λ (t : Table). t.waves) o []) v.old_is))

@@ -129,7 +129,7 @@ module _ {V : Type 0} (times : Times V) (times_are : TimesAre times) (code : Pro
     table = ap (λ (n : ℕ). Some n)
         (name_place code exec entry.table text.program fits.1.table_own fits.1.table_ordered (exec_tables blocks e)
         (own_tables code blocks exec e text));
-    letters = refl;
+    characters = refl;
     mark = refl;
     old = old_of entry.table;
     old_is = slice_get-get_or code.tables entry.table no_table fits.1.has_table;

@@ -6,7 +6,7 @@ use Rattle.packed_code.specs.declared.instr.Instr.{Instr}
 use Rattle.packed_code.specs.declared.instr.Instr.TheVariants.{Run, Loop, End, Done}
 use Rattle.packed_code.specs.Whole.{IsRest}
 use Rattle.packed_code.specs.Program.{Program}
-use Rattle.packed_code.specs.Conditions.{IsInstr, IsProgram, has_waves, waves_of, letters_of}
+use Rattle.packed_code.specs.Conditions.{IsInstr, IsProgram, has_waves, waves_of, characters_of}
 use Rattle.packed_code.specs.Cycles.{exec_of}
 use Rattle.packed_code.proofs.Lists.{each_all}
 use Rattle.flat_parts.specs.Order.{run_table, run_row, tables_in, is_in, table_order, row_order}
@@ -24,7 +24,7 @@ pub record IsRun (code : Program) (exec table row times : ℕ) : Type 0 where
   pub row_ordered : is_in (row_order code) row ≡ true
   pub has_table : table < length code.tables
   pub has_row : row < length code.rows
-  pub waves : has_waves (waves_of code.tables table) 0 (letters_of code.rows row) ≡ true
+  pub waves : has_waves (waves_of code.tables table) 0 (characters_of code.rows row) ≡ true
 
 -- a Run runs once at least
 abbrev SomeTimes : Instr → Type 0

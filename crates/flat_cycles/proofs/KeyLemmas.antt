@@ -6,7 +6,7 @@ use Rattle.std.proofs.lemmas.List.Elements.{filter_map-append}
 use Rattle.std.proofs.lemmas.List.Folds.{list_any-append}
 use Rattle.text_bytes.specs.Bytes.{is_character}
 use Rattle.stil_ast.specs.Data.Texts.{upwards}
-use Rattle.stil_ast.specs.Meaning.Tables.{characters}
+use Rattle.stil_ast.specs.Meaning.Tables.{every_character}
 use Rattle.text_bytes.proofs.ListLemmas.{all_append}
 use Rattle.flat_cycles.proofs.SortedLemmas.{Rising, has_rank}
 
@@ -56,32 +56,32 @@ all_small (x ∷ xs) e =
     let parts = and_parts (nat_lt x 256) (list_all (λ y. nat_lt y 256) xs) e in
     (ltb-true x 256 parts.0, all_small xs parts.1)
 
-characters_tested : is_rising characters ≡ true
+characters_tested : is_rising every_character ≡ true
 unfolding is_rising
 characters_tested = refl
 
-pub characters_rising : Rising (λ (x : ℕ). x) characters
-characters_rising = rising_tested characters characters_tested
+pub characters_rising : Rising (λ (x : ℕ). x) every_character
+characters_rising = rising_tested every_character characters_tested
 
-pub characters_small : AllByRecursion (λ x. x < 256) characters
-characters_small = all_small characters refl
+pub characters_small : AllByRecursion (λ x. x < 256) every_character
+characters_small = all_small every_character refl
 
 -- which part of them a character is in
 is_between : (low high l : ℕ) → (nat_le low l && nat_le l high) ≡ true → (low ≤ l) × (l ≤ high)
 is_between low high l e = let parts = and_parts (nat_le low l) (nat_le l high) e in (leb-true low l parts.0, leb-true l high parts.1)
 
 -- each character is one of them
-pub characters_have : (l : ℕ) → is_character l ≡ true → has_rank (λ (x : ℕ). x) characters l ≡ true
+pub characters_have : (l : ℕ) → is_character l ≡ true → has_rank (λ (x : ℕ). x) every_character l ≡ true
 unfolding is_character
 characters_have l e =
     let digits = has_rank (λ (x : ℕ). x) (upwards 48 10) l in
     let upper = has_rank (λ (x : ℕ). x) (upwards 65 26) l in
     let lower = has_rank (λ (x : ℕ). x) (upwards 97 26) l in
-    let split : has_rank (λ (x : ℕ). x) characters l ≡ (digits || (upper || lower)) =
+    let split : has_rank (λ (x : ℕ). x) every_character l ≡ (digits || (upper || lower)) =
     list_any-append (λ x. x == l) (upwards 48 10) (upwards 65 26 ++ upwards 97 26)
     ∙ ap (λ (b : Bool). digits || b) (list_any-append (λ x. x == l) (upwards 65 26) (upwards 97 26)) in
     split ∙ elim (or_cases ((nat_le 0x61 l && nat_le l 0x7A) || (nat_le 0x41 l && nat_le l 0x5A)) (nat_le 0x30 l && nat_le l 0x39) e) [
-      | inl letter ↦ elim (or_cases (nat_le 0x61 l && nat_le l 0x7A) (nat_le 0x41 l && nat_le l 0x5A) letter) [
+      | inl character ↦ elim (or_cases (nat_le 0x61 l && nat_le l 0x7A) (nat_le 0x41 l && nat_le l 0x5A) character) [
         | inl is ↦
             or_right digits (upper || lower) (or_right upper lower
             (let b = is_between 0x61 0x7A l is in upwards_has 97 26 l b.0 (omega (arith, b.1))))
@@ -100,36 +100,36 @@ rank_of k = k.0 * 256 + k.1
 
 -- a signal with each of these characters
 abbrev pub row_keys : ℕ → List ℕ → List (ℕ × ℕ)
-row_keys signal letters = map (λ (l : ℕ). (signal, l)) letters
+row_keys signal characters = map (λ (l : ℕ). (signal, l)) characters
 
 -- each signal with each character
 abbrev pub keys : List ℕ → List ℕ → List (ℕ × ℕ)
-keys signals letters = flat_map (λ (s : ℕ). row_keys s letters) signals
+keys signals characters = flat_map (λ (s : ℕ). row_keys s characters) signals
 
-above_row : (signal l : ℕ) (letters : List ℕ) → AllByRecursion (λ y. l < y) letters
-    → AllByRecursion (λ k. rank_of (signal, l) < rank_of k) (row_keys signal letters)
+above_row : (signal l : ℕ) (characters : List ℕ) → AllByRecursion (λ y. l < y) characters
+    → AllByRecursion (λ k. rank_of (signal, l) < rank_of k) (row_keys signal characters)
 above_row signal l [] all = tt
-above_row signal l (x ∷ letters) all = (let less = all.0 in omega (arith, less), above_row signal l letters all.1)
+above_row signal l (x ∷ characters) all = (let less = all.0 in omega (arith, less), above_row signal l characters all.1)
 
-row_rising : (signal : ℕ) (letters : List ℕ) → Rising (λ (x : ℕ). x) letters → Rising rank_of (row_keys signal letters)
+row_rising : (signal : ℕ) (characters : List ℕ) → Rising (λ (x : ℕ). x) characters → Rising rank_of (row_keys signal characters)
 row_rising signal [] rising = tt
-row_rising signal (l ∷ letters) rising = (above_row signal l letters rising.0, row_rising signal letters rising.1)
+row_rising signal (l ∷ characters) rising = (above_row signal l characters rising.0, row_rising signal characters rising.1)
 
-row_small : (signal : ℕ) (letters : List ℕ) → AllByRecursion (λ x. x < 256) letters
-    → AllByRecursion (λ k. rank_of k < signal * 256 + 256) (row_keys signal letters)
+row_small : (signal : ℕ) (characters : List ℕ) → AllByRecursion (λ x. x < 256) characters
+    → AllByRecursion (λ k. rank_of k < signal * 256 + 256) (row_keys signal characters)
 row_small signal [] all = tt
-row_small signal (l ∷ letters) all = (let less = all.0 in omega (arith, less), row_small signal letters all.1)
+row_small signal (l ∷ characters) all = (let less = all.0 in omega (arith, less), row_small signal characters all.1)
 
-row_least : (signal s : ℕ) (letters : List ℕ) → signal < s → AllByRecursion (λ k. signal * 256 + 256 ≤ rank_of k) (row_keys s letters)
+row_least : (signal s : ℕ) (characters : List ℕ) → signal < s → AllByRecursion (λ k. signal * 256 + 256 ≤ rank_of k) (row_keys s characters)
 row_least signal s [] less = tt
-row_least signal s (l ∷ letters) less = (omega (arith, less), row_least signal s letters less)
+row_least signal s (l ∷ characters) less = (omega (arith, less), row_least signal s characters less)
 
-keys_least : (signal : ℕ) (signals letters : List ℕ) → AllByRecursion (λ s. signal < s) signals
-    → AllByRecursion (λ k. signal * 256 + 256 ≤ rank_of k) (keys signals letters)
-keys_least signal [] letters all = tt
-keys_least signal (s ∷ signals) letters all =
-    all_append (λ k. signal * 256 + 256 ≤ rank_of k) (row_keys s letters) (keys signals letters)
-    (row_least signal s letters all.0) (keys_least signal signals letters all.1)
+keys_least : (signal : ℕ) (signals characters : List ℕ) → AllByRecursion (λ s. signal < s) signals
+    → AllByRecursion (λ k. signal * 256 + 256 ≤ rank_of k) (keys signals characters)
+keys_least signal [] characters all = tt
+keys_least signal (s ∷ signals) characters all =
+    all_append (λ k. signal * 256 + 256 ≤ rank_of k) (row_keys s characters) (keys signals characters)
+    (row_least signal s characters all.0) (keys_least signal signals characters all.1)
 
 all_after : (n m : ℕ) (ks : List (ℕ × ℕ)) → n < m → AllByRecursion (λ k. m ≤ rank_of k) ks → AllByRecursion (λ k. n < rank_of k) ks
 all_after n m [] less all = tt
@@ -144,61 +144,61 @@ rising_append m (k ∷ ks) more small least one two = (
 )
 
 -- pairs rise by signal and then by character
-pub keys_rising : (signals letters : List ℕ) → AllByRecursion (λ x. x < 256) letters → Rising (λ (x : ℕ). x) letters
-    → Rising (λ (x : ℕ). x) signals → Rising rank_of (keys signals letters)
-keys_rising [] letters small rising signals_rising = tt
-keys_rising (s ∷ signals) letters small rising signals_rising =
-    rising_append (s * 256 + 256) (row_keys s letters) (keys signals letters) (row_small s letters small)
-    (keys_least s signals letters signals_rising.0) (row_rising s letters rising)
-    (keys_rising signals letters small rising signals_rising.1)
+pub keys_rising : (signals characters : List ℕ) → AllByRecursion (λ x. x < 256) characters → Rising (λ (x : ℕ). x) characters
+    → Rising (λ (x : ℕ). x) signals → Rising rank_of (keys signals characters)
+keys_rising [] characters small rising signals_rising = tt
+keys_rising (s ∷ signals) characters small rising signals_rising =
+    rising_append (s * 256 + 256) (row_keys s characters) (keys signals characters) (row_small s characters small)
+    (keys_least s signals characters signals_rising.0) (row_rising s characters rising)
+    (keys_rising signals characters small rising signals_rising.1)
 
-row_by : (b there : Bool) (signal x l : ℕ) (letters : List ℕ) → (x == l) ≡ b → (b || there) ≡ true
-    → (there ≡ true → has_rank rank_of (row_keys signal letters) (signal * 256 + l) ≡ true)
-    → ((signal * 256 + x == signal * 256 + l) || has_rank rank_of (row_keys signal letters) (signal * 256 + l)) ≡ true
-row_by true there signal x l letters e h later =
-    or_left (signal * 256 + x == signal * 256 + l) (has_rank rank_of (row_keys signal letters) (signal * 256 + l))
+row_by : (b there : Bool) (signal x l : ℕ) (characters : List ℕ) → (x == l) ≡ b → (b || there) ≡ true
+    → (there ≡ true → has_rank rank_of (row_keys signal characters) (signal * 256 + l) ≡ true)
+    → ((signal * 256 + x == signal * 256 + l) || has_rank rank_of (row_keys signal characters) (signal * 256 + l)) ≡ true
+row_by true there signal x l characters e h later =
+    or_left (signal * 256 + x == signal * 256 + l) (has_rank rank_of (row_keys signal characters) (signal * 256 + l))
     (eq-eqb (signal * 256 + x) (signal * 256 + l) (ap (λ (n : ℕ). signal * 256 + n) (eqb-true x l e)))
-row_by false there signal x l letters e h later =
-    or_right (signal * 256 + x == signal * 256 + l) (has_rank rank_of (row_keys signal letters) (signal * 256 + l)) (later h)
+row_by false there signal x l characters e h later =
+    or_right (signal * 256 + x == signal * 256 + l) (has_rank rank_of (row_keys signal characters) (signal * 256 + l)) (later h)
 
-row_has : (signal : ℕ) (letters : List ℕ) (l : ℕ) → has_rank (λ (x : ℕ). x) letters l ≡ true
-    → has_rank rank_of (row_keys signal letters) (signal * 256 + l) ≡ true
+row_has : (signal : ℕ) (characters : List ℕ) (l : ℕ) → has_rank (λ (x : ℕ). x) characters l ≡ true
+    → has_rank rank_of (row_keys signal characters) (signal * 256 + l) ≡ true
 row_has signal [] l h = absurd cc
-row_has signal (x ∷ letters) l h =
-    row_by (x == l) (has_rank (λ (y : ℕ). y) letters l) signal x l letters refl h (λ there. row_has signal letters l there)
+row_has signal (x ∷ characters) l h =
+    row_by (x == l) (has_rank (λ (y : ℕ). y) characters l) signal x l characters refl h (λ there. row_has signal characters l there)
 
-keys_by : (b there : Bool) (s signal l : ℕ) (signals letters : List ℕ) → (s == signal) ≡ b → (b || there) ≡ true
-    → has_rank (λ (x : ℕ). x) letters l ≡ true
-    → (there ≡ true → has_rank rank_of (keys signals letters) (signal * 256 + l) ≡ true)
-    → (has_rank rank_of (row_keys s letters) (signal * 256 + l) || has_rank rank_of (keys signals letters) (signal * 256 + l)) ≡ true
-keys_by true there s signal l signals letters e h has later =
-    or_left (has_rank rank_of (row_keys s letters) (signal * 256 + l)) (has_rank rank_of (keys signals letters) (signal * 256 + l))
-    (ap (λ (x : ℕ). has_rank rank_of (row_keys x letters) (signal * 256 + l)) (eqb-true s signal e) ∙ row_has signal letters l has)
-keys_by false there s signal l signals letters e h has later =
-    or_right (has_rank rank_of (row_keys s letters) (signal * 256 + l)) (has_rank rank_of (keys signals letters) (signal * 256 + l))
+keys_by : (b there : Bool) (s signal l : ℕ) (signals characters : List ℕ) → (s == signal) ≡ b → (b || there) ≡ true
+    → has_rank (λ (x : ℕ). x) characters l ≡ true
+    → (there ≡ true → has_rank rank_of (keys signals characters) (signal * 256 + l) ≡ true)
+    → (has_rank rank_of (row_keys s characters) (signal * 256 + l) || has_rank rank_of (keys signals characters) (signal * 256 + l)) ≡ true
+keys_by true there s signal l signals characters e h has later =
+    or_left (has_rank rank_of (row_keys s characters) (signal * 256 + l)) (has_rank rank_of (keys signals characters) (signal * 256 + l))
+    (ap (λ (x : ℕ). has_rank rank_of (row_keys x characters) (signal * 256 + l)) (eqb-true s signal e) ∙ row_has signal characters l has)
+keys_by false there s signal l signals characters e h has later =
+    or_right (has_rank rank_of (row_keys s characters) (signal * 256 + l)) (has_rank rank_of (keys signals characters) (signal * 256 + l))
     (later h)
 
 -- each pair is there
-pub keys_have : (signals letters : List ℕ) (signal l : ℕ) → has_rank (λ (x : ℕ). x) signals signal ≡ true
-    → has_rank (λ (x : ℕ). x) letters l ≡ true → has_rank rank_of (keys signals letters) (signal * 256 + l) ≡ true
-keys_have [] letters signal l there has = absurd cc
-keys_have (s ∷ signals) letters signal l there has =
-    list_any-append (λ k. rank_of k == signal * 256 + l) (row_keys s letters) (keys signals letters)
-    ∙ keys_by (s == signal) (has_rank (λ (x : ℕ). x) signals signal) s signal l signals letters refl there has
-    (λ later. keys_have signals letters signal l later has)
+pub keys_have : (signals characters : List ℕ) (signal l : ℕ) → has_rank (λ (x : ℕ). x) signals signal ≡ true
+    → has_rank (λ (x : ℕ). x) characters l ≡ true → has_rank rank_of (keys signals characters) (signal * 256 + l) ≡ true
+keys_have [] characters signal l there has = absurd cc
+keys_have (s ∷ signals) characters signal l there has =
+    list_any-append (λ k. rank_of k == signal * 256 + l) (row_keys s characters) (keys signals characters)
+    ∙ keys_by (s == signal) (has_rank (λ (x : ℕ). x) signals signal) s signal l signals characters refl there has
+    (λ later. keys_have signals characters signal l later has)
 
 -- ---- what comes of pairs
 
-mapped_row : {B : Type 0} (f : ℕ × ℕ → Option B) (signal : ℕ) (letters : List ℕ)
-    → filter_map (λ l. f (signal, l)) letters ≡ filter_map f (row_keys signal letters)
+mapped_row : {B : Type 0} (f : ℕ × ℕ → Option B) (signal : ℕ) (characters : List ℕ)
+    → filter_map (λ l. f (signal, l)) characters ≡ filter_map f (row_keys signal characters)
 mapped_row f signal [] = refl
-mapped_row f signal (l ∷ letters) = ap (cons_option (f (signal, l))) (mapped_row f signal letters)
+mapped_row f signal (l ∷ characters) = ap (cons_option (f (signal, l))) (mapped_row f signal characters)
 
 -- signal by signal, or pair by pair
-pub mapped_keys : {B : Type 0} (f : ℕ × ℕ → Option B) (signals letters : List ℕ)
-    → flat_map (λ s. filter_map (λ l. f (s, l)) letters) signals ≡ filter_map f (keys signals letters)
-mapped_keys f [] letters = refl
-mapped_keys f (s ∷ signals) letters =
-    ap (λ (l : List _). l ++ flat_map (λ s. filter_map (λ l. f (s, l)) letters) signals) (mapped_row f s letters)
-    ∙ ap (λ (l : List _). filter_map f (row_keys s letters) ++ l) (mapped_keys f signals letters)
-    ∙ sym (filter_map-append f (row_keys s letters) (keys signals letters))
+pub mapped_keys : {B : Type 0} (f : ℕ × ℕ → Option B) (signals characters : List ℕ)
+    → flat_map (λ s. filter_map (λ l. f (s, l)) characters) signals ≡ filter_map f (keys signals characters)
+mapped_keys f [] characters = refl
+mapped_keys f (s ∷ signals) characters =
+    ap (λ (l : List _). l ++ flat_map (λ s. filter_map (λ l. f (s, l)) characters) signals) (mapped_row f s characters)
+    ∙ ap (λ (l : List _). filter_map f (row_keys s characters) ++ l) (mapped_keys f signals characters)
+    ∙ sym (filter_map-append f (row_keys s characters) (keys signals characters))

@@ -9,7 +9,7 @@ use Rattle.stil_ast.specs.Data.Places.{of_procedure}
 use Rattle.stil_ast.specs.declared.body.Assignment.{Assignment}
 use Rattle.stil_ast.specs.declared.body.Step.TheVariants.{Vector as VectorStep}
 use Rattle.stil_ast.specs.Meaning.State.{State, Vector}
-use Rattle.stil_ast.specs.Meaning.Statements.{Item, Statements, letter}
+use Rattle.stil_ast.specs.Meaning.Statements.{Item, Statements, a_character}
 use Rattle.stil_ast.specs.Meaning.Arguments.{Argument}
 use Rattle.stil_ast.specs.Meaning.Dealing.{Gift, Dealt, deal, deal_pairs, then_deal, spread, received, takers, mark_of}
 use Rattle.stil_ast.specs.Meaning.Signals.{Names}
@@ -20,27 +20,27 @@ use Rattle.flat_parts.specs.FlatText.{name_of}
 use Rattle.flat_parts.specs.FlatBlocks.{signal_called, given_from, IsGift}
 
 -- a character of a row, or none
-abbrev pub letter_or_none : ℕ → Option ℕ
-letter_or_none c = cond (c == 0) None (Some c)
+abbrev pub character_or_none : ℕ → Option ℕ
+character_or_none c = cond (c == 0) None (Some c)
 
 -- the characters of a row
-abbrev pub letters_or_none : List ℕ → List (Option ℕ)
-letters_or_none row = map letter_or_none row
+abbrev pub characters_or_none : List ℕ → List (Option ℕ)
+characters_or_none row = map character_or_none row
 
 -- they are a row's
 back_by : (b : Bool) (c : ℕ) → (c == 0) ≡ b → unwrap_or (cond b None (Some c)) 0 ≡ c
 back_by true c e = sym (eqb-true c 0 e)
 back_by false c e = refl
 
-pub letters_back : (row : List ℕ) → map (λ (c : Option ℕ). unwrap_or c 0) (letters_or_none row) ≡ row
-letters_back [] = refl
-letters_back (c ∷ row) =
-    ap (λ (n : ℕ). n ∷ map (λ (c : Option ℕ). unwrap_or c 0) (letters_or_none row)) (back_by (c == 0) c refl)
-    ∙ ap (λ (l : List ℕ). c ∷ l) (letters_back row)
+pub characters_back : (row : List ℕ) → map (λ (c : Option ℕ). unwrap_or c 0) (characters_or_none row) ≡ row
+characters_back [] = refl
+characters_back (c ∷ row) =
+    ap (λ (n : ℕ). n ∷ map (λ (c : Option ℕ). unwrap_or c 0) (characters_or_none row)) (back_by (c == 0) c refl)
+    ∙ ap (λ (l : List ℕ). c ∷ l) (characters_back row)
 
 -- a state of this table and these characters
 abbrev state_of : Option ℕ → List (Option ℕ) → State
-state_of table letters = record { table = table; letters = letters }
+state_of table characters = record { table = table; characters = characters }
 
 -- no characters, so many
 abbrev nones : List ℕ → List (Option ℕ)
@@ -65,15 +65,15 @@ module _ (code : Program) (names : Names) (known : AreKnown code names) (held : 
   abbrev pub RowGives : List (Option ℕ) → List ℕ → List Assignment → Type 0
   RowGives before row gifts =
       (table : Option ℕ)
-      → received held (gifts_of gifts) (state_of table (before ++ nones row)) ≡ state_of table (before ++ letters_or_none row)
+      → received held (gifts_of gifts) (state_of table (before ++ nones row)) ≡ state_of table (before ++ characters_or_none row)
 
   -- behind one character more
   row_behind : (before : List (Option ℕ)) (x : Option ℕ) (row : List ℕ) (gifts : List Assignment)
       → RowGives (before ++ x ∷ []) row gifts → (table : Option ℕ)
-      → received held (gifts_of gifts) (state_of table (before ++ x ∷ nones row)) ≡ state_of table (before ++ x ∷ letters_or_none row)
+      → received held (gifts_of gifts) (state_of table (before ++ x ∷ nones row)) ≡ state_of table (before ++ x ∷ characters_or_none row)
   row_behind before x row gifts later table =
       ap (λ (l : List (Option ℕ)). received held (gifts_of gifts) (state_of table l)) (sym (append_assoc before (x ∷ []) (nones row)))
-      ∙ later table ∙ ap (state_of table) (append_assoc before (x ∷ []) (letters_or_none row))
+      ∙ later table ∙ ap (state_of table) (append_assoc before (x ∷ []) (characters_or_none row))
 
   row_step : (b : Bool) (before : List (Option ℕ)) (signal c : ℕ) (row : List ℕ) (gifts : List Assignment) → (c == 0) ≡ b
       → length before ≡ signal → signal < length code.signals
@@ -83,19 +83,19 @@ module _ (code : Program) (names : Names) (known : AreKnown code names) (held : 
   row_step true before signal c row gifts e at within later all table =
       let rest : AllZip IsGift (given_from code (signal + 1) row) gifts = rw e at all in
       row_behind before None row gifts (later gifts rest) table
-      ∙ ap (λ (b : Bool). state_of table (before ++ cond b None (Some c) ∷ letters_or_none row)) (sym e)
+      ∙ ap (λ (b : Bool). state_of table (before ++ cond b None (Some c) ∷ characters_or_none row)) (sym e)
   row_step false before signal c row [] e at within later all table = absurd (rw e at all)
   row_step false before signal c row (g ∷ gifts) e at within later all table =
       let rest = rw e at all in
       let begun = state_of table (before ++ None ∷ nones row) in
       ap (λ (items : List Item). received held (dealt_first (members names g.reference) items gifts) begun)
       (ap (λ (a : Assignment). a.items) rest.0)
-      ∙ ap (λ (signals : List ℕ). received held (dealt_first signals (letter c ∷ []) gifts) begun)
+      ∙ ap (λ (signals : List ℕ). received held (dealt_first signals (a_character c ∷ []) gifts) begun)
       (ap (λ (a : Assignment). members names a.reference) rest.0 ∙ known signal within)
       ∙ ap (λ (l : List (Option ℕ)). received held (gifts_of gifts) (state_of table l))
       (ap (λ (n : ℕ). slice_set (before ++ None ∷ nones row) n (Some c)) (sym at) ∙ set-append_seam before None (nones row) (Some c))
       ∙ row_behind before (Some c) row gifts (later gifts rest.1) table
-      ∙ ap (λ (b : Bool). state_of table (before ++ cond b None (Some c) ∷ letters_or_none row)) (sym e)
+      ∙ ap (λ (b : Bool). state_of table (before ++ cond b None (Some c) ∷ characters_or_none row)) (sym e)
 
   pub row_gives : (before : List (Option ℕ)) (signal : ℕ) (row : List ℕ) (gifts : List Assignment) → length before ≡ signal
       → signal + length row ≤ length code.signals → AllZip IsGift (given_from code signal row) gifts → RowGives before row gifts
@@ -103,13 +103,13 @@ module _ (code : Program) (names : Names) (known : AreKnown code names) (held : 
   row_gives before signal [] (g ∷ gifts) at within all = absurd all
   row_gives before signal (c ∷ row) gifts at within all =
       row_step (c == 0) before signal c row gifts refl at (omega arith)
-      (λ more rest. row_gives (before ++ letter_or_none c ∷ []) (signal + 1) row more
-      (omega (arith, at, length-append before (letter_or_none c ∷ []))) (omega arith) rest)
+      (λ more rest. row_gives (before ++ character_or_none c ∷ []) (signal + 1) row more
+      (omega (arith, at, length-append before (character_or_none c ∷ []))) (omega arith) rest)
       all
 
 -- the vector of a table and of these characters
 abbrev pub row_vector : Option ℕ → List ℕ → Vector
-row_vector table row = record { table = table; letters = letters_or_none row; mark = 0 }
+row_vector table row = record { table = table; characters = characters_or_none row; mark = 0 }
 
 module _ (code : Program) (scope : Scope) (t : Setting) (unmarked : t.scan_outs ≡ []) (known : AreKnown code scope.names) where
   -- the statements of a row's procedure
@@ -125,14 +125,14 @@ module _ (code : Program) (scope : Scope) (t : Setting) (unmarked : t.scan_outs 
   made_of gifts h s outs =
       record {
         table = s.table;
-        letters = s.letters;
+        characters = s.characters;
         mark = mark_of outs (takers (resolved_assigns scope.names gifts)) (dealt gifts h).args;
       } ∷ []
 
   -- a body of one vector makes it
   pub body_makes : (inner : Option Statements → Here → Ran Here) (line : ℕ) (row : List ℕ) (gifts : List Assignment) (h : Here)
       → length row ≡ length code.signals → AllZip IsGift (given_from code 0 row) gifts
-      → h.state.letters ≡ replicate (length code.signals) None
+      → h.state.characters ≡ replicate (length code.signals) None
       → map (λ (m : Made). m.vector) (run_list t inner (row_statements line gifts) h).made ≡ row_vector h.state.table row ∷ []
   body_makes inner line row gifts h long all blank =
       let given = (dealt gifts h).gifts in

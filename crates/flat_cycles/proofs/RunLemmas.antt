@@ -105,7 +105,7 @@ makes_same : (P : Here → Type 0) (vs us : List Vector) (r : Ran Here) → vs �
 makes_same P vs us r e m = record { made = m.made ∙ e; here = m.here }
 
 module _ (code : Program) (scope : Scope) (t : Setting) (inner : Option Statements → Here → Ran Here) (blank : List (Option ℕ))
-    (letters : ℕ → List (Option ℕ)) where
+    (characters : ℕ → List (Option ℕ)) where
   -- the number of the procedure of a row
   abbrev pub row_number : ℕ → ℕ
   row_number row = body_number scope.procedures (row_name code row)
@@ -116,7 +116,7 @@ module _ (code : Program) (scope : Scope) (t : Setting) (inner : Option Statemen
 
   -- the vector of a table of the code, by the text's number, and of a row
   abbrev row_vector_of : Option ℕ → ℕ → Vector
-  row_vector_of table row = record { table = table; letters = letters row; mark = 0 }
+  row_vector_of table row = record { table = table; characters = characters row; mark = 0 }
 
   abbrev table_of : ℕ → Option ℕ
   table_of table = Some (table_number scope (table_name code table))
@@ -127,7 +127,7 @@ module _ (code : Program) (scope : Scope) (t : Setting) (inner : Option Statemen
 
   -- no signal has a character
   abbrev pub IsBlank : Here → Type 0
-  IsBlank h = h.state.letters ≡ blank
+  IsBlank h = h.state.characters ≡ blank
 
   -- a call of a row makes its vector, where no signal has a character
   abbrev pub Calls : ℕ → Type 0
@@ -139,10 +139,10 @@ module _ (code : Program) (scope : Scope) (t : Setting) (inner : Option Statemen
 
   -- the state in which a Run's calls are made
   abbrev InRun : ℕ → Here → Type 0
-  InRun table h = h.state ≡ record { table = table_of table; letters = blank }
+  InRun table h = h.state ≡ record { table = table_of table; characters = blank }
 
   is_blank : (table : ℕ) (h : Here) → InRun table h → IsBlank h
-  is_blank table h is = ap (λ (s : State). s.letters) is
+  is_blank table h is = ap (λ (s : State). s.characters) is
 
   -- a call makes the vector of a Run
   call_made : (table row : ℕ) (h : Here) → Calls row → InRun table h
@@ -214,7 +214,7 @@ module _ (code : Program) (scope : Scope) (t : Setting) (inner : Option Statemen
       (run_calls (nat_lt 1 times) lines table row mark times (written_in code rest)
       (at_table (table_number scope (table_name code table)) (at_place (origin of_pattern lines.wave) h))
       (map vector_of (nest_cycles rest)) refl can.0.0 can.0.1
-      (ap (λ (l : List (Option ℕ)). record { table = table_of table; letters = l }) is)
+      (ap (λ (l : List (Option ℕ)). record { table = table_of table; characters = l }) is)
       (λ now blank_now. nest_makes rest now can.1 blank_now))
   nest_makes (loop line times body rest) h can is =
       let now = at_place (origin of_pattern line) h in

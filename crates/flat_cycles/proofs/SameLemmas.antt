@@ -7,14 +7,14 @@ use Rattle.std.proofs.Math.Seq.{take-append_seam}
 use Rattle.tester_types.specs.declared.wave.Table.{Table}
 use Rattle.packed_code.specs.declared.instr.Entry.{Entry}
 use Rattle.packed_code.specs.Program.{Program}
-use Rattle.packed_code.specs.Conditions.{letters_of}
+use Rattle.packed_code.specs.Conditions.{characters_of}
 use Rattle.packed_code.specs.Cycles.{period_of, timed}
 use Rattle.stil_ast.specs.Meaning.State.{Vector}
 use Rattle.stil_ast.specs.Meaning.Cycles.{Dated, starts_at, dated}
 use Rattle.stil_ast.specs.Meaning.ExecutiveData.{period_at, table_at, vector_period}
 use Rattle.flat_parts.specs.SameCycles.{IsSameCycle}
-use Rattle.flat_cycles.proofs.RowLemmas.{letters_back}
-use Rattle.flat_cycles.proofs.CallLemmas.{code_letters}
+use Rattle.flat_cycles.proofs.RowLemmas.{characters_back}
+use Rattle.flat_cycles.proofs.CallLemmas.{code_characters}
 
 -- a table of the text beside one of the code
 pub record IsSameTable (tables : List Table) (place : ℕ) (old : Table) : Type 0 where
@@ -27,7 +27,7 @@ pub record IsSameTable (tables : List Table) (place : ℕ) (old : Table) : Type 
 pub record IsSameVector (code : Program) (tables : List Table) (entry : Entry) (v : Vector) : Type 0 where
   pub place : ℕ
   pub table : v.table ≡ Some place
-  pub letters : v.letters ≡ code_letters code entry.row
+  pub characters : v.characters ≡ code_characters code entry.row
   pub mark : v.mark ≡ 0
   pub old : Table
   pub old_is : slice_get code.tables entry.table ≡ Some old
@@ -67,7 +67,7 @@ module _ (code : Program) (tables : List Table) where
       let number : length (before ++ v ∷ []) ≡ length before + 1 = length-append before (v ∷ []) in (
         record {
           start = ap (sum_by period) (take-append_seam before (v ∷ vectors)) ∙ at;
-          letters = ap (map (λ (c : Option ℕ). unwrap_or c 0)) is.letters ∙ letters_back (letters_of code.rows entry.row);
+          characters = ap (map (λ (c : Option ℕ). unwrap_or c 0)) is.characters ∙ characters_back (characters_of code.rows entry.row);
           number = is.place;
           named = is.table;
           old = is.old;

@@ -43,46 +43,46 @@ waves_fit signals period most waves short each =
     behind_all (IsWave signals period most) (WaveFits signals) [] waves
     (λ before wave fits. record {
       signal = fits.signal;
-      letter = fits.letter;
+      character = fits.character;
       times = behind_all (IsEvent period) (λ (event : Event). event.time ≤ longest_period) [] wave.events
           (λ earlier event is. let inside = is.inside in omega (arith, short, inside)) fits.events;
     })
     each
 
-behind_rank : (lower same low : Bool) (signal letter : ℕ) (wave : Wave) → nat_lt wave.signal signal ≡ lower → (wave.signal == signal) ≡ same
-    → nat_lt wave.letter letter ≡ low → (lower || same && low) ≡ true → wave.letter < 256 → wave_rank wave < signal * 256 + letter
-behind_rank true same low signal letter wave e f g h small =
+behind_rank : (lower same low : Bool) (signal character : ℕ) (wave : Wave) → nat_lt wave.signal signal ≡ lower → (wave.signal == signal) ≡ same
+    → nat_lt wave.character character ≡ low → (lower || same && low) ≡ true → wave.character < 256 → wave_rank wave < signal * 256 + character
+behind_rank true same low signal character wave e f g h small =
     let less : wave.signal < signal = ltb-true wave.signal signal e in omega (arith, less, small)
-behind_rank false true true signal letter wave e f g h small =
+behind_rank false true true signal character wave e f g h small =
     let is : wave.signal ≡ signal = eqb-true wave.signal signal f in
-    let less : wave.letter < letter = ltb-true wave.letter letter g in
+    let less : wave.character < character = ltb-true wave.character character g in
     omega (arith, is, less)
-behind_rank false true false signal letter wave e f g h small = absurd cc
-behind_rank false false low signal letter wave e f g h small = absurd cc
+behind_rank false true false signal character wave e f g h small = absurd cc
+behind_rank false false low signal character wave e f g h small = absurd cc
 
 above_first : (m n : ℕ) (waves : List Wave) → m < n → AllByRecursion (λ later. n < wave_rank later) waves
     → AllByRecursion (λ later. m < wave_rank later) waves
 above_first m n [] less all = tt
 above_first m n (wave ∷ waves) less all = (let more = all.0 in omega (arith, less, more), above_first m n waves less all.1)
 
-rising_from : (signals period most : ℕ) (before : List Wave) (wave : Wave) (waves : List Wave) → wave.letter < 256
+rising_from : (signals period most : ℕ) (before : List Wave) (wave : Wave) (waves : List Wave) → wave.character < 256
     → EachBehind (IsWave signals period most) (before ++ wave ∷ []) waves
     → AllByRecursion (λ later. wave_rank wave < wave_rank later) waves × Rising wave_rank waves
 rising_from signals period most before wave [] small each = (tt, tt)
 rising_from signals period most before wave (next ∷ waves) small each =
-    let behind : is_behind next.signal next.letter wave ≡ true =
-    sym (ap (λ o. option_map_or (is_behind next.signal next.letter) o true) (last_of_push before wave)) ∙ each.0.order in
+    let behind : is_behind next.signal next.character wave ≡ true =
+    sym (ap (λ o. option_map_or (is_behind next.signal next.character) o true) (last_of_push before wave)) ∙ each.0.order in
     let less =
-    behind_rank (nat_lt wave.signal next.signal) (wave.signal == next.signal) (nat_lt wave.letter next.letter) next.signal next.letter wave
+    behind_rank (nat_lt wave.signal next.signal) (wave.signal == next.signal) (nat_lt wave.character next.character) next.signal next.character wave
     refl refl refl behind small in
-    let rest = rising_from signals period most (before ++ wave ∷ []) next waves (character_small next.letter each.0.letter) each.1 in
+    let rest = rising_from signals period most (before ++ wave ∷ []) next waves (character_small next.character each.0.character) each.1 in
     ((less, above_first (wave_rank wave) (wave_rank next) waves less rest.0), rest)
 
 -- the waves of a code's table rise by signal and character
 pub waves_rise : (signals period most : ℕ) (waves : List Wave) → EachBehind (IsWave signals period most) [] waves → Rising wave_rank waves
 waves_rise signals period most [] each = tt
 waves_rise signals period most (wave ∷ waves) each =
-    rising_from signals period most [] wave waves (character_small wave.letter each.0.letter) each.1
+    rising_from signals period most [] wave waves (character_small wave.character each.0.character) each.1
 
 -- ---- what the text says of them
 
@@ -98,23 +98,23 @@ pub record HasSame (new old : Table) : Type 0 where
   pub waves : new.waves ≡ old.waves
 
 module _ {V : Type 0} (times : Times V) (times_are : TimesAre times) (vars : List ℕ → Result V Met) (p : Place) where
-  events_made : (letter : ℕ) (events : List Event) (declared : List EventDecl) → AllZip IsEventDecl events declared
+  events_made : (character : ℕ) (events : List Event) (declared : List EventDecl) → AllZip IsEventDecl events declared
       → AllByRecursion (λ (event : Event). event.time ≤ longest_period) events
-      → filter_map (event_of times vars p (letter ∷ []) letter) declared ≡ events
-  events_made letter [] [] all short = refl
-  events_made letter [] (d ∷ declared) all short = absurd all
-  events_made letter (event ∷ events) [] all short = absurd all
-  events_made letter (event ∷ events) (d ∷ declared) all short =
-      ap (λ (o : Option Event). cons_option o (filter_map (event_of times vars p (letter ∷ []) letter) declared))
-      (ap (event_of times vars p (letter ∷ []) letter) all.0
+      → filter_map (event_of times vars p (character ∷ []) character) declared ≡ events
+  events_made character [] [] all short = refl
+  events_made character [] (d ∷ declared) all short = absurd all
+  events_made character (event ∷ events) [] all short = absurd all
+  events_made character (event ∷ events) (d ∷ declared) all short =
+      ap (λ (o : Option Event). cons_option o (filter_map (event_of times vars p (character ∷ []) character) declared))
+      (ap (event_of times vars p (character ∷ []) character) all.0
       ∙ ap (λ (r : Result ℤ StilFault). timed_act r (Some event.act)) (times_are event.time short.0 vars p d.time.line))
-      ∙ ap (λ (l : List Event). event ∷ l) (events_made letter events declared all.1 short.1)
+      ∙ ap (λ (l : List Event). event ∷ l) (events_made character events declared all.1 short.1)
 
   module _ (code : Program) (names : Names) (known : AreKnown code names) where
     -- a waveform of a table, not numbered yet
     abbrev bare : ℕ → SignalWaves → WaveDecl → Waveform
     bare number s w =
-        record { table = number; number = 0; signals = members names s.reference; letters = w.letters; events = w.events }
+        record { table = number; number = 0; signals = members names s.reference; characters = w.characters; events = w.events }
 
     -- the waveforms of a signal that a text says
     abbrev waveforms_of : ℕ → SignalWaves → List Waveform
@@ -123,13 +123,13 @@ module _ {V : Type 0} (times : Times V) (times_are : TimesAre times) (vars : Lis
     waveform_made : (number : ℕ) (wave : Wave) (d : SignalWaves) → IsSignalWaves code wave d → WaveFits (length code.signals) wave
         → (w : Waveform) × (waveforms_of number d ≡ w ∷ []) × IsWaveform times vars p wave w
     waveform_made number wave d is fits = (
-      bare number d (record { letters = wave.letter ∷ []; events = is.events }),
+      bare number d (record { characters = wave.character ∷ []; events = is.events }),
       ap (map (bare number d)) is.waves,
       record {
         signals = ap (members names) is.reference ∙ known wave.signal fits.signal;
-        letters = refl;
-        small = character_small wave.letter fits.letter;
-        events = events_made wave.letter wave.events is.events is.each fits.times;
+        characters = refl;
+        small = character_small wave.character fits.character;
+        events = events_made wave.character wave.events is.events is.each fits.times;
       },
     )
 
@@ -148,7 +148,7 @@ module _ {V : Type 0} (times : Times V) (times_are : TimesAre times) (vars : Lis
     -- a number changes none
     numbered_is : (n : ℕ) (wave : Wave) (w : Waveform) → IsWaveform times vars p wave w
         → IsWaveform times vars p wave (tables.numbered (n, w))
-    numbered_is n wave w is = record { signals = is.signals; letters = is.letters; small = is.small; events = is.events }
+    numbered_is n wave w is = record { signals = is.signals; characters = is.characters; small = is.small; events = is.events }
 
     numbered_are : (n : ℕ) (waves : List Wave) (all : List Waveform) → AllZip (IsWaveform times vars p) waves all
         → AllZip (IsWaveform times vars p) waves (map tables.numbered (enumerate_from n all))

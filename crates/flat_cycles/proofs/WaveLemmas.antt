@@ -10,7 +10,7 @@ use Rattle.tester_types.specs.declared.wave.Wave.{Wave}
 use Rattle.stil_ast.specs.Data.Places.{Place}
 use Rattle.stil_ast.specs.Data.Texts.{upwards}
 use Rattle.stil_ast.specs.Meaning.Times.{Met, Times}
-use Rattle.stil_ast.specs.Meaning.Tables.{Waveform, defines, events_of, characters, wave_with, wave_of, waves_of}
+use Rattle.stil_ast.specs.Meaning.Tables.{Waveform, defines, events_of, every_character, wave_with, wave_of, waves_of}
 use Rattle.flat_cycles.proofs.SortedLemmas.{Rising, has_rank, of_rank, mapped_same, found_all}
 use Rattle.flat_cycles.proofs.KeyLemmas.{upwards_rising, upwards_has, characters_rising, characters_small, characters_have, rank_of, keys, keys_rising, keys_have, mapped_keys}
 
@@ -54,15 +54,15 @@ find_last p (x ∷ xs) once =
 
 -- a wave's signal and character as a number
 abbrev pub wave_rank : Wave → ℕ
-wave_rank wave = wave.signal * 256 + wave.letter
+wave_rank wave = wave.signal * 256 + wave.character
 
 -- the test for a pair of signal and character
 pair_by : (one two : Bool) (a b s l : ℕ) → (a == s) ≡ one → (b == l) ≡ two → b < 256 → l < 256
     → ((one || false) && (two || false)) ≡ (a * 256 + b == s * 256 + l)
 pair_by true true a b s l e f small less =
     let same : a ≡ s = eqb-true a s e in
-    let letter : b ≡ l = eqb-true b l f in
-    sym (eq-eqb (a * 256 + b) (s * 256 + l) (omega (arith, same, letter)))
+    let character : b ≡ l = eqb-true b l f in
+    sym (eq-eqb (a * 256 + b) (s * 256 + l) (omega (arith, same, character)))
 pair_by true false a b s l e f small less =
     let same : a ≡ s = eqb-true a s e in
     sym (ne_eqb (a * 256 + b) (s * 256 + l) (λ is. eqb-false b l f (omega (arith, same, is))))
@@ -72,17 +72,17 @@ pair_by false two a b s l e f small less =
 -- a wave of a signal and a character, whose events have times
 pub record WaveFits (signals : ℕ) (wave : Wave) : Type 0 where
   pub signal : wave.signal < signals
-  pub letter : is_character wave.letter ≡ true
+  pub character : is_character wave.character ≡ true
   pub times : AllByRecursion (λ (event : Event). event.time ≤ longest_period) wave.events
 
 -- the pair of each is there
 pairs_there : (signals : ℕ) (waves : List Wave) → AllByRecursion (WaveFits signals) waves
-    → AllByRecursion (λ wave. has_rank rank_of (keys (upwards 0 signals) characters) (wave_rank wave) ≡ true) waves
+    → AllByRecursion (λ wave. has_rank rank_of (keys (upwards 0 signals) every_character) (wave_rank wave) ≡ true) waves
 pairs_there signals [] fit = tt
 pairs_there signals (wave ∷ waves) fit =
     let less = fit.0.signal in (
-      keys_have (upwards 0 signals) characters wave.signal wave.letter
-          (upwards_has 0 signals wave.signal (omega arith) (omega (arith, less))) (characters_have wave.letter fit.0.letter),
+      keys_have (upwards 0 signals) every_character wave.signal wave.character
+          (upwards_has 0 signals wave.signal (omega arith) (omega (arith, less))) (characters_have wave.character fit.0.character),
       pairs_there signals waves fit.1,
     )
 
@@ -90,15 +90,15 @@ module _ {V : Type 0} (times : Times V) (vars : List ℕ → Result V Met) (p : 
   -- a waveform is that of a wave
   pub record IsWaveform (wave : Wave) (w : Waveform) : Type 0 where
     pub signals : w.signals ≡ wave.signal ∷ []
-    pub letters : w.letters ≡ wave.letter ∷ []
-    pub small : wave.letter < 256
-    pub events : events_of times vars p wave.letter w ≡ wave.events
+    pub characters : w.characters ≡ wave.character ∷ []
+    pub small : wave.character < 256
+    pub events : events_of times vars p wave.character w ≡ wave.events
 
   test_is : (s l : ℕ) (wave : Wave) (w : Waveform) → l < 256 → IsWaveform wave w → defines s l w ≡ (wave_rank wave == s * 256 + l)
   test_is s l wave w less is =
-      ap (λ (signals : List ℕ). list_any (λ x. x == s) signals && list_any (λ c. c == l) w.letters) is.signals
-      ∙ ap (λ (letters : List ℕ). ((wave.signal == s) || false) && list_any (λ c. c == l) letters) is.letters
-      ∙ pair_by (wave.signal == s) (wave.letter == l) wave.signal wave.letter s l refl refl is.small less
+      ap (λ (signals : List ℕ). list_any (λ x. x == s) signals && list_any (λ c. c == l) w.characters) is.signals
+      ∙ ap (λ (characters : List ℕ). ((wave.signal == s) || false) && list_any (λ c. c == l) characters) is.characters
+      ∙ pair_by (wave.signal == s) (wave.character == l) wave.signal wave.character s l refl refl is.small less
 
   fail_above : (s l : ℕ) (waves : List Wave) (all : List Waveform) → l < 256 → AllZip IsWaveform waves all
       → AllByRecursion (λ wave. s * 256 + l < wave_rank wave) waves → AllByRecursion (λ w. defines s l w ≡ false) all
@@ -129,10 +129,10 @@ module _ {V : Type 0} (times : Times V) (vars : List ℕ → Result V Met) (p : 
       let at : wave_rank wave ≡ s * 256 + l = eqb-true (wave_rank wave) (s * 256 + l) e in
       let small = is.small in
       let signal : s ≡ wave.signal = omega (arith, at, small, less) in
-      let letter : l ≡ wave.letter = omega (arith, at, signal) in
+      let character : l ≡ wave.character = omega (arith, at, signal) in
       ap (λ (x : ℕ). wave_with times vars p x l (Some w)) signal
-      ∙ ap (λ (x : ℕ). wave_with times vars p wave.signal x (Some w)) letter
-      ∙ ap (λ (events : List Event). Some (record { signal = wave.signal; letter = wave.letter; events = events })) is.events
+      ∙ ap (λ (x : ℕ). wave_with times vars p wave.signal x (Some w)) character
+      ∙ ap (λ (events : List Event). Some (record { signal = wave.signal; character = wave.character; events = events })) is.events
   wave_by false s l wave w found here less e is so = so
 
   -- what is found among the waveforms is the wave
@@ -152,22 +152,22 @@ module _ {V : Type 0} (times : Times V) (vars : List ℕ → Result V Met) (p : 
       ap (wave_with times vars p s l) (find_last (defines s l) all (once_each s l waves all less are rising))
       ∙ found_wave s l waves all less are
 
-  row_is : (s : ℕ) (letters : List ℕ) (waves : List Wave) (all : List Waveform) → AllByRecursion (λ l. l < 256) letters
+  row_is : (s : ℕ) (characters : List ℕ) (waves : List Wave) (all : List Waveform) → AllByRecursion (λ l. l < 256) characters
       → AllZip IsWaveform waves all → Rising wave_rank waves
-      → AllByRecursion (λ l. wave_of times vars p all s l ≡ of_rank wave_rank waves (rank_of (s, l))) letters
+      → AllByRecursion (λ l. wave_of times vars p all s l ≡ of_rank wave_rank waves (rank_of (s, l))) characters
   row_is s [] waves all small are rising = tt
-  row_is s (l ∷ letters) waves all small are rising =
-      (wave_is s l waves all small.0 are rising, row_is s letters waves all small.1 are rising)
+  row_is s (l ∷ characters) waves all small are rising =
+      (wave_is s l waves all small.0 are rising, row_is s characters waves all small.1 are rising)
 
   rows_are : (signals : List ℕ) (waves : List Wave) (all : List Waveform) → AllZip IsWaveform waves all → Rising wave_rank waves
-      → flat_map (λ s. filter_map (λ l. wave_of times vars p all s l) characters) signals
-      ≡ flat_map (λ s. filter_map (λ l. of_rank wave_rank waves (rank_of (s, l))) characters) signals
+      → flat_map (λ s. filter_map (λ l. wave_of times vars p all s l) every_character) signals
+      ≡ flat_map (λ s. filter_map (λ l. of_rank wave_rank waves (rank_of (s, l))) every_character) signals
   rows_are [] waves all are rising = refl
   rows_are (s ∷ signals) waves all are rising =
-      ap (λ (l : List Wave). l ++ flat_map (λ s. filter_map (λ l. wave_of times vars p all s l) characters) signals)
-      (mapped_same (λ l. wave_of times vars p all s l) (λ l. of_rank wave_rank waves (rank_of (s, l))) characters
-      (row_is s characters waves all characters_small are rising))
-      ∙ ap (λ (more : List Wave). filter_map (λ l. of_rank wave_rank waves (rank_of (s, l))) characters ++ more)
+      ap (λ (l : List Wave). l ++ flat_map (λ s. filter_map (λ l. wave_of times vars p all s l) every_character) signals)
+      (mapped_same (λ l. wave_of times vars p all s l) (λ l. of_rank wave_rank waves (rank_of (s, l))) every_character
+      (row_is s every_character waves all characters_small are rising))
+      ∙ ap (λ (more : List Wave). filter_map (λ l. of_rank wave_rank waves (rank_of (s, l))) every_character ++ more)
       (rows_are signals waves all are rising)
 
   -- the waves that are made are the waves
@@ -175,7 +175,7 @@ module _ {V : Type 0} (times : Times V) (vars : List ℕ → Result V Met) (p : 
       → AllByRecursion (WaveFits signals) waves → waves_of times vars p all signals ≡ waves
   waves_made signals waves all are rising fit =
       rows_are (upwards 0 signals) waves all are rising
-      ∙ mapped_keys (λ k. of_rank wave_rank waves (rank_of k)) (upwards 0 signals) characters
-      ∙ found_all rank_of wave_rank (keys (upwards 0 signals) characters) waves
-      (keys_rising (upwards 0 signals) characters characters_small characters_rising (upwards_rising 0 signals)) rising
+      ∙ mapped_keys (λ k. of_rank wave_rank waves (rank_of k)) (upwards 0 signals) every_character
+      ∙ found_all rank_of wave_rank (keys (upwards 0 signals) every_character) waves
+      (keys_rising (upwards 0 signals) every_character characters_small characters_rising (upwards_rising 0 signals)) rising
       (pairs_there signals waves fit)

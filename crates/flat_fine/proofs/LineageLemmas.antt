@@ -63,7 +63,7 @@ IsOf k w = w.table ≡ k
 -- a waveform without its number
 abbrev bare : Names → ℕ → SignalWaves → WaveDecl → Waveform
 bare names k s w =
-    record { table = k; number = 0; signals = members names s.reference; letters = w.letters; events = w.events }
+    record { table = k; number = 0; signals = members names s.reference; characters = w.characters; events = w.events }
 
 bare_of : (names : Names) (k : ℕ) (declarations : List SignalWaves)
     → AllByRecursion (IsOf k) (flat_map (λ (s : SignalWaves). map (bare names k s) s.waves) declarations)
@@ -104,10 +104,10 @@ other_waveform k w (Some v) other of =
 
 other_stands : (k : ℕ) (all : List Waveform) (w : Waveform) → AllByRecursion (IsOf k) all → (w.table ≡ k → ⊥) → stands all w ≡ false
 other_stands k all w each other =
-    none_any (λ (signal : ℕ). list_any (λ (letter : ℕ). is_waveform w (waveform_of all signal letter)) w.letters) w.signals (λ signal.
-    none_any (λ (letter : ℕ). is_waveform w (waveform_of all signal letter)) w.letters (λ letter.
-    other_waveform k w (waveform_of all signal letter) other
-    (found_has (IsOf k) (defines signal letter) (reverse all) (all_reverse (IsOf k) all each))))
+    none_any (λ (signal : ℕ). list_any (λ (character : ℕ). is_waveform w (waveform_of all signal character)) w.characters) w.signals (λ signal.
+    none_any (λ (character : ℕ). is_waveform w (waveform_of all signal character)) w.characters (λ character.
+    other_waveform k w (waveform_of all signal character) other
+    (found_has (IsOf k) (defines signal character) (reverse all) (all_reverse (IsOf k) all each))))
 
 module _ {V : Type 0} (t : Timed V) (period : ℤ) (k : ℕ) (all : List Waveform) (each : AllByRecursion (IsOf k) all) where
   -- no waveform is late in a table that has none of others

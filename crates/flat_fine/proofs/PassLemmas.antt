@@ -65,9 +65,9 @@ module _ (code : Program) (blocks : Blocks) (exec : ℕ) (e : ExecDecl) (program
       none_picked = ap (λ (specs : List SpecBlock). picked (record blocks { specs = specs }) e) flat.specs
 
   -- no chains
-  chains_fine : chains_fault (names_of blocks) (exec_scans blocks e) [] (chains_named blocks.scans (exec_scans blocks e)) ≡ None
+  chains_fine : chains_fault (names_of blocks) (exec_scans blocks e) (chains_named blocks.scans (exec_scans blocks e)) ≡ None
   chains_fine =
-      ap (λ (scans : List ScanBlock). chains_fault (names_of blocks) (exec_scans blocks e) []
+      ap (λ (scans : List ScanBlock). chains_fault (names_of blocks) (exec_scans blocks e)
       (chains_named scans (exec_scans blocks e))) flat.scans
 
   -- one executive, behind others
@@ -75,7 +75,7 @@ module _ (code : Program) (blocks : Blocks) (exec : ℕ) (e : ExecDecl) (program
   exec_large before =
       let tables = tables_fault (timed_of times_of blocks e) (sum_by (exec_waves blocks) before) in
       let checked = check_patterns blocks e (played blocks e) (sum_by (exec_walked blocks) before) in
-      let chains = chains_fault (names_of blocks) (exec_scans blocks e) [] (chains_named blocks.scans (exec_scans blocks e)) in
+      let chains = chains_fault (names_of blocks) (exec_scans blocks e) (chains_named blocks.scans (exec_scans blocks e)) in
       large_or (exec_names_fault blocks e)
       (or_else (variables_fault times_of (picked blocks e)) (or_else tables (or_else chains (checked_fault checked))))
       (large_none (exec_names_fault blocks e) (names_known code blocks exec e is))

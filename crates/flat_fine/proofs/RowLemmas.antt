@@ -6,7 +6,7 @@ use Rattle.std.proofs.lemmas.Bool.{cases_Bool, and_left, and_right, or_from, or_
 use Rattle.packed_code.specs.Program.{Program}
 use Rattle.packed_code.specs.Conditions.{IsProgram}
 use Rattle.stil_ast.specs.Data.Written.{Written, no_more}
-use Rattle.stil_ast.specs.Meaning.Statements.{letter, Assign}
+use Rattle.stil_ast.specs.Meaning.Statements.{a_character, Assign}
 use Rattle.stil_ast.specs.Meaning.Dealing.{has_signal, takers, is_hash}
 use Rattle.stil_ast.specs.Meaning.Members.{reference_kind}
 use Rattle.stil_ast.specs.Meaning.Resolved.{Scope, resolved_assign}
@@ -35,19 +35,19 @@ module _ (scope : Scope) (code : Program) (program : IsProgram code) (are : AreN
     (outside : s.in_shift ≡ false) where
   -- one character for one signal
   abbrev one : ℕ → ℕ → Assign
-  one signal c = record { signals = signal ∷ []; items = letter c ∷ [] }
+  one signal c = record { signals = signal ∷ []; items = a_character c ∷ [] }
 
   one_is : (signal c : ℕ) (d : Assignment) → signal < length code.signals → IsGift (record { name = name_of code signal; character = c }) d
       → resolved_assign scope.names d ≡ one signal c
   one_is signal c d less is =
       ap (resolved_assign scope.names) is
-      ∙ ap (λ (ms : List ℕ). record { signals = ms; items = letter c ∷ [] }) (reference_members code scope.names signal program are less)
+      ∙ ap (λ (ms : List ℕ). record { signals = ms; items = a_character c ∷ [] }) (reference_members code scope.names signal program are less)
 
   -- has no `#`
   no_hash : (signal c : ℕ) (hashes : List ℕ) → hash_misplaced s (one signal c) hashes ≡ false
   no_hash signal c hashes =
-      or_from (s.in_loop && list_any is_hash (letter c ∷ [])) (s.in_shift && list_any (has_signal hashes) (takers (one signal c ∷ [])))
-      (and_right s.in_loop (list_any is_hash (letter c ∷ [])) refl)
+      or_from (s.in_loop && list_any is_hash (a_character c ∷ [])) (s.in_shift && list_any (has_signal hashes) (takers (one signal c ∷ [])))
+      (and_right s.in_loop (list_any is_hash (a_character c ∷ [])) refl)
       (and_left s.in_shift (list_any (has_signal hashes) (takers (one signal c ∷ []))) outside)
 
   -- an assignment of a row
@@ -70,7 +70,7 @@ module _ (scope : Scope) (code : Program) (program : IsProgram code) (are : AreN
       (passes_bar (hash_misplaced s a w.hashes) (fault_on scope s d.line ShiftForm) second w (no_hash signal c w.hashes)
       (passes_kept (width_fits a) (fault_on scope s d.line Width) third w refl
       (passes_kept (data_there s a w.args) (fault_on scope s d.line NoData) last w
-      (or_right s.without_pass (all_there (signal ∷ []) (letter c ∷ []) w.args) refl) tt)))))
+      (or_right s.without_pass (all_there (signal ∷ []) (a_character c ∷ []) w.args) refl) tt)))))
 
   -- those of gifts, the first of which is for a signal
   more_pass : (signal c : ℕ) (rest : List Given) (gifts : List Assignment) (w : Walked) → signal < length code.signals

@@ -8,7 +8,7 @@ use Rattle.text_bytes.proofs.ListLemmas.{slice_get-there}
 use Rattle.packed_code.specs.declared.instr.Instr.{Instr}
 use Rattle.packed_code.specs.declared.instr.Instr.TheVariants.{Run, Loop, End, Done}
 use Rattle.packed_code.specs.Program.{Program}
-use Rattle.packed_code.specs.Conditions.{IsRow, IsProgram, letters_of}
+use Rattle.packed_code.specs.Conditions.{IsRow, IsProgram, characters_of}
 use Rattle.packed_code.specs.Cycles.{exec_of}
 use Rattle.stil_ast.specs.Data.Texts.{same, has_name}
 use Rattle.stil_ast.specs.Meaning.Resolved.{Scope, bodies_named, body_number}
@@ -87,7 +87,7 @@ module _ (code : Program) (blocks : Blocks) (exec : ℕ) (e : ExecDecl) (program
             ∙ b.1.is_there;
         is_row = b.2;
         long =
-            ap (λ (k : ℕ). length (letters_of code.rows k))
+            ap (λ (k : ℕ). length (characters_of code.rows k))
             (get_or_from_slice_get order n row 0 (at_place order row ordered))
             ∙ ap length (get_or_from_slice_get code.rows row old.0 [] old.1) ∙ fits.places;
       }

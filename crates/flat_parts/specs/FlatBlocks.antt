@@ -8,7 +8,7 @@ use Rattle.packed_code.specs.declared.instr.Instr.{Instr}
 use Rattle.packed_code.specs.declared.instr.Instr.TheVariants.{Done}
 use Rattle.packed_code.specs.declared.parts.CodeSignal.{CodeSignal}
 use Rattle.packed_code.specs.Program.{Exec, Program}
-use Rattle.packed_code.specs.Conditions.{letters_of}
+use Rattle.packed_code.specs.Conditions.{characters_of}
 use Rattle.packed_code.specs.Cycles.{exec_of}
 use Rattle.stil_ast.specs.declared.name.NameRef.{NameRef}
 use Rattle.stil_ast.specs.declared.name.Named.{Named}
@@ -31,7 +31,7 @@ use Rattle.stil_ast.specs.declared.executive.BurstItem.{BurstItem}
 use Rattle.stil_ast.specs.declared.executive.Burst.{Burst}
 use Rattle.stil_ast.specs.declared.executive.ExecDecl.{ExecDecl}
 use Rattle.stil_ast.specs.Data.Written.{single, no_more}
-use Rattle.stil_ast.specs.Meaning.Statements.{letter}
+use Rattle.stil_ast.specs.Meaning.Statements.{a_character}
 use Rattle.flat_parts.specs.Order.{is_in, tables_in, table_order, row_order}
 use Rattle.flat_parts.specs.FlatText.{name_of, executives}
 use Rattle.flat_parts.specs.Nests.{Nest, instrs_in, written_in}
@@ -68,7 +68,7 @@ IsEventDecl event d =
 pub record IsSignalWaves (code : Program) (wave : Wave) (d : SignalWaves) : Type 0 where
   pub reference : d.reference ≡ signal_called (name_of code wave.signal)
   pub events : List EventDecl
-  pub waves : d.waves ≡ record { letters = wave.letter ∷ []; events = events } ∷ []
+  pub waves : d.waves ≡ record { characters = wave.character ∷ []; events = events } ∷ []
   pub each : AllZip IsEventDecl wave.events events
 
 -- a table under this number
@@ -122,11 +122,11 @@ given_from code signal (c ∷ row) =
 -- an assignment of a character
 abbrev pub IsGift : Given → Assignment → Type 0
 IsGift given d =
-    d ≡ record { reference = signal_called given.name; items = letter given.character ∷ []; line = d.line }
+    d ≡ record { reference = signal_called given.name; items = a_character given.character ∷ []; line = d.line }
 
 -- the characters of the row that has this number in the text
 abbrev pub row_numbered : Program → ℕ → List ℕ
-row_numbered code number = letters_of code.rows (slice_index_or (row_order code) number 0)
+row_numbered code number = characters_of code.rows (slice_index_or (row_order code) number 0)
 
 -- a row: a procedure of one vector
 pub record IsRowBody (code : Program) (number : ℕ) (d : BodyDef) : Type 0 where

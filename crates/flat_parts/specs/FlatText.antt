@@ -16,9 +16,9 @@ use Rattle.packed_code.specs.declared.instr.Instr.{Instr}
 use Rattle.packed_code.specs.declared.instr.Instr.TheVariants.{Run, Loop, End, Done}
 use Rattle.packed_code.specs.declared.parts.CodeSignal.{CodeSignal}
 use Rattle.packed_code.specs.Program.{Program}
-use Rattle.packed_code.specs.Conditions.{letters_of}
+use Rattle.packed_code.specs.Conditions.{characters_of}
 use Rattle.packed_code.specs.Cycles.{exec_of}
-use Rattle.code_listing.specs.Letters.{push_letter, look_letter}
+use Rattle.tester_types.specs.Acts.{push_letter, look_letter}
 use Rattle.flat_parts.specs.Order.{is_in, tables_in, table_order, row_order, number_in}
 
 -- ---- words
@@ -70,12 +70,12 @@ event_item event = codes "'" ++ decimal event.time ++ codes "fs' " ++ act_letter
 
 -- the signal and the character of a wave
 abbrev pub wave_front : List ℕ → ℕ → List ℕ
-wave_front name letter = quoted name ++ codes " { " ++ letter ∷ codes " "
+wave_front name character = quoted name ++ codes " { " ++ character ∷ codes " "
 
 -- a wave: what a signal does where it has this character
 abbrev pub wave_line : Program → Wave → List ℕ
 wave_line code wave =
-    braced (wave_front (name_of code wave.signal) wave.letter) (flat_map event_item wave.events) (codes " }")
+    braced (wave_front (name_of code wave.signal) wave.character) (flat_map event_item wave.events) (codes " }")
 
 -- the waves of a table, in the code's order
 abbrev pub waveform_lines : Program → Table → List (List ℕ)
@@ -112,16 +112,16 @@ timing_lines code exec =
 -- ---- rows (clause 24)
 
 -- what a row gives to a signal, with a blank behind it; nothing where it gives no character
-abbrev pub letter_item : List ℕ → ℕ → List ℕ
-letter_item name letter = if letter == 0 then [] else quoted name ++ codes "=" ++ letter ∷ codes "; "
+abbrev pub character_item : List ℕ → ℕ → List ℕ
+character_item name character = if character == 0 then [] else quoted name ++ codes "=" ++ character ∷ codes "; "
 
 -- what it gives to the signal of this number
 abbrev pub signal_item : Program → List ℕ → ℕ → List ℕ
-signal_item code row signal = letter_item (name_of code signal) (slice_index_or row signal 0)
+signal_item code row signal = character_item (name_of code signal) (slice_index_or row signal 0)
 
 -- what it gives to all signals
-abbrev pub letter_items : Program → List ℕ → List ℕ
-letter_items code row = flat_map (signal_item code row) (range_with_len 0 (length code.signals))
+abbrev pub character_items : Program → List ℕ → List ℕ
+character_items code row = flat_map (signal_item code row) (range_with_len 0 (length code.signals))
 
 -- the name of a row's procedure, and its vector's word
 abbrev pub row_front : ℕ → List ℕ
@@ -129,11 +129,11 @@ row_front number = codes "\"r" ++ decimal number ++ codes "\" { V "
 
 -- a row of these characters as a procedure of one vector
 abbrev pub row_text : Program → ℕ → List ℕ → List ℕ
-row_text code number row = braced (row_front number) (letter_items code row) (codes " }")
+row_text code number row = braced (row_front number) (character_items code row) (codes " }")
 
 -- the row of this new number
 abbrev pub row_line : Program → ℕ → List ℕ
-row_line code number = row_text code number (letters_of code.rows (slice_index_or (row_order code) number 0))
+row_line code number = row_text code number (characters_of code.rows (slice_index_or (row_order code) number 0))
 
 -- all rows that Runs name
 abbrev pub row_lines : Program → List (List ℕ)

@@ -4,7 +4,7 @@ use Rattle.std.specs.List.{AllZip}
 use Rattle.tester_types.specs.declared.wave.Table.{Table}
 use Rattle.tester_types.specs.declared.cycle.Cycle.{Cycle}
 use Rattle.packed_code.specs.Program.{Program}
-use Rattle.packed_code.specs.Conditions.{letters_of}
+use Rattle.packed_code.specs.Conditions.{characters_of}
 use Rattle.packed_code.specs.Cycles.{cycles_of}
 use Rattle.stil_ast.specs.Meaning.Cycles.{Dated}
 use Rattle.stil_ast.specs.Meaning.ExecutiveData.{row_of}
@@ -17,7 +17,7 @@ use Rattle.stil_ast.specs.declared.blocks.Blocks.{Blocks}
 -- characters, a table of the same period and waves, and no mark
 pub record IsSameCycle (code : Program) (tables : List Table) (c : Cycle) (d : Dated) : Type 0 where
   pub start : d.start ≡ c.start
-  pub letters : row_of d.vector ≡ letters_of code.rows c.row
+  pub characters : row_of d.vector ≡ characters_of code.rows c.row
   pub number : ℕ
   pub named : d.vector.table ≡ Some number
   pub old : Table

@@ -4,7 +4,7 @@ use Rattle.std.specs.Prelude.{codes, is_some}
 use Rattle.text_bytes.specs.Bytes.{is_printable}
 use Rattle.stil_lex.specs.declared.token.Token.{Token}
 use Rattle.stil_tree.specs.Trees.{Entry, entries}
-use Rattle.answers.specs.Reading.{and_then, stepping}
+use Rattle.answers.specs.Reading.{and_then, reading}
 use Rattle.stil_form.specs.declared.fault.FormFault.{FormFault}
 use Rattle.stil_form.specs.declared.fault.FormFault.TheVariants.{Refused}
 use Rattle.stil_form.specs.declared.fault.FormKind.TheVariants.{Twice}
@@ -21,13 +21,13 @@ use Rattle.pat_read.specs.Statements.{is_there, only_name}
 use Rattle.pat_read.specs.Body.{body_from}
 use Rattle.block_forms.specs.Heads.{is_declared, where_so, nothing, behind_first, named_block}
 use Rattle.block_forms.specs.Keywords.{first_meaning}
-use Rattle.pattern_blocks.specs.Bursts.{burst_words, item_on, left_out, entry_step, by_word, burst_step, burst_called, items_in, burst_block}
+use Rattle.pattern_blocks.specs.Bursts.{burst_words, item_on, where_empty, entry_item, by_word, names_in, judge_burst, burst_called, items_in, burst_block}
 use Rattle.pattern_blocks.specs.Defs.{pattern_called, pattern_block}
 use Rattle.stil_read.specs.Top.{once, pattern_names, burst_names, more_bursts, more_patterns}
 use Rattle.packed_code.specs.Program.{Program}
 use Rattle.line_texts.specs.Said.{Said, no_more, statement, braced, blank, spaced, pieces_of, count_of, trees_at}
 use Rattle.line_texts.specs.Said as spoken
-use Rattle.line_texts.proofs.SettingLemmas.{stepping-more, unskipped_all}
+use Rattle.line_texts.proofs.SettingLemmas.{unskipped_all}
 use Rattle.line_texts.proofs.StandingLemmas.{Stands, unspaced, statement_head, braced_head, inside_braced, behind_braced}
 use Rattle.flat_parts.specs.Nests.{Nest}
 use Rattle.flat_parts.specs.FlatBlocks.{numbered}
@@ -141,14 +141,14 @@ burst_form bytes tokens = record { front = λ exec at more. refl; behind = λ ex
 -- an entry of a PatList
 entry_read : (bytes : List ℕ) (tokens : List Token) (f : ℕ) (called : List ℕ) (more : Said) → fits_name called ≡ true
     → Stands bytes tokens f (statement (spoken.a_name called ∷ []) more)
-    → entry_step (setting bytes tokens []) [] (record { first = f; count = 1; body = None })
-    ≡ Ok (record { word = burst.Entry; name = called; line = line_at tokens f } ∷ [])
+    → entry_item (setting bytes tokens []) (record { first = f; count = 1; body = None })
+    ≡ Ok (record { word = burst.Entry; name = called; line = line_at tokens f })
 entry_read bytes tokens f called more fits stands =
     let e : Entry = record { first = f; count = 1; body = None } in
     ap (λ (ls : List Lexeme). and_then (at_statement f (only_name ls)) (λ c.
-    stepping left_out (item_on (setting bytes tokens []) e burst.Entry c ∷ []) [])) (statement_head stands ∙ lone_name called)
+    where_empty [] (item_on (setting bytes tokens []) e burst.Entry c))) (statement_head stands ∙ lone_name called)
     ∙ ap (λ (o : Option (List ℕ)). and_then (at_statement f (is_there o)) (λ c.
-    stepping left_out (item_on (setting bytes tokens []) e burst.Entry c ∷ []) [])) (named_is called fits)
+    where_empty [] (item_on (setting bytes tokens []) e burst.Entry c))) (named_is called fits)
 
 -- the names of a burst
 items_read : (bytes : List ℕ) (tokens : List Token) (f exec : ℕ) → exec < 2 ^ 64 → Stands bytes tokens f (burst_inside exec)
@@ -163,15 +163,15 @@ items_read bytes tokens f exec small stands =
     let inside = trees_at (f + 1 + 1) (statement (spoken.a_name called ∷ []) (spaced no_more)) in
     let e : Entry = record { first = f; count = 1; body = Some inside } in
     let first : Entry = record { first = f + 1 + 1; count = 1; body = None } in
-    let listed : burst_step s [] e ≡ Ok (item ∷ []) =
+    let listed : judge_burst s [] e ≡ Ok (item ∷ []) =
     ap (λ (ls : List Lexeme). by_word s [] e (first_meaning burst_words ls)) (braced_head one)
     ∙ ap (λ (ls : List Lexeme). and_then (at_statement f (where_so true (nothing (behind_first ls)))) (λ n.
-    stepping (entry_step s) [] (unskipped s (first ∷ [])))) (braced_head one)
-    ∙ ap (λ (es : List Entry). stepping (entry_step s) [] es) (unskipped_all bytes tokens (first ∷ []))
-    ∙ stepping-more (entry_step s) [] (item ∷ []) first []
+    reading (λ _ inner. entry_item s inner) [] (unskipped s (first ∷ [])))) (braced_head one)
+    ∙ ap (λ (es : List Entry). reading (λ _ inner. entry_item s inner) [] es) (unskipped_all bytes tokens (first ∷ []))
+    ∙ ap (λ (r : Result BurstItem FormFault). and_then r (λ x. Ok (x ∷ [])))
     (entry_read bytes tokens (f + 1 + 1) called _ (numbered_fits 112 exec refl small) (unspaced (inside_braced one))) in
-    ap (λ (es : List Entry). stepping (burst_step s) [] es) (unskipped_all bytes tokens (e ∷ []))
-    ∙ stepping-more (burst_step s) [] (item ∷ []) e [] listed
+    ap (λ (es : List Entry). and_then (reading (judge_burst s) [] es) (λ told. Ok (names_in told))) (unskipped_all bytes tokens (e ∷ []))
+    ∙ ap (λ (r : Result (List BurstItem) FormFault). and_then (and_then r (λ x. Ok (x ∷ []))) (λ told. Ok (names_in told))) listed
 
 -- one more
 pub burst_read : (bytes : List ℕ) (tokens : List Token) (before : List Burst) (at exec : ℕ) (more : Said) → exec < 2 ^ 64

@@ -11,7 +11,7 @@ use Rattle.stil_form.specs.Words.{fits_name}
 use Rattle.packed_code.specs.declared.instr.Instr.{Instr}
 use Rattle.packed_code.specs.declared.instr.Instr.TheVariants.{Run, Loop, End, Done}
 use Rattle.packed_code.specs.Whole.{IsRest}
-use Rattle.packed_code.specs.Letters.{is_place}
+use Rattle.packed_code.specs.RowBytes.{is_place}
 use Rattle.packed_code.specs.Program.{Exec, Program}
 use Rattle.packed_code.specs.Conditions.{EachBehind, IsText, IsSignal, IsWave, IsTable, IsRow, IsExec, IsProgram}
 use Rattle.packed_code.specs.Cycles.{exec_of}
@@ -120,7 +120,7 @@ tables_fit code is number =
     (λ before t h. all_behind (IsWave (length code.signals) t.period _) (WaveFits code)
     (λ others wave fits. record {
       called = named_signal code.signals wave.signal (signals_fit code is) fits.signal;
-      letter = fits.letter;
+      character = fits.character;
       few = fits.few;
     }) t.waves [] h.waves) code.tables [] is.tables)
 
@@ -132,7 +132,7 @@ rows_fit code is number =
     get_all (λ (r : List ℕ). (length r ≤ length code.signals) × (list_all is_place r ≡ true)) [] (omega arith, refl) code.rows
     (get_or (row_order code) number 0)
     (all_behind (IsRow (length code.signals)) (λ (r : List ℕ). (length r ≤ length code.signals) × (list_all is_place r ≡ true))
-    (λ before r h. (omega (arith, h.places), h.letters)) code.rows [] is.rows) in
+    (λ before r h. (omega (arith, h.places), h.characters)) code.rows [] is.rows) in
     given_fits code (signals_fit code is) row 0 (omega (arith, good.0)) good.1
 
 -- the names of tables and rows are names

@@ -8,17 +8,16 @@ use Rattle.text_bytes.specs.Limits.{most_executives}
 use Rattle.stil_lex.specs.Pieces.{Piece}
 use Rattle.stil_lex.specs.declared.token.Token.{Token}
 use Rattle.stil_tree.specs.Trees.{Entry}
-use Rattle.answers.specs.Reading.{and_then, stepping}
+use Rattle.answers.specs.Reading.{and_then, reading}
 use Rattle.stil_form.specs.declared.fault.FormFault.{FormFault}
 use Rattle.stil_form.specs.declared.fault.FormFault.TheVariants.{Refused}
 use Rattle.stil_form.specs.declared.fault.FormKind.TheVariants.{OutOfRange}
 use Rattle.stil_form.specs.Lexeme.{Lexeme, name}
 use Rattle.stil_form.specs.Setting.{setting, line_at, at_statement}
-use Rattle.stil_ast.specs.declared.name.Named.{Named}
 use Rattle.stil_ast.specs.declared.executive.ExecDecl.{ExecDecl}
 use Rattle.pat_read.specs.Statements.{is_there}
 use Rattle.block_forms.specs.Heads.{where_so, title_of, behind_first, titled_block}
-use Rattle.pattern_blocks.specs.Executives.{exec_step, no_parts, exec_by, exec_in, exec_block}
+use Rattle.pattern_blocks.specs.Executives.{judge_exec, exec_called, exec_in, exec_block}
 use Rattle.stil_read.specs.Top.{few, more_executives}
 use Rattle.packed_code.specs.Program.{Program}
 use Rattle.packed_code.specs.Conditions.{IsText}
@@ -27,7 +26,7 @@ use Rattle.line_texts.specs.Said.{Said, no_more, statement, blank, spaced, piece
 use Rattle.line_texts.specs.Said as spoken
 use Rattle.line_texts.specs.Lexemes.{lexemes_in}
 use Rattle.line_texts.proofs.LexemeLemmas.{unquoted_name}
-use Rattle.line_texts.proofs.SettingLemmas.{stepping-more, unskipped_all}
+use Rattle.line_texts.proofs.SettingLemmas.{unskipped_all}
 use Rattle.line_texts.proofs.StandingLemmas.{Stands, unspaced, statement_head, behind_statement, braced_head, inside_braced, behind_braced}
 use Rattle.flat_parts.specs.FlatBlocks.{numbered, IsExecDecl}
 use Rattle.flat_said.specs.FlatSaid.{title_pieces, exec_said}
@@ -89,38 +88,29 @@ title_read code bytes tokens at exec more is stands =
     ap (λ (ls : List Lexeme). at_statement at (where_so true (title_of (behind_first ls)))) (braced_head stands)
     ∙ ap (at_statement at) (title_is (exec_of code exec).name is)
 
--- the Timing
-timing_read : (bytes : List ℕ) (tokens : List Token) (f exec : ℕ) (more : Said) → exec < 2 ^ 64
+-- the Timing, and behind it the burst
+parts_read : (bytes : List ℕ) (tokens : List Token) (title : List ℕ) (at f exec : ℕ) (more behind : Said) → exec < 2 ^ 64
     → Stands bytes tokens f (statement (spoken.word (codes "Timing") ∷ blank ∷ spoken.a_name (numbered (codes "t") exec) ∷ []) more)
-    → exec_step (setting bytes tokens []) no_parts (record { first = f; count = 2; body = None })
+    → Stands bytes tokens (f + 2 + 1)
+    (statement (spoken.word (codes "PatternBurst") ∷ blank ∷ spoken.a_name (numbered (codes "b") exec) ∷ []) behind)
+    → and_then (reading (judge_exec (setting bytes tokens [])) []
+    (record { first = f; count = 2; body = None } ∷ record { first = f + 2 + 1; count = 2; body = None } ∷ []))
+    (λ told. at_statement at (exec_called (line_at tokens at) title told))
     ≡ Ok (record {
+      name = title;
       categories = [];
       selector = None;
       timing = Some (record { name = numbered (codes "t") exec; line = line_at tokens f });
-      burst = None;
+      burst = record { name = numbered (codes "b") exec; line = line_at tokens (f + 2 + 1) };
+      line = line_at tokens at;
     })
 unfolding is_printable
-timing_read bytes tokens f exec more small stands =
-    let head = statement_head stands ∙ named_head (codes "Timing") (numbered (codes "t") exec) in
-    let fits = numbered_fits 116 exec refl small in
-    rw head (rw fits refl)
-
--- and behind it the burst
-burst_read : (bytes : List ℕ) (tokens : List Token) (timing : Option Named) (f exec : ℕ) (more : Said) → exec < 2 ^ 64
-    → Stands bytes tokens f (statement (spoken.word (codes "PatternBurst") ∷ blank ∷ spoken.a_name (numbered (codes "b") exec) ∷ []) more)
-    → exec_step (setting bytes tokens []) (record { categories = []; selector = None; timing = timing; burst = None })
-    (record { first = f; count = 2; body = None })
-    ≡ Ok (record {
-      categories = [];
-      selector = None;
-      timing = timing;
-      burst = Some (record { name = numbered (codes "b") exec; line = line_at tokens f });
-    })
-unfolding is_printable
-burst_read bytes tokens timing f exec more small stands =
-    let head = statement_head stands ∙ named_head (codes "PatternBurst") (numbered (codes "b") exec) in
-    let fits = numbered_fits 98 exec refl small in
-    rw head (rw fits refl)
+parts_read bytes tokens title at f exec more behind small timing burst =
+    let first = statement_head timing ∙ named_head (codes "Timing") (numbered (codes "t") exec) in
+    let second = statement_head burst ∙ named_head (codes "PatternBurst") (numbered (codes "b") exec) in
+    let timing_fits = numbered_fits 116 exec refl small in
+    let burst_fits = numbered_fits 98 exec refl small in
+    rw first (rw timing_fits (rw second (rw burst_fits refl)))
 
 -- an executive by its statements
 inside_read : (code : Program) (bytes : List ℕ) (tokens : List Token) (at exec : ℕ) → exec < 2 ^ 64
@@ -129,19 +119,13 @@ inside_read : (code : Program) (bytes : List ℕ) (tokens : List Token) (at exec
 inside_read code bytes tokens at exec small stands =
     let s = setting bytes tokens [] in
     let f = exec_block_at code at exec in
+    let title = (exec_of code exec).name in
     let first : Entry = record { first = f; count = 2; body = None } in
     let second : Entry = record { first = f + 2 + 1; count = 2; body = None } in
-    let timing : Named = record { name = numbered (codes "t") exec; line = line_at tokens f } in
-    let named : Named = record { name = numbered (codes "b") exec; line = line_at tokens (f + 2 + 1) } in
     let one = unspaced stands in
-    ap (λ (r : Result _ FormFault). and_then r (λ found.
-    at_statement at (exec_by (line_at tokens at) (exec_of code exec).name found found.burst)))
-    (ap (λ (es : List Entry). stepping (exec_step s) no_parts es) (unskipped_all bytes tokens (first ∷ second ∷ []))
-    ∙ stepping-more (exec_step s) no_parts (record { categories = []; selector = None; timing = Some timing; burst = None }) first
-    (second ∷ []) (timing_read bytes tokens f exec _ small one)
-    ∙ stepping-more (exec_step s) (record { categories = []; selector = None; timing = Some timing; burst = None })
-    (record { categories = []; selector = None; timing = Some timing; burst = Some named }) second []
-    (burst_read bytes tokens (Some timing) (f + 2 + 1) exec _ small (unspaced (behind_statement one))))
+    ap (λ (es : List Entry). and_then (reading (judge_exec s) [] es) (λ told. at_statement at (exec_called (line_at tokens at) title told)))
+    (unskipped_all bytes tokens (first ∷ second ∷ []))
+    ∙ parts_read bytes tokens title at f exec _ _ small one (unspaced (behind_statement one))
 
 -- one more
 pub exec_read : (code : Program) (bytes : List ℕ) (tokens : List Token) (before : List ExecDecl) (at exec : ℕ) (more : Said)

@@ -17,7 +17,7 @@ use Rattle.stil_form.specs.Words.{fits_name}
 use Rattle.stil_form.specs.Setting.{setting, line_at, at_statement}
 use Rattle.stil_ast.specs.Data.Bodies.{written_of}
 use Rattle.stil_ast.specs.Data.Written.{Written, single, no_more}
-use Rattle.stil_ast.specs.Meaning.Statements.{letter}
+use Rattle.stil_ast.specs.Meaning.Statements.{a_character}
 use Rattle.stil_ast.specs.declared.body.Assignment.{Assignment}
 use Rattle.stil_ast.specs.declared.body.Step.TheVariants as step
 use Rattle.stil_ast.specs.declared.body.PatAction.TheVariants as action
@@ -31,7 +31,7 @@ use Rattle.block_forms.specs.Heads.{is_declared, under}
 use Rattle.pattern_blocks.specs.Defs.{names_of, def_called, def_name, new_name, new_def, judge_def, defs_in}
 use Rattle.packed_code.specs.declared.parts.CodeSignal.{CodeSignal}
 use Rattle.packed_code.specs.Program.{Program}
-use Rattle.packed_code.specs.Letters.{is_place}
+use Rattle.packed_code.specs.RowBytes.{is_place}
 use Rattle.line_texts.specs.Said.{Said, braced, word as a_word, blank, spaced, pieces_of, count_of, trees_at, each_said}
 use Rattle.line_texts.specs.Said as spoken
 use Rattle.line_texts.proofs.AssignmentLemmas.{equals_one, assignment_said}
@@ -49,7 +49,7 @@ use Rattle.flat_read.proofs.BodyLemmas.{one_read, vector_read}
 -- the assignment of a character
 abbrev pub gift_decl : List Token → ℕ → Given → Assignment
 gift_decl tokens at given =
-    record { reference = signal_called given.name; items = letter given.character ∷ []; line = line_at tokens at }
+    record { reference = signal_called given.name; items = a_character given.character ∷ []; line = line_at tokens at }
 
 abbrev pub gift_entry : ℕ → Given → Entry
 gift_entry at given = record { first = at; count = 3; body = None }

@@ -8,7 +8,7 @@ use Rattle.text_bytes.specs.Bytes.{is_printable}
 use Rattle.text_bytes.specs.Limits.{most_tables}
 use Rattle.stil_lex.specs.declared.token.Token.{Token}
 use Rattle.stil_tree.specs.Trees.{Entry, entries}
-use Rattle.answers.specs.Reading.{and_then, reading, stepping}
+use Rattle.answers.specs.Reading.{and_then, reading}
 use Rattle.stil_form.specs.declared.fault.FormFault.{FormFault}
 use Rattle.stil_form.specs.declared.fault.FormFault.TheVariants.{Refused}
 use Rattle.stil_form.specs.declared.fault.FormKind.{FormKind}
@@ -16,6 +16,7 @@ use Rattle.stil_form.specs.declared.fault.FormKind.TheVariants.{OutOfRange, Left
 use Rattle.stil_form.specs.Lexeme.{Lexeme}
 use Rattle.stil_form.specs.Setting.{setting, line_at, at_statement, inner_of}
 use Rattle.stil_ast.specs.Data.Texts.{same}
+use Rattle.stil_ast.specs.declared.name.Quoted.{Quoted}
 use Rattle.stil_ast.specs.declared.timing.SignalWaves.{SignalWaves}
 use Rattle.stil_ast.specs.declared.timing.TableDecl.{TableDecl}
 use Rattle.stil_ast.specs.declared.timing.TimingBlock.{TimingBlock}
@@ -24,12 +25,12 @@ use Rattle.block_forms.specs.Heads.{is_declared, count_under, under, where_so, o
 use Rattle.block_forms.specs.Keywords.{first_meaning}
 use Rattle.block_forms.specs.Quotes.{quoted_at}
 use Rattle.timing_blocks.specs.Waveforms.{signals_of}
-use Rattle.timing_blocks.specs.Timings.{table_words, with_period, with_waveforms, table_by, table_step, empty_table, table_of, is_table, new_name, table_name, table_names, judge_table, tables_of, timing_block}
+use Rattle.timing_blocks.specs.Timings.{TableLine, period, waves, table_words, new_period, line_by, judge_line, table_in, table_of, is_table, new_name, table_name, table_names, judge_table, tables_of, timing_block}
 use Rattle.stil_read.specs.Top.{tables_in, more_timings}
 use Rattle.packed_code.specs.Program.{Program}
 use Rattle.line_texts.specs.Said.{Said, no_more, statement, braced, blank, pieces_of, count_of, trees_at, each_said, next_line}
 use Rattle.line_texts.specs.Said as spoken
-use Rattle.line_texts.proofs.SettingLemmas.{unskipped_all, stepping-more}
+use Rattle.line_texts.proofs.SettingLemmas.{unskipped_all}
 use Rattle.line_texts.proofs.StandingLemmas.{Stands, unspaced, statement_head, behind_statement, braced_head, inside_braced, behind_braced}
 use Rattle.flat_parts.specs.FlatBlocks.{numbered, time_text, table_numbered, own_numbers, IsNumberedTable, IsTiming}
 use Rattle.flat_said.specs.FlatSaid.{wave_said, inside_table, table_said, timing_said}
@@ -44,19 +45,20 @@ use Rattle.flat_read.proofs.WaveLemmas.{WaveFits, wave_decl, wave_next, waves_re
 abbrev pub table_waves : Program → List Token → ℕ → ℕ → List SignalWaves
 table_waves code tokens f number = each_from (wave_decl code tokens) wave_next (f + 2 + 1 + 1 + 1) (table_numbered code number).waves
 
--- a table of which the period was read, which stands with this token
-abbrev pub with_time : Program → List Token → ℕ → ℕ → ℕ → TableDecl
-with_time code tokens line f number = record {
-  name = numbered (codes "w") number;
-  period = Some (record { text = time_text (table_numbered code number).period; line = line_at tokens (suc f) });
-  inherits = [];
-  waveforms = [];
-  line = line;
-}
+-- the period of a table of the text, which stands with this token
+abbrev pub table_period : Program → List Token → ℕ → ℕ → Quoted
+table_period code tokens f number =
+    record { text = time_text (table_numbered code number).period; line = line_at tokens (suc f) }
 
 -- a table, whose statements begin with this token
 abbrev pub table_with : Program → List Token → ℕ → ℕ → ℕ → TableDecl
-table_with code tokens line f number = with_waveforms (with_time code tokens line f number) (table_waves code tokens f number)
+table_with code tokens line f number = record {
+  name = numbered (codes "w") number;
+  period = Some (table_period code tokens f number);
+  inherits = [];
+  waveforms = table_waves code tokens f number;
+  line = line;
+}
 
 -- a table
 abbrev pub table_decl : Program → List Token → ℕ → ℕ → TableDecl
@@ -70,42 +72,41 @@ abbrev pub table_next : Program → ℕ → ℕ → ℕ
 table_next code at number = at + 2 + 1 + count_of (pieces_of (inside_table code (table_numbered code number))) + 1
 
 -- the period is read
-period_read : (code : Program) (bytes : List ℕ) (tokens : List Token) (line f number : ℕ) (more : Said)
+period_read : (code : Program) (bytes : List ℕ) (tokens : List Token) (f number : ℕ) (more : Said)
     → Stands bytes tokens f
     (statement (spoken.word (codes "Period") ∷ blank ∷ spoken.a_text (time_text (table_numbered code number).period) ∷ []) more)
-    → table_step (setting bytes tokens []) (empty_table (numbered (codes "w") number) line) (record { first = f; count = 2; body = None })
-    ≡ Ok (with_time code tokens line f number)
-period_read code bytes tokens line f number more stands =
+    → judge_line (setting bytes tokens []) [] (record { first = f; count = 2; body = None })
+    ≡ Ok (period (table_period code tokens f number))
+period_read code bytes tokens f number more stands =
     let s = setting bytes tokens [] in
     let e : Entry = record { first = f; count = 2; body = None } in
     let time = time_text (table_numbered code number).period in
-    let table = empty_table (numbered (codes "w") number) line in
     let head = statement_head stands ∙ texted_head (codes "Period") time in
-    ap (λ (ls : List Lexeme). table_by s table e (first_meaning table_words ls)) head
+    ap (λ (ls : List Lexeme). line_by s [] e (first_meaning table_words ls)) head
     ∙ ap (λ (ls : List Lexeme). and_then (at_statement f (where_so true (only_text (behind_first ls)))) (λ text.
-    at_statement f (with_period table (quoted_at s (suc f) text)))) head
+    at_statement f (new_period [] (quoted_at s (suc f) text)))) head
 
 -- the waves are read
-waveforms_read : (code : Program) (bytes : List ℕ) (tokens : List Token) (table : TableDecl) (f number : ℕ) (more : Said)
+waveforms_read : (code : Program) (bytes : List ℕ) (tokens : List Token) (before : List TableLine) (f number : ℕ) (more : Said)
     → AllByRecursion (WaveFits code) (table_numbered code number).waves
     → Stands bytes tokens f (braced (spoken.word (codes "Waveforms") ∷ blank ∷ [])
     (next_line (each_said (wave_said code) (table_numbered code number).waves no_more)) more)
-    → table_step (setting bytes tokens []) table (record {
+    → judge_line (setting bytes tokens []) before (record {
       first = f;
       count = 1;
       body = Some (trees_at (f + 1 + 1) (each_said (wave_said code) (table_numbered code number).waves no_more));
     })
-    ≡ Ok (with_waveforms table (each_from (wave_decl code tokens) wave_next (f + 1 + 1) (table_numbered code number).waves))
-waveforms_read code bytes tokens table f number more fits stands =
+    ≡ Ok (waves (each_from (wave_decl code tokens) wave_next (f + 1 + 1) (table_numbered code number).waves))
+waveforms_read code bytes tokens before f number more fits stands =
     let s = setting bytes tokens [] in
-    let waves = (table_numbered code number).waves in
-    let inside = trees_at (f + 1 + 1) (each_said (wave_said code) waves no_more) in
+    let all = (table_numbered code number).waves in
+    let inside = trees_at (f + 1 + 1) (each_said (wave_said code) all no_more) in
     let e : Entry = record { first = f; count = 1; body = Some inside } in
-    ap (λ (ls : List Lexeme). table_by s table e (first_meaning table_words ls)) (braced_head stands)
+    ap (λ (ls : List Lexeme). line_by s before e (first_meaning table_words ls)) (braced_head stands)
     ∙ ap (λ (ls : List Lexeme). and_then (at_statement f (where_so true (nothing (behind_first ls)))) (λ n.
-    and_then (signals_of s (entries inside)) (λ ws. Ok (with_waveforms table ws)))) (braced_head stands)
-    ∙ ap (λ (r : Result (List SignalWaves) FormFault). and_then r (λ ws. Ok (with_waveforms table ws)))
-    (waves_read code bytes tokens waves (f + 1 + 1) fits (unspaced (inside_braced stands)))
+    and_then (signals_of s (entries inside)) (λ ws. Ok (waves ws)))) (braced_head stands)
+    ∙ ap (λ (r : Result (List SignalWaves) FormFault). and_then r (λ ws. Ok (waves ws)))
+    (waves_read code bytes tokens all (f + 1 + 1) fits (unspaced (inside_braced stands)))
 
 -- both
 inside_read : (code : Program) (bytes : List ℕ) (tokens : List Token) (line f number : ℕ)
@@ -116,17 +117,21 @@ inside_read : (code : Program) (bytes : List ℕ) (tokens : List Token) (line f 
     ≡ Ok (table_with code tokens line f number)
 inside_read code bytes tokens line f number fits stands =
     let s = setting bytes tokens [] in
-    let waves = (table_numbered code number).waves in
-    let table = empty_table (numbered (codes "w") number) line in
+    let called = numbered (codes "w") number in
+    let all = (table_numbered code number).waves in
+    let time = table_period code tokens f number in
+    let made : List TableLine → Result TableDecl FormFault = λ said. Ok (table_in called line said) in
     let first : Entry = record { first = f; count = 2; body = None } in
     let second : Entry =
-    record { first = f + 2 + 1; count = 1; body = Some (trees_at (f + 2 + 1 + 1 + 1) (each_said (wave_said code) waves no_more)) } in
+    record { first = f + 2 + 1; count = 1; body = Some (trees_at (f + 2 + 1 + 1 + 1) (each_said (wave_said code) all no_more)) } in
     let one = unspaced stands in
-    ap (λ (es : List Entry). stepping (table_step s) table es) (unskipped_all bytes tokens (first ∷ second ∷ []))
-    ∙ stepping-more (table_step s) table (with_time code tokens line f number) first (second ∷ [])
-    (period_read code bytes tokens line f number _ one)
-    ∙ stepping-more (table_step s) (with_time code tokens line f number) (table_with code tokens line f number) second []
-    (waveforms_read code bytes tokens (with_time code tokens line f number) (f + 2 + 1) number _ fits (unspaced (behind_statement one)))
+    ap (λ (es : List Entry). and_then (reading (judge_line s) [] es) made) (unskipped_all bytes tokens (first ∷ second ∷ []))
+    ∙ ap (λ (r : Result TableLine FormFault). and_then (and_then r (λ x. reading (judge_line s) (x ∷ []) (second ∷ []))) made)
+    (period_read code bytes tokens f number _ one)
+    ∙ ap (λ (r : Result TableLine FormFault). and_then (and_then r (λ x. Ok (period time ∷ x ∷ []))) made)
+    (waveforms_read code bytes tokens (period time ∷ []) (f + 2 + 1) number _ fits (unspaced (behind_statement one)))
+    ∙ ap (λ (ws : List SignalWaves). Ok (record { name = called; period = Some time; inherits = []; waveforms = ws; line = line }))
+    (append-nil (table_waves code tokens f number))
 
 -- whether one more table may be declared
 new_table : (declared : List (List ℕ × List ℕ)) (title called : List ℕ) (at : ℕ) → is_declared declared title called ≡ false

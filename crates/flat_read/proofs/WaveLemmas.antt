@@ -25,7 +25,7 @@ use Rattle.stil_ast.specs.declared.timing.EventDecl.{EventDecl}
 use Rattle.stil_ast.specs.declared.timing.WaveDecl.{WaveDecl}
 use Rattle.stil_ast.specs.declared.timing.SignalWaves.{SignalWaves}
 use Rattle.pat_read.specs.References.{ref_of}
-use Rattle.timing_blocks.specs.Waveforms.{time_of, acts_of, event_at, new_event, judge_event, are_letters, letters_of, letters_at, judge_wave, lone_ref, ref_at, judge_signal, signals_of, in_block}
+use Rattle.timing_blocks.specs.Waveforms.{time_of, acts_of, event_at, new_event, judge_event, are_wave_characters, characters_of, characters_at, judge_wave, lone_ref, ref_at, judge_signal, signals_of, in_block}
 use Rattle.packed_code.specs.Program.{Program}
 use Rattle.line_texts.specs.Said.{Said, no_more, braced, blank, spaced, pieces_of, count_of, trees_at, each_said}
 use Rattle.line_texts.specs.Said as spoken
@@ -102,7 +102,7 @@ events_read bytes tokens events at few stands =
 -- the statements in a wave
 abbrev pub wave_inside : Wave → Said
 wave_inside wave =
-    spaced (braced (spoken.word (wave.letter ∷ []) ∷ blank ∷ []) (spaced (each_said event_said wave.events no_more)) (spaced no_more))
+    spaced (braced (spoken.word (wave.character ∷ []) ∷ blank ∷ []) (spaced (each_said event_said wave.events no_more)) (spaced no_more))
 
 abbrev pub wave_entry : ℕ → Wave → Entry
 wave_entry at wave = record { first = at; count = 1; body = Some (trees_at (at + 1 + 1) (wave_inside wave)) }
@@ -118,43 +118,43 @@ wave_events tokens at wave = each_from (event_decl tokens) event_next (at + 1 + 
 abbrev pub wave_decl : Program → List Token → ℕ → Wave → SignalWaves
 wave_decl code tokens at wave = record {
   reference = signal_called (name_of code wave.signal);
-  waves = record { letters = wave.letter ∷ []; events = wave_events tokens at wave } ∷ [];
+  waves = record { characters = wave.character ∷ []; events = wave_events tokens at wave } ∷ [];
   line = line_at tokens at;
 }
 
 -- a wave of a signal that there is, of a character, with as many events as it may have
 pub record WaveFits (code : Program) (wave : Wave) : Type 0 where
   pub called : fits_name (name_of code wave.signal) ≡ true
-  pub letter : is_character wave.letter ≡ true
+  pub character : is_character wave.character ≡ true
   pub few : length wave.events ≤ most_events
 
 -- one character
-one_letter : (c : ℕ) → is_character c ≡ true → are_letters (c ∷ []) ≡ true
-one_letter c h = rw h refl
+one_character : (c : ℕ) → is_character c ≡ true → are_wave_characters (c ∷ []) ≡ true
+one_character c h = rw h refl
 
 -- what its character does
-letter_read : (bytes : List ℕ) (tokens : List Token) (f : ℕ) (wave : Wave) → is_character wave.letter ≡ true
+character_read : (bytes : List ℕ) (tokens : List Token) (f : ℕ) (wave : Wave) → is_character wave.character ≡ true
     → length wave.events ≤ most_events
     → Stands bytes tokens f (wave_inside wave)
     → reading (judge_wave (setting bytes tokens [])) [] (entries (trees_at f (wave_inside wave)))
-    ≡ Ok (record { letters = wave.letter ∷ []; events = each_from (event_decl tokens) event_next (f + 1 + 1) wave.events } ∷ [])
-letter_read bytes tokens f wave letter few stands =
+    ≡ Ok (record { characters = wave.character ∷ []; events = each_from (event_decl tokens) event_next (f + 1 + 1) wave.events } ∷ [])
+character_read bytes tokens f wave character few stands =
     let s = setting bytes tokens [] in
     let one = unspaced stands in
     let inside = trees_at (f + 1 + 1) (each_said event_said wave.events no_more) in
     let e : Entry = record { first = f; count = 1; body = Some inside } in
     let events = each_from (event_decl tokens) event_next (f + 1 + 1) wave.events in
-    let letters : letters_at s e ≡ Ok (wave.letter ∷ []) =
-    ap (λ (ls : List Lexeme). at_statement f (letters_of ls)) (braced_head one)
-    ∙ ap (λ (b : Bool). at_statement f (cond b (Ok (wave.letter ∷ [])) (Err Shape))) (one_letter wave.letter letter) in
+    let characters : characters_at s e ≡ Ok (wave.character ∷ []) =
+    ap (λ (ls : List Lexeme). at_statement f (characters_of ls)) (braced_head one)
+    ∙ ap (λ (b : Bool). at_statement f (cond b (Ok (wave.character ∷ [])) (Err Shape))) (one_character wave.character character) in
     let read : reading (judge_event s 1) [] (unskipped s (entries inside)) ≡ Ok events =
     ap (λ (es : List Entry). reading (judge_event s 1) [] es) (unskipped_all bytes tokens (entries inside))
     ∙ events_read bytes tokens wave.events (f + 1 + 1) few (unspaced (inside_braced one)) in
-    let judged : judge_wave s [] e ≡ Ok (record { letters = wave.letter ∷ []; events = events }) =
+    let judged : judge_wave s [] e ≡ Ok (record { characters = wave.character ∷ []; events = events }) =
     ap (λ (r : Result (List ℕ) FormFault). and_then r (λ cs.
     and_then (reading (judge_event s (length cs)) [] (unskipped s (entries inside))) (λ all.
-    Ok (record { letters = cs; events = all })))) letters
-    ∙ ap (λ (r : Result (List EventDecl) FormFault). and_then r (λ all. Ok (record { letters = wave.letter ∷ []; events = all }))) read in
+    Ok (record { characters = cs; events = all })))) characters
+    ∙ ap (λ (r : Result (List EventDecl) FormFault). and_then r (λ all. Ok (record { characters = wave.character ∷ []; events = all }))) read in
     ap (λ (r : Result WaveDecl FormFault). and_then r (λ w. Ok (w ∷ []))) judged
 
 -- a wave is read behind others
@@ -171,9 +171,9 @@ wave_read code bytes tokens before at wave more fits stands =
     ap (λ (ls : List Lexeme). at_statement at (in_block true (lone_ref (reference_front ls)))) (braced_head stands ∙ lone_name called)
     ∙ ap (λ (o : Option (List ℕ)). at_statement at (in_block true (lone_ref (option_and_then (behind_name []) o))))
     (named_is called fits.called) in
-    let waves : reading (judge_wave s) [] inner ≡ Ok (record { letters = wave.letter ∷ []; events = wave_events tokens at wave } ∷ []) =
+    let waves : reading (judge_wave s) [] inner ≡ Ok (record { characters = wave.character ∷ []; events = wave_events tokens at wave } ∷ []) =
     ap (λ (es : List Entry). reading (judge_wave s) [] es) (unskipped_all bytes tokens (entries (trees_at (at + 1 + 1) (wave_inside wave))))
-    ∙ letter_read bytes tokens (at + 1 + 1) wave fits.letter fits.few (inside_braced stands) in
+    ∙ character_read bytes tokens (at + 1 + 1) wave fits.character fits.few (inside_braced stands) in
     ap (λ (r : Result Ref FormFault). and_then r (λ found. and_then (at_statement at (ref_of line found)) (λ reference.
     and_then (reading (judge_wave s) [] inner) (λ ws. Ok (record { reference = reference; waves = ws; line = line }))))) reference
     ∙ ap (λ (r : Result (List WaveDecl) FormFault). and_then r (λ ws.

@@ -11,12 +11,12 @@ use Rattle.packed_code.specs.declared.instr.Instr.{Instr}
 use Rattle.packed_code.specs.declared.instr.Instr.TheVariants.{Run, Loop, End, Done}
 use Rattle.stil_lex.specs.Bytes.{double_quote}
 use Rattle.packed_code.specs.declared.parts.CodeSignal.{CodeSignal}
-use Rattle.packed_code.specs.Letters.{is_place}
+use Rattle.packed_code.specs.RowBytes.{is_place}
 use Rattle.packed_code.specs.Program.{Exec, Program}
 use Rattle.packed_code.specs.Cycles.{exec_of}
 use Rattle.packed_code.specs.Conditions.{IsSignal, IsWave, IsTable, IsRow, IsInstr, IsExec, IsProgram}
 use Rattle.packed_code.proofs.Lists.{all_at, all_flat, all_passing}
-use Rattle.packed_code.proofs.SizeLemmas.{behind_all}
+use Rattle.packed_code.proofs.Lists.{behind_all}
 use Rattle.flat_parts.specs.Order.{run_table, tables_in, firsts, table_order, row_order}
 use Rattle.flat_parts.specs.FlatText.{name_of, is_plain, has_plain_names}
 use Rattle.flat_parts.specs.FlatBlocks.{no_table, table_numbered}
@@ -78,7 +78,7 @@ table_is : (code : Program) → ((signal : ℕ) → IsQuotable double_quote (nam
     → IsTable (length code.signals) before table → IsSayableTable code table
 table_is code names before table is =
     behind_all (IsWave (length code.signals) table.period _) (IsSayableWave code)
-    (λ earlier wave w. record { name = names wave.signal; letter = w.letter }) [] table.waves is.waves
+    (λ earlier wave w. record { name = names wave.signal; character = w.character }) [] table.waves is.waves
 
 -- the table of a number
 pub table_sayable : (code : Program) → IsProgram code → ((signal : ℕ) → IsQuotable double_quote (name_of code signal)) → (number : ℕ)
@@ -138,7 +138,7 @@ row_sayable code is number =
     let row = get_or (row_order code) number 0 in
     let places =
     all_or (λ (r : List ℕ). list_all is_place r ≡ true) code.rows row []
-    (behind_all (IsRow (length code.signals)) (λ (r : List ℕ). list_all is_place r ≡ true) (λ before r x. x.letters) [] code.rows
+    (behind_all (IsRow (length code.signals)) (λ (r : List ℕ). list_all is_place r ≡ true) (λ before r x. x.characters) [] code.rows
     is.rows) refl in
     let few =
     all_or (λ (r : List ℕ). length r ≤ length code.signals) code.rows row []

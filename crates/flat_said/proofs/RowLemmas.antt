@@ -8,10 +8,10 @@ use Rattle.text_bytes.specs.Bytes.{is_word, is_character}
 use Rattle.text_bytes.proofs.ListLemmas.{all_from}
 use Rattle.tester_types.specs.Printing.{quoted}
 use Rattle.stil_lex.specs.Bytes.{double_quote}
-use Rattle.packed_code.specs.Letters.{is_place}
+use Rattle.packed_code.specs.RowBytes.{is_place}
 use Rattle.packed_code.specs.Program.{Program}
 use Rattle.flat_parts.specs.Order.{row_order}
-use Rattle.flat_parts.specs.FlatText.{with_feed, text_of, name_of, letter_item, signal_item, letter_items, row_line, row_lines}
+use Rattle.flat_parts.specs.FlatText.{with_feed, text_of, name_of, character_item, signal_item, character_items, row_line, row_lines}
 use Rattle.flat_parts.specs.FlatBlocks.{Given, given_from, row_numbered}
 use Rattle.flat_said.specs.FlatSaid.{gift_said, row_said, rows_said}
 use Rattle.flat_said.proofs.ListLemmas.{all_any}
@@ -43,30 +43,30 @@ item_by false g rest = refl
 
 -- one signal and those behind it
 given_text : (code : Program) (from c : ℕ) (row : List ℕ)
-    → letter_item (name_of code from) c ++ flat_map gift_text (given_from code (from + 1) row)
+    → character_item (name_of code from) c ++ flat_map gift_text (given_from code (from + 1) row)
     ≡ flat_map gift_text (given_from code from (c ∷ row))
 given_text code from c row =
     item_by (c == 0) (record { name = name_of code from; character = c }) (given_from code (from + 1) row)
     ∙ ap (flat_map gift_text) (sym (given_more code from c row (c == 0) refl))
 
 -- what a row gives to the signals from a number on
-pub letters_are : (code : Program) (full : List ℕ) (from n : ℕ) (row : List ℕ) → drop from full ≡ row → length row ≤ n
+pub characters_are : (code : Program) (full : List ℕ) (from n : ℕ) (row : List ℕ) → drop from full ≡ row → length row ≤ n
     → flat_map (signal_item code full) (range_with_len from n) ≡ flat_map gift_text (given_from code from row)
-letters_are code full from zero [] is few = refl
-letters_are code full from zero (c ∷ row) is few = absurd (omega (arith, few))
-letters_are code full from (suc n) [] is few =
+characters_are code full from zero [] is few = refl
+characters_are code full from zero (c ∷ row) is few = absurd (omega (arith, few))
+characters_are code full from (suc n) [] is few =
     let short : length full ≤ from = omega (arith, ap length is, length-drop from full) in
     let none : get_or full from 0 ≡ 0 = get_or_past full from 0 short in
     let rest : drop (from + 1) full ≡ [] = drop_all (from + 1) full (omega (arith, short)) in
-    ap (λ (c : ℕ). letter_item (name_of code from) c ++ flat_map (signal_item code full) (range_with_len (from + 1) n)) none
-    ∙ letters_are code full (from + 1) n [] rest (omega arith)
-letters_are code full from (suc n) (c ∷ row) is few =
+    ap (λ (c : ℕ). character_item (name_of code from) c ++ flat_map (signal_item code full) (range_with_len (from + 1) n)) none
+    ∙ characters_are code full (from + 1) n [] rest (omega arith)
+characters_are code full from (suc n) (c ∷ row) is few =
     let long : from < length full = omega (arith, ap length is, length-drop from full) in
     let more : get_or full from 0 ∷ drop (from + 1) full ≡ c ∷ row = sym (drop_more full from 0 long) ∙ is in
     let parts = cons_parts more in
-    ap (λ (d : ℕ). letter_item (name_of code from) d ++ flat_map (signal_item code full) (range_with_len (from + 1) n)) parts.0
-    ∙ ap (λ (ys : List ℕ). letter_item (name_of code from) c ++ ys)
-    (letters_are code full (from + 1) n row parts.1 (omega (arith, few)))
+    ap (λ (d : ℕ). character_item (name_of code from) d ++ flat_map (signal_item code full) (range_with_len (from + 1) n)) parts.0
+    ∙ ap (λ (ys : List ℕ). character_item (name_of code from) c ++ ys)
+    (characters_are code full (from + 1) n row parts.1 (omega (arith, few)))
     ∙ given_text code from c row
   where
     cons_parts : {a b : ℕ} {xs ys : List ℕ} → a ∷ xs ≡ b ∷ ys → (a ≡ b) × (xs ≡ ys)
@@ -77,7 +77,7 @@ letters_are code full from (suc n) (c ∷ row) is few =
 -- a character for a signal that can be said
 pub record IsSayableGift (given : Given) : Type 0 where
   pub name : IsQuotable double_quote given.name
-  pub letter : is_character given.character ≡ true
+  pub character : is_character given.character ≡ true
 
 all_by : (none : Bool) (g : Given) (rest : List Given) → (none ≡ false → IsSayableGift g) → AllByRecursion IsSayableGift rest
     → AllByRecursion IsSayableGift (given_by none g rest)
@@ -96,11 +96,11 @@ gifts_are code names from (c ∷ row) places =
     let parts = and_parts (is_place c) (list_all is_place row) places in
     subst (AllByRecursion IsSayableGift) (sym (given_more code from c row (c == 0) refl))
     (all_by (c == 0) (record { name = name_of code from; character = c }) (given_from code (from + 1) row)
-    (λ some. record { name = names from; letter = place_is c parts.0 some }) (gifts_are code names (from + 1) row parts.1))
+    (λ some. record { name = names from; character = place_is c parts.0 some }) (gifts_are code names (from + 1) row parts.1))
 
-gift_line : (name equals letter stop space : List ℕ)
-    → ((name ++ (equals ++ (letter ++ []))) ++ stop) ++ space ≡ (name ++ equals) ++ (letter ++ (stop ++ space))
-gift_line name equals letter stop space = simp (append_assoc, append-nil)
+gift_line : (name equals character stop space : List ℕ)
+    → ((name ++ (equals ++ (character ++ []))) ++ stop) ++ space ≡ (name ++ equals) ++ (character ++ (stop ++ space))
+gift_line name equals character stop space = simp (append_assoc, append-nil)
 
 -- a character for a signal
 pub gift_says : (given : Given) → IsSayableGift given → Says (gift_said given) (gift_text given)
@@ -108,7 +108,7 @@ gift_says given sayable =
     says_as (gift_line (34 ∷ given.name ++ 34 ∷ []) (61 ∷ []) (given.character ∷ []) (59 ∷ []) (32 ∷ []))
     (says_then
     (says_statement
-    (heads_name sayable.name (heads_sign 61 equals_is (heads_last_word (character_is given.character sayable.letter)))))
+    (heads_name sayable.name (heads_sign 61 equals_is (heads_last_word (character_is given.character sayable.character)))))
     says_space)
 
 vector_word : IsPlainWord (codes "V")
@@ -130,11 +130,11 @@ row_says code number names places few =
     let row = row_numbered code number in
     let given = given_from code 0 row in
     let gifts =
-    says_as (sym (letters_are code row 0 (length code.signals) row refl few))
+    says_as (sym (characters_are code row 0 (length code.signals) row refl few))
     (says_each gift_said gift_text given
     (all_from IsSayableGift (λ g. Says (gift_said g) (gift_text g)) gift_says given (gifts_are code names 0 row places))) in
     says_as
-    (row_text_is (34 ∷ []) (codes "r") (decimal number) (32 ∷ []) (123 ∷ []) (codes "V") (letter_items code row) (125 ∷ []) (10 ∷ []))
+    (row_text_is (34 ∷ []) (codes "r") (decimal number) (32 ∷ []) (123 ∷ []) (codes "V") (character_items code row) (125 ∷ []) (10 ∷ []))
     (says_then
     (says_braced (heads_name_blank (r_is number) heads_nil)
     (says_then says_space (says_then (says_braced (heads_word_blank vector_word heads_nil) (says_then says_space gifts)) says_space)))

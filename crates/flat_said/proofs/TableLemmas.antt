@@ -45,10 +45,10 @@ signals_say code all =
 
 -- ---- tables
 
-event_text : (time letter : List ℕ)
-    → (((39 ∷ (time ++ codes "fs") ++ 39 ∷ []) ++ 32 ∷ (letter ++ [])) ++ 59 ∷ []) ++ 32 ∷ []
-    ≡ codes "'" ++ time ++ codes "fs' " ++ letter ++ codes "; "
-event_text time letter = simp (append_assoc, append-nil)
+event_text : (time character : List ℕ)
+    → (((39 ∷ (time ++ codes "fs") ++ 39 ∷ []) ++ 32 ∷ (character ++ [])) ++ 59 ∷ []) ++ 32 ∷ []
+    ≡ codes "'" ++ time ++ codes "fs' " ++ character ++ codes "; "
+event_text time character = simp (append_assoc, append-nil)
 
 -- an event
 pub event_says : (event : Event) → Says (event_said event) (event_item event)
@@ -56,24 +56,24 @@ event_says event =
     says_as (event_text (decimal event.time) (act_letter event.act))
     (says_then (says_statement (heads_text (time_is event.time) (heads_blank (heads_last_word (act_is event.act))))) says_space)
 
-wave_text : (name space opens letter events closes feed : List ℕ)
+wave_text : (name space opens character events closes feed : List ℕ)
     → ((name ++ space)
-    ++ (opens ++ ((space ++ (((letter ++ space) ++ (opens ++ ((space ++ events) ++ closes))) ++ space)) ++ closes))) ++ feed
-    ≡ (((name ++ (space ++ (opens ++ space)) ++ (letter ++ space)) ++ (opens ++ space))
+    ++ (opens ++ ((space ++ (((character ++ space) ++ (opens ++ ((space ++ events) ++ closes))) ++ space)) ++ closes))) ++ feed
+    ≡ (((name ++ (space ++ (opens ++ space)) ++ (character ++ space)) ++ (opens ++ space))
     ++ (events ++ (closes ++ (space ++ closes)))) ++ feed
-wave_text name space opens letter events closes feed = simp append_assoc
+wave_text name space opens character events closes feed = simp append_assoc
 
 -- a wave
-pub wave_says : (code : Program) (wave : Wave) → IsQuotable double_quote (name_of code wave.signal) → is_character wave.letter ≡ true
+pub wave_says : (code : Program) (wave : Wave) → IsQuotable double_quote (name_of code wave.signal) → is_character wave.character ≡ true
     → Says (wave_said code wave) (with_feed (wave_line code wave))
 wave_says code wave quotable character =
     let events : Says (each_said event_said wave.events) (flat_map event_item wave.events) =
     says_each event_said event_item wave.events (all_any (λ event. Says (event_said event) (event_item event)) event_says wave.events) in
     says_as
-    (wave_text (34 ∷ name_of code wave.signal ++ 34 ∷ []) (32 ∷ []) (123 ∷ []) (wave.letter ∷ []) (flat_map event_item wave.events)
+    (wave_text (34 ∷ name_of code wave.signal ++ 34 ∷ []) (32 ∷ []) (123 ∷ []) (wave.character ∷ []) (flat_map event_item wave.events)
     (125 ∷ []) (10 ∷ []))
     (says_then
     (says_braced (heads_name_blank quotable heads_nil)
     (says_then says_space
-    (says_then (says_braced (heads_word_blank (character_is wave.letter character) heads_nil) (says_then says_space events)) says_space)))
+    (says_then (says_braced (heads_word_blank (character_is wave.character character) heads_nil) (says_then says_space events)) says_space)))
     says_line)

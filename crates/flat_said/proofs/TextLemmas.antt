@@ -13,7 +13,7 @@ use Rattle.line_texts.specs.Said.{Said, no_more, statement, a_sign, each_said, w
 use Rattle.line_texts.specs.Lexemes.{lexemes_in}
 use Rattle.line_texts.proofs.PieceLemmas.{reads_pieces}
 use Rattle.line_texts.proofs.LexemeLemmas.{lexemes_of-pieces}
-use Rattle.packed_code.proofs.SizeLemmas.{behind_all}
+use Rattle.packed_code.proofs.Lists.{behind_all}
 use Rattle.flat_parts.specs.FlatText.{text_of, with_feed, signal_lines, timing_lines, row_lines, pattern_lines, burst_line, exec_line, executives, flat_text, has_plain_names}
 use Rattle.flat_parts.specs.Nests.{Nest, nothing, instrs_in}
 use Rattle.flat_parts.proofs.NestLemmas.{IsRest-nests}

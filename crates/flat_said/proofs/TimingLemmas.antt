@@ -50,7 +50,7 @@ waveforms_word = plain_word_is (codes "Waveforms") refl
 -- a wave that can be said
 pub record IsSayableWave (code : Program) (wave : Wave) : Type 0 where
   pub name : IsQuotable double_quote (name_of code wave.signal)
-  pub letter : is_character wave.letter ≡ true
+  pub character : is_character wave.character ≡ true
 
 -- a table of such waves
 abbrev pub IsSayableTable : Program → Table → Type 0
@@ -68,7 +68,7 @@ table_says code number sayable =
     let table = table_numbered code number in
     let waves = says_lines (codes "Waveforms {") (map (wave_line code) table.waves) (heads_word_blank waveforms_word heads_nil)
     (says_line_each (wave_said code) (wave_line code) table.waves
-    (all_from (IsSayableWave code) _ (λ wave w. wave_says code wave w.name w.letter) table.waves sayable)) refl in
+    (all_from (IsSayableWave code) _ (λ wave w. wave_says code wave w.name w.character) table.waves sayable)) refl in
     let period = says_statement (heads_word_blank period_word (heads_text (time_is table.period) heads_nil)) in
     let whole =
     period_text (codes "Period") (32 ∷ []) (39 ∷ []) (decimal table.period) (codes "fs") (59 ∷ []) (10 ∷ [])

@@ -16,7 +16,7 @@ use Rattle.tester_types.specs.declared.wave.Push.TheVariants as push
 use Rattle.tester_types.specs.declared.wave.Look.{Look}
 use Rattle.tester_types.specs.declared.wave.Look.TheVariants as look
 use Rattle.stil_lex.specs.Bytes.{may_be_quoted, double_quote, single_quote}
-use Rattle.code_listing.specs.Letters.{push_letter, look_letter}
+use Rattle.tester_types.specs.Acts.{push_letter, look_letter}
 use Rattle.flat_parts.specs.FlatText.{direction_word, act_letter, is_plain}
 use Rattle.flat_parts.specs.FlatBlocks.{numbered, time_text}
 use Rattle.flat_said.proofs.SaysLemmas.{IsQuotable, IsPlainWord, plain_word_is}

@@ -35,7 +35,7 @@ abbrev pub wave_said : Program → Wave → Said → Said
 wave_said code wave more =
     braced (a_name (name_of code wave.signal) ∷ blank ∷ [])
     (spaced
-    (braced (word (wave.letter ∷ []) ∷ blank ∷ [])
+    (braced (word (wave.character ∷ []) ∷ blank ∷ [])
     (spaced (each_said event_said wave.events no_more)) (spaced no_more)))
     (next_line more)
 

@@ -11,15 +11,15 @@ use Rattle.packed_code.specs.declared.instr.Instr.TheVariants.{Done}
 use Rattle.packed_code.specs.Program.{Program}
 use Rattle.packed_code.specs.Cycles.{exec_of}
 use Rattle.flat_parts.specs.Order.{is_in, firsts, tables_in, table_order}
-use Rattle.flat_parts.specs.FlatText.{letter_item, title, instr_lines, table_lines, numbered_table, table_among, own_table}
+use Rattle.flat_parts.specs.FlatText.{character_item, title, instr_lines, table_lines, numbered_table, table_among, own_table}
 use Rattle.flat_parts.proofs.OrderLemmas.{is_in-firsts}
 use Rattle.flat_stil.specs.Working.{Written, wrote, prints}
 use Rattle.flat_stil.proofs.SheetLemmas.{wrote_nothing, prints_nothing}
 
 -- a signal without a character
-pub no_letter : (name : List ℕ) (letter : ℕ) (s : Option Written) → letter ≡ 0 → s ≡ wrote s (letter_item name letter)
-no_letter name letter s none =
-    sym (ap (λ (b : Bool). wrote s (cond b [] (quoted name ++ codes "=" ++ letter ∷ codes "; "))) (eq-eqb letter 0 none) ∙ wrote_nothing s)
+pub no_character : (name : List ℕ) (character : ℕ) (s : Option Written) → character ≡ 0 → s ≡ wrote s (character_item name character)
+no_character name character s none =
+    sym (ap (λ (b : Bool). wrote s (cond b [] (quoted name ++ codes "=" ++ character ∷ codes "; "))) (eq-eqb character 0 none) ∙ wrote_nothing s)
 
 -- an executive without a name
 pub no_title : (name : List ℕ) (s : Option Written) → length name ≡ 0 → s ≡ wrote s (title name)

@@ -15,7 +15,7 @@ use Rattle.flat_parts.specs.FlatText.{block, row_text, run_line, text_of, flat_t
 
 -- a wave of one event
 abbrev wave_of : ℕ → ℕ → ℕ → Act → Wave
-wave_of signal letter time a = record { signal = signal; letter = letter; events = record { time = time; act = a } ∷ [] }
+wave_of signal character time a = record { signal = signal; character = character; events = record { time = time; act = a } ∷ [] }
 
 -- three vectors over an input and an output
 unfoldable three : Program

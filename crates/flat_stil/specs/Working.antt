@@ -2,7 +2,7 @@
 use Rattle.std.specs.Prelude.{◌≡◌, ℕ, ◌-◌, ◌≤◌, nat_le, Bool, true, false, List, [], ◌∷◌, ◌++◌, decimal, length, Option, Some, None, Result, Ok, Err, if◌then◌else◌}
 use Rattle.tester_types.specs.Printing.{quoted}
 use Rattle.flat_stil.specs.declared.sheet.Part.{Part}
-use Rattle.flat_stil.specs.declared.sheet.Part.TheVariants.{Text, Letter, Number, Name}
+use Rattle.flat_stil.specs.declared.sheet.Part.TheVariants.{Text, Character, Number, Name}
 use Rattle.text_bytes.specs.Limits.{most_bytes}
 use Rattle.stil_ast.specs.declared.fault.StilFault.{StilFault}
 use Rattle.packed_code.specs.Program.{Program}
@@ -21,7 +21,7 @@ pub record Written : Type 0 where
 -- what a part is written as
 abbrev pub part_text : Part → List ℕ
 part_text (Text text) = text.now
-part_text (Letter letter) = letter ∷ []
+part_text (Character character) = character ∷ []
 part_text (Number number) = decimal number
 part_text (Name name) = quoted name.now
 

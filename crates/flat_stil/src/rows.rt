@@ -2,9 +2,9 @@
 
 ghost use Rattle.std.specs.Prelude.{◌≡◌, [], ◌∷◌, ◌++◌, codes, map, length, slice_index_or};
 ghost use Rattle.std.specs.List.{range_with_len};
-ghost use Rattle.packed_code.specs.Conditions.{letters_of};
+ghost use Rattle.packed_code.specs.Conditions.{characters_of};
 ghost use Rattle.flat_parts.specs.Order.{row_order};
-ghost use Rattle.flat_parts.specs.FlatText.{letter_item, letter_items, row_front, row_text, row_line, row_lines};
+ghost use Rattle.flat_parts.specs.FlatText.{character_item, character_items, row_front, row_text, row_line, row_lines};
 ghost use Rattle.flat_stil.specs.Working.{wrote, prints};
 
 use crate::names::name_at;
@@ -12,7 +12,7 @@ use crate::sheet::{Part, Sheet};
 use packed_code::Code;
 
 /// The character of a signal in a row, 0 where it has none.
-fn letter_at(row: &[u8], signal: u16) -> u8
+fn character_at(row: &[u8], signal: u16) -> u8
     ensures { result ≡ slice_index_or row.now signal 0 }
 {
     if usize::from(signal) < row.len() {
@@ -23,31 +23,31 @@ fn letter_at(row: &[u8], signal: u16) -> u8
 }
 
 /// Writes what a row gives to a signal.
-fn put_letter(sheet: &mut Sheet, name: &[u8], letter: u8)
-    ensures { sheet.new ≡ wrote sheet.old (letter_item name.now letter) }
+fn put_character(sheet: &mut Sheet, name: &[u8], character: u8)
+    ensures { sheet.new ≡ wrote sheet.old (character_item name.now character) }
 {
-    if letter != 0 {
+    if character != 0 {
         sheet.put_parts(&[
             Part::Name(name),
             Part::Text(b"="),
-            Part::Letter(letter),
+            Part::Character(character),
             Part::Text(b"; "),
         ]);
     }
 }
 
 /// Writes what a row gives to all signals.
-fn put_letters(sheet: &mut Sheet, code: &Code, row: &[u8])
-    ensures { sheet.new ≡ wrote sheet.old (letter_items code.now row.now) }
+fn put_characters(sheet: &mut Sheet, code: &Code, row: &[u8])
+    ensures { sheet.new ≡ wrote sheet.old (character_items code.now row.now) }
 {
     for signal in 0..code.signals() {
-        put_letter(sheet, name_at(code, signal), letter_at(row, signal));
+        put_character(sheet, name_at(code, signal), character_at(row, signal));
     }
 }
 
 /// The characters of a row, none where there is no such row.
 fn row_at(code: &Code, row: u32) -> &[u8]
-    ensures { result.now ≡ letters_of code.now.rows row }
+    ensures { result.now ≡ characters_of code.now.rows row }
 {
     if row < code.rows() {
         code.row(row)
@@ -72,7 +72,7 @@ fn put_row(sheet: &mut Sheet, code: &Code, number: u64, row: &[u8])
     ensures { sheet.new ≡ prints sheet.old (row_text code.now number row.now ∷ []) }
 {
     put_front(sheet, number);
-    put_letters(sheet, code, row);
+    put_characters(sheet, code, row);
     sheet.put_line(&[Part::Text(b"} }")]);
 }
 

@@ -17,7 +17,7 @@ pub(crate) enum Part<'a> {
     /// Bytes as they are.
     Text(&'a [u8]),
     /// One byte.
-    Letter(u8),
+    Character(u8),
     /// A number in decimal digits.
     Number(u64),
     /// A name in double quotes.
@@ -79,7 +79,7 @@ impl Sheet {
     {
         match part {
             Part::Text(text) => self.put(text),
-            Part::Letter(letter) => self.put(&[letter]),
+            Part::Character(character) => self.put(&[character]),
             Part::Number(number) => self.put(Buffer::new().format(number).as_bytes()),
             Part::Name(name) => self.put_name(name),
         }

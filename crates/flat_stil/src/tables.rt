@@ -12,10 +12,9 @@ use crate::names::name_at;
 use crate::numbers::Numbers;
 use crate::order::own_tables;
 use crate::sheet::{Part, Sheet};
-use code_listing::{look_letter, push_letter};
 use packed_code::Code;
 use std::alloc::Global;
-use tester_types::{Act, Event, NoMemory, Table, Wave};
+use tester_types::{Act, Event, NoMemory, Table, Wave, look_letter, push_letter};
 
 /// The letter of an act.
 fn act_letter(act: Act) -> &'static [u8]
@@ -50,13 +49,13 @@ fn put_events(sheet: &mut Sheet, events: &[Event])
 }
 
 /// Writes the signal and the character of a wave, up to its events.
-fn put_front(sheet: &mut Sheet, name: &[u8], letter: u8)
-    ensures { sheet.new ≡ wrote sheet.old (wave_front name.now letter ++ codes "{ ") }
+fn put_front(sheet: &mut Sheet, name: &[u8], character: u8)
+    ensures { sheet.new ≡ wrote sheet.old (wave_front name.now character ++ codes "{ ") }
 {
     sheet.put_parts(&[
         Part::Name(name),
         Part::Text(b" { "),
-        Part::Letter(letter),
+        Part::Character(character),
         Part::Text(b" { "),
     ]);
 }
@@ -65,7 +64,7 @@ fn put_front(sheet: &mut Sheet, name: &[u8], letter: u8)
 fn put_wave(sheet: &mut Sheet, code: &Code, wave: &Wave)
     ensures { sheet.new ≡ prints sheet.old (wave_line code.now wave.now ∷ []) }
 {
-    put_front(sheet, name_at(code, wave.signal), wave.letter);
+    put_front(sheet, name_at(code, wave.signal), wave.character);
     put_events(sheet, wave.events.as_slice());
     sheet.put_line(&[Part::Text(b"} }")]);
 }

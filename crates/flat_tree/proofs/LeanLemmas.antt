@@ -2,7 +2,7 @@
 use Rattle.std.proofs.Common.{◌≡◌, ℕ, zero, suc, ◌<◌, Bool, true, false, List, [], ◌∷◌, Some, None, refl, ap, sym, ◌∙◌, subst, length, slice_index_or, arith}
 use Rattle.std.proofs.lemmas.List.{length-replicate, get_or-replicate}
 use Rattle.std.specs.List.{AllZip}
-use Rattle.stil_ast.specs.Meaning.Dealing.{with_letter}
+use Rattle.stil_ast.specs.Meaning.Dealing.{with_character}
 use Rattle.stil_ast.specs.Meaning.State.{State}
 use Rattle.stil_ast.specs.Meaning.Running.{Ran}
 use Rattle.stil_ast.specs.Meaning.Flat.{Flat, table, character, back, measure}
@@ -44,7 +44,7 @@ pub table_dropped : (signals : ℕ) (a : Ahead) (t : ℕ) (made wanted : Flat) �
 table_dropped signals a t made wanted m e =
     record {
       same =
-          dropped made wanted (table t wanted) (λ base s. record { table = Some t; letters = s.letters }) m.same refl
+          dropped made wanted (table t wanted) (λ base s. record { table = Some t; characters = s.characters }) m.same refl
           (λ base s. refl) (λ base s. overwritten_table (Some t) made base s (sym m.at_table ∙ e));
       lean = m.lean;
       size = m.size;
@@ -68,16 +68,16 @@ pub character_dropped : (signals : ℕ) (a : Ahead) (signal c : ℕ) (made wante
     → slice_index_or a.signals signal false ≡ true → IsMade signals a made (character signal c wanted)
 character_dropped signals a signal c made wanted m e =
     left_away signals a signal made wanted (character signal c wanted) m
-    (dropped made wanted (character signal c wanted) (λ base s. with_letter signal (Some c) s) m.same refl (λ base s. refl)
+    (dropped made wanted (character signal c wanted) (λ base s. with_character signal (Some c) s) m.same refl (λ base s. refl)
     (λ base s. overwritten signal (Some c) made base s (found_set signals a signal made wanted m e)))
 
 pub back_dropped : (signals : ℕ) (a : Ahead) (signal : ℕ) (made wanted : Flat) → IsMade signals a made wanted
     → slice_index_or a.signals signal false ≡ true → IsMade signals a made (back signal wanted)
 back_dropped signals a signal made wanted m e =
     left_away signals a signal made wanted (back signal wanted) m
-    (dropped made wanted (back signal wanted) (λ base s. with_letter signal (slice_index_or base.letters signal None) s)
+    (dropped made wanted (back signal wanted) (λ base s. with_character signal (slice_index_or base.characters signal None) s)
     m.same refl (λ base s. refl)
-    (λ base s. overwritten signal (slice_index_or base.letters signal None) made base s
+    (λ base s. overwritten signal (slice_index_or base.characters signal None) made base s
     (found_set signals a signal made wanted m e)))
 
 -- a tree that begins with a vector, a loop or a save

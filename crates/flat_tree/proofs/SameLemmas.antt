@@ -109,7 +109,7 @@ same-cycle mark spot a b p =
     record {
       runs =
           λ base s. ap (behind (record {
-            vector = record { table = s.table; letters = s.letters; mark = mark };
+            vector = record { table = s.table; characters = s.characters; mark = mark };
             place = spot;
           } ∷ [])) (p.runs base s);
       measure = omega (arith, p.measure);

@@ -1,18 +1,17 @@
 //! Names of files that say that a site is to stop, as a desk.
 
 ghost use Rattle.std.specs.Prelude.{◌≡◌, ℕ, ◌<◌, false, slice_index_or, if◌then◌else◌};
+ghost use Rattle.text_bytes.specs.Limits.{most_sites};
 
 use std::fs;
 use std::rt::Files;
 use std::thread::sleep;
 use std::time::{Clock, Duration};
 use tester_types::{Ask, Desk};
-
-/// How many sites may be stopped.
-const SITES: usize = 16;
+use text_bytes::MOST_SITES;
 
 /// The names of the files, each at the place of its site's number.
-const NAMES: [&str; SITES] = [
+const NAMES: [&str; MOST_SITES] = [
     "stop.0", "stop.1", "stop.2", "stop.3", "stop.4", "stop.5", "stop.6", "stop.7", "stop.8",
     "stop.9", "stop.10", "stop.11", "stop.12", "stop.13", "stop.14", "stop.15",
 ];
@@ -26,9 +25,9 @@ struct Round {
 impl Round {
     /// The site whose turn it is. The next one's is then.
     fn turn(&mut self) -> usize
-        ensures { result < 16 }
+        ensures { result < most_sites }
     {
-        let site = self.next % SITES;
+        let site = self.next % MOST_SITES;
         self.next = site + 1;
         site
     }
@@ -44,7 +43,7 @@ const PAUSE: u64 = 1;
 pub struct FileDesk<'a, R: Files> {
     rt: &'a R,
     /// For each site whether its file was found.
-    found: [bool; SITES],
+    found: [bool; MOST_SITES],
     round: Round,
     asked: bool,
 }
@@ -57,7 +56,7 @@ impl<'a, R: Files> FileDesk<'a, R> {
     {
         FileDesk {
             rt,
-            found: [false; SITES],
+            found: [false; MOST_SITES],
             round: Round { next: 0 },
             asked: false,
         }

@@ -8,7 +8,7 @@ use Rattle.stil_form.specs.Lexeme.{Lexeme, word, sign, lexeme_at, lexemes_of}
 use Rattle.stil_form.specs.Fronts.{Ref, named, reference_front}
 use Rattle.stil_form.specs.Setting.{setting, line_at}
 use Rattle.stil_ast.specs.declared.body.Assignment.{Assignment}
-use Rattle.stil_ast.specs.Meaning.Statements.{Item, letter}
+use Rattle.stil_ast.specs.Meaning.Statements.{Item, a_character}
 use Rattle.pat_read.specs.Data.{has_underscore, data_of}
 use Rattle.pat_read.specs.References.{last_of, named_ref, assigned, assignment_by, assignment_of}
 use Rattle.pat_read.specs.Body.{assignment_at}
@@ -17,7 +17,7 @@ use Rattle.line_texts.proofs.SettingLemmas.{lexemes_of-tokens_at}
 -- data that are one character, behind a name and a sign
 data_last : (bytes : List ℕ) (ts : List Token) (a b : Lexeme) (byte : ℕ)
     → lexemes_of bytes ts ≡ a ∷ b ∷ word (byte ∷ []) ∷ [] → has_underscore (byte ∷ []) ≡ false
-    → data_of bytes (last_of 1 ts) ≡ Ok (letter byte ∷ [])
+    → data_of bytes (last_of 1 ts) ≡ Ok (a_character byte ∷ [])
 data_last bytes [] a b byte are fits = absurd (omega (arith, ap length are))
 data_last bytes (t ∷ []) a b byte are fits = absurd (omega (arith, ap length are))
 data_last bytes (t ∷ u ∷ []) a b byte are fits = absurd (omega (arith, ap length are))
@@ -28,7 +28,7 @@ data_last bytes (t ∷ u ∷ v ∷ x ∷ ts) a b byte are fits = absurd (omega (
 
 -- an assignment of one character to a name
 abbrev pub gives : List ℕ → ℕ → ℕ → Assignment
-gives called byte line = record { reference = named_ref called None; items = letter byte ∷ []; line = line }
+gives called byte line = record { reference = named_ref called None; items = a_character byte ∷ []; line = line }
 
 -- what stands behind the name
 abbrev pub equals_one : ℕ → List Lexeme
@@ -42,7 +42,7 @@ pub assignment_said : (bytes : List ℕ) (tokens : List Token) (words : List (Li
 assignment_said bytes tokens words f one called byte head is_named fits =
     let ts = take 3 (drop f tokens) in
     let line = line_at tokens f in
-    let found : data_of bytes (last_of 1 ts) ≡ Ok (letter byte ∷ []) =
+    let found : data_of bytes (last_of 1 ts) ≡ Ok (a_character byte ∷ []) =
     data_last bytes ts one (sign Equals) byte (lexemes_of-tokens_at bytes tokens f 3 ∙ head) fits in
     ap (λ (ls : List Lexeme). assignment_of bytes ts line false ls) head
     ∙ ap (λ (o : Option (Ref × List Lexeme)). assignment_by bytes ts line false o) is_named

@@ -8,7 +8,7 @@ use Rattle.std.proofs.lemmas.Option.{same_Some}
 use Rattle.tester_types.specs.declared.cycle.Cycle.{Cycle}
 use Rattle.tester_types.specs.declared.wave.Table.{Table}
 use Rattle.packed_code.specs.Program.{Exec, Program}
-use Rattle.packed_code.specs.Conditions.{letters_of}
+use Rattle.packed_code.specs.Conditions.{characters_of}
 use Rattle.packed_code.specs.Meaning.{Means}
 use Rattle.packed_code.specs.Cycles.{exec_of, cycles_of, timed}
 use Rattle.page_code.specs.Saved.{Saved}
@@ -22,7 +22,7 @@ use Rattle.stil_ast.specs.declared.blocks.Blocks.{Blocks}
 use Rattle.stil_ast.specs.declared.executive.ExecDecl.{ExecDecl}
 use Rattle.stil_program.proofs.FrontLemmas.{one_read}
 use Rattle.burst_exec.specs.Executives.{AreExecutives}
-use Rattle.cycle_comp.specs.Compiled.{chain_of, letter_of, table_in, read_cycle, IsExecOf, IsCodeOf}
+use Rattle.cycle_comp.specs.Compiled.{chain_of, character_of, table_in, read_cycle, IsExecOf, IsCodeOf}
 use Rattle.stil_program.specs.Program.{IsBlocksCode, IsProgramOf}
 use Rattle.site_meaning.specs.Alike.{SaidCycle, said_by, said_cycles, AreCodesAlike}
 
@@ -32,27 +32,27 @@ some_none : (a : ℕ) → Some a ≡ None → ⊥
 some_none a e = cc
 
 -- a byte that isn't 0 is a character
-some_letter : (b : ℕ) → letter_of (suc b) ≡ Some (suc b)
-some_letter b = ap (λ (t : Bool). cond {A = Option ℕ} t None (Some (suc b))) (ne_eqb (suc b) 0 (λ e. omega (arith, e)))
+some_character : (b : ℕ) → character_of (suc b) ≡ Some (suc b)
+some_character b = ap (λ (t : Bool). cond {A = Option ℕ} t None (Some (suc b))) (ne_eqb (suc b) 0 (λ e. omega (arith, e)))
 
 -- a byte of a row is the character that it is read as, or none
-one_letter : (a b : ℕ) → letter_of a ≡ letter_of b → a ≡ b
-one_letter zero zero same = refl
-one_letter zero (suc b) same = absurd (some_none (suc b) (sym (some_letter b) ∙ sym same))
-one_letter (suc a) zero same = absurd (some_none (suc a) (sym (some_letter a) ∙ same))
-one_letter (suc a) (suc b) same = same_Some (suc a) (suc b) (sym (some_letter a) ∙ same ∙ some_letter b)
+one_character : (a b : ℕ) → character_of a ≡ character_of b → a ≡ b
+one_character zero zero same = refl
+one_character zero (suc b) same = absurd (some_none (suc b) (sym (some_character b) ∙ sym same))
+one_character (suc a) zero same = absurd (some_none (suc a) (sym (some_character a) ∙ same))
+one_character (suc a) (suc b) same = same_Some (suc a) (suc b) (sym (some_character a) ∙ same ∙ some_character b)
 
-one_row : (xs ys : List ℕ) → map letter_of xs ≡ map letter_of ys → xs ≡ ys
+one_row : (xs ys : List ℕ) → map character_of xs ≡ map character_of ys → xs ≡ ys
 one_row [] [] same = refl
-one_row [] (b ∷ ys) same = absurd (let no : [] ≡ letter_of b ∷ map letter_of ys = same in cc no)
-one_row (a ∷ xs) [] same = absurd (let no : letter_of a ∷ map letter_of xs ≡ [] = same in cc no)
+one_row [] (b ∷ ys) same = absurd (let no : [] ≡ character_of b ∷ map character_of ys = same in cc no)
+one_row (a ∷ xs) [] same = absurd (let no : character_of a ∷ map character_of xs ≡ [] = same in cc no)
 one_row (a ∷ xs) (b ∷ ys) same =
-    ap (λ (x : ℕ). x ∷ xs) (one_letter a b (first_is same)) ∙ ap (λ (l : List ℕ). b ∷ l) (one_row xs ys (rest_is same))
+    ap (λ (x : ℕ). x ∷ xs) (one_character a b (first_is same)) ∙ ap (λ (l : List ℕ). b ∷ l) (one_row xs ys (rest_is same))
   where
-    first_is : letter_of a ∷ map letter_of xs ≡ letter_of b ∷ map letter_of ys → letter_of a ≡ letter_of b
+    first_is : character_of a ∷ map character_of xs ≡ character_of b ∷ map character_of ys → character_of a ≡ character_of b
     first_is e = cc
 
-    rest_is : letter_of a ∷ map letter_of xs ≡ letter_of b ∷ map letter_of ys → map letter_of xs ≡ map letter_of ys
+    rest_is : character_of a ∷ map character_of xs ≡ character_of b ∷ map character_of ys → map character_of xs ≡ map character_of ys
     rest_is e = cc
 
 -- a table of an executive's own
@@ -73,9 +73,9 @@ said_alike : (first number : ℕ) (rows rows' : List (List ℕ)) (c c' : Cycle) 
 said_alike first number rows rows' c c' own own' same =
     let start : c.start ≡ c'.start = ap (λ (d : Dated). d.start) same in
     let table : c.table ≡ c'.table = one_table first c.table c'.table own own' (ap (λ (d : Dated). d.vector.table) same) in
-    let letters : letters_of rows c.row ≡ letters_of rows' c'.row = one_row _ _ (ap (λ (d : Dated). d.vector.letters) same) in
+    let characters : characters_of rows c.row ≡ characters_of rows' c'.row = one_row _ _ (ap (λ (d : Dated). d.vector.characters) same) in
     let mark : c.mark ≡ c'.mark = ap (λ (d : Dated). d.vector.mark) same in
-    λ i. record { start = start i; table = table i; letters = letters i; mark = mark i }
+    λ i. record { start = start i; table = table i; characters = characters i; mark = mark i }
 
 all_said : (first number : ℕ) (rows rows' : List (List ℕ)) (cs cs' : List Cycle) → AllByRecursion (IsOwn first) cs
     → AllByRecursion (IsOwn first) cs'

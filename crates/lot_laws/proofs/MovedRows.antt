@@ -10,8 +10,8 @@ use Rattle.plan_rows.specs.declared.row.DieRow.{DieRow}
 use Rattle.plan_rows.specs.declared.row.FaultRow.{FaultRow}
 use Rattle.plan_rows.specs.declared.row.SkewRow.{SkewRow}
 use Rattle.plan_rows.specs.declared.row.StopRow.{StopRow}
-use Rattle.plan_rows.specs.Rows.{one, each_of, as_lot, as_clock, as_bind, as_bin, as_die, as_fault, as_stop, as_skew, dies_at, faults_at, stops_at, skews_at}
-use Rattle.site_meaning.specs.Part.{concerns, rows_for}
+use Rattle.plan_rows.specs.Rows.{one, each_of, as_lot, as_clock, as_bind, as_bin, as_die, as_fault, as_stop, as_skew, dies_at, faults_at, stops_at, skews_at, is_about}
+use Rattle.site_meaning.specs.Part.{rows_for}
 use Rattle.plan_parts.specs.Moved.{moved}
 use Rattle.plan_parts.proofs.CutLemmas.{by_kind}
 
@@ -54,24 +54,24 @@ bins_moved site rows =
 
 -- each row is of this site, or of none
 abbrev pub AreOf : ℕ → List Row → Type 0
-AreOf site rows = AllByRecursion (λ (r : Row). concerns site r ≡ true) rows
+AreOf site rows = AllByRecursion (λ (r : Row). is_about site r ≡ true) rows
 
 -- the rows of a site are
 pub rows_of : (site : ℕ) (rows : List Row) → AreOf site (rows_for site rows)
 unfolding rows_for
 rows_of site [] = tt
-rows_of site (r ∷ rows) = by (concerns site r) refl (rows_of site rows)
+rows_of site (r ∷ rows) = by (is_about site r) refl (rows_of site rows)
   where
-    by : (b : Bool) → concerns site r ≡ b → AreOf site (filter (concerns site) rows)
-        → AreOf site (cond b (r ∷ filter (concerns site) rows) (filter (concerns site) rows))
+    by : (b : Bool) → is_about site r ≡ b → AreOf site (filter (is_about site) rows)
+        → AreOf site (cond b (r ∷ filter (is_about site) rows) (filter (is_about site) rows))
     by true is later = (is, later)
     by false is later = later
 
 -- A list with a test and a change: where each row gives one item of the site or none, and the moved row gives that item
 -- changed, the items of the moved rows that pass at their new place are those that pass at the old one, changed.
 module _ {A : Type 0} (f : Row → Option A) (site place : ℕ) (change : A → A) (test test' : A → Bool)
-    (gives : (r : Row) → concerns site r ≡ true → f (moved place r) ≡ option_map change (f r))
-    (passes : (r : Row) → concerns site r ≡ true → (x : A) → f r ≡ Some x → test' (change x) ≡ test x) where
+    (gives : (r : Row) → is_about site r ≡ true → f (moved place r) ≡ option_map change (f r))
+    (passes : (r : Row) → is_about site r ≡ true → (x : A) → f r ≡ Some x → test' (change x) ≡ test x) where
   moved_items : (rows : List Row) → AreOf site rows
       → filter test' (each_of f (map (moved place) rows)) ≡ map change (filter test (each_of f rows))
   moved_items [] of_site = refl
@@ -100,9 +100,9 @@ pub dies_moved : (site place : ℕ) (rows : List Row) → AreOf site rows
 dies_moved site place rows of_site =
     moved_items as_die site place (λ (x : DieRow). record x { site = place })
     (λ (x : DieRow). x.site == site) (λ (x : DieRow). x.site == place)
-    (by_kind (λ r. concerns site r ≡ true → as_die (moved place r) ≡ option_map (λ (x : DieRow). record x { site = place }) (as_die r))
+    (by_kind (λ r. is_about site r ≡ true → as_die (moved place r) ≡ option_map (λ (x : DieRow). record x { site = place }) (as_die r))
     (λ l is. refl) (λ s is. refl) (λ b is. refl) (λ b is. refl) (λ d is. refl) (λ f is. refl) (λ s is. refl) (λ k is. refl))
-    (by_kind (λ r. concerns site r ≡ true → (x : DieRow) → as_die r ≡ Some x → (place == place) ≡ (x.site == site)) (λ y. none _ y) (λ y. none _ y) (λ y. none _ y) (λ y. none _ y)
+    (by_kind (λ r. is_about site r ≡ true → (x : DieRow) → as_die r ≡ Some x → (place == place) ≡ (x.site == site)) (λ y. none _ y) (λ y. none _ y) (λ y. none _ y) (λ y. none _ y)
     (λ x is y same. subst (λ (x : DieRow). (place == place) ≡ (x.site == site)) (same_Some x y same) (stays x is)) (λ y. none _ y) (λ y. none _ y) (λ y. none _ y)) rows of_site
   where
     stays : (x : DieRow) → x.site == site ≡ true → (place == place) ≡ (x.site == site)
@@ -114,9 +114,9 @@ pub faults_moved : (site die place : ℕ) (rows : List Row) → AreOf site rows
 faults_moved site die place rows of_site =
     moved_items as_fault site place (λ (x : FaultRow). record x { site = place })
     (λ (x : FaultRow). (x.site == site) && (x.die == die)) (λ (x : FaultRow). (x.site == place) && (x.die == die))
-    (by_kind (λ r. concerns site r ≡ true → as_fault (moved place r) ≡ option_map (λ (x : FaultRow). record x { site = place }) (as_fault r))
+    (by_kind (λ r. is_about site r ≡ true → as_fault (moved place r) ≡ option_map (λ (x : FaultRow). record x { site = place }) (as_fault r))
     (λ l is. refl) (λ s is. refl) (λ b is. refl) (λ b is. refl) (λ d is. refl) (λ f is. refl) (λ s is. refl) (λ k is. refl))
-    (by_kind (λ r. concerns site r ≡ true → (x : FaultRow) → as_fault r ≡ Some x → ((place == place) && (x.die == die)) ≡ ((x.site == site) && (x.die == die))) (λ y. none _ y) (λ y. none _ y) (λ y. none _ y) (λ y. none _ y)
+    (by_kind (λ r. is_about site r ≡ true → (x : FaultRow) → as_fault r ≡ Some x → ((place == place) && (x.die == die)) ≡ ((x.site == site) && (x.die == die))) (λ y. none _ y) (λ y. none _ y) (λ y. none _ y) (λ y. none _ y)
     (λ y. none _ y) (λ x is y same. subst (λ (x : FaultRow). ((place == place) && (x.die == die)) ≡ ((x.site == site) && (x.die == die))) (same_Some x y same) (stays x is)) (λ y. none _ y) (λ y. none _ y)) rows of_site
   where
     stays : (x : FaultRow) → x.site == site ≡ true → ((place == place) && (x.die == die)) ≡ ((x.site == site) && (x.die == die))
@@ -128,9 +128,9 @@ pub stops_moved : (site die place : ℕ) (rows : List Row) → AreOf site rows
 stops_moved site die place rows of_site =
     moved_items as_stop site place (λ (x : StopRow). record x { site = place })
     (λ (x : StopRow). (x.site == site) && (x.die == die)) (λ (x : StopRow). (x.site == place) && (x.die == die))
-    (by_kind (λ r. concerns site r ≡ true → as_stop (moved place r) ≡ option_map (λ (x : StopRow). record x { site = place }) (as_stop r))
+    (by_kind (λ r. is_about site r ≡ true → as_stop (moved place r) ≡ option_map (λ (x : StopRow). record x { site = place }) (as_stop r))
     (λ l is. refl) (λ s is. refl) (λ b is. refl) (λ b is. refl) (λ d is. refl) (λ f is. refl) (λ s is. refl) (λ k is. refl))
-    (by_kind (λ r. concerns site r ≡ true → (x : StopRow) → as_stop r ≡ Some x → ((place == place) && (x.die == die)) ≡ ((x.site == site) && (x.die == die))) (λ y. none _ y) (λ y. none _ y) (λ y. none _ y) (λ y. none _ y)
+    (by_kind (λ r. is_about site r ≡ true → (x : StopRow) → as_stop r ≡ Some x → ((place == place) && (x.die == die)) ≡ ((x.site == site) && (x.die == die))) (λ y. none _ y) (λ y. none _ y) (λ y. none _ y) (λ y. none _ y)
     (λ y. none _ y) (λ y. none _ y) (λ x is y same. subst (λ (x : StopRow). ((place == place) && (x.die == die)) ≡ ((x.site == site) && (x.die == die))) (same_Some x y same) (stays x is)) (λ y. none _ y)) rows of_site
   where
     stays : (x : StopRow) → x.site == site ≡ true → ((place == place) && (x.die == die)) ≡ ((x.site == site) && (x.die == die))
@@ -142,9 +142,9 @@ pub skews_moved : (site place : ℕ) (rows : List Row) → AreOf site rows
 skews_moved site place rows of_site =
     moved_items as_skew site place (λ (x : SkewRow). record x { site = place })
     (λ (x : SkewRow). x.site == site) (λ (x : SkewRow). x.site == place)
-    (by_kind (λ r. concerns site r ≡ true → as_skew (moved place r) ≡ option_map (λ (x : SkewRow). record x { site = place }) (as_skew r))
+    (by_kind (λ r. is_about site r ≡ true → as_skew (moved place r) ≡ option_map (λ (x : SkewRow). record x { site = place }) (as_skew r))
     (λ l is. refl) (λ s is. refl) (λ b is. refl) (λ b is. refl) (λ d is. refl) (λ f is. refl) (λ s is. refl) (λ k is. refl))
-    (by_kind (λ r. concerns site r ≡ true → (x : SkewRow) → as_skew r ≡ Some x → (place == place) ≡ (x.site == site)) (λ y. none _ y) (λ y. none _ y) (λ y. none _ y) (λ y. none _ y)
+    (by_kind (λ r. is_about site r ≡ true → (x : SkewRow) → as_skew r ≡ Some x → (place == place) ≡ (x.site == site)) (λ y. none _ y) (λ y. none _ y) (λ y. none _ y) (λ y. none _ y)
     (λ y. none _ y) (λ y. none _ y) (λ y. none _ y) (λ x is y same. subst (λ (x : SkewRow). (place == place) ≡ (x.site == site)) (same_Some x y same) (stays x is))) rows of_site
   where
     stays : (x : SkewRow) → x.site == site ≡ true → (place == place) ≡ (x.site == site)

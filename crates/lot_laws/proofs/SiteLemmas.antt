@@ -29,7 +29,7 @@ use Rattle.site_meaning.specs.Records.{Sound}
 use Rattle.site_meaning.specs.Alike.{AreCodesAlike, AreCircuitsAlike, ArePartsAlike}
 use Rattle.site_meaning.proofs.RowLemmas.{dies-same, bins-same}
 use Rattle.site_meaning.proofs.PartLemmas.{circuit_in-part_of, dies_in-part_of}
-use Rattle.code_listing.specs.Letters.{look_letter}
+use Rattle.tester_types.specs.Acts.{look_letter}
 use Rattle.datalog.specs.DatalogText.{seen_letter, cell_in, cell_words, fail_line, try_line, verdict_line, trial_text, final_verdict, die_bin, die_line, bin_line, record_text, site_line, site_text}
 use Rattle.tool_inputs.specs.Inputs.{is_saved, IsCodeBy, IsProgramFile, IsNetFile, AreNetFiles, Inputs, AreInputs, bound_of}
 use Rattle.lot_laws.specs.Alone.{IsOneProgram, same, saved, SayTheSame}

@@ -4,6 +4,7 @@ use Rattle.std.specs.Prelude.{codes, filter, nat_le, nat_lt}
 use Rattle.std.proofs.lemmas.Bool.{and_parts, eqb-true}
 use Rattle.std.specs.List.{list_all, range_with_len, AllByRecursion}
 use Rattle.std.specs.Str.{bytes_eq}
+use Rattle.plan_rows.specs.Limits.{last_site, most_skew, most_tries}
 use Rattle.text_bytes.specs.Bytes.{is_printing}
 use Rattle.text_bytes.specs.Limits.{longest_label}
 use Rattle.text_bytes.specs.Numbers.{is_within}
@@ -119,22 +120,22 @@ of_a_die place before (a_clock signal) d h = apart (row.Clock signal) d refl (ma
 of_a_die place before (a_bind signal net) d h =
     apart (row.Bind (record { signal = signal; net = net })) d refl (made_so _ _ h)
 of_a_die place before (a_die site name file) d h =
-    let m = (fits_within place (nat_le site 63 && die_fits before) _ (row.Die d) h).1 in
+    let m = (fits_within place (nat_le site last_site && die_fits before) _ (row.Die d) h).1 in
     let r : row.Die (record { site = site; name = name; file = file }) ≡ row.Die d = made_so _ _ m in
     (site, file, ap (λ (n : List ℕ). a_die site n file) (ap (λ (x : Row). name_or (as_die x)) r))
 of_a_die place before (a_fault site name net value tries) d h =
-    let found = (fits_within place (nat_le site 63 && nat_le value 1 && tries_fit tries) _ (row.Die d) h).1 in
+    let found = (fits_within place (nat_le site last_site && nat_le value 1 && tries_fit tries) _ (row.Die d) h).1 in
     let (n, at, made) = die_there place (number_at before site name) _ (row.Die d) found in
     apart _ d refl made
 of_a_die place before (a_stop site name number batch) d h =
-    let found = (fits_within place (nat_le site 63 && is_within 1 8 number && nat_le batch (2 ^ 48)) _ (row.Die d) h).1 in
+    let found = (fits_within place (nat_le site last_site && is_within 1 most_tries number && nat_le batch (2 ^ 48)) _ (row.Die d) h).1 in
     let (n, at, made) = die_there place (number_at before site name) _ (row.Die d) found in
     apart _ d refl made
 of_a_die place before (a_bin ending number) d h =
     let m = (fits_within place (ending_fits ending && is_within 1 99 number) _ (row.Die d) h).1 in
     apart (row.Bin (record { ending = ending; bin = number })) d refl (made_so _ _ m)
 of_a_die place before (a_skew site signal back size) d h =
-    by (nat_lt 0 (length (dies_at site before))) _ refl (fits_within place (nat_le site 63 && nat_le size 1000000000000) _ (row.Die d) h).1
+    by (nat_lt 0 (length (dies_at site before))) _ refl (fits_within place (nat_le site last_site && nat_le size most_skew) _ (row.Die d) h).1
   where
     by : {A : Type 0} (b : Bool) (y : Row) → as_die y ≡ None
         → cond {A = Result Row PlanFault} b (Ok y) (Err (UnknownName place)) ≡ Ok (row.Die d) → A

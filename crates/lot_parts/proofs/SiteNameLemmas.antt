@@ -12,6 +12,7 @@ use Rattle.plan_rows.specs.declared.row.Row.{Row}
 use Rattle.plan_rows.specs.declared.row.Row.TheVariants as row
 use Rattle.plan_rows.specs.declared.row.DieRow.{DieRow}
 use Rattle.std.proofs.lemmas.Bool.{eq-eqb, ne_eqb}
+use Rattle.text_bytes.specs.Limits.{most_plan_sites}
 use Rattle.text_bytes.proofs.ListLemmas.{range-more}
 use Rattle.plan_rows.specs.Rows.{as_die, one, dies_of, dies_at}
 use Rattle.plan_rows.specs.Judging.{names_at}
@@ -25,7 +26,7 @@ use Rattle.log_parts.specs.Merged.{names_in}
 
 -- a number in a part is small
 pub small_number : (parts part ranks number : ℕ) → part < parts → number < sites_in_part parts part ranks → ranks ≤ 64
-    → number < 64
+    → number < most_plan_sites
 small_number parts part ranks number less within few =
     let rank : rank_at parts part number < ranks = (number_within parts part ranks less number).0 within in
     let more : number * 1 ≤ number * parts = mul-le-mul_left number (omega (arith, less)) in

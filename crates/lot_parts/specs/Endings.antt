@@ -1,14 +1,14 @@
 -- How a run ends.
-use Rattle.std.specs.Prelude.{◌≡◌, ◌⊎◌, ℕ, List, Option, codes}
+use Rattle.std.specs.Prelude.{◌≡◌, ◌⊎◌, ℕ, List, Option}
 use Rattle.tester_types.specs.Outside.{HasRisen, gained, GainsFront}
 use Rattle.tool_inputs.specs.declared.status.Status.TheVariants.{WriteFault}
+use Rattle.lot_parts.specs.declared.call.TheConstants.{USAGE}
 use Rattle.lot_parts.specs.declared.outcome.Outcome.{Outcome}
 use Rattle.lot_parts.specs.declared.outcome.Outcome.TheVariants.{Ended}
 
 -- what is written where the words are none of the forms
 abbrev pub usage_line : List ℕ
-usage_line =
-    codes "usage: parts PLAN | part PLAN K N | merge PLAN FILE .. | grade PROGRAM PLAN K N | merge-grade FILE ..\n"
+usage_line = USAGE.now
 
 -- a run ends with the outcome and its text written whole, or as a write fault with a front of that text
 abbrev pub EndsAs : Option (List ℕ) → ℕ → Outcome → List ℕ → Outcome → Option (List ℕ) → ℕ → Type 0

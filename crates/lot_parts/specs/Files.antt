@@ -1,5 +1,5 @@
 -- Files of parts, and why they aren't loaded. They may be longer than other files.
-use Rattle.std.specs.Prelude.{◌≡◌, ℕ, ◌<◌, ◌^◌, List, [], ◌∷◌, ◌++◌, length, map, Option, Some, Vec}
+use Rattle.std.specs.Prelude.{◌≡◌, ℕ, ◌<◌, List, [], ◌∷◌, ◌++◌, length, map, Option, Some, Vec}
 use Rattle.std.specs.declared.alloc.Global.{Global}
 use Rattle.tester_types.specs.Outside.{Files, TellsFile}
 use Rattle.tool_inputs.specs.Endings.{LoadFailed}
@@ -7,10 +7,11 @@ use Rattle.tool_inputs.specs.Refusals.{status_of}
 use Rattle.tool_inputs.specs.declared.status.Status.TheVariants.{OutOfMemory}
 use Rattle.tool_inputs.specs.declared.refusal.Refusal.{Refusal}
 use Rattle.tool_inputs.specs.declared.refusal.Refusal.TheVariants.{ReadFault, TooLong}
+use Rattle.lot_parts.specs.declared.load.TheConstants.{MOST_PART}
 
 -- the most bytes that the text of a part may have
 abbrev pub most_part : ℕ
-most_part = 2 ^ 40
+most_part = MOST_PART
 
 -- texts without where they lie in memory
 abbrev pub texts_seen : List (Vec ℕ Global) → List (List ℕ)

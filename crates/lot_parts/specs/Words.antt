@@ -1,6 +1,7 @@
 -- The words of the command line.
 use Rattle.std.specs.Prelude.{◌≡◌, ℕ, ◌<◌, ◌≤◌, List, [], ◌∷◌, ◌+◌, length, map, codes, decimal, String, string_bytes}
 use Rattle.std.specs.declared.alloc.Global.{Global}
+use Rattle.lot_parts.specs.declared.words.TheConstants.{MOST_PARTS}
 
 -- words without where they lie in memory
 abbrev pub words_seen : List (String Global) → List (List ℕ)
@@ -8,7 +9,7 @@ words_seen words = map string_bytes words
 
 -- the most parts
 abbrev pub most_parts : ℕ
-most_parts = 4096
+most_parts = MOST_PARTS
 
 -- part `part`, counted from 0, of so many
 pub record IsPart (parts part : ℕ) : Type 0 where

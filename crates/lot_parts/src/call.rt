@@ -15,7 +15,8 @@ use std::alloc::Global;
 use tester_types::{Piece, Shelf, Sink};
 use tool_inputs::{Status, ended};
 
-const USAGE: &[u8] =
+/// What is written where the words are none of the forms of the program's commands.
+pub const USAGE: &[u8] =
     b"usage: parts PLAN | part PLAN K N | merge PLAN FILE .. | grade PROGRAM PLAN K N | \
 merge-grade FILE ..\n";
 

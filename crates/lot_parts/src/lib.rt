@@ -13,7 +13,7 @@ mod outcome;
 mod refusal;
 mod words;
 
-pub use call::divide;
+pub use call::{USAGE, divide};
 pub use outcome::{Outcome, out_of_memory};
 pub use refusal::PartRefusal;
 pub use tool_inputs::Status;

@@ -1,12 +1,13 @@
 //! `merge`: the datalog of a plan, of those of its parts.
 
 ghost use Rattle.std.specs.Prelude.{◌≡◌, ◌≤◌, ◌<◌, ℕ, List, IfOk, IfErr, length};
+ghost use Rattle.text_bytes.specs.Limits.{most_plan_sites};
 ghost use Rattle.plan_rows.specs.Plan.{IsPlan};
 ghost use Rattle.plan_parts.specs.Cut.{sites_with_dies};
 ghost use Rattle.log_parts.specs.Merged.{names_in};
 ghost use Rattle.log_parts.specs.Slices.{IsSliced};
 ghost use Rattle.log_parts.specs.Step.{IsFaultOf};
-ghost use Rattle.lot_parts.specs.Words.{words_seen};
+ghost use Rattle.lot_parts.specs.Words.{words_seen, most_parts};
 ghost use Rattle.lot_parts.specs.Files.{texts_seen};
 ghost use Rattle.lot_parts.specs.Endings.{AnswersAs};
 ghost use Rattle.lot_parts.specs.Merging.{AreSliced, IsTextRefused, MergeWants};
@@ -34,7 +35,7 @@ fn read_log<'a>(
 ) -> Result<PartLog<'a>, LineFault>
     requires plan { (bytes : List ℕ) × IsPlan bytes rows.now }
     requires sites { sites.now ≡ sites_with_dies rows.now }
-    requires few { length sites.now ≤ 64 }
+    requires few { length sites.now ≤ most_plan_sites }
     requires part { of.part < of.parts }
     ensures found { IfOk result (λ log. IsSliced (names_in of.parts of.part rows.now) text.now log) }
     ensures fault { IfErr result (λ e. IsFaultOf (names_in of.parts of.part rows.now) text.now e) }
@@ -56,8 +57,8 @@ fn read_logs<'a>(
 ) -> Result<Vec<PartLog<'a>>, PartRefusal>
     requires plan { (bytes : List ℕ) × IsPlan bytes rows.now }
     requires sites { sites.now ≡ sites_with_dies rows.now }
-    requires few_sites { length sites.now ≤ 64 }
-    requires few { length files.now ≤ 4096 }
+    requires few_sites { length sites.now ≤ most_plan_sites }
+    requires few { length files.now ≤ most_parts }
     requires each { length files.now ≡ length texts.now }
     ensures found { IfOk result (λ logs. AreSliced rows.now (length files.now) 0 (texts_seen texts.now) logs.items) }
     ensures refused { IfErr result (IsTextRefused rows.now (words_seen files.now) (texts_seen texts.now)) }
@@ -88,7 +89,7 @@ pub(crate) fn merge<F: Shelf, K: Sink>(
     out: &mut K,
 ) -> Outcome
     requires some { 0 < length files.now }
-    requires few { length files.now ≤ 4096 }
+    requires few { length files.now ≤ most_parts }
     ensures answers { AnswersAs (MergeWants (F.told shelf.old) (F.faults shelf.old) (F.faults shelf.new) plan.now
         (words_seen files.now)) (K.told out.old) (K.faults out.old) result (K.told out.new) (K.faults out.new) }
     ensures kept { F.told shelf.new ≡ F.told shelf.old }

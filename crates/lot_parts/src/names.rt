@@ -1,6 +1,7 @@
 //! The names of the dies of a part, site by site.
 
 ghost use Rattle.std.specs.Prelude.{◌≡◌, ◌<◌, ◌≤◌, ◌∷◌, [], IfOk, IfSome, IfNone, length};
+ghost use Rattle.text_bytes.specs.Limits.{most_plan_sites};
 ghost use Rattle.plan_rows.specs.Judging.{names_at};
 ghost use Rattle.plan_parts.specs.Cut.{sites_with_dies};
 ghost use Rattle.log_parts.specs.Merged.{names_in};
@@ -56,7 +57,7 @@ pub(crate) fn names_in<'a>(
     of: Part,
 ) -> Result<Vec<Vec<&'a [u8]>>, AllocError>
     requires sites { sites.now ≡ sites_with_dies rows.now }
-    requires few { length sites.now ≤ 64 }
+    requires few { length sites.now ≤ most_plan_sites }
     requires part { of.part < of.parts }
     ensures { IfOk result (λ names. lent_sites names.items ≡ names_in of.parts of.part rows.now) }
 {

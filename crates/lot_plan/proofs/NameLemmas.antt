@@ -10,6 +10,7 @@ use Rattle.std.proofs.lemmas.Bool.{cases_Bool}
 use Rattle.std.proofs.lemmas.List.{get_or-map, length-map, map-append}
 use Rattle.std.proofs.lemmas.List.Folds.{list_any-append}
 use Rattle.std.proofs.Math.Bool.{or-false}
+use Rattle.plan_rows.specs.Limits.{last_site}
 use Rattle.text_bytes.specs.Texts.{behind, added}
 use Rattle.packed_code.specs.declared.parts.CodeSignal.{CodeSignal}
 use Rattle.plan_rows.specs.declared.row.DieRow.{DieRow}
@@ -83,7 +84,7 @@ each-behind P items i item all within is =
     subst P at (all i item.now (rw length-map within))
 
 -- the site at hand is small, where all are
-pub site-within : (dies : List (Bor DieRow)) (i : ℕ) (die : Bor DieRow) → All (λ d. d.site ≤ 63) (behind dies) →
+pub site-within : (dies : List (Bor DieRow)) (i : ℕ) (die : Bor DieRow) → All (λ d. d.site ≤ last_site) (behind dies) →
     i < length dies →
-    die ≡ get_or dies i die → die.now.site ≤ 63
-site-within dies i die all within is = each-behind (λ (d : DieRow). d.site ≤ 63) dies i die all within is
+    die ≡ get_or dies i die → die.now.site ≤ last_site
+site-within dies i die all within is = each-behind (λ (d : DieRow). d.site ≤ last_site) dies i die all within is

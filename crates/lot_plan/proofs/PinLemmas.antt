@@ -16,13 +16,6 @@ pub take-next : {X : Type 0} (xs : List X) (i : ℕ) (x : X) → i < length xs �
     take (i + 1) xs ≡ take i xs ++ x ∷ []
 take-next xs i x within at = take_more xs i x within ∙ ap (λ y. take i xs ++ y ∷ []) (get_or_from_slice_get xs i x x at)
 
-or_same : {X : Type 0} (o : Option X) → option_or o None ≡ o
-or_same None = refl
-or_same (Some x) = refl
-
-or_assoc : {X : Type 0} (a b : Option X) (x : X) → option_or (Some x) b ≡ Some x
-or_assoc a b x = refl
-
 copied-or : {X : Type 0} (o p : Option (Bor X)) → option_copied (option_or o p) ≡ option_or (option_copied o) (option_copied p)
 copied-or None p = refl
 copied-or (Some x) p = refl

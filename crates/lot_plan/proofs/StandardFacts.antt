@@ -80,8 +80,8 @@ program = record {
   tables = record {
     name = codes "t";
     period = 10;
-    waves = record { signal = 0; letter = 49; events = record { time = 3; act = act.Push push.Up } ∷ [] }
-        ∷ record { signal = 1; letter = 49; events = record { time = 0; act = act.Look look.High } ∷ [] } ∷ [];
+    waves = record { signal = 0; character = 49; events = record { time = 3; act = act.Push push.Up } ∷ [] }
+        ∷ record { signal = 1; character = 49; events = record { time = 0; act = act.Look look.High } ∷ [] } ∷ [];
   } ∷ [];
   rows = [];
   execs = record { name = []; chains = []; instrs = [] } ∷ [];

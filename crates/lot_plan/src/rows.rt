@@ -1,6 +1,7 @@
 //! The rows of a plan by their kinds.
 ghost use Rattle.std.specs.Prelude.{◌≡◌, ◌+◌, ◌≤◌, All, IfOk, fold, max, slice_get};
 ghost use Rattle.std.specs.Option.{option_copied};
+ghost use Rattle.plan_rows.specs.Limits.{last_site};
 ghost use Rattle.text_bytes.specs.Texts.{behind};
 ghost use Rattle.plan_rows.specs.Rows.{as_clock, each_of, lot_of};
 ghost use Rattle.lot_plan.specs.Readings.{first_of};
@@ -192,7 +193,7 @@ pub(crate) fn lot_of(rows: &[Row]) -> LotRow
 
 /// How many sites there are with this one beside so many.
 fn with_site(sites: u8, site: u8) -> u8
-    requires { site ≤ 63 }
+    requires { site ≤ last_site }
     ensures { result ≡ max sites (site + 1) }
 {
     if sites <= site { site + 1 } else { sites }
@@ -200,7 +201,7 @@ fn with_site(sites: u8, site: u8) -> u8
 
 /// How many sites dies have: the greatest site plus 1, and none without a die.
 pub(crate) fn sites_of(dies: &[&DieRow]) -> u8
-    requires { All (λ d. d.site ≤ 63) (behind dies.now) }
+    requires { All (λ d. d.site ≤ last_site) (behind dies.now) }
     ensures { result ≡ fold (λ most d. max most (d.site + 1)) 0 (behind dies.now) }
 {
     let mut sites = 0;

@@ -20,7 +20,7 @@ use Rattle.flat_tree.specs.Origins.{body_of}
 use Rattle.flat_tree.specs.declared.place.BodyKind.{BodyKind}
 use Rattle.macro_expand.specs.Actions.{is_stop, loop_check, statement_check, loop_piece, action_piece}
 use Rattle.macro_expand.specs.Recursing.{setting_in, stands, check_named, flat_named, named_in, list_check, ListSteps}
-use Rattle.macro_expand.specs.Refusing.{IsAt}
+use Rattle.macro_expand.specs.Refusing.{IsAt, Trouble}
 use Rattle.macro_expand.specs.Scopes.{titles_in, scope_in}
 use Rattle.macro_expand.specs.Standings.{standing_in}
 use Rattle.macro_expand.specs.Stepping.{Steps, spot_on}
@@ -28,7 +28,6 @@ use Rattle.macro_expand.specs.Walking.{flat_at, IsWalking}
 use Rattle.macro_expand.specs.Walks.{walked, then_kept}
 use Rattle.macro_expand.specs.declared.scope.PatternScope.{PatternScope}
 use Rattle.macro_expand.specs.declared.standing.Standing.{Standing as HeldStanding}
-use Rattle.macro_expand.specs.declared.trouble.Trouble.{Trouble}
 use Rattle.macro_expand.specs.declared.walk.Walk.{Walk}
 use Rattle.flat_tree.proofs.FlatLemmas.{joined-done}
 use Rattle.macro_expand.proofs.KindLemmas.{loop_steps}

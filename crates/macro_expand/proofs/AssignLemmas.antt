@@ -17,11 +17,10 @@ use Rattle.stil_ast.specs.declared.fault.StilKind.{StilKind}
 use Rattle.stil_ast.specs.declared.fault.StilKind.TheVariants.{TooLarge}
 use Rattle.macro_expand.specs.declared.pairing.Pair.{Pair}
 use Rattle.macro_expand.specs.declared.references.References.{References}
-use Rattle.macro_expand.specs.declared.trouble.Trouble.{Trouble}
-use Rattle.macro_expand.specs.declared.trouble.Trouble.TheVariants.{NoMemory, At}
+use Rattle.answers.specs.declared.short.Short.TheVariants.{NoMemory, Fault}
 use Rattle.macro_expand.specs.declared.walk.Walk.{Walk}
 use Rattle.macro_expand.specs.Placing.{placed, placed_from, assign_of, Writes}
-use Rattle.macro_expand.specs.Refusing.{IsAt}
+use Rattle.macro_expand.specs.Refusing.{IsAt, Trouble}
 use Rattle.macro_expand.specs.Stepping.{WritesOr, IsAssigning}
 use Rattle.macro_expand.specs.Walks.{walked, then_kept}
 use Rattle.macro_expand.proofs.FlatLemmas.{gifts_front-append}
@@ -81,7 +80,7 @@ pub writes_same : {A : Type 0} (titles : Titles) (check other : Walked → Check
 writes_same titles check other assigns before after (Ok done) e h =
     record { checked = e ∙ h.checked; args = h.args; out = h.out; taken = h.taken }
 writes_same titles check other assigns before after (Err NoMemory) e h = tt
-writes_same titles check other assigns before after (Err (At kind body line)) e h = e ∙ h
+writes_same titles check other assigns before after (Err (Fault at)) e h = e ∙ h
 
 -- an assignment whose reference has no fault, and which is within the limit
 pub assigned : {A : Type 0} (sc : Scope) (s : Standing) (d : Assignment) (runs : List ItemRun) (signals : List ℕ)
@@ -112,7 +111,7 @@ pub writes_noted : {A : Type 0} (titles : Titles) (check : Walked → Checked) (
 writes_noted titles check assigns before after references (Ok done) w =
     record { checked = w.checked; args = w.args; out = w.out; taken = w.taken }
 writes_noted titles check assigns before after references (Err NoMemory) w = tt
-writes_noted titles check assigns before after references (Err (At kind body line)) w = w
+writes_noted titles check assigns before after references (Err (Fault at)) w = w
 
 -- one assignment in front of others
 deal-first : (a : Assign) (rest : List Assign) (args : List Argument) → (deal (a ∷ rest) args).gifts
@@ -156,7 +155,7 @@ module _ (sc : Scope) (s : Standing) (all : List Assignment) (start : Walk) wher
       → IsAssigning sc s all start (d ∷ left) now → IsAt titles (check_assign sc s d (walked now)) trouble
       → IsAt titles (check_assigns sc s all (walked start)) trouble
   assigning_refused titles d left now NoMemory before e = tt
-  assigning_refused titles d left now (At kind body line) before e =
+  assigning_refused titles d left now (Fault at) before e =
       sym before.checked ∙ ap (λ (c : Checked). then_check c (check_assigns sc s left)) e
 
   -- all of them, whichever pairs are at hand behind them

@@ -19,7 +19,7 @@ use Rattle.macro_expand.specs.Walking.{flat_at}
 use Rattle.macro_expand.specs.Walks.{walked, then_kept}
 use Rattle.macro_expand.specs.declared.standing.Callee.{Callee as HeldCallee}
 use Rattle.macro_expand.specs.declared.standing.Standing.{Standing as HeldStanding}
-use Rattle.macro_expand.specs.declared.trouble.Trouble.{Trouble}
+use Rattle.macro_expand.specs.Refusing.{Trouble}
 use Rattle.macro_expand.specs.declared.walk.Walk.{Walk}
 use Rattle.macro_expand.proofs.GoLemmas.{one_less}
 use Rattle.macro_expand.proofs.KindLemmas.{at_same}

@@ -2,20 +2,20 @@
 use Rattle.std.proofs.Common.{◌≡◌, ℕ, zero, suc, List, [], ◌∷◌, ◌++◌, refl, ap, ◌∙◌, replicate}
 use Rattle.stil_ast.specs.Data.Items.{item_of, items_of}
 use Rattle.stil_ast.specs.Meaning.Arguments.{Entry, given, entries_of}
-use Rattle.stil_ast.specs.Meaning.Statements.{Item, letter, hash, percent}
+use Rattle.stil_ast.specs.Meaning.Statements.{Item, a_character, hash, percent}
 use Rattle.stil_ast.specs.declared.data.ItemRun.{ItemRun}
 use Rattle.stil_ast.proofs.ItemLemmas.{items_of-more}
 
 entries_of-append : (xs ys : List Item) → entries_of (xs ++ ys) ≡ entries_of xs ++ entries_of ys
 entries_of-append [] ys = refl
-entries_of-append (letter c ∷ xs) ys = ap (λ (es : List Entry). given c ∷ es) (entries_of-append xs ys)
+entries_of-append (a_character c ∷ xs) ys = ap (λ (es : List Entry). given c ∷ es) (entries_of-append xs ys)
 entries_of-append (hash ∷ xs) ys = entries_of-append xs ys
 entries_of-append (percent ∷ xs) ys = entries_of-append xs ys
 
 -- a run of a character
-pub entries_of-letters : (n c : ℕ) → entries_of (replicate n (letter c)) ≡ replicate n (given c)
-entries_of-letters zero c = refl
-entries_of-letters (suc n) c = ap (λ (es : List Entry). given c ∷ es) (entries_of-letters n c)
+pub entries_of-characters : (n c : ℕ) → entries_of (replicate n (a_character c)) ≡ replicate n (given c)
+entries_of-characters zero c = refl
+entries_of-characters (suc n) c = ap (λ (es : List Entry). given c ∷ es) (entries_of-characters n c)
 
 -- runs of what is no character
 pub entries_of-hashes : (n : ℕ) → entries_of (replicate n hash) ≡ []

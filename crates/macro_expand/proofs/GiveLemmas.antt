@@ -15,10 +15,9 @@ use Rattle.stil_ast.specs.declared.body.Assignment.{Assignment}
 use Rattle.stil_ast.specs.declared.data.ItemRun.{ItemRun}
 use Rattle.stil_ast.specs.declared.fault.StilKind.TheVariants.{TooLarge, ShiftForm, Width}
 use Rattle.stil_ast.proofs.ItemLemmas.{length-items_of}
-use Rattle.macro_expand.specs.declared.trouble.Trouble.{Trouble}
-use Rattle.macro_expand.specs.declared.trouble.Trouble.TheVariants.{NoMemory, At}
-use Rattle.macro_expand.specs.Giving.{has_letters, at_count, Gives, IsGiving}
-use Rattle.macro_expand.specs.Refusing.{IsAt}
+use Rattle.answers.specs.declared.short.Short.TheVariants.{NoMemory, Fault}
+use Rattle.macro_expand.specs.Giving.{has_characters, at_count, Gives, IsGiving}
+use Rattle.macro_expand.specs.Refusing.{IsAt, Trouble}
 use Rattle.macro_expand.proofs.AssignLemmas.{kind_passes}
 use Rattle.macro_expand.proofs.PlaceLemmas.{ruled_out, not_ruled_out}
 
@@ -43,10 +42,10 @@ all_replicate (suc n) item rest =
     (ne_eqb (suc n) 0 (λ same. omega (arith, same))) (all_pass n item rest)
 
 -- whether all items of runs are characters
-pub all_letters : (runs : List ItemRun) → list_all is_character (items_of runs) ≡ list_all has_letters runs
-all_letters [] = refl
-all_letters (run ∷ runs) =
-    all_replicate run.times (item_of run.item) (items_of runs) ∙ ap (λ b. has_letters run && b) (all_letters runs)
+pub all_characters : (runs : List ItemRun) → list_all is_character (items_of runs) ≡ list_all has_characters runs
+all_characters [] = refl
+all_characters (run ∷ runs) =
+    all_replicate run.times (item_of run.item) (items_of runs) ∙ ap (λ b. has_characters run && b) (all_characters runs)
 
 -- whether there is a whole number of them for each signal
 pub argument_width : (signals : List ℕ) (runs : List ItemRun)
@@ -75,8 +74,8 @@ module _ (sc : Scope) (s : Standing) (d : Assignment) (runs : List ItemRun) (sig
   is_limit : may_walk (w.count + length signals) ≡ limit
   is_limit = ap (λ (xs : List ℕ). may_walk (w.count + length xs)) are
 
-  is_form : list_all is_character d.items ≡ list_all has_letters runs
-  is_form = ap (list_all is_character) items ∙ all_letters runs
+  is_form : list_all is_character d.items ≡ list_all has_characters runs
+  is_form = ap (list_all is_character) items ∙ all_characters runs
 
   is_width : argument_fits (resolved_assign sc.names d)
       ≡ (if length signals == 0 then run_length runs == 0 else run_length runs % length signals == 0)
@@ -91,26 +90,26 @@ module _ (sc : Scope) (s : Standing) (d : Assignment) (runs : List ItemRun) (sig
   behind_limit : may_walk (w.count + length signals) ≡ true → check_argument sc s d w ≡ form_rule w
   behind_limit few = behind_kind ∙ not_ruled_out limit (fault_on sc s d.line TooLarge) form_rule w (sym is_limit ∙ few)
 
-  pub argument_form : may_walk (w.count + length signals) ≡ true → list_all has_letters runs ≡ false
+  pub argument_form : may_walk (w.count + length signals) ≡ true → list_all has_characters runs ≡ false
       → check_argument sc s d w ≡ refused (fault_on sc s d.line ShiftForm)
   argument_form few e =
       behind_limit few
       ∙ ruled_out (list_all is_character d.items) (fault_on sc s d.line ShiftForm) last_rule w (is_form ∙ e)
 
-  behind_form : may_walk (w.count + length signals) ≡ true → list_all has_letters runs ≡ true
+  behind_form : may_walk (w.count + length signals) ≡ true → list_all has_characters runs ≡ true
       → check_argument sc s d w ≡ last_rule w
   behind_form few e =
       behind_limit few
       ∙ not_ruled_out (list_all is_character d.items) (fault_on sc s d.line ShiftForm) last_rule w (is_form ∙ e)
 
-  pub argument_short : may_walk (w.count + length signals) ≡ true → list_all has_letters runs ≡ true
+  pub argument_short : may_walk (w.count + length signals) ≡ true → list_all has_characters runs ≡ true
       → (if length signals == 0 then run_length runs == 0 else run_length runs % length signals == 0) ≡ false
       → check_argument sc s d w ≡ refused (fault_on sc s d.line Width)
   argument_short few form e =
       behind_form few form
       ∙ ruled_out (argument_fits (resolved_assign sc.names d)) (fault_on sc s d.line Width) (λ w. fine (walked_argument (resolved_assign sc.names d) w)) w (is_width ∙ e)
 
-  pub argument_given : may_walk (w.count + length signals) ≡ true → list_all has_letters runs ≡ true
+  pub argument_given : may_walk (w.count + length signals) ≡ true → list_all has_characters runs ≡ true
       → (if length signals == 0 then run_length runs == 0 else run_length runs % length signals == 0) ≡ true
       → (given new_given : List Argument)
       → new_given ≡ dealt_out (entries_of (items_of runs)) (length signals) 0 signals given
@@ -142,7 +141,7 @@ module _ (sc : Scope) (s : Standing) (args : List Argument) (hashes : List ℕ) 
       → IsAt titles (check_argument sc s d (at_count args hashes now)) trouble
       → IsAt titles (check_arguments sc s all (at_count args hashes start)) trouble
   giving_refused titles d left now given_now NoMemory before e = tt
-  giving_refused titles d left now given_now (At kind body line) before e =
+  giving_refused titles d left now given_now (Fault at) before e =
       sym before.checked ∙ ap (λ (c : Checked). then_check c (check_arguments sc s left)) e
 
   -- all of them

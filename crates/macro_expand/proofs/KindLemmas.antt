@@ -12,12 +12,11 @@ use Rattle.stil_ast.specs.Faults.PatternFaults.{inside_loop, inside_body, back_f
 use Rattle.stil_ast.specs.declared.body.Assignment.{Assignment}
 use Rattle.stil_ast.specs.declared.blocks.BodyDef.{BodyDef}
 use Rattle.stil_ast.specs.declared.fault.StilKind.TheVariants.{TooLarge, ShiftForm}
-use Rattle.macro_expand.specs.declared.trouble.Trouble.{Trouble}
-use Rattle.macro_expand.specs.declared.trouble.Trouble.TheVariants.{NoMemory, At}
+use Rattle.answers.specs.declared.short.Short.TheVariants.{NoMemory, Fault}
 use Rattle.macro_expand.specs.declared.walk.Walk.{Walk}
 use Rattle.macro_expand.specs.Calling.{MayCall}
 use Rattle.macro_expand.specs.Giving.{at_count, Gives}
-use Rattle.macro_expand.specs.Refusing.{IsAt}
+use Rattle.macro_expand.specs.Refusing.{IsAt, Trouble}
 use Rattle.macro_expand.specs.Stepping.{Steps}
 use Rattle.flat_tree.specs.Kept.{kept, call_front}
 use Rattle.flat_tree.proofs.KeptLemmas.{call_front-joined}
@@ -31,7 +30,7 @@ use Rattle.macro_expand.proofs.PlaceLemmas.{not_barred, not_ruled_out}
 pub at_same : (titles : Titles) (check other : Checked) (trouble : Trouble) → check ≡ other → IsAt titles other trouble
     → IsAt titles check trouble
 at_same titles check other NoMemory e h = tt
-at_same titles check other (At kind body line) e h = e ∙ h
+at_same titles check other (Fault at) e h = e ∙ h
 
 module _ (sc : Scope) (check : Standing → Written → Walked → Checked) (s : Standing) (line : ℕ) where
   abbrev here : List Argument → Spot
@@ -77,7 +76,7 @@ module _ (sc : Scope) (check : Standing → Written → Walked → Checked) (s :
       → own.hashes ≡ [] → IsAt sc.titles (check (inside_body c s) d.body (walked own)) trouble
       → IsAt sc.titles (check_call sc check s line c assigns (at_count args hashes count)) trouble
   called_refused c assigns d args hashes count own NoMemory may gives none inner = tt
-  called_refused c assigns d args hashes count own (At kind body on) may gives none inner =
+  called_refused c assigns d args hashes count own (Fault at) may gives none inner =
       behind_arguments c assigns d args hashes count own may gives none ∙ ap (back_from (at_count args hashes count)) inner
 
   -- a Macro or Call whose arguments have a fault
@@ -85,7 +84,7 @@ module _ (sc : Scope) (check : Standing → Written → Walked → Checked) (s :
       → MayCall s c d → IsAt sc.titles (check_arguments sc s assigns w) trouble
       → IsAt sc.titles (check_call sc check s line c assigns w) trouble
   arguments_refused c assigns d w NoMemory may e = tt
-  arguments_refused c assigns d w (At kind body on) may e =
+  arguments_refused c assigns d w (Fault at) may e =
       call_runs sc check s line c assigns w d may.deep may.form may.found may.free
       ∙ ap (λ (x : Checked). then_check x (λ now. back_from w (check (inside_body c s) d.body (with_own sc assigns now)))) e
 

@@ -4,7 +4,7 @@ use Rattle.macro_expand.specs.declared.pairing.Pair.{Pair}
 use Rattle.std.specs.Prelude.{◌==◌}
 use Rattle.std.specs.List.{list_any}
 use Rattle.std.proofs.lemmas.Bool.{eq-eqb, ne_eqb}
-use Rattle.stil_ast.specs.Meaning.Statements.{Item, letter, hash, percent}
+use Rattle.stil_ast.specs.Meaning.Statements.{Item, a_character, hash, percent}
 use Rattle.stil_ast.specs.Meaning.Arguments.{Argument, next_entry}
 use Rattle.stil_ast.specs.Meaning.Dealing.{Dealt, Gift, deal_item, deal_pairs, spread, hashed, takers, deal, is_character, is_hash}
 use Rattle.stil_ast.specs.Data.Items.{item_of, items_of, lone_item, run_length}
@@ -36,8 +36,8 @@ paired_end signals k (run ∷ runs) (suc n) e = paired_end signals k runs n (ome
 -- data by the one item that they are, if they are one
 pub spread-only : (signals : List ℕ) (items : List Item) → spread signals items ≡ spread_by signals items (only_of items)
 spread-only signals [] = refl
-spread-only signals (letter c ∷ []) = refl
-spread-only signals (letter c ∷ item ∷ items) = refl
+spread-only signals (a_character c ∷ []) = refl
+spread-only signals (a_character c ∷ item ∷ items) = refl
 spread-only signals (hash ∷ []) = refl
 spread-only signals (hash ∷ item ∷ items) = refl
 spread-only signals (percent ∷ []) = refl
@@ -82,7 +82,7 @@ pair_more (signal ∷ signals) (q ∷ before) p rest few e =
 pub hashed-paired : (signals : List ℕ) (items : List Item) → hashed signals items ≡ hashed_in (paired signals items)
 hashed-paired [] items = refl
 hashed-paired (signal ∷ signals) [] = refl
-hashed-paired (signal ∷ signals) (letter c ∷ items) = hashed-paired signals items
+hashed-paired (signal ∷ signals) (a_character c ∷ items) = hashed-paired signals items
 hashed-paired (signal ∷ signals) (hash ∷ items) = ap (λ rest. signal ∷ rest) (hashed-paired signals items)
 hashed-paired (signal ∷ signals) (percent ∷ items) = hashed-paired signals items
 
@@ -143,12 +143,12 @@ any_hash_runs (run ∷ runs) =
 -- whether a signal that gets a `#` passes, or one behind it
 pub any_hash_front : (p : ℕ → Bool) (signal : ℕ) (item : Item) (rest : List ℕ)
     → list_any p (hash_front signal item rest) ≡ ((is_hash item && p signal) || list_any p rest)
-any_hash_front p signal (letter c) rest = refl
+any_hash_front p signal (a_character c) rest = refl
 any_hash_front p signal hash rest = refl
 any_hash_front p signal percent rest = refl
 
 -- those that get a `#` in front of others
 pub hash_front_append : (signal : ℕ) (item : Item) (rest : List ℕ) → hash_front signal item [] ++ rest ≡ hash_front signal item rest
-hash_front_append signal (letter c) rest = refl
+hash_front_append signal (a_character c) rest = refl
 hash_front_append signal hash rest = refl
 hash_front_append signal percent rest = refl

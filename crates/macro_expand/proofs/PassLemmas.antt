@@ -15,14 +15,13 @@ use Rattle.flat_tree.specs.Kept.{kept}
 use Rattle.flat_tree.specs.Origins.{body_of}
 use Rattle.flat_tree.proofs.FlatLemmas.{joined-assoc}
 use Rattle.macro_expand.specs.declared.references.References.{References}
-use Rattle.macro_expand.specs.declared.trouble.Trouble.{Trouble}
-use Rattle.macro_expand.specs.declared.trouble.Trouble.TheVariants.{NoMemory, At}
+use Rattle.answers.specs.declared.short.Short.TheVariants.{NoMemory, Fault}
 use Rattle.macro_expand.specs.declared.walk.Walk.{Walk}
 use Rattle.macro_expand.specs.declared.scope.PatternScope.{PatternScope}
 use Rattle.macro_expand.specs.declared.standing.Standing.{Standing as HeldStanding}
 use Rattle.macro_expand.specs.Passes.{passes_at, IsPassing, pass_check, pass_flat, ArePassing}
 use Rattle.macro_expand.specs.Recursing.{setting_in, flat_named, named_in}
-use Rattle.macro_expand.specs.Refusing.{IsAt}
+use Rattle.macro_expand.specs.Refusing.{IsAt, Trouble}
 use Rattle.macro_expand.specs.Scopes.{scope_in}
 use Rattle.macro_expand.specs.Stepping.{Steps}
 use Rattle.macro_expand.specs.Walking.{flat_at}
@@ -65,7 +64,7 @@ module _ (check : Walked → Checked) (f : Spot → Piece) (p : Origin) (all : �
       → IsPassing check f p all start (suc left) now → IsAt titles (check (walked (record now { hashes = [] }))) trouble
       → IsAt titles (times_checked all (one_pass check) (walked start)) trouble
   passing_refused titles left now NoMemory before e = tt
-  passing_refused titles left now (At kind body line) before e =
+  passing_refused titles left now (Fault at) before e =
       sym before.checked ∙ ap (λ (c : Checked). then_check c (times_checked left (one_pass check))) e
 
   -- all of them
@@ -241,8 +240,8 @@ module _ (sc : Scope) (inner : Standing → Written → Walked → Checked) (f :
       → IsAt titles (repeated count (record { args = args; hashes = before.hashes; count = before.count })) trouble
       → IsAt titles (whole (walked before)) trouble
   passes_refused titles count args before NoMemory some many lays e = tt
-  passes_refused titles zero args before (At kind place on) some many lays e = absurd (some refl)
-  passes_refused titles (suc n) args before (At kind place on) some many lays e =
+  passes_refused titles zero args before (Fault at) some many lays e = absurd (some refl)
+  passes_refused titles (suc n) args before (Fault at) some many lays e =
       passed n before many
       ∙ ap (λ (args : List Argument). repeated (suc n) (record { args = args; hashes = before.hashes; count = before.count })) (sym lays)
       ∙ e

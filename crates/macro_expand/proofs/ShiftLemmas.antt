@@ -9,7 +9,7 @@ use Rattle.stil_ast.specs.Meaning.Arguments.{Entry, Argument, argument_of, no_ar
 use Rattle.stil_ast.specs.Meaning.Dealing.{deal, deal_pairs, hashed, spread, takers}
 use Rattle.stil_ast.specs.Meaning.Resolved.{Scope, outs_of, resolved, resolved_assigns, resolved_step}
 use Rattle.stil_ast.specs.Meaning.Shift.{taking, passes, column, with_column, with_columns, columns}
-use Rattle.stil_ast.specs.Meaning.Statements.{Item, letter, hash, percent, Assign, Statements}
+use Rattle.stil_ast.specs.Meaning.Statements.{Item, a_character, hash, percent, Assign, Statements}
 use Rattle.stil_ast.specs.Faults.AssignmentFaults.{Walked, Checked, fine, rule, bar_if, Standing, fault_on, check_assigns}
 use Rattle.stil_ast.specs.Faults.PatternFaults.{inside_loop, inside_shift, callee_of, behind_step, check_step, counted, one_more, check_passes, is_called, may_shift, takers_in, check_list}
 use Rattle.stil_ast.specs.declared.body.Assignment.{Assignment}
@@ -71,7 +71,7 @@ deal_pairs-none : (signals : List ℕ) (items : List Item) (args : List Argument
     → (deal_pairs signals items args).args ≡ args
 deal_pairs-none [] items args e = refl
 deal_pairs-none (signal ∷ signals) [] args e = refl
-deal_pairs-none (signal ∷ signals) (letter c ∷ items) args e = deal_pairs-none signals items args e
+deal_pairs-none (signal ∷ signals) (a_character c ∷ items) args e = deal_pairs-none signals items args e
 deal_pairs-none (signal ∷ signals) (hash ∷ items) args e =
     ap (λ (now : List Argument). (deal_pairs signals items now).args) (next_taken-none args signal (omega (arith, e)))
     ∙ deal_pairs-none signals items args (omega (arith, e))

@@ -8,8 +8,8 @@ use Rattle.stil_ast.specs.Meaning.Flat.{Flat, done, cycle}
 use Rattle.stil_ast.specs.Meaning.Flattening.{joined, cycle_piece, gifts_piece}
 use Rattle.stil_ast.specs.Meaning.Running.{Setting}
 use Rattle.stil_ast.specs.Faults.AssignmentFaults.{Walked, Checked}
-use Rattle.macro_expand.specs.declared.trouble.Trouble.{Trouble}
-use Rattle.macro_expand.specs.declared.trouble.Trouble.TheVariants.{NoMemory, At}
+use Rattle.macro_expand.specs.Refusing.{Trouble}
+use Rattle.answers.specs.declared.short.Short.TheVariants.{NoMemory, Fault}
 use Rattle.macro_expand.specs.declared.walk.Walk.{Walk}
 use Rattle.macro_expand.specs.Placing.{Writes}
 use Rattle.macro_expand.specs.Stepping.{Steps, StepsOr, WritesOr}
@@ -56,4 +56,4 @@ pub condition_steps_or : {A : Type 0} (titles : Titles) (check : Walked → Chec
     → StepsOr titles check (gifts_piece (deal assigns before.args) (record { args = before.args; place = place })) before after r
 condition_steps_or titles check assigns before after place (Ok x) w = condition_steps check assigns before after place w
 condition_steps_or titles check assigns before after place (Err NoMemory) w = tt
-condition_steps_or titles check assigns before after place (Err (At kind body line)) w = w
+condition_steps_or titles check assigns before after place (Err (Fault at)) w = w

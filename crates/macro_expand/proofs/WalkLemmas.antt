@@ -13,10 +13,9 @@ use Rattle.stil_ast.specs.Faults.PatternFaults.{one_more, counted, check_list}
 use Rattle.stil_ast.specs.declared.body.Step.TheVariants.{Stop}
 use Rattle.stil_ast.specs.declared.fault.StilKind.TheVariants.{TooLarge}
 use Rattle.flat_tree.proofs.FlatLemmas.{joined-assoc}
-use Rattle.macro_expand.specs.declared.trouble.Trouble.{Trouble}
-use Rattle.macro_expand.specs.declared.trouble.Trouble.TheVariants.{NoMemory, At}
+use Rattle.answers.specs.declared.short.Short.TheVariants.{NoMemory, Fault}
 use Rattle.macro_expand.specs.declared.walk.Walk.{Walk}
-use Rattle.macro_expand.specs.Refusing.{IsAt}
+use Rattle.macro_expand.specs.Refusing.{IsAt, Trouble}
 use Rattle.macro_expand.specs.Stepping.{Steps}
 use Rattle.macro_expand.specs.Walking.{flat_at, IsWalking}
 use Rattle.macro_expand.specs.Walks.{walked, then_kept}
@@ -74,7 +73,7 @@ module _ (sc : Scope) (t : Setting) (check : Standing → Written → Walked →
         → IsWalking sc t check f s all start x now → IsAt titles (step (walked now)) trouble
         → IsAt titles (check_list sc check s all (walked start)) trouble
     walking_refused titles step x rest now NoMemory checks before e = tt
-    walking_refused titles step x rest now (At kind body line) checks before e =
+    walking_refused titles step x rest now (Fault at) checks before e =
         sym before.checked ∙ checks ∙ ap (λ (c : Checked). then_check c (check_list sc check s rest)) e
 
     -- all statements
@@ -101,4 +100,4 @@ module _ (sc : Scope) (t : Setting) (check : Standing → Written → Walked →
         → IsAt titles (counted sc s line fine (walked now)) trouble
         → IsAt titles (check_list sc check s all (walked start)) trouble
     walking_stop_refused titles line rest now NoMemory before e = tt
-    walking_stop_refused titles line rest now (At kind body on) before e = sym before.checked ∙ e
+    walking_stop_refused titles line rest now (Fault at) before e = sym before.checked ∙ e

@@ -19,10 +19,9 @@ use Rattle.answers.specs.declared.short.Short.TheVariants as refusal
 use Rattle.flat_tree.specs.Kept.{kept}
 use Rattle.flat_tree.specs.Lean.{IsLean}
 use Rattle.macro_expand.specs.Recursing.{setting_in}
-use Rattle.macro_expand.specs.Refusing.{IsAt}
+use Rattle.macro_expand.specs.Refusing.{IsAt, Trouble}
 use Rattle.macro_expand.specs.Scopes.{scope_in, titles_in}
 use Rattle.macro_expand.specs.declared.scope.PatternScope.{PatternScope}
-use Rattle.macro_expand.specs.declared.trouble.Trouble.{Trouble}
 use Rattle.macro_expand.specs.declared.walk.Walk.{Walk}
 use Rattle.macro_expand.specs.Walks.{walked}
 

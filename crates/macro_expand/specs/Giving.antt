@@ -9,12 +9,11 @@ use Rattle.stil_ast.specs.Meaning.Statements.{Assign}
 use Rattle.stil_ast.specs.Faults.AssignmentFaults.{Walked, Checked, fine, Standing, check_arguments}
 use Rattle.stil_ast.specs.declared.body.Assignment.{Assignment}
 use Rattle.stil_ast.specs.declared.data.ItemRun.{ItemRun}
-use Rattle.macro_expand.specs.declared.trouble.Trouble.{Trouble}
-use Rattle.macro_expand.specs.Refusing.{IsAt}
+use Rattle.macro_expand.specs.Refusing.{IsAt, Trouble}
 
 -- whether a run has characters alone
-abbrev pub has_letters : ItemRun → Bool
-has_letters run = (run.times == 0) || is_character (item_of run.item)
+abbrev pub has_characters : ItemRun → Bool
+has_characters run = (run.times == 0) || is_character (item_of run.item)
 
 -- how far a check has come with these arguments left to the caller
 abbrev pub at_count : List Argument → List ℕ → ℕ → Walked

@@ -1,7 +1,7 @@
 -- The signals of an assignment, each with its item of data.
 use Rattle.std.specs.Prelude.{ℕ, ◌==◌, Bool, true, ◌||◌, ◌&&◌, not, is_some, List, [], ◌∷◌, map, Option, Some, None}
 use Rattle.stil_ast.specs.Data.Items.{item_of}
-use Rattle.stil_ast.specs.Meaning.Statements.{Item, letter, hash, percent}
+use Rattle.stil_ast.specs.Meaning.Statements.{Item, a_character, hash, percent}
 use Rattle.stil_ast.specs.Meaning.Arguments.{Argument, next_entry}
 use Rattle.stil_ast.specs.Meaning.Dealing.{Dealt, then_deal, deal_item, is_character, is_hash}
 use Rattle.stil_ast.specs.declared.data.ItemRun.{ItemRun}
@@ -25,7 +25,7 @@ paired (signal ∷ signals) (item ∷ items) = record { signal = signal; item = 
 -- one `#` or `%` alone stands for all signals
 abbrev pub spread_by : List ℕ → List Item → Option Item → List Item
 spread_by signals items None = items
-spread_by signals items (Some (letter c)) = items
+spread_by signals items (Some (a_character c)) = items
 spread_by signals items (Some hash) = map (λ (_ : ℕ). hash) signals
 spread_by signals items (Some percent) = map (λ (_ : ℕ). percent) signals
 
@@ -35,7 +35,7 @@ has_take run = not (run.times == 0) && is_hash (item_of run.item)
 
 -- what is put in front where an item is `#`
 abbrev pub hash_front : ℕ → Item → List ℕ → List ℕ
-hash_front signal (letter c) rest = rest
+hash_front signal (a_character c) rest = rest
 hash_front signal hash rest = signal ∷ rest
 hash_front signal percent rest = rest
 

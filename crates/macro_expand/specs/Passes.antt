@@ -12,7 +12,7 @@ use Rattle.stil_ast.specs.Faults.PatternFaults.{times_checked, one_pass}
 use Rattle.flat_tree.specs.Origins.{body_of}
 use Rattle.macro_expand.specs.declared.scope.PatternScope.{PatternScope}
 use Rattle.macro_expand.specs.declared.standing.Standing.{Standing as HeldStanding}
-use Rattle.macro_expand.specs.declared.trouble.Trouble.{Trouble}
+use Rattle.macro_expand.specs.Refusing.{Trouble}
 use Rattle.macro_expand.specs.declared.walk.Walk.{Walk}
 use Rattle.macro_expand.specs.Recursing.{setting_in, stands, flat_named, named_in, list_check}
 use Rattle.macro_expand.specs.Scopes.{titles_in}

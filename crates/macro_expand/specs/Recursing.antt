@@ -18,7 +18,7 @@ use Rattle.macro_expand.specs.Stepping.{StepsOr, spot_on}
 use Rattle.macro_expand.specs.Walking.{flat_at}
 use Rattle.macro_expand.specs.declared.scope.PatternScope.{PatternScope}
 use Rattle.macro_expand.specs.declared.standing.Standing.{Standing as HeldStanding}
-use Rattle.macro_expand.specs.declared.trouble.Trouble.{Trouble}
+use Rattle.macro_expand.specs.Refusing.{Trouble}
 use Rattle.macro_expand.specs.declared.walk.Walk.{Walk}
 
 -- what the statements of a pattern stand on

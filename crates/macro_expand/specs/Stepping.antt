@@ -10,10 +10,9 @@ use Rattle.stil_ast.specs.Faults.AssignmentFaults.{Walked, Checked, fine, Standi
 use Rattle.stil_ast.specs.declared.body.Assignment.{Assignment}
 use Rattle.flat_tree.specs.Origins.{body_of}
 use Rattle.flat_tree.specs.declared.place.BodyKind.{BodyKind}
-use Rattle.macro_expand.specs.declared.trouble.Trouble.{Trouble}
 use Rattle.macro_expand.specs.declared.walk.Walk.{Walk}
 use Rattle.macro_expand.specs.Placing.{Writes}
-use Rattle.macro_expand.specs.Refusing.{IsAt}
+use Rattle.macro_expand.specs.Refusing.{IsAt, Trouble}
 use Rattle.macro_expand.specs.Walks.{walked, then_kept, Puts}
 
 -- assignments are written, or refused

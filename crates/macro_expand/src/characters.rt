@@ -92,7 +92,7 @@ impl Characters {
         ensures kept { OnErr result (self.new ≡ self.old) }
     {
         match run.item {
-            VecItem::Letter(character) => self.push(character, run.times),
+            VecItem::Character(character) => self.push(character, run.times),
             VecItem::Take => Ok(()),
             VecItem::Peek => Ok(()),
         }

@@ -62,7 +62,7 @@ fn finds(pair: Pair, args: &Arguments) -> bool
     ensures { result ≡ finds args.now (taker_of pair) }
 {
     match pair.item {
-        VecItem::Letter(_) => true,
+        VecItem::Character(_) => true,
         VecItem::Take => args.next(pair.signal).is_some(),
         VecItem::Peek => args.next(pair.signal).is_some(),
     }
@@ -130,7 +130,7 @@ fn deal_one(pair: Pair, in_shift: bool, walk: &mut Walk) -> Result<(), AllocErro
         (hash_front pair.signal (item_of pair.item) []) walk.old walk.new) }
 {
     match pair.item {
-        VecItem::Letter(character) => {
+        VecItem::Character(character) => {
             walk.out.push_character(pair.signal, character)?;
             Ok(())
         }

@@ -9,7 +9,7 @@ ghost use Rattle.stil_ast.specs.Meaning.Dealing.{is_character};
 ghost use Rattle.stil_ast.specs.Meaning.Resolved.{resolved_assign, resolved_assigns};
 ghost use Rattle.stil_ast.specs.Meaning.Signals.{Names};
 ghost use Rattle.stil_ast.specs.Faults.AssignmentFaults.{check_argument, check_arguments};
-ghost use Rattle.macro_expand.specs.Giving.{has_letters, GivesOr};
+ghost use Rattle.macro_expand.specs.Giving.{has_characters, GivesOr};
 ghost use Rattle.macro_expand.specs.Scopes.{titles_in, scope_in, IsNamed};
 ghost use Rattle.macro_expand.specs.Standings.{standing_in};
 
@@ -27,25 +27,25 @@ fn is_character(item: VecItem) -> bool
     ensures { result ≡ is_character (item_of item) }
 {
     match item {
-        VecItem::Letter(_) => true,
+        VecItem::Character(_) => true,
         VecItem::Take => false,
         VecItem::Peek => false,
     }
 }
 
 /// Whether a run has characters alone.
-fn has_letters(run: ItemRun) -> bool
-    ensures { result ≡ has_letters run }
+fn has_characters(run: ItemRun) -> bool
+    ensures { result ≡ has_characters run }
 {
     run.times == 0 || is_character(run.item)
 }
 
 /// Whether runs have characters alone.
 fn are_characters(runs: &[ItemRun]) -> bool
-    ensures { result ≡ list_all has_letters runs.now }
+    ensures { result ≡ list_all has_characters runs.now }
 {
     for run in runs {
-        if !has_letters(*run) {
+        if !has_characters(*run) {
             return false;
         }
     }

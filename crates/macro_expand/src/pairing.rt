@@ -101,7 +101,7 @@ pub(crate) fn pair_up(
     match lone_item(runs) {
         Some(VecItem::Take) => pair_all(signals, VecItem::Take, pairs),
         Some(VecItem::Peek) => pair_all(signals, VecItem::Peek, pairs),
-        Some(VecItem::Letter(_)) => pair_runs(signals, runs, pairs),
+        Some(VecItem::Character(_)) => pair_runs(signals, runs, pairs),
         None => pair_runs(signals, runs, pairs),
     }
 }
@@ -129,7 +129,7 @@ pub(crate) fn width_fits(signals: &[u16], runs: &[ItemRun]) -> bool
     match lone_item(runs) {
         Some(VecItem::Take) => true,
         Some(VecItem::Peek) => true,
-        Some(VecItem::Letter(_)) => has_length(runs, signals.len()),
+        Some(VecItem::Character(_)) => has_length(runs, signals.len()),
         None => has_length(runs, signals.len()),
     }
 }

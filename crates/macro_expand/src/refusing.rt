@@ -62,7 +62,7 @@ pub(crate) fn refusal_of(alloc: Global, titles: &BlockTitles, trouble: Trouble) 
 {
     match trouble {
         Trouble::NoMemory => StilRefusal::NoMemory,
-        Trouble::At(kind, body, line) => match fault_of(alloc, titles, kind, body, line) {
+        Trouble::Fault(at) => match fault_of(alloc, titles, at.kind, at.body, at.line) {
             Ok(fault) => StilRefusal::Fault(fault),
             Err(_) => StilRefusal::NoMemory,
         },

@@ -76,7 +76,7 @@ fn add_taker(pair: Pair, takers: &mut Vec<u16>) -> Result<(), AllocError>
             takers.push(pair.signal)?;
             Ok(())
         }
-        VecItem::Letter(_) => Ok(()),
+        VecItem::Character(_) => Ok(()),
         VecItem::Peek => Ok(()),
     }
 }

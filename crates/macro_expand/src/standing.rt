@@ -1,9 +1,9 @@
 //! Where a statement stands.
 
 ghost use Rattle.std.specs.Prelude.{◌≡◌};
-ghost use Rattle.macro_expand.specs.declared.trouble.Trouble.TheVariants.{At};
+ghost use Rattle.answers.specs.declared.short.Short.TheVariants.{Fault};
 
-use crate::trouble::Trouble;
+use crate::trouble::{BodyFault, Trouble};
 use flat_tree::BodyKind;
 use stil_ast::StilKind;
 
@@ -30,8 +30,12 @@ pub(crate) struct Standing<'s> {
 impl<'s> Standing<'s> {
     /// A fault of this kind on a line of the body.
     pub(crate) fn trouble(&self, kind: StilKind, line: u32) -> Trouble
-        ensures { result ≡ At kind self.now.body line }
+        ensures { result ≡ Fault (record { kind = kind; body = self.now.body; line = line }) }
     {
-        Trouble::At(kind, self.body, line)
+        Trouble::Fault(BodyFault {
+            kind,
+            body: self.body,
+            line,
+        })
     }
 }

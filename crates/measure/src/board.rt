@@ -3,6 +3,7 @@
 
 ghost use Rattle.std.specs.Prelude.{◌≡◌, ◌<◌, All, replicate};
 ghost use Rattle.std.specs.Thread.{IsSync};
+ghost use Rattle.text_bytes.specs.Limits.{most_sites};
 
 use crate::words::number;
 use std::alloc::Global;
@@ -12,9 +13,10 @@ use std::thread::{Threads, for_each_mut, join_mut};
 use std::time::{Clock, Instant};
 use stop_board::{Board, DeskSeat, SiteSeat};
 use tester_types::NoMemory;
+use text_bytes::MOST_SITES;
 
 /// The sites of the board, each with a thread of its own.
-const SITES: u8 = 16;
+const SITES: u8 = MOST_SITES as u8;
 
 /// How long so many calls took, in nanoseconds, where the clock could be read.
 #[derive(Clone, Copy)]
@@ -27,7 +29,7 @@ struct Taken {
 fn ask_often(board: &Board, desk: &mut DeskSeat, times: u32)
     requires board { desk.old.board ≡ board.now }
     requires site { 0 < desk.old.sites }
-    requires asked { desk.old.asked ≡ replicate 16 0 }
+    requires asked { desk.old.asked ≡ replicate most_sites 0 }
     ensures { desk.new.board ≡ desk.old.board }
 {
     for _ in 0..times {
@@ -61,7 +63,7 @@ fn desk_steps<R: Clock>(
 ) -> (Option<u128>, Option<u128>)
     requires board { desk.old.board ≡ board.now }
     requires site { 0 < desk.old.sites }
-    requires asked { desk.old.asked ≡ replicate 16 0 }
+    requires asked { desk.old.asked ≡ replicate most_sites 0 }
 {
     let start = Instant::now(rt);
     ask_often(board, desk, times);
@@ -89,7 +91,7 @@ fn polls<R: Clock + Threads + Sync>(
     for_each_mut(
         rt,
         seats,
-        usize::from(SITES),
+        MOST_SITES,
         &|_: usize, seat: &mut SiteSeat|
             requires { seat.now.board ≡ board.now }
         { poll_often(board, seat, times) },
@@ -118,7 +120,7 @@ fn at_once<R: Clock + Threads + Sync>(
 ) -> Taken
     requires board { desk.old.board ≡ board.now }
     requires site { 0 < desk.old.sites }
-    requires asked { desk.old.asked ≡ replicate 16 0 }
+    requires asked { desk.old.asked ≡ replicate most_sites 0 }
     requires seats { All (λ seat. seat.board ≡ board.now) seats.old }
 {
     let ((ask, look), poll) = join_mut(

@@ -40,7 +40,7 @@ fn full_table(alloc: Global) -> Result<Table, NoMemory> {
     for signal in 0..SIGNALS {
         waves.push(Wave {
             signal,
-            letter: b'1',
+            character: b'1',
             events: events(alloc, signal)?,
         })?;
     }

@@ -80,9 +80,9 @@ fn put_signals(bytes: &mut Vec<u8>) -> Result<(), AllocError> {
 }
 
 /// Puts a wave of one event at the cycle's start.
-fn put_wave(bytes: &mut Vec<u8>, signal: u16, letter: u8, act: u8) -> Result<(), AllocError> {
+fn put_wave(bytes: &mut Vec<u8>, signal: u16, character: u8, act: u8) -> Result<(), AllocError> {
     bytes.extend_from_slice(&signal.to_le_bytes())?;
-    bytes.extend_from_slice(&[letter, 1, 0, 0, 0, 0, 0, 0, 0, 0, act])
+    bytes.extend_from_slice(&[character, 1, 0, 0, 0, 0, 0, 0, 0, 0, act])
 }
 
 /// Puts a table w of 100 ns with waves for 0 and 1 of each signal.
@@ -107,9 +107,9 @@ fn put_first_row(bytes: &mut Vec<u8>) -> Result<(), AllocError> {
 }
 
 /// Puts a change of a signal.
-fn put_change(bytes: &mut Vec<u8>, signal: u16, letter: u8) -> Result<(), AllocError> {
+fn put_change(bytes: &mut Vec<u8>, signal: u16, character: u8) -> Result<(), AllocError> {
     let [low, high] = signal.to_le_bytes();
-    bytes.extend_from_slice(&[low, high, letter])
+    bytes.extend_from_slice(&[low, high, character])
 }
 
 /// Puts a later row as a difference: the 1 among the first 64 signals moves on, and after the last of these that among

@@ -65,3 +65,9 @@ last_of_push before x =
     let place : length (before ++ x ∷ []) - 1 ≡ length before = omega arith in
     slice_get-get_or (before ++ x ∷ []) (length (before ++ x ∷ []) - 1) x (omega arith)
     ∙ ap Some (ap (λ (i : ℕ). get_or (before ++ x ∷ []) i x) place ∙ get_or_push before x x (length before) refl)
+
+-- what holds of each item behind those before it, held by a weaker fact of each
+pub behind_all : {A : Type 0} (Fits : List A → A → Type 0) (Small : A → Type 0) → ((before : List A) (x : A) → Fits before x → Small x)
+    → (before items : List A) → EachBehind Fits before items → AllByRecursion Small items
+behind_all Fits Small weaken before [] each = tt
+behind_all Fits Small weaken before (x ∷ xs) each = (weaken before x each.0, behind_all Fits Small weaken (before ++ x ∷ []) xs each.1)

@@ -5,7 +5,7 @@ use Rattle.std.proofs.lemmas.Nat.{from_le_bytes-to_le_bytes_2, from_le_bytes-to_
 use Rattle.packed_code.specs.declared.instr.Instr.{Instr}
 use Rattle.packed_code.specs.declared.instr.Instr.TheVariants.{Run, Loop, End, Done}
 use Rattle.packed_code.specs.Conditions.{IsNarrow}
-use Rattle.packed_code.specs.Spelling.{number, instr}
+use Rattle.packed_code.specs.Packed.{number, instr}
 use Rattle.packed_code.specs.Packed.{instr_of}
 
 -- what an instruction is spelled as stands for it

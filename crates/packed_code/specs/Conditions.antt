@@ -13,7 +13,7 @@ use Rattle.packed_code.specs.declared.instr.Instr.TheVariants.{Run, Loop, End, D
 use Rattle.packed_code.specs.Whole.{IsWhole}
 use Rattle.packed_code.specs.declared.parts.CodeSignal.{CodeSignal}
 use Rattle.packed_code.specs.declared.parts.CodeChain.{CodeChain}
-use Rattle.packed_code.specs.Letters.{is_place}
+use Rattle.packed_code.specs.RowBytes.{is_place}
 use Rattle.packed_code.specs.Program.{Exec, Program}
 use Rattle.packed_code.specs.Rows.{is_row_of}
 
@@ -58,15 +58,15 @@ pub record IsEvent (period : ℕ) (before : List Event) (event : Event) : Type 0
   pub order : latest before ≤ event.time
   pub inside : event.time < period
 
--- a pair of signal and letter stands behind that of a wave, by signal and then by letter
+-- a pair of signal and character stands behind that of a wave, by signal and then by character
 abbrev pub is_behind : ℕ → ℕ → Wave → Bool
-is_behind signal letter wave = nat_lt wave.signal signal || wave.signal == signal && nat_lt wave.letter letter
+is_behind signal character wave = nat_lt wave.signal signal || wave.signal == signal && nat_lt wave.character character
 
 -- the waves of a table, at most so many, rise strictly
 pub record IsWave (signals period most : ℕ) (before : List Wave) (wave : Wave) : Type 0 where
   pub signal : wave.signal < signals
-  pub letter : is_character wave.letter ≡ true
-  pub order : option_map_or (is_behind wave.signal wave.letter) (last_of before) true ≡ true
+  pub character : is_character wave.character ≡ true
+  pub order : option_map_or (is_behind wave.signal wave.character) (last_of before) true ≡ true
   pub room : length before < most
   pub few : length wave.events ≤ 16
   pub events : EachBehind (IsEvent period) [] wave.events
@@ -86,7 +86,7 @@ pub record IsTable (signals : ℕ) (before : List Table) (table : Table) : Type 
 -- a row has a character or 0 for each signal, and no two rows are equal
 pub record IsRow (signals : ℕ) (before : List (List ℕ)) (row : List ℕ) : Type 0 where
   pub places : length row ≡ signals
-  pub letters : list_all is_place row ≡ true
+  pub characters : list_all is_place row ≡ true
   pub fresh : is_row_of before row ≡ false
 
 -- a chain has at most 2 ^ 20 cells
@@ -97,23 +97,23 @@ pub record IsChain (signals : ℕ) (chain : CodeChain) : Type 0 where
   pub count : length chain.cells ≤ most_cells
   pub cells : Each IsName chain.cells
 
--- whether a signal has a wave for a letter
+-- whether a signal has a wave for a character
 abbrev pub has_wave : List Wave → ℕ → ℕ → Bool
-has_wave waves signal letter = list_any (λ wave. wave.signal == signal && wave.letter == letter) waves
+has_wave waves signal character = list_any (λ wave. wave.signal == signal && wave.character == character) waves
 
 -- whether each character of a row, from this signal on, has a wave
 abbrev pub has_waves : List Wave → ℕ → List ℕ → Bool
 has_waves waves signal [] = true
-has_waves waves signal (letter ∷ letters) =
-    (letter == 0 || has_wave waves signal letter) && has_waves waves (suc signal) letters
+has_waves waves signal (character ∷ characters) =
+    (character == 0 || has_wave waves signal character) && has_waves waves (suc signal) characters
 
 -- the waves of a table
 abbrev pub waves_of : List Table → ℕ → List Wave
 waves_of tables table = option_map_or (λ t. t.waves) (slice_get tables table) []
 
 -- the characters of a row
-abbrev pub letters_of : List (List ℕ) → ℕ → List ℕ
-letters_of rows row = slice_index_or rows row []
+abbrev pub characters_of : List (List ℕ) → ℕ → List ℕ
+characters_of rows row = slice_index_or rows row []
 
 -- the numbers of an instruction fit their fields
 abbrev pub IsNarrow : Instr → Type 0
@@ -126,7 +126,7 @@ IsNarrow Done = Unit {0}
 abbrev pub IsInstr : List Table → List (List ℕ) → Instr → Type 0
 IsInstr tables rows (Run table row mark times) =
     (table < length tables) × (row < length rows) × (mark < 2 ^ 32)
-    × (has_waves (waves_of tables table) 0 (letters_of rows row) ≡ true)
+    × (has_waves (waves_of tables table) 0 (characters_of rows row) ≡ true)
 IsInstr tables rows (Loop times) = Unit {0}
 IsInstr tables rows End = Unit {0}
 IsInstr tables rows Done = Unit {0}

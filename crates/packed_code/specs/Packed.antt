@@ -1,9 +1,22 @@
--- What the 16 bytes of an instruction stand for.
-use Rattle.std.specs.Prelude.{ℕ, Bool, List, ◌==◌, ◌&&◌, take, drop, slice_index, Option, Some, None, if◌then◌else◌}
+-- The 16 bytes of an instruction, and what they stand for. Numbers are little-endian.
+use Rattle.std.specs.Prelude.{ℕ, Bool, List, ◌∷◌, ◌++◌, ◌==◌, ◌&&◌, take, drop, replicate, slice_index, Option, Some, None, if◌then◌else◌}
 use Rattle.std.specs.List.{list_all}
-use Rattle.std.specs.Int.{w16, w32, w64, from_le_bytes}
+use Rattle.std.specs.Int.{Width, w16, w32, w64, to_le_bytes, from_le_bytes}
 use Rattle.packed_code.specs.declared.instr.Instr.{Instr}
 use Rattle.packed_code.specs.declared.instr.Instr.TheVariants.{Run, Loop, End, Done}
+
+-- a number in its bytes, the lowest first
+unfoldable pub number : Width → ℕ → List ℕ
+number width n = to_le_bytes width n
+
+-- 16 bytes. Run: 1, a zero byte, the table in 16 bits, the row, the mark and the times in 32 bits. Loop: 2, seven
+-- zero bytes, the times in 64 bits. End and Done: 3 and 4, and zero bytes.
+abbrev pub instr : Instr → List ℕ
+instr (Run table row mark times) =
+    1 ∷ 0 ∷ (number w16 table ++ (number w32 row ++ (number w32 mark ++ number w32 times)))
+instr (Loop times) = 2 ∷ 0 ∷ 0 ∷ 0 ∷ 0 ∷ 0 ∷ 0 ∷ 0 ∷ number w64 times
+instr End = 3 ∷ replicate 15 0
+instr Done = 4 ∷ replicate 15 0
 
 -- whether bytes are zero
 abbrev pub are_zero : List ℕ → Bool

@@ -7,7 +7,7 @@ use Rattle.packed_code.specs.declared.instr.Entry.{Entry}
 use Rattle.packed_code.specs.Course.{coming, IsOn}
 use Rattle.packed_code.specs.declared.walker.Walk.{Walk}
 use Rattle.packed_code.specs.Program.{Program}
-use Rattle.packed_code.specs.Conditions.{has_waves, waves_of, letters_of}
+use Rattle.packed_code.specs.Conditions.{has_waves, waves_of, characters_of}
 use Rattle.packed_code.specs.Cycles.{exec_of, timed}
 
 -- the entries that are still to come
@@ -22,7 +22,7 @@ cycles_left code walk = timed code.tables walk.start (entries_left code walk)
 pub record IsOf (code : Program) (number place : ℕ) : Type 0 where
   pub table : number < length code.tables
   pub row : place < length code.rows
-  pub waves : has_waves (waves_of code.tables number) 0 (letters_of code.rows place) ≡ true
+  pub waves : has_waves (waves_of code.tables number) 0 (characters_of code.rows place) ≡ true
 
 -- a walk was begun over this code
 pub record IsOver (code : Program) (walk : Walk) : Type 0 where

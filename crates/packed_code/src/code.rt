@@ -186,21 +186,21 @@ impl Code {
     }
 
     /// The tables, in order.
-    pub(crate) fn table_list(&self) -> &[Table]
+    pub fn table_list(&self) -> &[Table]
         ensures { result.now ≡ self.now.tables }
     {
         self.tables.as_slice()
     }
 
     /// The rows, in order.
-    pub(crate) fn row_list(&self) -> &RowList
+    pub fn row_list(&self) -> &RowList
         ensures { result.now ≡ self.now.rows }
     {
         &self.rows
     }
 
     /// The executives, in order.
-    pub(crate) fn exec_list(&self) -> &[CodeExec]
+    pub fn exec_list(&self) -> &[CodeExec]
         ensures { result.now ≡ self.now.execs }
     {
         self.execs.as_slice()

@@ -1,8 +1,7 @@
-//! Compiled test programs: code that keeps its loops, the walk over its cycles, and its saved bytes.
+//! Compiled test programs: code that keeps its loops, and the walk over its cycles.
 #![tactic(auto)]
 
 mod beginning;
-mod changes;
 mod code;
 mod counting;
 mod course;
@@ -13,14 +12,9 @@ mod laws;
 mod packed;
 mod parts;
 mod rows;
-mod saving;
-mod saving_rows;
-mod spelled;
-mod version;
 mod walker;
 
 pub use beginning::walk;
-pub use changes::{is_difference, is_shorter, last_row};
 pub use code::Code;
 pub use counting::cycles;
 pub use course::{Course, CourseStep};
@@ -31,7 +25,5 @@ pub use laws::{count_is_length, meaning_is_nesting};
 pub use packed::{PackedInstr, PackedInstrList, instr_of_bytes, pack};
 pub use parts::{CodeChain, CodeChainList, CodeSignal, CodeSignalList, InstrList};
 pub use rows::RowList;
-pub use saving::{save, save_old, saved_len};
 pub use tester_types::Direction;
-pub use version::Version;
 pub use walker::Walk;

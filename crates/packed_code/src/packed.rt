@@ -1,13 +1,12 @@
 //! Instructions in 16 bytes each, as a code keeps them.
 
-ghost use Rattle.std.specs.Prelude.{◌≡◌, ◌+◌, ◌≤◌, length, IfOk, IfSome};
+ghost use Rattle.std.specs.Prelude.{◌≡◌, ◌+◌, ◌≤◌, ◌∷◌, ◌++◌, [], length, IfOk, IfSome};
 ghost use Rattle.std.specs.Int.{w16, w32, w64, from_le_bytes};
-ghost use Rattle.packed_code.specs.Spelling as spell;
+ghost use Rattle.packed_code.specs.Packed as packed;
 ghost use Rattle.packed_code.specs.Packed.{are_zero, part, instr_of};
 ghost use Rattle.packed_code.specs.Conditions.{IsNarrow};
 
 use crate::instr::Instr;
-use crate::saving::instr_bytes;
 use std::alloc::{AllocError, Global};
 use std::marker::Model;
 use tester_types::Items;
@@ -81,6 +80,34 @@ pub fn instr_of_bytes(raw: &[u8]) -> Option<Instr>
     }
 }
 
+/// The 16 bytes of an instruction.
+#[tactic(auto, unfolding(crate::specs::Packed::number))]
+fn instr_bytes(instr: Instr) -> [u8; 16]
+    ensures bytes { result ≡ packed.instr instr }
+    ensures narrow { IsNarrow instr }
+{
+    match instr {
+        Instr::Run {
+            table,
+            row,
+            mark,
+            times,
+        } => {
+            let [t0, t1] = table.to_le_bytes();
+            let [r0, r1, r2, r3] = row.to_le_bytes();
+            let [m0, m1, m2, m3] = mark.to_le_bytes();
+            let [n0, n1, n2, n3] = times.to_le_bytes();
+            [1, 0, t0, t1, r0, r1, r2, r3, m0, m1, m2, m3, n0, n1, n2, n3]
+        }
+        Instr::Loop { times } => {
+            let [n0, n1, n2, n3, n4, n5, n6, n7] = times.to_le_bytes();
+            [2, 0, 0, 0, 0, 0, 0, 0, n0, n1, n2, n3, n4, n5, n6, n7]
+        }
+        Instr::End => [3, 0, 0, 0, 0, 0, 0, 0, 0, 0, 0, 0, 0, 0, 0, 0],
+        Instr::Done => [4, 0, 0, 0, 0, 0, 0, 0, 0, 0, 0, 0, 0, 0, 0, 0],
+    }
+}
+
 /// An instruction in the 16 bytes as which it is saved. Contracts see it as the instruction.
 #[derive(Debug, Drop)]
 pub struct PackedInstr {
@@ -90,14 +117,14 @@ pub struct PackedInstr {
 impl Model for PackedInstr {
     ghost use Rattle.std.specs.Prelude.{◌≡◌};
     ghost use Rattle.packed_code.specs.declared.instr.Instr.{Instr};
+    ghost use Rattle.packed_code.specs.Packed as packed;
     ghost use Rattle.packed_code.specs.Packed.{unpacked};
-    ghost use Rattle.packed_code.specs.Spelling as spell;
 
     ghost Value = { Instr };
 
     ghost view = { λ p. unpacked p.bytes };
 
-    ghost invariant = { λ p. p.bytes ≡ spell.instr (unpacked p.bytes) };
+    ghost invariant = { λ p. p.bytes ≡ packed.instr (unpacked p.bytes) };
 }
 
 /// Instructions in order, packed.
@@ -121,8 +148,8 @@ impl PackedInstr {
     }
 
     /// The 16 bytes.
-    pub(crate) fn bytes(&self) -> &[u8]
-        ensures { result.now ≡ spell.instr self.now }
+    pub fn bytes(&self) -> &[u8]
+        ensures { result.now ≡ packed.instr self.now }
     {
         &self.bytes
     }

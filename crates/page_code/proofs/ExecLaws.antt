@@ -13,7 +13,8 @@ use Rattle.packed_code.specs.declared.parts.CodeChain.{CodeChain}
 use Rattle.packed_code.specs.Program.{Exec}
 use Rattle.packed_code.specs.Conditions.{IsChain, IsInstr, IsNarrow, IsExec}
 use Rattle.page_code.specs.Fields.{◌>>=◌, piece_at, number_at, checked, known, meant, items_at}
-use Rattle.packed_code.specs.Spelling.{number, text, chain, instr, exec}
+use Rattle.packed_code.specs.Packed.{number, instr}
+use Rattle.page_code.specs.Spelling.{text, chain, exec}
 use Rattle.page_code.specs.Reading.{text_at, chain_at, may_follow, instr_with, instr_at, exec_at}
 use Rattle.packed_code.specs.Packed.{are_zero, part, instr_of}
 use Rattle.packed_code.proofs.Lists.{all_each, each_all}

@@ -1,9 +1,8 @@
 -- Reading items one after another, as a loop does.
 use Rattle.std.proofs.Common.{◌≡◌, ℕ, suc, ap, ◌+◌, ◌-◌, ◌<◌, ◌≤◌, List, [], ◌∷◌, ◌++◌, Result, Ok, Err, refl, sym, ◌∙◌, arith}
 use Rattle.page_code.specs.declared.fault.Refusal.{Refusal}
-use Rattle.page_code.specs.declared.fault.ReadError.{ReadError}
-use Rattle.page_code.specs.declared.fault.ReadError.TheVariants as errors
-use Rattle.page_code.specs.Fields.{◌>>=◌, Read, Fails, items_at}
+use Rattle.answers.specs.declared.short.Short.TheVariants as errors
+use Rattle.page_code.specs.Fields.{◌>>=◌, Read, Fails, items_at, ReadError}
 use Rattle.page_code.specs.Reading.{change_at, changed_at}
 
 -- one item more
@@ -21,7 +20,7 @@ pub stops : {A : Type 0} (e : ReadError) (one : List A → List ℕ → Read A) 
     → i < count → Fails e (one before bytes) → items_at one (count - i) before bytes ≡ total → Fails e total
 unfolding items_at
 stops errors.NoMemory one before count i bytes total lt fails so_far = tt
-stops (errors.Refused refusal) one before count i bytes total lt fails so_far =
+stops (errors.Fault refusal) one before count i bytes total lt fails so_far =
     let k : count - i ≡ suc (count - (i + 1)) = omega arith in
     let here : items_at one (count - i) before bytes ≡ Err refusal = rw (k, fails) refl in
     sym so_far ∙ here
@@ -38,7 +37,7 @@ is_done one before count i bytes total le so_far =
 -- what follows a refused part is not read
 fails_on : {A B : Type 0} (e : ReadError) (read : Result A Refusal) (next : A → Result B Refusal) → Fails e read → Fails e (read >>= next)
 fails_on errors.NoMemory read next fails = tt
-fails_on (errors.Refused refusal) read next fails = ap (λ r. r >>= next) fails
+fails_on (errors.Fault refusal) read next fails = ap (λ r. r >>= next) fails
 
 -- a change that is refused
 pub changed_stops : (e : ReadError) (signals : ℕ) (last : List ℕ) (before : List (ℕ × ℕ)) (count i : ℕ) (rest bytes : List ℕ)

@@ -1,11 +1,14 @@
 pub mod AcceptedLemmas
+pub mod ChangesLemmas
 pub mod ExecLaws
 pub mod ItemsLemmas
-pub mod LettersLemmas
+pub mod CharactersLemmas
 pub mod LoadLemmas
 pub mod NestLemmas
 pub mod PartLaws
 pub mod ProgramLaws
 pub mod ReaderLaws
 pub mod RowLaws
+pub mod SavingLemmas
+pub mod SizeLemmas
 pub mod StandardFacts

@@ -4,18 +4,17 @@ use Rattle.std.specs.Int.{w16, w32}
 use Rattle.std.proofs.lemmas.Bool.{eqb-true}
 use Rattle.std.proofs.lemmas.List.{append-nil, nil_from_length}
 use Rattle.tester_types.specs.declared.wave.Table.{Table}
-use Rattle.packed_code.specs.declared.version.Version.{Version}
-use Rattle.packed_code.specs.declared.version.Version.TheVariants.{One, Two}
+use Rattle.page_code.specs.declared.version.Version.{Version}
+use Rattle.page_code.specs.declared.version.Version.TheVariants.{One, Two}
 use Rattle.packed_code.specs.declared.parts.CodeSignal.{CodeSignal}
 use Rattle.page_code.specs.declared.fault.Refusal.{Refusal}
 use Rattle.page_code.specs.declared.fault.Refusal.TheVariants.{BadCode}
-use Rattle.page_code.specs.declared.fault.ReadError.{ReadError}
-use Rattle.page_code.specs.declared.fault.ReadError.TheVariants as errors
+use Rattle.answers.specs.declared.short.Short.TheVariants as errors
 use Rattle.packed_code.specs.Program.{Exec, Program}
 use Rattle.packed_code.specs.Conditions.{IsProgram}
-use Rattle.packed_code.specs.Spelling.{head, earlier, later}
+use Rattle.page_code.specs.Spelling.{head, earlier, later}
 use Rattle.page_code.specs.Saved.{SavedIn, Saved}
-use Rattle.page_code.specs.Fields.{◌>>=◌, Fails, Read, number_at, checked, items_at}
+use Rattle.page_code.specs.Fields.{◌>>=◌, Fails, Read, number_at, checked, items_at, ReadError}
 use Rattle.page_code.specs.Reading.{head_at, signal_at, table_at, row_at, exec_at, program_at, whole_at, answered, load_of}
 use Rattle.page_code.specs.declared.fault.SavedFault.{SavedFault}
 use Rattle.page_code.specs.declared.fault.SavedFault.TheVariants as saved
@@ -119,7 +118,7 @@ pub program_stops : (err : ReadError) (version : Version) (bytes : List ℕ) (si
     → ReadsEarlier version bytes signals tables rows count rest → width ≡ length signals → others ≡ tables
     → Fails err (Execs width others rows count rest) → Fails err (program_at version bytes)
 program_stops errors.NoMemory version bytes signals tables others rows width count rest e counted same last = tt
-program_stops (errors.Refused refusal) version bytes signals tables others rows width count rest e counted same last =
+program_stops (errors.Fault refusal) version bytes signals tables others rows width count rest e counted same last =
     let here : Execs (length signals) tables rows count rest ≡ Err refusal =
     sym (execs_alike signals tables others rows width count rest counted same) ∙ last in
     reads_on version bytes signals tables rows count rest e ∙ rw here refl

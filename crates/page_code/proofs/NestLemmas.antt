@@ -9,7 +9,7 @@ use Rattle.packed_code.specs.declared.instr.Instr.TheVariants.{Run, Loop, End, D
 use Rattle.packed_code.specs.Meaning.{cycle_count}
 use Rattle.packed_code.specs.Whole.{IsRest, IsWhole}
 use Rattle.page_code.specs.declared.read_instrs.Nest.{Nest}
-use Rattle.packed_code.specs.Conditions.{EachBehind, IsInstr, IsNarrow, has_waves, waves_of, letters_of}
+use Rattle.packed_code.specs.Conditions.{EachBehind, IsInstr, IsNarrow, has_waves, waves_of, characters_of}
 use Rattle.page_code.specs.Reading.{open_behind, begun_behind, follows, is_bounded, may_follow, instr_with}
 use Rattle.packed_code.specs.Packed.{instr_of}
 use Rattle.page_code.specs.Nest.{IsNest, depth_after, begins}
@@ -46,12 +46,12 @@ pub record FollowsRun (tables : List Table) (rows : List (List ℕ)) (is_last : 
   pub some : 0 < n
   pub table : t < length tables
   pub row : r < length rows
-  pub waves : has_waves (waves_of tables t) 0 (letters_of rows r) ≡ true
+  pub waves : has_waves (waves_of tables t) 0 (characters_of rows r) ≡ true
 
 pub follows_run : (tables : List Table) (rows : List (List ℕ)) (is_last : Bool) (depth : ℕ) (begun : Bool) (t r m n : ℕ)
     → follows tables rows is_last depth begun (Run t r m n) ≡ true → FollowsRun tables rows is_last t r n
 follows_run tables rows is_last depth begun t r m n is =
-    let a = and_parts (not is_last && ltb 0 n && ltb t (length tables) && ltb r (length rows)) (has_waves (waves_of tables t) 0 (letters_of rows r)) is in
+    let a = and_parts (not is_last && ltb 0 n && ltb t (length tables) && ltb r (length rows)) (has_waves (waves_of tables t) 0 (characters_of rows r)) is in
     let b = and_parts (not is_last && ltb 0 n && ltb t (length tables)) (ltb r (length rows)) a.0 in
     let c = and_parts (not is_last && ltb 0 n) (ltb t (length tables)) b.0 in
     let d = and_parts (not is_last) (ltb 0 n) c.0 in
@@ -60,7 +60,7 @@ follows_run tables rows is_last depth begun t r m n is =
 run_follows : (tables : List Table) (rows : List (List ℕ)) (is_last : Bool) (depth : ℕ) (begun : Bool) (t r m n : ℕ)
     → FollowsRun tables rows is_last t r n → follows tables rows is_last depth begun (Run t r m n) ≡ true
 run_follows tables rows is_last depth begun t r m n f =
-    and_from (not is_last && ltb 0 n && ltb t (length tables) && ltb r (length rows)) (has_waves (waves_of tables t) 0 (letters_of rows r))
+    and_from (not is_last && ltb 0 n && ltb t (length tables) && ltb r (length rows)) (has_waves (waves_of tables t) 0 (characters_of rows r))
     (and_from (not is_last && ltb 0 n && ltb t (length tables)) (ltb r (length rows))
     (and_from (not is_last && ltb 0 n) (ltb t (length tables))
     (and_from (not is_last) (ltb 0 n) (not_from_false is_last f.not_last) (lt-ltb 0 n f.some)) (lt-ltb t (length tables) f.table)) (lt-ltb r (length rows) f.row)) f.waves

@@ -17,12 +17,14 @@ use Rattle.tester_types.specs.declared.signal.Direction.{Direction}
 use Rattle.tester_types.specs.declared.signal.Direction.TheVariants.{In, Out, InOut, Supply, Pseudo}
 use Rattle.packed_code.specs.declared.parts.CodeSignal.{CodeSignal}
 use Rattle.packed_code.specs.declared.parts.CodeChain.{CodeChain}
-use Rattle.packed_code.specs.Letters.{direction_code, direction_of, act_code, acts, act_of}
+use Rattle.tester_types.specs.Acts.{act_code, acts, act_of}
+use Rattle.tester_types.specs.Directions.{direction_code, direction_of}
 use Rattle.text_bytes.specs.Bytes.{is_printable, is_character}
 use Rattle.text_bytes.proofs.ByteLemmas.{is_character-ascii}
 use Rattle.packed_code.specs.Conditions.{EachBehind, last_of, IsText, IsName, is_named, IsSignal, latest, IsEvent, is_behind, IsWave, wave_count, IsTable, IsChain}
 use Rattle.page_code.specs.Fields.{◌>>=◌, byte_at, piece_at, number_at, checked, known, meant, items_at}
-use Rattle.packed_code.specs.Spelling.{number, text, signal, event, wave, table, chain}
+use Rattle.packed_code.specs.Packed.{number}
+use Rattle.page_code.specs.Spelling.{text, signal, event, wave, table, chain}
 use Rattle.page_code.specs.Reading.{raw_text_at, text_at, name_at, signal_at, event_at, pair_at, may_stand, wave_at, table_with, table_at, chain_at}
 use Rattle.page_code.proofs.ReaderLaws.{IsReader, adapted, done_reader, then_reader, checked_reader, byte_reader, wide16, wide32, wide64, number_reader, plain_reader, known_takes, items_reader}
 
@@ -199,7 +201,7 @@ pair_raw signals =
     (λ (l : ℕ) (b : (ℕ × ℕ)) g. ap (λ (m : (ℕ × ℕ)). m.1) g))
     (λ (s : ℕ) (b : (ℕ × ℕ)) g. ap (λ (m : (ℕ × ℕ)). m.0) g.1)
 
--- a signal and a letter
+-- a signal and a character
 abbrev pair_text : ℕ × ℕ → List ℕ
 pair_text p = number w16 p.0 ++ p.1 ∷ []
 
@@ -217,22 +219,22 @@ pair_reader signals few =
     (λ p f. let low : p.0 < signals = f.0 in ((omega arith, lt-ltb p.0 signals low), ((character_small p.1 f.1, f.1), refl)))
     (λ p f. refl)
 
--- the wave of a signal and a letter
+-- the wave of a signal and a character
 abbrev made_wave : ℕ × ℕ → List Event → Wave
-made_wave p events = record { signal = p.0; letter = p.1; events = events }
+made_wave p events = record { signal = p.0; character = p.1; events = events }
 
 wave_raw : (signals period most : ℕ) (few : signals ≤ 1024) (short : period ≤ 1000000000000) (before : List Wave)
-    → IsReader (wave_at signals period most before) (λ (b : Wave). pair_text ((b.signal, b.letter)) ++ ((λ (c : ℕ). c ∷ []) (length b.events)
+    → IsReader (wave_at signals period most before) (λ (b : Wave). pair_text ((b.signal, b.character)) ++ ((λ (c : ℕ). c ∷ []) (length b.events)
     ++ ((flat_map event) b.events ++ ([]))))
-    (λ (b : Wave). (λ (p : ℕ × ℕ). IsPair signals p × (may_stand most before p ≡ true)) ((b.signal, b.letter)) × ((IsNumber 256
-    (λ count. leb count 16)) (length b.events) × ((AreItems (IsEvent period) (length b.events)) b.events × (b ≡ made_wave (b.signal, b.letter) b.events))))
+    (λ (b : Wave). (λ (p : ℕ × ℕ). IsPair signals p × (may_stand most before p ≡ true)) ((b.signal, b.character)) × ((IsNumber 256
+    (λ count. leb count 16)) (length b.events) × ((AreItems (IsEvent period) (length b.events)) b.events × (b ≡ made_wave (b.signal, b.character) b.events))))
 unfolding wave_at
 wave_raw signals period most few short before =
     then_reader (checked (pair_at signals) (may_stand most before)) pair_text (λ (p : ℕ × ℕ). IsPair signals p × (may_stand most before p ≡ true))
     (λ x0. checked byte_at (λ count. leb count 16) x0.1 >>= λ x1. items_at (event_at period) x1.0 [] x1.1 >>= λ x2. Ok (made_wave x0.0 x2.0, x2.1))
     (λ (b : Wave). (λ (c : ℕ). c ∷ []) (length b.events) ++ ((flat_map event) b.events ++ ([])))
     (λ (p : (ℕ × ℕ)) (b : Wave). (IsNumber 256 (λ count. leb count 16)) (length b.events) × ((AreItems (IsEvent period) (length b.events)) b.events × (b ≡ made_wave p b.events)))
-    (λ (b : Wave). (b.signal, b.letter)) (checked_reader (pair_at signals) pair_text (IsPair signals) (may_stand most before) (pair_reader signals few))
+    (λ (b : Wave). (b.signal, b.character)) (checked_reader (pair_at signals) pair_text (IsPair signals) (may_stand most before) (pair_reader signals few))
     (λ p h0. then_reader (checked byte_at (λ count. leb count 16)) (λ (c : ℕ). c ∷ []) (IsNumber 256 (λ count. leb count 16))
     (λ x1. items_at (event_at period) x1.0 [] x1.1 >>= λ x2. Ok (made_wave p x2.0, x2.1))
     (λ (b : Wave). (flat_map event) b.events ++ ([]))
@@ -246,7 +248,7 @@ wave_raw signals period most few short before =
     (λ e h2. done_reader (made_wave p e))
     (λ (e : List Event) (b : Wave) g. ap (λ (m : Wave). m.events) g))
     (λ c b g. g.0.0))
-    (λ (p : (ℕ × ℕ)) (b : Wave) g. ap (λ (m : Wave). (m.signal, m.letter)) g.1.1)
+    (λ (p : (ℕ × ℕ)) (b : Wave) g. ap (λ (m : Wave). (m.signal, m.character)) g.1.1)
 
 number_8 : (n : ℕ) → n < 256 → number w8 n ≡ n ∷ []
 unfolding number
@@ -256,16 +258,16 @@ pub wave_reader : (signals period most : ℕ) → signals ≤ 1024 → period �
     → IsReader (wave_at signals period most before) wave (IsWave signals period most before)
 wave_reader signals period most few short before =
     adapted (wave_at signals period most before) _ wave _ (IsWave signals period most before) (wave_raw signals period most few short before)
-    (λ w f. let p = and_parts (option_map_or (is_behind w.signal w.letter) (last_of before) true) (ltb (length before) most) f.0.1 in
-    record { signal = f.0.0.0; letter = f.0.0.1; order = p.0; room = ltb-true (length before) most p.1; few = leb-true (length w.events) 16 f.1.0.1; events = f.1.1.0.1 })
+    (λ w f. let p = and_parts (option_map_or (is_behind w.signal w.character) (last_of before) true) (ltb (length before) most) f.0.1 in
+    record { signal = f.0.0.0; character = f.0.0.1; order = p.0; room = ltb-true (length before) most p.1; few = leb-true (length w.events) 16 f.1.0.1; events = f.1.1.0.1 })
     (λ w f. let some : length w.events ≤ 16 = f.few in (
-      ((f.signal, f.letter), and_from (option_map_or (is_behind w.signal w.letter) (last_of before) true) (ltb (length before) most) f.order (lt-ltb (length before) most f.room)),
+      ((f.signal, f.character), and_from (option_map_or (is_behind w.signal w.character) (last_of before) true) (ltb (length before) most) f.order (lt-ltb (length before) most f.room)),
       ((omega arith, le-leb (length w.events) 16 some), ((refl, f.events), refl)),
     ))
     (λ w f. let some : length w.events ≤ 16 = f.few in
-    append_assoc (number w16 w.signal) (w.letter ∷ []) ((length w.events ∷ []) ++ (flat_map event w.events ++ []))
-    ∙ ap (λ (x : List ℕ). number w16 w.signal ++ (w.letter ∷ (length w.events ∷ x))) (append-nil (flat_map event w.events))
-    ∙ ap (λ (x : List ℕ). number w16 w.signal ++ (w.letter ∷ (x ++ flat_map event w.events))) (sym (number_8 (length w.events) (omega arith))))
+    append_assoc (number w16 w.signal) (w.character ∷ []) ((length w.events ∷ []) ++ (flat_map event w.events ++ []))
+    ∙ ap (λ (x : List ℕ). number w16 w.signal ++ (w.character ∷ (length w.events ∷ x))) (append-nil (flat_map event w.events))
+    ∙ ap (λ (x : List ℕ). number w16 w.signal ++ (w.character ∷ (x ++ flat_map event w.events))) (sym (number_8 (length w.events) (omega arith))))
 
 table_raw : (signals most : ℕ) (few : signals ≤ 1024) → IsReader (table_with signals most) (λ (b : Table). text b.name ++ ((number w64) b.period
     ++ ((number w32) (length b.waves) ++ ((flat_map wave) b.waves ++ ([])))))

@@ -6,13 +6,14 @@ use Rattle.std.proofs.lemmas.Bool.{and_parts, and_from, ltb-true, leb-true, eqb-
 use Rattle.std.proofs.lemmas.List.{append-nil}
 use Rattle.tester_types.specs.declared.wave.Table.{Table}
 use Rattle.page_code.specs.declared.fault.Refusal.TheVariants.{BadMagic}
-use Rattle.packed_code.specs.declared.version.Version.{Version}
-use Rattle.packed_code.specs.declared.version.Version.TheVariants.{One, Two}
+use Rattle.page_code.specs.declared.version.Version.{Version}
+use Rattle.page_code.specs.declared.version.Version.TheVariants.{One, Two}
 use Rattle.packed_code.specs.declared.parts.CodeSignal.{CodeSignal}
 use Rattle.packed_code.specs.Program.{Exec, Program, code_of}
 use Rattle.packed_code.specs.Conditions.{EachBehind, IsSignal, IsTable, IsRow, IsExec, IsProgram}
 use Rattle.page_code.specs.Fields.{◌>>=◌, Read, number_at, checked, items_at}
-use Rattle.packed_code.specs.Spelling.{number, signal, table, behind, row, exec, version_number, head, earlier, later}
+use Rattle.packed_code.specs.Packed.{number}
+use Rattle.page_code.specs.Spelling.{signal, table, behind, row, exec, version_number, head, earlier, later}
 use Rattle.page_code.specs.Reading.{signal_at, table_at, row_at, exec_at, magic_at, version_of, known_version, head_at, program_at}
 use Rattle.page_code.proofs.ReaderLaws.{IsReader, IsBytes, IsBytes-drop, bind_ok, ok_is, adapted, done_reader, then_reader, checked_reader, IsWide, wide16, wide32, number_reader, items_reader}
 use Rattle.page_code.proofs.PartLaws.{IsBelow, IsNumber, AreItems, find_passes, taken, signal_reader, table_reader}

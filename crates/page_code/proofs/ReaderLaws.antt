@@ -9,7 +9,8 @@ use Rattle.page_code.specs.declared.fault.Refusal.{Refusal}
 use Rattle.page_code.specs.declared.fault.Refusal.TheVariants.{Torn, BadCode}
 use Rattle.packed_code.specs.Conditions.{EachBehind}
 use Rattle.page_code.specs.Fields.{◌>>=◌, Read, byte_at, piece_at, number_at, judged, checked, meant, known, items_at}
-use Rattle.packed_code.specs.Spelling.{number, behind}
+use Rattle.packed_code.specs.Packed.{number}
+use Rattle.page_code.specs.Spelling.{behind}
 
 -- ---- bytes
 

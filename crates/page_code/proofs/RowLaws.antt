@@ -8,29 +8,30 @@ use Rattle.std.proofs.lemmas.List.{take_at, nil_from_length}
 use Rattle.std.proofs.lemmas.List.Folds.{list_any_at}
 use Rattle.text_bytes.specs.Bytes.{is_character}
 use Rattle.text_bytes.proofs.ListLemmas.{all_append}
-use Rattle.packed_code.specs.declared.version.Version.{Version}
-use Rattle.packed_code.specs.declared.version.Version.TheVariants.{One, Two}
-use Rattle.packed_code.specs.Letters.{is_place}
+use Rattle.page_code.specs.declared.version.Version.{Version}
+use Rattle.page_code.specs.declared.version.Version.TheVariants.{One, Two}
+use Rattle.packed_code.specs.RowBytes.{is_place}
 use Rattle.packed_code.specs.Conditions.{IsRow}
 use Rattle.packed_code.specs.Rows.{is_row_of}
-use Rattle.packed_code.specs.Changes.{last_row, changes, with_changes, is_shorter, is_difference, least_behind}
+use Rattle.page_code.specs.Changes.{last_row, changes, with_changes, is_shorter, is_difference, least_behind}
 use Rattle.page_code.specs.Fields.{◌>>=◌, byte_at, piece_at, number_at, judged, checked, items_at}
-use Rattle.packed_code.specs.Spelling.{number, behind, change, difference, row}
-use Rattle.page_code.specs.Reading.{letters_at, change_from, change_at, changed_at, difference_at, whole_row_at, formed_row_at, spelled_row_at, row_at}
+use Rattle.packed_code.specs.Packed.{number}
+use Rattle.page_code.specs.Spelling.{behind, change, difference, row}
+use Rattle.page_code.specs.Reading.{characters_at, change_from, change_at, changed_at, difference_at, whole_row_at, formed_row_at, spelled_row_at, row_at}
 use Rattle.packed_code.proofs.Lists.{all_at}
-use Rattle.packed_code.proofs.ChangesLemmas.{IsChange, read_again, changes_read, made_again, length-with_changes, places_stay}
+use Rattle.page_code.proofs.ChangesLemmas.{IsChange, read_again, changes_read, made_again, length-with_changes, places_stay}
 use Rattle.page_code.proofs.ReaderLaws.{IsReader, IsBytes, bind_ok, adapted, done_reader, then_reader, judged_reader, judged_then, mapped_reader, checked_reader, byte_reader, wide16, number_reader, plain_reader, items_reader, behind_reader}
 use Rattle.page_code.proofs.PartLaws.{IsBelow, IsNumber, AreItems, taken, character_small}
 
 -- ---- whole rows
 
 -- a character or 0 for each signal
-abbrev pub AreLetters : ℕ → List ℕ → Type 0
-AreLetters signals r = (length r ≡ signals) × (list_all is_place r ≡ true)
+abbrev pub AreCharacters : ℕ → List ℕ → Type 0
+AreCharacters signals r = (length r ≡ signals) × (list_all is_place r ≡ true)
 
-letters_reader : (signals : ℕ) → IsReader (letters_at signals) (λ r. r) (AreLetters signals)
-unfolding letters_at
-letters_reader signals = record {
+characters_reader : (signals : ℕ) → IsReader (characters_at signals) (λ r. r) (AreCharacters signals)
+unfolding characters_at
+characters_reader signals = record {
   takes = λ bytes r rest fits e.
       let c = taken (list_all is_place (take signals bytes)) _ (piece_at signals bytes) (r, rest) e in
       let t = (plain_reader signals).takes bytes r rest fits c.1 in
@@ -55,7 +56,7 @@ may_come least signals signal = leb least signal && ltb signal signals
 
 -- whether a character differs from that of a signal
 abbrev is_new : List ℕ → ℕ → ℕ → Bool
-is_new last signal letter = is_place letter && not (eqb letter (slice_index last signal))
+is_new last signal character = is_place character && not (eqb character (slice_index last signal))
 
 change_raw : (least signals : ℕ) (last : List ℕ)
     → IsReader (change_from least signals last) (λ (c : ℕ × ℕ). number w16 c.0 ++ ((c.1 ∷ []) ++ []))
@@ -106,25 +107,25 @@ change_reader signals last before few wide =
 
 -- a row that so many changes of the last row make
 record IsMade (signals : ℕ) (last : List ℕ) (count : ℕ) (r : List ℕ) : Type 0 where
-  letters : AreLetters signals r
+  characters : AreCharacters signals r
   count_is : length (changes 0 last r) ≡ count
 
-made_reader : (signals : ℕ) (last : List ℕ) (count : ℕ) → signals ≤ 1024 → AreLetters signals last
+made_reader : (signals : ℕ) (last : List ℕ) (count : ℕ) → signals ≤ 1024 → AreCharacters signals last
     → IsReader (changed_at signals last count) (λ r. flat_map change (changes 0 last r)) (IsMade signals last count)
-made_reader signals last count few letters =
+made_reader signals last count few characters =
     mapped_reader (items_at (change_at signals last) count []) (flat_map change) (AreItems (IsChange last) count)
     (with_changes last) (changes 0 last) (IsMade signals last count)
-    (items_reader (change_at signals last) change (IsChange last) (λ before. change_reader signals last before few letters.0) count)
+    (items_reader (change_at signals last) change (IsChange last) (λ before. change_reader signals last before few characters.0) count)
     (λ cs f. (
       read_again last cs f.1,
       record {
-        letters = (length-with_changes last cs ∙ letters.0, places_stay last [] cs last letters.1 f.1);
+        characters = (length-with_changes last cs ∙ characters.0, places_stay last [] cs last characters.1 f.1);
         count_is = ap length (read_again last cs f.1) ∙ f.0;
       },
     ))
     (λ r f.
-    let size : length r ≡ length last = f.letters.0 ∙ sym letters.0 in
-    ((f.count_is, changes_read last r size f.letters.1), made_again last r size f.letters.1))
+    let size : length r ≡ length last = f.characters.0 ∙ sym characters.0 in
+    ((f.count_is, changes_read last r size f.characters.1), made_again last r size f.characters.1))
 
 -- whether so many changes may be counted
 abbrev may_count : ℕ → ℕ → Bool
@@ -132,14 +133,14 @@ may_count signals count = ltb 0 count && leb count signals
 
 -- a row whose changes are some, and shorter than it
 record IsChanged (signals : ℕ) (last r : List ℕ) : Type 0 where
-  letters : AreLetters signals r
+  characters : AreCharacters signals r
   some : 0 < length (changes 0 last r)
   shorter : is_shorter (length (changes 0 last r)) signals ≡ true
 
-difference_reader : (left signals : ℕ) (last : List ℕ) → signals ≤ 1024 → AreLetters signals last
+difference_reader : (left signals : ℕ) (last : List ℕ) → signals ≤ 1024 → AreCharacters signals last
     → IsReader (difference_at left signals last) (λ r. difference (changes 0 last r)) (IsChanged signals last)
 unfolding difference_at
-difference_reader left signals last few letters =
+difference_reader left signals last few characters =
     adapted (difference_at left signals last) _ (λ r. difference (changes 0 last r)) _ (IsChanged signals last)
     (then_reader (checked (number_at w16) (may_count signals)) (number w16) (IsNumber (2 ^ 16) (may_count signals))
     (λ x. judged left (λ n. is_shorter n signals) x >>= λ y. changed_at signals last y.0 y.1)
@@ -149,17 +150,17 @@ difference_reader left signals last few letters =
     (checked_reader (number_at w16) (number w16) (IsBelow (2 ^ 16)) (may_count signals) (number_reader w16 (2 ^ 16) wide16))
     (λ n h. judged_then n (λ n. is_shorter n signals) left
     (λ y. changed_at signals last y.0 y.1)
-    (λ r. flat_map change (changes 0 last r)) (IsMade signals last n) (λ short. made_reader signals last n few letters))
+    (λ r. flat_map change (changes 0 last r)) (IsMade signals last n) (λ short. made_reader signals last n few characters))
     (λ n r g. g.1.count_is))
     (λ r f. record {
-      letters = f.1.1.letters;
+      characters = f.1.1.characters;
       some = ltb-true 0 (length (changes 0 last r)) (and_parts (ltb 0 (length (changes 0 last r))) (leb (length (changes 0 last r)) signals) f.0.1).0;
       shorter = f.1.0;
     })
     (λ r f.
     let short : 3 * length (changes 0 last r) + 2 < signals = ltb-true _ signals f.shorter in (
       (omega arith, and_from (ltb 0 (length (changes 0 last r))) (leb (length (changes 0 last r)) signals) (lt-ltb 0 _ f.some) (le-leb _ signals (omega arith))),
-      (f.shorter, record { letters = f.letters; count_is = refl }),
+      (f.shorter, record { characters = f.characters; count_is = refl }),
     ))
     (λ r f. refl)
 
@@ -170,26 +171,26 @@ abbrev may_form : List (List ℕ) → ℕ → Bool
 may_form before form = eqb form 0 || eqb form 1 && ltb 0 (length before)
 
 whole_row_reader : (left signals : ℕ) (before : List (List ℕ))
-    → IsReader (whole_row_at left signals before) (λ r. r) (λ r. AreLetters signals r × (not (is_difference before r) ≡ true))
+    → IsReader (whole_row_at left signals before) (λ r. r) (λ r. AreCharacters signals r × (not (is_difference before r) ≡ true))
 unfolding whole_row_at
 whole_row_reader left signals before =
-    judged_reader (letters_at signals) (λ r. r) (AreLetters signals) (λ r. not (is_difference before r)) (λ bytes. left) (letters_reader signals)
+    judged_reader (characters_at signals) (λ r. r) (AreCharacters signals) (λ r. not (is_difference before r)) (λ bytes. left) (characters_reader signals)
 
-last_letters : (signals : ℕ) (before : List (List ℕ)) → AllByRecursion (AreLetters signals) before → 0 < length before
-    → AreLetters signals (last_row before)
-last_letters signals before good some = all_at (AreLetters signals) before (length before - 1) [] good (omega arith)
+last_characters : (signals : ℕ) (before : List (List ℕ)) → AllByRecursion (AreCharacters signals) before → 0 < length before
+    → AreCharacters signals (last_row before)
+last_characters signals before good some = all_at (AreCharacters signals) before (length before - 1) [] good (omega arith)
 
 -- a row that no row before equals changes something
-some_changed : (signals : ℕ) (before : List (List ℕ)) (r : List ℕ) → AllByRecursion (AreLetters signals) before → 0 < length before
-    → AreLetters signals r → is_row_of before r ≡ false → 0 < length (changes 0 (last_row before) r)
-some_changed signals before r good some letters fresh =
+some_changed : (signals : ℕ) (before : List (List ℕ)) (r : List ℕ) → AllByRecursion (AreCharacters signals) before → 0 < length before
+    → AreCharacters signals r → is_row_of before r ≡ false → 0 < length (changes 0 (last_row before) r)
+some_changed signals before r good some characters fresh =
     elim (cases_lt 0 (length (changes 0 (last_row before) r))) [
       | inl many ↦ many
       | inr none ↦
-          let last = last_letters signals before good some in
+          let last = last_characters signals before good some in
           let nothing : changes 0 (last_row before) r ≡ [] = nil_from_length _ (omega arith) in
           let same : last_row before ≡ r =
-          ap (with_changes (last_row before)) (sym nothing) ∙ made_again (last_row before) r (letters.0 ∙ sym last.0) letters.1 in
+          ap (with_changes (last_row before)) (sym nothing) ∙ made_again (last_row before) r (characters.0 ∙ sym last.0) characters.1 in
           let there : is_row_of before r ≡ true =
           list_any_at (pointwise nat_eq r) before (length before - 1) [] (omega arith) ((bytes_decides r (last_row before)).1 (sym same)) in
           absurd cc
@@ -197,12 +198,12 @@ some_changed signals before r good some letters fresh =
 
 -- a row as it may be spelled in version 2
 record IsFormed (signals : ℕ) (before : List (List ℕ)) (r : List ℕ) : Type 0 where
-  letters : AreLetters signals r
+  characters : AreCharacters signals r
   some : is_difference before r ≡ true → 0 < length (changes 0 (last_row before) r)
 
 -- a row, as it was read behind its form
 form_takes : (left signals : ℕ) (before : List (List ℕ)) (form : ℕ) (bytes r rest : List ℕ) → signals ≤ 1024
-    → AllByRecursion (AreLetters signals) before → may_form before form ≡ true → IsBytes bytes
+    → AllByRecursion (AreCharacters signals) before → may_form before form ≡ true → IsBytes bytes
     → cond (eqb form 0) (whole_row_at left signals before bytes) (difference_at left signals (last_row before) bytes) ≡ Ok (r, rest)
     → (form ∷ bytes ≡ row Two before r ++ rest) × IsBytes rest × IsFormed signals before r
 form_takes left signals before form bytes r rest few good may fits e =
@@ -213,24 +214,24 @@ form_takes left signals before form bytes r rest few good may fits e =
           let no_difference : is_difference before r ≡ false = not-true _ t.2.1 in (
             ap (λ (n : ℕ). n ∷ bytes) (eqb-true form 0 whole) ∙ rw no_difference (ap (λ (x : List ℕ). 0 ∷ x) t.0),
             t.1,
-            record { letters = t.2.0; some = λ is. absurd cc },
+            record { characters = t.2.0; some = λ is. absurd cc },
           )
       | inr other ↦
           let read : difference_at left signals (last_row before) bytes ≡ Ok (r, rest) = rw other at e in
           let formed : (eqb form 1 && ltb 0 (length before)) ≡ true = rw other at may in
           let both = and_parts (eqb form 1) (ltb 0 (length before)) formed in
-          let last = last_letters signals before good (ltb-true 0 (length before) both.1) in
+          let last = last_characters signals before good (ltb-true 0 (length before) both.1) in
           let t = (difference_reader left signals (last_row before) few last).takes bytes r rest fits read in
           let changed : IsChanged signals (last_row before) r = t.2 in
           let is : is_difference before r ≡ true =
-          and_from (ltb 0 (length before)) _ both.1 (ap (is_shorter (length (changes 0 (last_row before) r))) changed.letters.0 ∙ changed.shorter) in (
+          and_from (ltb 0 (length before)) _ both.1 (ap (is_shorter (length (changes 0 (last_row before) r))) changed.characters.0 ∙ changed.shorter) in (
             ap (λ (n : ℕ). n ∷ bytes) (eqb-true form 1 both.0) ∙ rw is (ap (λ (x : List ℕ). 1 ∷ x) t.0),
             t.1,
-            record { letters = changed.letters; some = λ is. changed.some },
+            record { characters = changed.characters; some = λ is. changed.some },
           )
     ]
 
-formed_takes : (signals : ℕ) (before : List (List ℕ)) → signals ≤ 1024 → AllByRecursion (AreLetters signals) before
+formed_takes : (signals : ℕ) (before : List (List ℕ)) → signals ≤ 1024 → AllByRecursion (AreCharacters signals) before
     → (bytes r rest : List ℕ) → IsBytes bytes → formed_row_at signals before bytes ≡ Ok (r, rest)
     → (bytes ≡ row Two before r ++ rest) × IsBytes rest × IsFormed signals before r
 unfolding formed_row_at
@@ -240,28 +241,28 @@ formed_takes signals before few good bytes r rest fits e =
     let t = form_takes (length bytes) signals before a.0.0 a.0.1 r rest few good f.2.1 f.1 a.2 in
     (f.0 ∙ t.0, t.1, t.2)
 
-formed_again : (signals : ℕ) (before : List (List ℕ)) → signals ≤ 1024 → AllByRecursion (AreLetters signals) before
+formed_again : (signals : ℕ) (before : List (List ℕ)) → signals ≤ 1024 → AllByRecursion (AreCharacters signals) before
     → (r rest : List ℕ) → IsFormed signals before r → formed_row_at signals before (row Two before r ++ rest) ≡ Ok (r, rest)
 unfolding formed_row_at
 formed_again signals before few good r rest is =
     elim (cases_Bool (is_difference before r)) [
       | inl changed ↦
           let both = and_parts (ltb 0 (length before)) (is_shorter (length (changes 0 (last_row before) r)) (length r)) changed in
-          let last = last_letters signals before good (ltb-true 0 (length before) both.0) in
+          let last = last_characters signals before good (ltb-true 0 (length before) both.0) in
           let text = difference (changes 0 (last_row before) r) ++ rest in
           let read = (difference_reader (length (1 ∷ text)) signals (last_row before) few last).again r rest
           (record {
-            letters = is.letters;
+            characters = is.characters;
             some = is.some changed;
-            shorter = ap (is_shorter (length (changes 0 (last_row before) r))) (sym is.letters.0) ∙ both.1;
+            shorter = ap (is_shorter (length (changes 0 (last_row before) r))) (sym is.characters.0) ∙ both.1;
           }) in
           rw (changed, both.0, read) refl
       | inr whole ↦
-          let read = (whole_row_reader (length (0 ∷ r ++ rest)) signals before).again r rest (is.letters, not_from_false _ whole) in
+          let read = (whole_row_reader (length (0 ∷ r ++ rest)) signals before).again r rest (is.characters, not_from_false _ whole) in
           rw (whole, read) refl
     ]
 
-formed_reader : (signals : ℕ) (before : List (List ℕ)) → signals ≤ 1024 → AllByRecursion (AreLetters signals) before
+formed_reader : (signals : ℕ) (before : List (List ℕ)) → signals ≤ 1024 → AllByRecursion (AreCharacters signals) before
     → IsReader (formed_row_at signals before) (row Two before) (IsFormed signals before)
 formed_reader signals before few good = record {
   takes = formed_takes signals before few good;
@@ -273,25 +274,25 @@ formed_reader signals before few good = record {
 -- a row that is spelled as it may be, and that no row before equals
 fresh_reader : (version : Version) (signals : ℕ) (before : List (List ℕ)) (Fits : List ℕ → Type 0)
     → IsReader (spelled_row_at version signals before) (row version before) Fits
-    → ((r : List ℕ) → Fits r → AreLetters signals r) → ((r : List ℕ) → AreLetters signals r → is_row_of before r ≡ false → Fits r)
+    → ((r : List ℕ) → Fits r → AreCharacters signals r) → ((r : List ℕ) → AreCharacters signals r → is_row_of before r ≡ false → Fits r)
     → IsReader (row_at version signals before) (row version before) (IsRow signals before)
 unfolding row_at
-fresh_reader version signals before Fits spelled letters fits =
+fresh_reader version signals before Fits spelled characters fits =
     adapted (row_at version signals before) (row version before) (row version before) _ (IsRow signals before)
     (checked_reader (spelled_row_at version signals before) (row version before) Fits (λ r. not (is_row_of before r)) spelled)
     (λ r f.
-    let are = letters r f.0 in record { places = are.0; letters = are.1; fresh = not-true (is_row_of before r) f.1 })
-    (λ r f. (fits r (f.places, f.letters) f.fresh, not_from_false _ f.fresh))
+    let are = characters r f.0 in record { places = are.0; characters = are.1; fresh = not-true (is_row_of before r) f.1 })
+    (λ r f. (fits r (f.places, f.characters) f.fresh, not_from_false _ f.fresh))
     (λ r f. refl)
 
-row_reader : (version : Version) (signals : ℕ) (before : List (List ℕ)) → signals ≤ 1024 → AllByRecursion (AreLetters signals) before
+row_reader : (version : Version) (signals : ℕ) (before : List (List ℕ)) → signals ≤ 1024 → AllByRecursion (AreCharacters signals) before
     → IsReader (row_at version signals before) (row version before) (IsRow signals before)
 row_reader One signals before few good =
-    fresh_reader One signals before (AreLetters signals) (letters_reader signals) (λ r are. are) (λ r are fresh. are)
+    fresh_reader One signals before (AreCharacters signals) (characters_reader signals) (λ r are. are) (λ r are fresh. are)
 row_reader Two signals before few good =
-    fresh_reader Two signals before (IsFormed signals before) (formed_reader signals before few good) (λ r is. is.letters)
+    fresh_reader Two signals before (IsFormed signals before) (formed_reader signals before few good) (λ r is. is.characters)
     (λ r are fresh. record {
-      letters = are;
+      characters = are;
       some = λ is.
           let begun = ltb-true 0 (length before) (and_parts (ltb 0 (length before)) _ is).0 in
           some_changed signals before r good begun are fresh;
@@ -301,6 +302,6 @@ row_reader Two signals before few good =
 pub rows_reader : (version : Version) (signals count : ℕ) → signals ≤ 1024
     → IsReader (items_at (row_at version signals) count []) (behind (row version) []) (AreItems (IsRow signals) count)
 rows_reader version signals count few =
-    behind_reader (row_at version signals) (row version) (IsRow signals) (AllByRecursion (AreLetters signals)) tt
+    behind_reader (row_at version signals) (row version) (IsRow signals) (AllByRecursion (AreCharacters signals)) tt
     (λ before good. row_reader version signals before few good)
-    (λ before r good is. all_append (AreLetters signals) before (r ∷ []) good ((is.places, is.letters), tt)) count
+    (λ before r good is. all_append (AreCharacters signals) before (r ∷ []) good ((is.places, is.characters), tt)) count

@@ -1,11 +1,47 @@
 -- Known parts and their bytes, which the definitions must give.
-use Rattle.std.proofs.Common.{◌≡◌, [], ◌∷◌, Ok, Err, refl}
+use Rattle.std.proofs.Common.{◌≡◌, ℕ, List, [], ◌∷◌, Ok, Err, refl}
 use Rattle.page_code.specs.declared.fault.Refusal.TheVariants.{BadMagic, BadVersion, Torn, BadCode}
 use Rattle.text_bytes.specs.Bytes.{is_character}
-use Rattle.packed_code.specs.declared.version.Version.TheVariants.{Two}
-use Rattle.packed_code.proofs.StandardFacts.{first_row, second_row}
+use Rattle.tester_types.specs.declared.wave.Act.TheVariants.{Look}
+use Rattle.tester_types.specs.declared.wave.Look.TheVariants as look
+use Rattle.packed_code.specs.Packed.{number}
+use Rattle.page_code.specs.declared.version.Version.TheVariants.{Two}
+use Rattle.page_code.specs.Spelling.{text, wave, row}
 use Rattle.page_code.specs.Fields.{number_at, items_at}
-use Rattle.page_code.specs.Reading.{head_at, letters_at, change_from, difference_at, whole_row_at, formed_row_at, row_at}
+use Rattle.page_code.specs.Reading.{head_at, characters_at, change_from, difference_at, whole_row_at, formed_row_at, row_at}
+
+-- ---- what is written
+
+pub example_text : text (97 ∷ 98 ∷ []) ≡ 2 ∷ 0 ∷ 97 ∷ 98 ∷ []
+unfolding number
+example_text = refl
+
+-- signal 258, the character H, and the act H at 2 ^ 16 femtoseconds
+pub example_wave : wave (record { signal = 258; character = 72; events = record { time = 65536; act = Look look.High } ∷ [] })
+    ≡ 2 ∷ 1 ∷ 72 ∷ 1 ∷ 0 ∷ 0 ∷ 1 ∷ 0 ∷ 0 ∷ 0 ∷ 0 ∷ 0 ∷ 7 ∷ []
+unfolding number
+example_wave = refl
+
+-- ---- rows of version 2
+
+-- P110000XX
+abbrev pub first_row : List ℕ
+first_row = 80 ∷ 49 ∷ 49 ∷ 48 ∷ 48 ∷ 48 ∷ 48 ∷ 88 ∷ 88 ∷ []
+
+-- P100000XX
+abbrev pub second_row : List ℕ
+second_row = 80 ∷ 49 ∷ 48 ∷ 48 ∷ 48 ∷ 48 ∷ 48 ∷ 88 ∷ 88 ∷ []
+
+-- one character of nine changes: 5 is below 9
+pub one_change : row Two (first_row ∷ []) second_row ≡ 1 ∷ 1 ∷ 0 ∷ 2 ∷ 0 ∷ 0x30 ∷ []
+unfolding number
+one_change = refl
+
+-- one of two changes: 5 is not below 2
+pub narrow_row : row Two ((48 ∷ 48 ∷ []) ∷ []) (49 ∷ 48 ∷ []) ≡ 0 ∷ 49 ∷ 48 ∷ []
+narrow_row = refl
+
+-- ---- what is read
 
 -- a byte that is there and differs comes before one that is missing
 pub wrong_magic : head_at (0xD7 ∷ 0 ∷ []) ≡ Err BadMagic
@@ -25,12 +61,12 @@ unfolding head_at number_at
 other_version = refl
 
 -- a character that is no letter or digit is refused at its own place, before those that are missing
-pub wrong_letter : letters_at 4 (48 ∷ 33 ∷ []) ≡ Err (BadCode 1)
-unfolding letters_at is_character
-wrong_letter = refl
+pub wrong_character : characters_at 4 (48 ∷ 33 ∷ []) ≡ Err (BadCode 1)
+unfolding characters_at is_character
+wrong_character = refl
 
-pub short_row : letters_at 4 (48 ∷ 49 ∷ []) ≡ Err Torn
-unfolding letters_at is_character
+pub short_row : characters_at 4 (48 ∷ 49 ∷ []) ≡ Err Torn
+unfolding characters_at is_character
 short_row = refl
 
 -- ---- rows of version 2
@@ -41,7 +77,7 @@ one_change_again = refl
 
 -- the same spelled whole is refused at its form
 pub whole_refused : formed_row_at 9 (first_row ∷ []) (0 ∷ second_row) ≡ Err (BadCode 10)
-unfolding formed_row_at whole_row_at letters_at is_character
+unfolding formed_row_at whole_row_at characters_at is_character
 whole_refused = refl
 
 -- the first row is spelled whole

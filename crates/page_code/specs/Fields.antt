@@ -3,8 +3,8 @@ use Rattle.std.specs.Prelude.{ℕ, zero, suc, Bool, List, [], ◌∷◌, ◌++�
 use Rattle.std.specs.Int.{Width, byte_len, from_le_bytes}
 use Rattle.page_code.specs.declared.fault.Refusal.{Refusal}
 use Rattle.page_code.specs.declared.fault.Refusal.TheVariants.{Torn, BadCode}
-use Rattle.page_code.specs.declared.fault.ReadError.{ReadError}
-use Rattle.page_code.specs.declared.fault.ReadError.TheVariants as errors
+use Rattle.answers.specs.declared.short.Short.{Short}
+use Rattle.answers.specs.declared.short.Short.TheVariants as errors
 
 infixl 10 ◌>>=◌
 -- one step after another, up to the first refusal
@@ -16,10 +16,14 @@ abbrev pub ◌>>=◌ : {A B : Type 0} → Result A Refusal → (A → Result B R
 abbrev pub Read : Type 0 → Type 0
 Read A = Result (A × List ℕ) Refusal
 
+-- why a part could not be read
+abbrev pub ReadError : Type 0
+ReadError = Short Refusal
+
 -- an error is the refusal that reading meets, or want of memory
 abbrev pub Fails : {Y : Type 0} → ReadError → Result Y Refusal → Type 0
 Fails errors.NoMemory read = Unit {0}
-Fails (errors.Refused refusal) read = read ≡ Err refusal
+Fails (errors.Fault refusal) read = read ≡ Err refusal
 
 -- what a call returned, seen by `view`, is what reading gives, unless memory ran out
 abbrev pub Gives : {X Y : Type 0} → (X → Y) → Result X ReadError → Result Y Refusal → Type 0

@@ -1,3 +1,5 @@
+pub mod Changes
+pub mod Spelling
 pub mod Saved
 pub mod Fields
 pub mod Reading

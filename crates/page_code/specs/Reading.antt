@@ -15,17 +15,19 @@ use Rattle.page_code.specs.declared.fault.Refusal.{Refusal}
 use Rattle.page_code.specs.declared.fault.Refusal.TheVariants.{BadMagic, BadVersion, Torn, BadCode}
 use Rattle.page_code.specs.declared.fault.SavedFault.{SavedFault}
 use Rattle.page_code.specs.declared.fault.SavedFault.TheVariants as saved
-use Rattle.packed_code.specs.declared.version.Version.{Version}
-use Rattle.packed_code.specs.declared.version.Version.TheVariants.{One, Two}
+use Rattle.page_code.specs.declared.version.Version.{Version}
+use Rattle.page_code.specs.declared.version.Version.TheVariants.{One, Two}
 use Rattle.packed_code.specs.declared.parts.CodeSignal.{CodeSignal}
 use Rattle.packed_code.specs.declared.parts.CodeChain.{CodeChain}
-use Rattle.packed_code.specs.Letters.{direction_of, act_of, is_place}
+use Rattle.tester_types.specs.Acts.{act_of}
+use Rattle.tester_types.specs.Directions.{direction_of}
+use Rattle.packed_code.specs.RowBytes.{is_place}
 use Rattle.packed_code.specs.Program.{Exec, Program}
 use Rattle.packed_code.specs.Rows.{is_row_of}
-use Rattle.packed_code.specs.Conditions.{last_of, is_named, latest, is_behind, wave_count, has_waves, waves_of, letters_of}
-use Rattle.packed_code.specs.Changes.{last_row, with_changes, is_shorter, is_difference, least_behind}
+use Rattle.packed_code.specs.Conditions.{last_of, is_named, latest, is_behind, wave_count, has_waves, waves_of, characters_of}
+use Rattle.page_code.specs.Changes.{last_row, with_changes, is_shorter, is_difference, least_behind}
 use Rattle.packed_code.specs.Packed.{instr_of}
-use Rattle.packed_code.specs.Spelling.{version_number}
+use Rattle.page_code.specs.Spelling.{version_number}
 use Rattle.page_code.specs.Fields.{◌>>=◌, Read, byte_at, piece_at, number_at, judged, checked, known, items_at}
 
 -- a text is one field: its bytes are judged when all of them are there
@@ -56,25 +58,25 @@ event_at period before bytes = do
   act ← known byte_at act_of time.1
   Ok (record { time = time.0; act = act.0 }, act.1)
 
--- a signal and a letter, each valid by itself
+-- a signal and a character, each valid by itself
 unfoldable pub pair_at : ℕ → List ℕ → Read (ℕ × ℕ)
 pair_at signals bytes = do
   signal ← checked (number_at w16) (λ signal. nat_lt signal signals) bytes
-  letter ← checked byte_at is_character signal.1
-  Ok ((signal.0, letter.0), letter.1)
+  character ← checked byte_at is_character signal.1
+  Ok ((signal.0, character.0), character.1)
 
 -- whether a wave may stand here: behind the one before it, as one of at most so many
 abbrev pub may_stand : ℕ → List Wave → ℕ × ℕ → Bool
 may_stand most before pair =
     option_map_or (is_behind pair.0 pair.1) (last_of before) true && nat_lt (length before) most
 
--- a signal and a letter that may stand here, a count of events, and these
+-- a signal and a character that may stand here, a count of events, and these
 unfoldable pub wave_at : ℕ → ℕ → ℕ → List Wave → List ℕ → Read Wave
 wave_at signals period most before bytes = do
   pair ← checked (pair_at signals) (may_stand most before) bytes
   count ← checked byte_at (λ count. nat_le count 16) pair.1
   events ← items_at (event_at period) count.0 [] count.1
-  Ok (record { signal = pair.0.0; letter = pair.0.1; events = events.0 }, events.1)
+  Ok (record { signal = pair.0.0; character = pair.0.1; events = events.0 }, events.1)
 
 -- a table that may have so many waves
 unfoldable pub table_with : ℕ → ℕ → List ℕ → Read Table
@@ -90,8 +92,8 @@ abbrev pub table_at : ℕ → List Table → List ℕ → Read Table
 table_at signals before bytes = table_with signals (most_waves - wave_count before) bytes
 
 -- the characters of a row, each a field of its own
-unfoldable pub letters_at : ℕ → List ℕ → Read (List ℕ)
-letters_at signals bytes =
+unfoldable pub characters_at : ℕ → List ℕ → Read (List ℕ)
+characters_at signals bytes =
     if list_all is_place (take signals bytes) then piece_at signals bytes
     else Err (BadCode (length bytes - length (take_while is_place bytes)))
 
@@ -99,8 +101,8 @@ letters_at signals bytes =
 unfoldable pub change_from : ℕ → ℕ → List ℕ → List ℕ → Read (ℕ × ℕ)
 change_from least signals last bytes = do
   signal ← checked (number_at w16) (λ signal. nat_le least signal && nat_lt signal signals) bytes
-  letter ← checked byte_at (λ letter. is_place letter && not (letter == slice_index last signal.0)) signal.1
-  Ok ((signal.0, letter.0), letter.1)
+  character ← checked byte_at (λ character. is_place character && not (character == slice_index last signal.0)) signal.1
+  Ok ((signal.0, character.0), character.1)
 
 -- changes rise strictly by signal
 abbrev pub change_at : ℕ → List ℕ → List (ℕ × ℕ) → List ℕ → Read (ℕ × ℕ)
@@ -122,7 +124,7 @@ difference_at left signals last bytes = do
 -- a row that is spelled whole, behind its form. Where a difference would be shorter, it is the form that is refused.
 unfoldable pub whole_row_at : ℕ → ℕ → List (List ℕ) → List ℕ → Read (List ℕ)
 whole_row_at left signals before bytes =
-    letters_at signals bytes >>= judged left (λ row. not (is_difference before row))
+    characters_at signals bytes >>= judged left (λ row. not (is_difference before row))
 
 -- a row of version 2: its form, which is 0 for the first row, and then the row by it
 unfoldable pub formed_row_at : ℕ → List (List ℕ) → List ℕ → Read (List ℕ)
@@ -133,7 +135,7 @@ formed_row_at signals before bytes = do
 
 -- a row as it is spelled in a version
 abbrev pub spelled_row_at : Version → ℕ → List (List ℕ) → List ℕ → Read (List ℕ)
-spelled_row_at One signals before bytes = letters_at signals bytes
+spelled_row_at One signals before bytes = characters_at signals bytes
 spelled_row_at Two signals before bytes = formed_row_at signals before bytes
 
 -- a row that no row before equals
@@ -172,7 +174,7 @@ begun_behind begun (Done ∷ code) = begun_behind false code
 abbrev pub follows : List Table → List (List ℕ) → Bool → ℕ → Bool → Instr → Bool
 follows tables rows is_last depth begun (Run table row mark times) =
     not is_last && nat_lt 0 times && nat_lt table (length tables) && nat_lt row (length rows)
-    && has_waves (waves_of tables table) 0 (letters_of rows row)
+    && has_waves (waves_of tables table) 0 (characters_of rows row)
 follows tables rows is_last depth begun (Loop times) =
     not is_last && nat_lt 0 times && nat_le times most_passes && nat_lt depth deepest_loops
 follows tables rows is_last depth begun End = not is_last && not begun && nat_lt 0 depth

@@ -1,10 +1,10 @@
 -- Which bytes are a saved form of a code.
 use Rattle.std.specs.Prelude.{◌≡◌, ℕ, List, ◌⊎◌}
-use Rattle.packed_code.specs.declared.version.Version.{Version}
-use Rattle.packed_code.specs.declared.version.Version.TheVariants.{One, Two}
+use Rattle.page_code.specs.declared.version.Version.{Version}
+use Rattle.page_code.specs.declared.version.Version.TheVariants.{One, Two}
 use Rattle.packed_code.specs.Program.{Program}
 use Rattle.packed_code.specs.Conditions.{IsProgram}
-use Rattle.packed_code.specs.Spelling.{program}
+use Rattle.page_code.specs.Spelling.{program}
 
 -- the bytes spell this code in this version, and it meets all conditions
 pub record SavedIn (version : Version) (code : Program) (bytes : List ℕ) : Type 0 where

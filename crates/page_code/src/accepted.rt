@@ -2,7 +2,7 @@
 
 ghost use Rattle.std.specs.Prelude.{◌≡◌, ◌<◌, List, ℕ, length, IfOk};
 ghost use Rattle.tester_types.specs.declared.wave.Table.{Table as ATable};
-ghost use Rattle.packed_code.specs.Conditions.{has_waves, waves_of, letters_of};
+ghost use Rattle.packed_code.specs.Conditions.{has_waves, waves_of, characters_of};
 ghost use Rattle.page_code.specs.Accepted.{AreAccepted};
 
 use crate::wave_index::WaveIndex;
@@ -40,16 +40,17 @@ impl Accepted {
     ) -> Result<bool, AllocError>
         requires accepted { AreAccepted tables.now rows.now self.old }
         requires row { row < length rows.now }
-        ensures fits { IfOk result (λ fits. fits ≡ has_waves (waves_of tables.now table) 0 (letters_of rows.now row)) }
+        ensures fits { IfOk result
+            (λ fits. fits ≡ has_waves (waves_of tables.now table) 0 (characters_of rows.now row)) }
         ensures accepted { AreAccepted tables.now rows.now self.new }
     {
         let pair = (table, row);
         if self.pairs.contains(&pair) {
             return Ok(true);
         }
-        let letters = rows.row(row as usize);
-        self.index.turn_to(tables, table, letters.len())?;
-        if !self.index.has_each(letters) {
+        let characters = rows.row(row as usize);
+        self.index.turn_to(tables, table, characters.len())?;
+        if !self.index.has_each(characters) {
             return Ok(false);
         }
         self.pairs.insert(pair)?;

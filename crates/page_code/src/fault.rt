@@ -1,9 +1,6 @@
 //! Why bytes are no saved program.
 
-ghost use Rattle.std.specs.Prelude.{◌≡◌};
-ghost use Rattle.page_code.specs.declared.fault.ReadError.TheVariants.{NoMemory};
-
-use std::alloc::{AllocError, AllocFailed};
+use answers::Short;
 use std::error::Error;
 use std::fmt;
 
@@ -51,24 +48,4 @@ pub(crate) enum Refusal {
 }
 
 /// Why a part could not be read.
-#[derive(Clone, Copy, Debug, PartialEq, Eq)]
-pub(crate) enum ReadError {
-    NoMemory,
-    Refused(Refusal),
-}
-
-impl From<AllocError> for ReadError {
-    ghost from_gives = { λ _ e. e ≡ NoMemory };
-
-    fn from(_e: AllocError) -> ReadError {
-        ReadError::NoMemory
-    }
-}
-
-impl<T: Drop> From<AllocFailed<T>> for ReadError {
-    ghost from_gives = { λ _ e. e ≡ NoMemory };
-
-    fn from(_e: AllocFailed<T>) -> ReadError {
-        ReadError::NoMemory
-    }
-}
+pub(crate) type ReadError = Short<Refusal>;

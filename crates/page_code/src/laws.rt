@@ -1,10 +1,10 @@
 //! Laws of the saved form.
 
 ghost use Rattle.std.specs.Prelude.{◌≡◌, ◌++◌, [], List, ℕ};
-ghost use Rattle.packed_code.specs.declared.version.Version.{Version};
+ghost use Rattle.page_code.specs.declared.version.Version.{Version};
 ghost use Rattle.packed_code.specs.Program.{Program};
 ghost use Rattle.packed_code.specs.Conditions.{IsProgram};
-ghost use Rattle.packed_code.specs.Spelling.{program};
+ghost use Rattle.page_code.specs.Spelling.{program};
 ghost use Rattle.page_code.specs.Saved.{SavedIn};
 
 /// No spelling of a code begins a spelling of any code but its own in the same version, and that is no longer.

@@ -11,11 +11,12 @@ ghost use Rattle.page_code.specs.Fields.{Gives, number_at, checked};
 ghost use Rattle.page_code.specs.Reading.{magic_at, version_of, known_version, head_at, program_at, whole_at, load_of, refusal_of};
 
 use crate::fault::{ReadError, Refusal, SavedFault};
-use crate::fields::{bad, number16, number16_to, number32};
 use crate::read_execs::execs;
+use crate::read_fields::{bad, number16, number16_to, number32};
 use crate::read_rows::rows;
 use crate::read_tables::{signals, tables};
-use packed_code::{Code, CodeExecList, CodeSignalList, RowList, Version};
+use crate::version::Version;
+use packed_code::{Code, CodeExecList, CodeSignalList, RowList};
 use std::alloc::Global;
 use tester_types::TableList;
 use text_bytes::{MOST_CODE_TABLES, MOST_EXECUTIVES, MOST_ROW_CHARACTERS, MOST_SIGNALS};
@@ -26,10 +27,8 @@ fn magic(bytes: &[u8]) -> Result<&[u8], ReadError>
 {
     match bytes {
         [0xD7, 0x53, 0x54, 0x50, rest @ ..] => Ok(rest),
-        [] | [0xD7] | [0xD7, 0x53] | [0xD7, 0x53, 0x54] => {
-            Err(ReadError::Refused(Refusal::Torn))
-        }
-        _ => Err(ReadError::Refused(Refusal::BadMagic)),
+        [] | [0xD7] | [0xD7, 0x53] | [0xD7, 0x53, 0x54] => { Err(ReadError::Fault(Refusal::Torn)) }
+        _ => Err(ReadError::Fault(Refusal::BadMagic)),
     }
 }
 
@@ -52,7 +51,7 @@ fn head(bytes: &[u8]) -> Result<(Version, &[u8]), ReadError>
     let rest = magic(bytes)?;
     let (number, rest) = number16(rest)?;
     let Some(version) = version(number) else {
-        return Err(ReadError::Refused(Refusal::BadVersion));
+        return Err(ReadError::Fault(Refusal::BadVersion));
     };
     let (zeros, after) = number16(rest)?;
     if zeros != 0 {
@@ -159,7 +158,7 @@ fn loaded(alloc: Global, bytes: &[u8]) -> Result<Code, SavedFault>
     match whole(alloc, bytes) {
         Ok(code) => Ok(code),
         Err(ReadError::NoMemory) => Err(SavedFault::NoMemory),
-        Err(ReadError::Refused(refusal)) => Err(fault_of(refusal, bytes.len())),
+        Err(ReadError::Fault(refusal)) => Err(fault_of(refusal, bytes.len())),
     }
 }
 

@@ -8,7 +8,7 @@ ghost use Rattle.page_code.specs.Reading.{name_at, chain_at, exec_at};
 
 use crate::accepted::Accepted;
 use crate::fault::ReadError;
-use crate::fields::{bad, name, number16_below, number16_to, number32, number32_to, text};
+use crate::read_fields::{bad, name, number16_below, number16_to, number32, number32_to, text};
 use crate::read_instrs::instrs;
 use cell_names::CellNames;
 use packed_code::{CodeChain, CodeChainList, CodeExec, CodeExecList, RowList};

@@ -12,7 +12,7 @@ ghost use Rattle.page_code.specs.Nest.{IsNest, depth_after, begins};
 
 use crate::accepted::Accepted;
 use crate::fault::ReadError;
-use crate::fields::{bad, piece};
+use crate::read_fields::{bad, piece};
 use packed_code::{Instr, PackedInstr, PackedInstrList, RowList, cycles, instr_of_bytes};
 use std::alloc::{AllocError, Global};
 use tester_types::Table;

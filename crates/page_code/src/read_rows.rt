@@ -3,14 +3,16 @@
 ghost use Rattle.std.specs.Prelude.{◌≡◌, ◌<◌, ◌&&◌, ◌++◌, ◌∷◌, [], nat_le, nat_lt, length, ℕ, List, Ok, IfOk, MatchResult};
 ghost use Rattle.std.specs.List.{take_while};
 ghost use Rattle.std.specs.Int.{w16};
-ghost use Rattle.packed_code.specs.Letters.{is_place as may_stand};
-ghost use Rattle.packed_code.specs.Changes.{last_row as the_last_row};
+ghost use Rattle.packed_code.specs.RowBytes.{is_place as may_stand};
+ghost use Rattle.page_code.specs.Changes.{last_row as the_last_row};
 ghost use Rattle.page_code.specs.Fields.{Gives, Fails, number_at, checked, items_at};
-ghost use Rattle.page_code.specs.Reading.{letters_at, change_from, changed_at, difference_at, whole_row_at, formed_row_at, spelled_row_at, row_at};
+ghost use Rattle.page_code.specs.Reading.{characters_at, change_from, changed_at, difference_at, whole_row_at, formed_row_at, spelled_row_at, row_at};
 
+use crate::changes::{is_difference, is_shorter, last_row};
 use crate::fault::{ReadError, Refusal};
-use crate::fields::{bad, byte, number16, piece};
-use packed_code::{RowList, Version, is_difference, is_shorter, last_row};
+use crate::read_fields::{bad, byte, number16, piece};
+use crate::version::Version;
+use packed_code::RowList;
 use std::alloc::Global;
 use text_bytes::is_character;
 
@@ -29,15 +31,15 @@ fn places(bytes: &[u8]) -> usize
 }
 
 /// The characters of a row.
-#[tactic(auto, unfolding(crate::specs::Reading::letters_at))]
-fn letters(signals: usize, bytes: &[u8]) -> Result<(&[u8], &[u8]), ReadError>
-    ensures read { Gives (λ x. (x.0.now, x.1.now)) result (letters_at signals bytes.now) }
+#[tactic(auto, unfolding(crate::specs::Reading::characters_at))]
+fn characters(signals: usize, bytes: &[u8]) -> Result<(&[u8], &[u8]), ReadError>
+    ensures read { Gives (λ x. (x.0.now, x.1.now)) result (characters_at signals bytes.now) }
     ensures size { IfOk result (λ x. length x.0.now ≡ signals) }
 {
     let most = signals.min(bytes.len());
     let front = places(&bytes[..most]);
     if front < most {
-        return Err(ReadError::Refused(Refusal::BadCode(bytes.len() - front)));
+        return Err(ReadError::Fault(Refusal::BadCode(bytes.len() - front)));
     }
     piece(signals, bytes)
 }
@@ -58,11 +60,11 @@ fn change<'a>(
     if (signal as usize) < least || signal as usize >= signals {
         return Err(bad(bytes));
     }
-    let (letter, after) = byte(rest)?;
-    if !is_place(letter) || letter == last[signal as usize] {
+    let (character, after) = byte(rest)?;
+    if !is_place(character) || character == last[signal as usize] {
         return Err(bad(rest));
     }
-    Ok((signal, letter, after))
+    Ok((signal, character, after))
 }
 
 /// The last row with so many changes in place.
@@ -81,8 +83,8 @@ fn changed<'a>(
     let mut least = 0;
     let mut rest = bytes;
     for _ in 0..count {
-        let (signal, letter, after) = change(least, signals, last, rest)?;
-        row[signal as usize] = letter;
+        let (signal, character, after) = change(least, signals, last, rest)?;
+        row[signal as usize] = character;
         least = signal as usize + 1;
         rest = after;
     }
@@ -135,11 +137,11 @@ fn whole<'a>(
         (whole_row_at (length form.now) signals rows.now bytes.now) }
     ensures size { IfOk result (λ x. length x.0.items ≡ signals) }
 {
-    let (letters, rest) = letters(signals, bytes)?;
-    if is_difference(rows, letters) {
+    let (characters, rest) = characters(signals, bytes)?;
+    if is_difference(rows, characters) {
         return Err(bad(form));
     }
-    Ok((Vec::from_slice(alloc, letters)?, rest))
+    Ok((Vec::from_slice(alloc, characters)?, rest))
 }
 
 /// A row of version 2.
@@ -176,8 +178,8 @@ fn spelled<'a>(
 {
     match version {
         Version::One => {
-            let (letters, rest) = letters(signals, bytes)?;
-            Ok((Vec::from_slice(alloc, letters)?, rest))
+            let (characters, rest) = characters(signals, bytes)?;
+            Ok((Vec::from_slice(alloc, characters)?, rest))
         }
         Version::Two => formed(alloc, signals, rows, bytes),
     }
@@ -194,8 +196,8 @@ fn row<'a>(
 ) -> Result<&'a [u8], ReadError>
     requires { 0 < length rows.old → length (the_last_row rows.old) ≡ signals }
     ensures { MatchResult result
-        (λ rest. (letters : List ℕ) × (row_at version signals rows.old bytes.now ≡ Ok (letters, rest.now))
-        × (rows.new ≡ rows.old ++ letters ∷ []) × (length letters ≡ signals))
+        (λ rest. (characters : List ℕ) × (row_at version signals rows.old bytes.now ≡ Ok (characters, rest.now))
+        × (rows.new ≡ rows.old ++ characters ∷ []) × (length characters ≡ signals))
         (λ e. Fails e (row_at version signals rows.old bytes.now)) }
 {
     let (row, rest) = spelled(alloc, version, signals, rows, bytes)?;

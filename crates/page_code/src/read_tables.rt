@@ -5,56 +5,23 @@ ghost use Rattle.std.specs.List.{list_all, list_any};
 ghost use Rattle.std.specs.Option.{option_map_or};
 ghost use Rattle.std.specs.Int.{w16, w32, w64};
 ghost use Rattle.text_bytes.specs.Limits.{longest_period};
-ghost use Rattle.packed_code.specs.Letters.{direction_of, act_of};
+ghost use Rattle.tester_types.specs.Acts.{act_of};
+ghost use Rattle.tester_types.specs.Directions.{direction_of};
 ghost use Rattle.packed_code.specs.Conditions.{last_of, is_named, latest, is_behind, wave_count};
 ghost use Rattle.page_code.specs.Fields.{Gives, byte_at, number_at, known, checked, items_at};
 ghost use Rattle.page_code.specs.Reading.{text_at, signal_at, event_at, pair_at, may_stand, wave_at, table_with, table_at};
 
 use crate::fault::ReadError;
-use crate::fields::{
+use crate::read_fields::{
     bad, byte, byte_to, character, name, number16_below, number32, number64, raw_text,
 };
 use packed_code::{CodeSignal, CodeSignalList};
 use std::alloc::Global;
 use tester_types::{
-    Act, Direction, Event, EventList, Look, Push, Table, TableList, Text, Wave, WaveList,
+    Act, Direction, Event, EventList, Table, TableList, Text, Wave, WaveList, act_of_byte,
+    direction_of_byte,
 };
 use text_bytes::{LONGEST_PERIOD, MOST_WAVES, all_printable};
-
-/// The direction of a number.
-fn direction_of_byte(byte: u8) -> Option<Direction>
-    ensures { result ≡ direction_of byte }
-{
-    match byte {
-        0 => Some(Direction::In),
-        1 => Some(Direction::Out),
-        2 => Some(Direction::InOut),
-        3 => Some(Direction::Supply),
-        4 => Some(Direction::Pseudo),
-        _ => None,
-    }
-}
-
-/// The act of a number.
-fn act_of_byte(byte: u8) -> Option<Act>
-    ensures { result ≡ act_of byte }
-{
-    match byte {
-        1 => Some(Act::Push(Push::Down)),
-        2 => Some(Act::Push(Push::Up)),
-        3 => Some(Act::Push(Push::Off)),
-        4 => Some(Act::Push(Push::Unknown)),
-        5 => Some(Act::Push(Push::Prior)),
-        6 => Some(Act::Look(Look::Low)),
-        7 => Some(Act::Look(Look::High)),
-        8 => Some(Act::Look(Look::Close)),
-        9 => Some(Act::Look(Look::Off)),
-        10 => Some(Act::Look(Look::LowWindow)),
-        11 => Some(Act::Look(Look::HighWindow)),
-        12 => Some(Act::Look(Look::OffWindow)),
-        _ => None,
-    }
-}
 
 /// A direction.
 fn direction(bytes: &[u8]) -> Result<(Direction, &[u8]), ReadError>
@@ -176,23 +143,23 @@ fn events(
     Ok((EventList::from_vec(events), rest))
 }
 
-/// A signal and a letter.
+/// A signal and a character.
 #[tactic(auto, unfolding(crate::specs::Reading::pair_at))]
 fn pair(signals: usize, bytes: &[u8]) -> Result<(u16, u8, &[u8]), ReadError>
     ensures { Gives (λ x. ((x.0, x.1), x.2.now)) result (pair_at signals bytes.now) }
 {
     let (signal, rest) = number16_below(signals, bytes)?;
-    let (letter, rest) = character(rest)?;
-    Ok((signal, letter, rest))
+    let (character, rest) = character(rest)?;
+    Ok((signal, character, rest))
 }
 
-/// Whether a signal and a letter stand behind those of the last wave.
-fn stands_behind(before: &[Wave], signal: u16, letter: u8) -> bool
-    ensures { result ≡ option_map_or (is_behind signal letter) (last_of before.now) true }
+/// Whether a signal and a character stand behind those of the last wave.
+fn stands_behind(before: &[Wave], signal: u16, character: u8) -> bool
+    ensures { result ≡ option_map_or (is_behind signal character) (last_of before.now) true }
 {
     match before.last() {
         None => true,
-        Some(wave) => wave.signal < signal || (wave.signal == signal && wave.letter < letter),
+        Some(wave) => wave.signal < signal || (wave.signal == signal && wave.character < character),
     }
 }
 
@@ -208,15 +175,15 @@ fn wave<'a>(
 ) -> Result<(Wave, &'a [u8]), ReadError>
     ensures { Gives (λ x. (x.0, x.1.now)) result (wave_at signals period most before.now bytes.now) }
 {
-    let (signal, letter, rest) = pair(signals, bytes)?;
-    if !stands_behind(before, signal, letter) || before.len() >= most {
+    let (signal, character, rest) = pair(signals, bytes)?;
+    if !stands_behind(before, signal, character) || before.len() >= most {
         return Err(bad(bytes));
     }
     let (count, rest) = byte_to(16, rest)?;
     let (events, rest) = events(alloc, period, count, rest)?;
     let wave = Wave {
         signal,
-        letter,
+        character,
         events,
     };
     Ok((wave, rest))

@@ -1,4 +1,4 @@
-//! Which letters the signals have waves for in the table that was asked last, so that a character of a row is looked
+//! Which characters the signals have waves for in the table that was asked last, so that a character of a row is looked
 //! up in one step.
 
 ghost use Rattle.std.specs.Prelude.{◌≡◌, ◌*◌, ◌≤◌, [], List, length, IfOk, OnOk, OnErr};
@@ -77,11 +77,11 @@ impl WaveIndex {
     }
 }
 
-/// The place of the mark of a signal and a letter.
-fn mark_of(signal: u16, letter: u8) -> usize
-    ensures { result ≡ the_mark_of signal letter }
+/// The place of the mark of a signal and a character.
+fn mark_of(signal: u16, character: u8) -> usize
+    ensures { result ≡ the_mark_of signal character }
 {
-    usize::from(signal) * 256 + usize::from(letter)
+    usize::from(signal) * 256 + usize::from(character)
 }
 
 /// The waves of a table, none where there is no such table.
@@ -110,7 +110,7 @@ fn put(marks: &mut Vec<bool>, waves: &[Wave], value: bool)
     ensures { ArePut waves.now value marks.old.items marks.new.items }
 {
     for wave in waves {
-        let place = mark_of(wave.signal, wave.letter);
+        let place = mark_of(wave.signal, wave.character);
         if place < marks.len() {
             marks[place] = value;
         }
@@ -122,8 +122,8 @@ fn has_each_mark(marks: &[bool], row: &[u8]) -> bool
     requires { length row.now * 256 ≤ length marks.now }
     ensures { (waves : List AWave) → AreMarks waves marks.now → result ≡ has_waves waves 0 row.now }
 {
-    for (signal, letter) in row.iter().enumerate() {
-        if *letter != 0 && !marks[signal * 256 + usize::from(*letter)] {
+    for (signal, character) in row.iter().enumerate() {
+        if *character != 0 && !marks[signal * 256 + usize::from(*character)] {
             return false;
         }
     }

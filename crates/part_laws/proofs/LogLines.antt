@@ -18,7 +18,7 @@ use Rattle.tester_types.specs.declared.record.Record.{Record}
 use Rattle.tester_types.specs.declared.record.Trial.{Trial}
 use Rattle.tester_types.specs.declared.record.Verdict.{Verdict}
 use Rattle.tester_types.specs.declared.record.Verdict.TheVariants as verdict
-use Rattle.code_listing.specs.Letters.{look_letter}
+use Rattle.tester_types.specs.Acts.{look_letter}
 use Rattle.packed_code.specs.Program.{Program}
 use Rattle.plan_rows.specs.Rows.{AreKept}
 use Rattle.lot_plan.specs.Bound.{Bound, die_at}

@@ -10,7 +10,7 @@ use Rattle.stil_form.specs.declared.fault.FormKind.{FormKind}
 use Rattle.stil_form.specs.declared.fault.FormKind.TheVariants.{Shape, LeftOut, OutOfRange}
 use Rattle.stil_form.specs.declared.part.SignKind.TheVariants as mark
 use Rattle.stil_form.specs.Lexeme.{Lexeme, word, name, text, sign, lexeme_at}
-use Rattle.stil_ast.specs.Meaning.Statements.{Item, letter, hash, percent}
+use Rattle.stil_ast.specs.Meaning.Statements.{Item, a_character, hash, percent}
 use Rattle.stil_ast.specs.Data.Forms.{is_item}
 use Rattle.pat_read.specs.declared.data.Awaited.{Awaited}
 use Rattle.pat_read.specs.declared.data.Awaited.TheVariants as awaited
@@ -42,18 +42,18 @@ unfolding is_word is_character
 is_character-word c is none = without_last (is_character c) (c == 95) is none
 
 -- the characters of a word
-letters_fit : (bytes : List ℕ) → list_all is_word bytes ≡ true → has_underscore bytes ≡ false
-    → list_all is_item (map letter bytes) ≡ true
-letters_fit [] all none = refl
-letters_fit (c ∷ cs) all none =
+characters_fit : (bytes : List ℕ) → list_all is_word bytes ≡ true → has_underscore bytes ≡ false
+    → list_all is_item (map a_character bytes) ≡ true
+characters_fit [] all none = refl
+characters_fit (c ∷ cs) all none =
     let each = and_parts (is_word c) (list_all is_word cs) all in
     let apart = or_parts (c == 95) (list_any (λ byte. byte == 95) cs) none in
-    and_from (is_character c) (list_all is_item (map letter cs)) (is_character-word c each.0 apart.0) (letters_fit cs each.1 apart.1)
+    and_from (is_character c) (list_all is_item (map a_character cs)) (is_character-word c each.0 apart.0) (characters_fit cs each.1 apart.1)
 
 word_said : (bytes : List ℕ) (b : Bool) → has_underscore bytes ≡ b → list_all is_word bytes ≡ true
-    → SaysItems (cond b (Err Shape) (Ok (map letter bytes, awaited.Item)))
+    → SaysItems (cond b (Err Shape) (Ok (map a_character bytes, awaited.Item)))
 word_said bytes true is all = nothing_said Shape
-word_said bytes false is all = items_said (map letter bytes) awaited.Item (letters_fit bytes all is)
+word_said bytes false is all = items_said (map a_character bytes) awaited.Item (characters_fit bytes all is)
 
 item_fits : (one : Lexeme) (end : ℕ) → is_spelled one ≡ true → SaysItems (item_said one end)
 item_fits (word bytes) end all = word_said bytes (has_underscore bytes) refl all
@@ -100,13 +100,13 @@ a_unit item fits other is = let same : item ≡ other = cc in subst (λ (x : Ite
 no_unit : IsUnit None
 no_unit item is = cc
 
-letter_unit : (byte : ℕ) (b : Bool) → (byte == 95) ≡ b → is_word byte ≡ true → IsUnit (cond b None (Some (letter byte)))
-letter_unit byte true is fits = no_unit
-letter_unit byte false is fits = a_unit (letter byte) (is_character-word byte fits is)
+character_unit : (byte : ℕ) (b : Bool) → (byte == 95) ≡ b → is_word byte ≡ true → IsUnit (cond b None (Some (a_character byte)))
+character_unit byte true is fits = no_unit
+character_unit byte false is fits = a_unit (a_character byte) (is_character-word byte fits is)
 
 unit_fits : (one : Lexeme) → is_spelled one ≡ true → IsUnit (unit_of one)
 unit_fits (word []) all = no_unit
-unit_fits (word (byte ∷ [])) all = letter_unit byte (byte == 95) refl (and_parts (is_word byte) true all).0
+unit_fits (word (byte ∷ [])) all = character_unit byte (byte == 95) refl (and_parts (is_word byte) true all).0
 unit_fits (word (byte ∷ next ∷ bytes)) all = no_unit
 unit_fits (name bytes) all = no_unit
 unit_fits (text bytes) all = no_unit

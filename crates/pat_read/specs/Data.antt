@@ -8,7 +8,7 @@ use Rattle.stil_form.specs.declared.part.SignKind.TheVariants.{Hash, Percent, Ba
 use Rattle.stil_form.specs.Lexeme.{Lexeme, word, sign, lexeme_at}
 use Rattle.text_bytes.specs.Numbers.{number_by}
 use Rattle.text_bytes.specs.Limits.{most_repeats}
-use Rattle.stil_ast.specs.Meaning.Statements.{Item, letter, hash, percent}
+use Rattle.stil_ast.specs.Meaning.Statements.{Item, a_character, hash, percent}
 use Rattle.pat_read.specs.declared.fault.DataFault.{DataFault}
 use Rattle.pat_read.specs.declared.fault.DataFault.TheVariants as fault
 use Rattle.pat_read.specs.declared.data.Awaited.{Awaited}
@@ -27,18 +27,18 @@ times_by (first ∷ digits) = if first == 114 then number_by digits else None
 -- a form of data that this profile leaves out: a word behind a `\` that begins with h, d, l, m, j, e or w
 abbrev pub is_left_out : List ℕ → Bool
 is_left_out [] = false
-is_left_out (first ∷ rest) = list_any (λ letter. letter == first) (codes "hdlmjew")
+is_left_out (first ∷ rest) = list_any (λ a_character. a_character == first) (codes "hdlmjew")
 
 -- a unit: `#`, `%`, or a word of exactly one letter or digit
 abbrev pub unit_of : Lexeme → Option Item
 unit_of (sign Hash) = Some hash
 unit_of (sign Percent) = Some percent
-unit_of (word (byte ∷ [])) = if byte == 95 then None else Some (letter byte)
+unit_of (word (byte ∷ [])) = if byte == 95 then None else Some (a_character byte)
 unit_of _ = None
 
 -- an item: a word gives its characters, `#` and `%` themselves; behind a `\`, which ends at a place, stands a word
 abbrev pub item_said : Lexeme → ℕ → Result (List Item × Awaited) FormKind
-item_said (word bytes) end = if has_underscore bytes then Err Shape else Ok (map letter bytes, awaited.Item)
+item_said (word bytes) end = if has_underscore bytes then Err Shape else Ok (map a_character bytes, awaited.Item)
 item_said (sign Hash) end = Ok (hash ∷ [], awaited.Item)
 item_said (sign Percent) end = Ok (percent ∷ [], awaited.Item)
 item_said (sign Backslash) end = Ok ([], awaited.Repeat end)

@@ -3,7 +3,7 @@
 ghost use Rattle.std.specs.Prelude.{◌≡◌, ◌⊎◌, ◌++◌, List, [], map, replicate, Ok, IfOk, IfErr, OnOk, MatchResult, MatchOption, None, Some};
 ghost use Rattle.std.specs.List.{list_any};
 ghost use Rattle.stil_form.specs.Lexeme.{lexeme_of, lexeme_at};
-ghost use Rattle.stil_ast.specs.Meaning.Statements.{Item, letter};
+ghost use Rattle.stil_ast.specs.Meaning.Statements.{Item, a_character};
 ghost use Rattle.stil_ast.specs.Data.Items.{item_of};
 ghost use Rattle.pat_read.specs.declared.fault.DataFault.{DataFault};
 ghost use Rattle.pat_read.specs.declared.fault.DataFault.TheVariants.{NoMemory};
@@ -46,17 +46,17 @@ fn unit_of(part: &Part) -> Option<VecItem>
     match *part {
         Part::Sign(SignKind::Hash) => Some(VecItem::Take),
         Part::Sign(SignKind::Percent) => Some(VecItem::Peek),
-        Part::Word([byte]) if *byte != b'_' => Some(VecItem::Letter(*byte)),
+        Part::Word([byte]) if *byte != b'_' => Some(VecItem::Character(*byte)),
         _ => None,
     }
 }
 
 /// Adds the characters of a word.
-fn push_letters(items: &mut VecText, word: &[u8]) -> Result<(), AllocError>
-    ensures { OnOk result (items.new ≡ items.old ++ map letter word.now) }
+fn push_characters(items: &mut VecText, word: &[u8]) -> Result<(), AllocError>
+    ensures { OnOk result (items.new ≡ items.old ++ map a_character word.now) }
 {
     for byte in word {
-        items.push(VecItem::Letter(*byte), 1)?;
+        items.push(VecItem::Character(*byte), 1)?;
     }
     Ok(())
 }
@@ -71,7 +71,7 @@ fn take_item(items: &mut VecText, part: &Part, end: u32) -> Result<Awaited, Data
             if word.contains(&b'_') {
                 return Err(DataFault::Shape);
             }
-            push_letters(items, word)?;
+            push_characters(items, word)?;
             Ok(Awaited::Item)
         }
         Part::Sign(SignKind::Hash) => {
@@ -166,8 +166,8 @@ fn read_data(alloc: Global, bytes: &[u8], tokens: &[Token]) -> Result<VecText, D
     Ok(items)
 }
 
-/// The items that tokens spell: words without `_`, `#`, `%`, and `\rN` with its unit behind it. They are kept as runs,
-/// in memory that grows with the number of tokens and characters.
+/// Only tests call it: the items that tokens spell, words without `_`, `#`, `%`, and `\rN` with its unit behind it. They are
+/// kept as runs, in memory that grows with the number of tokens and characters.
 ///
 /// The first fault from the left counts: a token without a form is `Shape`, a form of the standard that this profile
 /// leaves out is `LeftOut`, and more than 1,048,576 times is `OutOfRange`, which is judged with the unit.

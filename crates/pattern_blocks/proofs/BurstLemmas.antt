@@ -1,12 +1,13 @@
 -- A burst that is read has its form.
-use Rattle.std.proofs.Common.{◌≡◌, ℕ, ◌+◌, Bool, true, false, cond, nat_le, List, [], ◌∷◌, ◌++◌, Option, Some, None, is_some, not, Result, Ok, Err, refl, ap, subst, ◌∙◌, arith}
+use Rattle.std.proofs.Common.{◌≡◌, ℕ, ◌+◌, Bool, true, false, cond, nat_le, List, [], ◌∷◌, ◌++◌, Option, Some, None, is_some, not, Result, Ok, refl, sym, ap, subst, ◌∙◌, arith, append-nil}
 use Rattle.std.specs.List.{list_all, list_any, count_by}
 use Rattle.std.specs.Cmp.Derive.{both_true}
 use Rattle.std.proofs.lemmas.Bool.{or_parts}
+use Rattle.std.proofs.lemmas.List.{append_assoc, flat_map_more}
 use Rattle.std.proofs.lemmas.List.Sums.{sum_by_push, sum_by-cons}
 use Rattle.stil_tree.specs.Trees.{Entry}
-use Rattle.answers.specs.Reading.{and_then, stepping}
-use Rattle.stil_form.specs.declared.fault.FormKind.{FormKind}
+use Rattle.answers.specs.Reading.{and_then, reading}
+use Rattle.stil_form.specs.declared.fault.FormFault.{FormFault}
 use Rattle.stil_form.specs.declared.fault.FormKind.TheVariants.{Twice}
 use Rattle.stil_form.specs.Setting.{Setting, lexemes_at, line_at, at_statement, inner_of, unskipped}
 use Rattle.stil_ast.specs.Data.Forms.{is_optional_name}
@@ -18,11 +19,11 @@ use Rattle.stil_ast.specs.declared.executive.BurstWord.TheVariants as word
 use Rattle.pat_read.specs.Statements.{only_name}
 use Rattle.block_forms.specs.Heads.{name_or_empty, rest_at, bare_block, named_block}
 use Rattle.block_forms.specs.Keywords.{first_meaning}
-use Rattle.pattern_blocks.specs.Bursts.{burst_words, item_on, stands_already, with_item, burst_name, named_step, left_out, entry_step, list_step, by_word, burst_step, items_in, burst_called, burst_block}
+use Rattle.pattern_blocks.specs.Bursts.{burst_words, item_on, stands_already, new_item, burst_name, named_item, where_empty, entry_item, entries_in, by_word, names_in, judge_burst, items_in, burst_called, burst_block}
 use Rattle.pat_read.proofs.AcceptedLemmas.{said_at, list_all-one}
 use Rattle.pat_read.proofs.AcceptedBodies.{is_name-only_name}
-use Rattle.block_forms.proofs.AcceptedLemmas.{both_taken, kept, IsLined, HasLine, inner_lined}
-use Rattle.block_forms.proofs.FormLemmas.{said_so, is_name-named_block, is_optional_name-name_or_empty}
+use Rattle.block_forms.proofs.AcceptedLemmas.{both_taken, kept_read, IsLined, HasLine, inner_lined}
+use Rattle.block_forms.proofs.FormLemmas.{made_unless, said_so, is_name-named_block, is_optional_name-name_or_empty}
 
 -- nothing before
 none_plus : (n : ℕ) → 0 + n ≡ n
@@ -86,74 +87,80 @@ word_fits before word.ScanStructures called line fit one new =
 word_fits before word.Entry called line fit one new =
     more_fit before (record { word = word.Entry; name = called; line = line }) fit one (λ no_word. cc) (λ no_word. cc) (λ no_word. cc)
 
--- the same by its statement
-item_fits : (before next : List BurstItem) (w : BurstWord) (called : List ℕ) (line : ℕ) (b : Bool)
-    → stands_already w before ≡ b → Fit before
-    → is_burst_item (record { word = w; name = called; line = line }) ≡ true
-    → cond {A = Result (List BurstItem) FormKind} b (Err Twice)
-    (Ok (before ++ record { word = w; name = called; line = line } ∷ [])) ≡ Ok next → Fit next
-item_fits before next w called line true stands fit one is = cc
-item_fits before next w called line false stands fit one is =
-    let same : before ++ record { word = w; name = called; line = line } ∷ [] ≡ next = cc in
-    subst Fit same (word_fits before w called line fit one stands)
+-- what is said is one
+ok_same : {X : Type 0} (x y : X) → ◌≡◌ {A = Result X FormFault} (Ok x) (Ok y) → x ≡ y
+ok_same x y is = cc
 
 -- a name behind a keyword other than a PatList's
 abbrev IsPlain : BurstWord → Type 0
 IsPlain w = (c : List ℕ) → is_optional_name c ≡ true → is_burst_name w c ≡ true
 
-named_fits : (s : Setting) (before next : List BurstItem) (e : Entry) (w : BurstWord) → IsPlain w
-    → HasLine s e → Fit before → named_step s before e w ≡ Ok next → Fit next
-named_fits s before next e w plain lined fit is =
-    let parts = both_taken (at_statement e.first (burst_name s e)) (λ called. at_statement e.first (with_item before (item_on s e w called))) next is in
-    let called = is_optional_name-name_or_empty (rest_at s e) parts.0
-    (said_so (not (is_some e.body)) (name_or_empty (rest_at s e)) parts.0 (said_at e.first (burst_name s e) parts.0 parts.1)) in
-    item_fits before next w parts.0 (line_at s.tokens e.first) (stands_already w before) refl fit
-    (both_true (plain parts.0 called) lined)
-    (said_at e.first (with_item before (item_on s e w parts.0)) next parts.2)
+named_fits : (s : Setting) (before read : List BurstItem) (e : Entry) (w : BurstWord) → IsPlain w
+    → HasLine s e → Fit before → named_item s before e w ≡ Ok read → Fit (before ++ read)
+named_fits s before read e w plain lined fit is =
+    let line = line_at s.tokens e.first in
+    let outer = both_taken (at_statement e.first (burst_name s e)) (λ called.
+    and_then (at_statement e.first (new_item before (item_on s e w called))) (λ item. Ok (item ∷ []))) read is in
+    let item = item_on s e w outer.0 in
+    let inner = both_taken (at_statement e.first (new_item before item)) (λ (x : BurstItem). Ok (x ∷ [])) read outer.2 in
+    let called = is_optional_name-name_or_empty (rest_at s e) outer.0
+    (said_so (not (is_some e.body)) (name_or_empty (rest_at s e)) outer.0 (said_at e.first (burst_name s e) outer.0 outer.1)) in
+    let made = made_unless (stands_already w before) Twice item inner.0 (said_at e.first (new_item before item) inner.0 inner.1) in
+    let same : item ∷ [] ≡ read = ap (λ (x : BurstItem). x ∷ []) made.1 ∙ ok_same (inner.0 ∷ []) read inner.2 in
+    subst (λ (xs : List BurstItem). Fit (before ++ xs)) same
+    (word_fits before w outer.0 line fit (both_true (plain outer.0 called) lined) made.0)
 
 -- no statement stands in the block of an entry
-nothing_inside : (before next : List BurstItem) (es : List Entry) → stepping left_out before es ≡ Ok next
-    → before ≡ next
-nothing_inside before next [] is = cc
-nothing_inside before next (e ∷ es) is = cc
+nothing_inside : (es : List Entry) (item x : BurstItem) → where_empty es item ≡ Ok x → item ≡ x
+nothing_inside [] item x is = cc
+nothing_inside (e ∷ es) item x is = cc
 
 -- an entry of a PatList
-entry_fits : (s : Setting) (before next : List BurstItem) (e : Entry) → IsLined s e → Fit before
-    → entry_step s before e ≡ Ok next → Fit next
-entry_fits s before next e lined fit is =
+entry_fits : (s : Setting) (before : List BurstItem) (e : Entry) (x : BurstItem) → IsLined s e → Fit before
+    → entry_item s e ≡ Ok x → Fit (before ++ x ∷ [])
+entry_fits s before e x lined fit is =
     let parts = both_taken (at_statement e.first (only_name (lexemes_at s e)))
-    (λ called. stepping left_out (before ++ item_on s e word.Entry called ∷ []) (unskipped s (inner_of e.body))) next is in
+    (λ called. where_empty (unskipped s (inner_of e.body)) (item_on s e word.Entry called)) x is in
     let called = is_name-only_name (lexemes_at s e) parts.0 (said_at e.first (only_name (lexemes_at s e)) parts.0 parts.1) in
-    subst Fit (nothing_inside (before ++ item_on s e word.Entry parts.0 ∷ []) next (unskipped s (inner_of e.body)) parts.2)
+    let same = nothing_inside (unskipped s (inner_of e.body)) (item_on s e word.Entry parts.0) x parts.2 in
+    subst (λ (i : BurstItem). Fit (before ++ i ∷ [])) same
     (word_fits before word.Entry parts.0 (line_at s.tokens e.first) fit (both_true called lined.0) refl)
 
 -- a PatList
-list_fits : (s : Setting) (before next : List BurstItem) (e : Entry) → IsLined s e → Fit before
-    → list_step s before e ≡ Ok next → Fit next
-list_fits s before next e lined fit is =
-    let parts = both_taken (bare_block s e) (λ _. stepping (entry_step s) before (unskipped s (inner_of e.body))) next is in
-    kept (entry_step s) Fit (IsLined s) (entry_fits s) before next (unskipped s (inner_of e.body)) (inner_lined s e lined) fit parts.2
+list_fits : (s : Setting) (before read : List BurstItem) (e : Entry) → IsLined s e → Fit before
+    → entries_in s e ≡ Ok read → Fit (before ++ read)
+list_fits s before read e lined fit is =
+    let es = unskipped s (inner_of e.body) in
+    let parts = both_taken (bare_block s e) (λ _. reading (λ _ inner. entry_item s inner) [] es) read is in
+    kept_read (λ _ inner. entry_item s inner) (λ (xs : List BurstItem). Fit (before ++ xs)) (IsLined s)
+    (λ xs inner x inner_line held one. subst Fit (append_assoc before xs (x ∷ [])) (entry_fits s (before ++ xs) inner x inner_line held one))
+    [] read es (inner_lined s e lined) (subst Fit (sym (append-nil before)) fit) parts.2
 
 -- a statement by its keyword
-by_word_fits : (s : Setting) (before next : List BurstItem) (e : Entry) (o : Option BurstWord) → IsLined s e
-    → Fit before → by_word s before e o ≡ Ok next → Fit next
-by_word_fits s before next e None lined fit is = cc
-by_word_fits s before next e (Some word.Entry) lined fit is = list_fits s before next e lined fit is
-by_word_fits s before next e (Some w) lined fit is = named_fits s before next e w (λ c called. called) lined.0 fit is
+by_word_fits : (s : Setting) (before read : List BurstItem) (e : Entry) (o : Option BurstWord) → IsLined s e
+    → Fit before → by_word s before e o ≡ Ok read → Fit (before ++ read)
+by_word_fits s before read e None lined fit is = cc
+by_word_fits s before read e (Some word.Entry) lined fit is = list_fits s before read e lined fit is
+by_word_fits s before read e (Some w) lined fit is = named_fits s before read e w (λ c called. called) lined.0 fit is
 
 -- one more statement
-step_fits : (s : Setting) (before next : List BurstItem) (e : Entry) → IsLined s e → Fit before
-    → burst_step s before e ≡ Ok next → Fit next
-step_fits s before next e lined fit is = by_word_fits s before next e (first_meaning burst_words (lexemes_at s e)) lined fit is
+said_fits : (s : Setting) (before : List (List BurstItem)) (e : Entry) (read : List BurstItem) → IsLined s e
+    → Fit (names_in before) → judge_burst s before e ≡ Ok read → Fit (names_in (before ++ read ∷ []))
+said_fits s before e read lined fit is =
+    subst Fit (flat_map_more (λ (items : List BurstItem). items) [] before read)
+    (by_word_fits s (names_in before) read e (first_meaning burst_words (lexemes_at s e)) lined fit is)
 
 -- a burst that is read has its form
 pub burst_block-is : (s : Setting) (e : Entry) (b : Burst) → IsLined s e → burst_block s e ≡ Ok b
     → is_burst b ≡ true
 burst_block-is s e b lined is =
+    let es = unskipped s (inner_of e.body) in
     let outer = both_taken (named_block s e) (λ called. and_then (items_in s (inner_of e.body)) (λ items. Ok (burst_called called items))) b is in
     let called = is_name-named_block s e outer.0 outer.1 in
     let inner = both_taken (items_in s (inner_of e.body)) (λ items. Ok (burst_called outer.0 items)) b outer.2 in
-    let fit = kept (burst_step s) Fit (IsLined s) (step_fits s) [] inner.0 (unskipped s (inner_of e.body)) (inner_lined s e lined)
-    (refl, refl, refl, refl) inner.1 in
+    let all = both_taken (reading (judge_burst s) [] es) (λ said. Ok (names_in said)) inner.0 inner.1 in
+    let held = kept_read (judge_burst s) (λ (said : List (List BurstItem)). Fit (names_in said)) (IsLined s) (said_fits s) [] all.0 es
+    (inner_lined s e lined) (refl, refl, refl, refl) all.1 in
+    let fit = subst Fit (ok_same (names_in all.0) inner.0 all.2) held in
     let same : burst_called outer.0 inner.0 ≡ b = cc in
     subst (λ (x : Burst). is_burst x ≡ true) same (both_true (both_true (both_true (both_true called fit.0) fit.1) fit.2) fit.3)

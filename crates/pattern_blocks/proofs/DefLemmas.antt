@@ -1,8 +1,8 @@
 -- Patterns, macros and procedures that are read have their form, where the bodies that are read have theirs; no name
 -- stands twice under a title.
-use Rattle.std.proofs.Common.{◌≡◌, ℕ, true, false, List, [], ◌∷◌, ◌++◌, map, is_some, Ok, refl, sym, ap, subst, ◌∙◌}
+use Rattle.std.proofs.Common.{◌≡◌, ℕ, true, false, List, [], ◌++◌, is_some, Ok, refl, sym, subst}
 use Rattle.std.specs.Cmp.Derive.{both_true}
-use Rattle.std.proofs.lemmas.List.{map-append, append_assoc, append-nil}
+use Rattle.std.proofs.lemmas.List.{append-nil}
 use Rattle.stil_tree.specs.Trees.{Entry}
 use Rattle.answers.specs.Reading.{and_then}
 use Rattle.stil_form.specs.Setting.{Setting, lexemes_at, at_statement, inner_of, unskipped}

@@ -1,9 +1,12 @@
 -- An executive that is read has its form.
-use Rattle.std.proofs.Common.{◌≡◌, ℕ, Bool, true, not, List, [], ◌∷◌, Option, Some, None, is_some, Result, Ok, Err, refl, subst}
-use Rattle.std.specs.List.{list_all}
+use Rattle.std.proofs.Common.{◌≡◌, ℕ, Bool, true, ◌&&◌, not, List, [], ◌∷◌, Option, Some, None, is_some, Result, Ok, Err, refl, sym, subst}
+use Rattle.std.specs.Prelude.{slice_get}
+use Rattle.std.specs.List.{list_all, cons_option}
 use Rattle.std.specs.Cmp.Derive.{both_true}
+use Rattle.std.proofs.lemmas.Bool.{and_parts}
 use Rattle.stil_tree.specs.Trees.{Entry}
 use Rattle.stil_form.specs.declared.fault.FormKind.{FormKind}
+use Rattle.stil_form.specs.declared.fault.FormKind.TheVariants.{Twice}
 use Rattle.stil_form.specs.Lexeme.{Lexeme}
 use Rattle.stil_form.specs.Setting.{Setting, lexemes_at, line_at, at_statement, inner_of, unskipped}
 use Rattle.stil_ast.specs.Data.Texts.{is_name}
@@ -13,16 +16,15 @@ use Rattle.stil_ast.specs.declared.name.Named.{Named}
 use Rattle.stil_ast.specs.declared.executive.ExecDecl.{ExecDecl}
 use Rattle.pattern_blocks.specs.declared.executive.ExecWord.{ExecWord}
 use Rattle.pattern_blocks.specs.declared.executive.ExecWord.TheVariants as word
-use Rattle.pattern_blocks.specs.declared.executive.ExecParts.{ExecParts}
-use Rattle.answers.specs.Reading.{stepping}
+use Rattle.answers.specs.Reading.{reading}
 use Rattle.block_forms.specs.Heads.{titled_block}
 use Rattle.block_forms.specs.Named.{named_on}
 use Rattle.block_forms.specs.Keywords.{meaning}
-use Rattle.pattern_blocks.specs.Executives.{exec_words, name_behind, with_name, by_word, exec_said, first_named, with_named, with_category, with_selector, with_timing, with_burst, exec_step, no_parts, exec_by, exec_in, exec_block}
-use Rattle.pat_read.proofs.AcceptedLemmas.{said_at, list_all-one}
+use Rattle.pattern_blocks.specs.Executives.{exec_words, name_behind, with_name, by_word, exec_said, Said, name_by, names_by, first_by, stands_already, new_said, judge_exec, exec_by, exec_called, exec_in, exec_block}
+use Rattle.pat_read.proofs.AcceptedLemmas.{said_at}
 use Rattle.pat_read.proofs.AcceptedBodies.{is_name-only_name}
-use Rattle.block_forms.proofs.AcceptedLemmas.{both_taken, kept, IsLined, inner_lined}
-use Rattle.block_forms.proofs.FormLemmas.{said_so, is_optional_name-name_or_empty, is_optional_name-titled_block}
+use Rattle.block_forms.proofs.AcceptedLemmas.{both_taken, kept_each, IsLined, inner_lined}
+use Rattle.block_forms.proofs.FormLemmas.{made_unless, said_so, is_optional_name-name_or_empty, is_optional_name-titled_block}
 
 -- what a name behind a keyword is
 abbrev fits_word : ExecWord → List ℕ → Bool
@@ -61,90 +63,83 @@ exec_said-is : (b : Bool) (ls : List Lexeme) (said : ExecWord × List ℕ)
 exec_said-is b [] said is = cc
 exec_said-is b (one ∷ rest) said is = by_word-is (meaning exec_words one) b rest said is
 
--- what an executive names has its form
-abbrev Fit : ExecParts → Type 0
-Fit p =
-    (list_all is_named p.categories ≡ true) × (is_absent_or is_named p.selector ≡ true)
-    × (is_absent_or is_optionally_named p.timing ≡ true) × (is_absent_or is_named p.burst ≡ true)
+-- what a statement says has its form
+abbrev fits : Said → Bool
+fits said = fits_word said.0 said.1.name && is_line said.1.line
 
--- a first name stands alone
-first_is : (test : Named → Bool) (before : Option Named) (named : Named) (after : Option Named)
-    → test named ≡ true → first_named before named ≡ Ok after → is_absent_or test after ≡ true
-first_is test None named after fits is =
-    let same : ◌≡◌ {A = Option Named} (Some named) after = cc in subst (λ (x : Option Named). is_absent_or test x ≡ true) same fits
-first_is test (Some other) named after fits is = cc
+said_fits : (s : Setting) (before : List Said) (e : Entry) (x : Said) → IsLined s e → judge_exec s before e ≡ Ok x
+    → fits x ≡ true
+said_fits s before e x lined is =
+    let head = exec_said (is_some e.body) (lexemes_at s e) in
+    let parts = both_taken (at_statement e.first head) (λ told. at_statement e.first (new_said before (told.0, named_on s e told.1))) x is in
+    let one : Said = (parts.0.0, named_on s e parts.0.1) in
+    let called = exec_said-is (is_some e.body) (lexemes_at s e) parts.0 (said_at e.first head parts.0 parts.1) in
+    let made = made_unless (stands_already parts.0.0 before) Twice one x (said_at e.first (new_said before one) x parts.2) in
+    subst (λ (y : Said). fits y ≡ true) made.1 (both_true called lined.0)
 
--- one more Selector, Timing or PatternBurst
-selector_fits : (before next : ExecParts) (r : Result (Option Named) FormKind) → Fit before
-    → ((after : Option Named) → r ≡ Ok after → is_absent_or is_named after ≡ true)
-    → with_selector before r ≡ Ok next → Fit next
-selector_fits before next (Err kind) fit each is = cc
-selector_fits before next (Ok named) fit each is =
-    let same : record { categories = before.categories; selector = named; timing = before.timing; burst = before.burst } ≡ next = cc in
-    subst Fit same (fit.0, each named refl, fit.2, fit.3)
+-- a name that a keyword stands before
+name_by-is : (w : ExecWord) (x : Said) (n : Named) → name_by w x ≡ Some n → ◌≡◌ {A = Said} (w, n) x
+name_by-is word.Category (word.Category, named) n is = cc
+name_by-is word.Category (other, named) n is = cc
+name_by-is word.Selector (word.Selector, named) n is = cc
+name_by-is word.Selector (other, named) n is = cc
+name_by-is word.Timing (word.Timing, named) n is = cc
+name_by-is word.Timing (other, named) n is = cc
+name_by-is word.Burst (word.Burst, named) n is = cc
+name_by-is word.Burst (other, named) n is = cc
 
-timing_fits : (before next : ExecParts) (r : Result (Option Named) FormKind) → Fit before
-    → ((after : Option Named) → r ≡ Ok after → is_absent_or is_optionally_named after ≡ true)
-    → with_timing before r ≡ Ok next → Fit next
-timing_fits before next (Err kind) fit each is = cc
-timing_fits before next (Ok named) fit each is =
-    let same : record { categories = before.categories; selector = before.selector; timing = named; burst = before.burst } ≡ next = cc in
-    subst Fit same (fit.0, fit.1, each named refl, fit.3)
+-- the names behind a keyword have its form
+abbrev test_of : ExecWord → Named → Bool
+test_of w n = fits_word w n.name && is_line n.line
 
-burst_fits : (before next : ExecParts) (r : Result (Option Named) FormKind) → Fit before
-    → ((after : Option Named) → r ≡ Ok after → is_absent_or is_named after ≡ true)
-    → with_burst before r ≡ Ok next → Fit next
-burst_fits before next (Err kind) fit each is = cc
-burst_fits before next (Ok named) fit each is =
-    let same : record { categories = before.categories; selector = before.selector; timing = before.timing; burst = named } ≡ next = cc in
-    subst Fit same (fit.0, fit.1, fit.2, each named refl)
+one_more : (w : ExecWord) (x : Said) (ns : List Named) (o : Option Named) → name_by w x ≡ o → fits x ≡ true
+    → list_all (test_of w) ns ≡ true → list_all (test_of w) (cons_option o ns) ≡ true
+one_more w x ns None is fit rest = rest
+one_more w x ns (Some n) is fit rest =
+    both_true (subst (λ (y : Said). fits y ≡ true) (sym (name_by-is w x n is)) fit) rest
 
--- one more name
-named_fits : (before next : ExecParts) (found : ExecWord) (named : Named) → Fit before
-    → fits_word found named.name ≡ true → is_line named.line ≡ true → with_named before found named ≡ Ok next
-    → Fit next
-named_fits before next word.Category named fit called line is =
-    let same : with_category before named ≡ next = cc in
-    subst Fit same (list_all-one is_named before.categories named fit.0 (both_true called line), fit.1, fit.2, fit.3)
-named_fits before next word.Selector named fit called line is =
-    selector_fits before next (first_named before.selector named) fit
-    (λ after. first_is is_named before.selector named after (both_true called line)) is
-named_fits before next word.Timing named fit called line is =
-    timing_fits before next (first_named before.timing named) fit
-    (λ after. first_is is_optionally_named before.timing named after (both_true called line)) is
-named_fits before next word.Burst named fit called line is =
-    burst_fits before next (first_named before.burst named) fit
-    (λ after. first_is is_named before.burst named after (both_true called line)) is
+names_fit : (w : ExecWord) (said : List Said) → list_all fits said ≡ true → list_all (test_of w) (names_by w said) ≡ true
+names_fit w [] each = refl
+names_fit w (x ∷ said) each =
+    let both = and_parts (fits x) (list_all fits said) each in
+    one_more w x (names_by w said) (name_by w x) refl both.0 (names_fit w said both.1)
 
--- one more statement
-step_fits : (s : Setting) (before next : ExecParts) (e : Entry) → IsLined s e → Fit before
-    → exec_step s before e ≡ Ok next → Fit next
-step_fits s before next e lined fit is =
-    let parts = both_taken (at_statement e.first (exec_said (is_some e.body) (lexemes_at s e)))
-    (λ said. at_statement e.first (with_named before said.0 (named_on s e said.1))) next is in
-    named_fits before next parts.0.0 (named_on s e parts.0.1) fit
-    (exec_said-is (is_some e.body) (lexemes_at s e) parts.0 (said_at e.first (exec_said (is_some e.body) (lexemes_at s e)) parts.0 parts.1))
-    lined.0 (said_at e.first (with_named before parts.0.0 (named_on s e parts.0.1)) next parts.2)
+-- and the first of them
+first_fits : (test : Named → Bool) (ns : List Named) → list_all test ns ≡ true → is_absent_or test (slice_get ns 0) ≡ true
+first_fits test [] each = refl
+first_fits test (n ∷ ns) each = (and_parts (test n) (list_all test ns) each).0
 
--- an executive of parts that fit
-by_fits : (line : ℕ) (title : List ℕ) (p : ExecParts) (burst : Option Named) (d : ExecDecl)
-    → is_line line ≡ true → is_optional_name title ≡ true → Fit p → is_absent_or is_named burst ≡ true
-    → exec_by line title p burst ≡ Ok d → is_exec_decl d ≡ true
-by_fits line title p None d lined titled fit named is = cc
-by_fits line title p (Some burst) d lined titled fit named is =
-    let same : record { name = title; categories = p.categories; selector = p.selector; timing = p.timing; burst = burst; line = line } ≡ d = cc in
+-- an executive of what fits
+by_fits : (line : ℕ) (title : List ℕ) (said : List Said) (burst : Option Named) (d : ExecDecl)
+    → is_line line ≡ true → is_optional_name title ≡ true → list_all fits said ≡ true → is_absent_or is_named burst ≡ true
+    → exec_by line title said burst ≡ Ok d → is_exec_decl d ≡ true
+by_fits line title said None d lined titled fit named is = cc
+by_fits line title said (Some burst) d lined titled fit named is =
+    let same : record {
+      name = title;
+      categories = names_by word.Category said;
+      selector = first_by word.Selector said;
+      timing = first_by word.Timing said;
+      burst = burst;
+      line = line;
+    } ≡ d = cc in
+    let category = names_fit word.Category said fit in
+    let selector = first_fits is_named (names_by word.Selector said) (names_fit word.Selector said fit) in
+    let timing = first_fits is_optionally_named (names_by word.Timing said) (names_fit word.Timing said fit) in
     subst (λ (x : ExecDecl). is_exec_decl x ≡ true) same
-    (both_true (both_true (both_true (both_true (both_true titled fit.0) fit.1) fit.2) named) lined)
+    (both_true (both_true (both_true (both_true (both_true titled category) selector) timing) named) lined)
 
 -- an executive that is read has its form
 pub exec_block-is : (s : Setting) (e : Entry) (d : ExecDecl) → IsLined s e → exec_block s e ≡ Ok d
     → is_exec_decl d ≡ true
 exec_block-is s e d lined is =
+    let line = line_at s.tokens e.first in
+    let es = unskipped s (inner_of e.body) in
     let outer = both_taken (titled_block s e) (exec_in s e) d is in
     let titled = is_optional_name-titled_block s e outer.0 outer.1 in
-    let inner = both_taken (stepping (exec_step s) no_parts (unskipped s (inner_of e.body)))
-    (λ parts. at_statement e.first (exec_by (line_at s.tokens e.first) outer.0 parts parts.burst)) d outer.2 in
-    let fit = kept (exec_step s) Fit (IsLined s) (step_fits s) no_parts inner.0 (unskipped s (inner_of e.body)) (inner_lined s e lined)
-    (refl, refl, refl, refl) inner.1 in
-    by_fits (line_at s.tokens e.first) outer.0 inner.0 inner.0.burst d lined.0 titled fit fit.3
-    (said_at e.first (exec_by (line_at s.tokens e.first) outer.0 inner.0 inner.0.burst) d inner.2)
+    let inner = both_taken (reading (judge_exec s) [] es)
+    (λ said. at_statement e.first (exec_called line outer.0 said)) d outer.2 in
+    let fit = kept_each (judge_exec s) fits (IsLined s) (said_fits s) [] inner.0 es (inner_lined s e lined) refl inner.1 in
+    by_fits line outer.0 inner.0 (first_by word.Burst inner.0) d lined.0 titled fit
+    (first_fits is_named (names_by word.Burst inner.0) (names_fit word.Burst inner.0 fit))
+    (said_at e.first (exec_called line outer.0 inner.0) d inner.2)

@@ -1,4 +1,5 @@
 pub mod StandardFacts
+pub mod WorkingLemmas
 pub mod ExecutiveLemmas
 pub mod BurstLemmas
 pub mod DefLemmas

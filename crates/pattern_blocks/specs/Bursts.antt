@@ -1,12 +1,12 @@
 -- PatternBurst blocks and their PatLists (IEEE 1450-1999, clause 17).
-use Rattle.std.specs.Prelude.{ℕ, Bool, false, List, [], ◌∷◌, ◌++◌, codes, Option, Some, None, is_some, not, if◌then◌else◌, Result, Ok, Err}
+use Rattle.std.specs.Prelude.{ℕ, Bool, false, List, [], ◌∷◌, codes, Option, Some, None, is_some, not, if◌then◌else◌, flat_map, Result, Ok, Err}
 use Rattle.std.specs.List.{list_any}
 use Rattle.stil_tree.specs.Trees.{Entry}
 use Rattle.stil_form.specs.declared.fault.FormFault.{FormFault}
 use Rattle.stil_form.specs.declared.fault.FormFault.TheVariants.{Refused}
 use Rattle.stil_form.specs.declared.fault.FormKind.{FormKind}
 use Rattle.stil_form.specs.declared.fault.FormKind.TheVariants.{LeftOut, Twice}
-use Rattle.answers.specs.Reading.{and_then, stepping}
+use Rattle.answers.specs.Reading.{and_then, reading}
 use Rattle.stil_form.specs.Setting.{Setting, lexemes_at, line_at, at_statement, inner_of, unskipped}
 use Rattle.stil_ast.specs.Data.BlockForms.{is_macros_word, is_procedures_word, is_scans_word}
 use Rattle.stil_ast.specs.declared.executive.Burst.{Burst}
@@ -37,54 +37,59 @@ stands_already word.ScanStructures before = list_any (λ (i : BurstItem). is_sca
 stands_already word.Entry before = false
 
 -- one more name behind those before it
-abbrev pub with_item : List BurstItem → BurstItem → Result (List BurstItem) FormKind
-with_item before item = if stands_already item.word before then Err Twice else Ok (before ++ item ∷ [])
+abbrev pub new_item : List BurstItem → BurstItem → Result BurstItem FormKind
+new_item before item = if stands_already item.word before then Err Twice else Ok item
 
 -- `keyword name;`, or `""` for the unnamed block
 abbrev pub burst_name : Setting → Entry → Result (List ℕ) FormKind
 burst_name s e = where_so (not (is_some e.body)) (name_or_empty (rest_at s e))
 
--- a statement of these
-abbrev pub named_step : Setting → List BurstItem → Entry → BurstWord → Result (List BurstItem) FormFault
-named_step s before e word =
+-- what a statement of these says: its one name
+abbrev pub named_item : Setting → List BurstItem → Entry → BurstWord → Result (List BurstItem) FormFault
+named_item s before e word =
     and_then (at_statement e.first (burst_name s e)) (λ called.
-    at_statement e.first (with_item before (item_on s e word called)))
+    and_then (at_statement e.first (new_item before (item_on s e word called))) (λ item. Ok (item ∷ [])))
 
--- a statement in the block of an entry is left out
-abbrev pub left_out : List BurstItem → Entry → Result (List BurstItem) FormFault
-left_out before e = Err (Refused LeftOut e.first)
+-- no statement may stand in the block of an entry: the first one is left out
+abbrev pub where_empty : List Entry → BurstItem → Result BurstItem FormFault
+where_empty [] item = Ok item
+where_empty (e ∷ es) item = Err (Refused LeftOut e.first)
 
 -- an entry of a PatList: `name;` or `name { }`
-abbrev pub entry_step : Setting → List BurstItem → Entry → Result (List BurstItem) FormFault
-entry_step s before e =
+abbrev pub entry_item : Setting → Entry → Result BurstItem FormFault
+entry_item s e =
     and_then (at_statement e.first (only_name (lexemes_at s e))) (λ called.
-    stepping left_out (before ++ item_on s e word.Entry called ∷ []) (unskipped s (inner_of e.body)))
+    where_empty (unskipped s (inner_of e.body)) (item_on s e word.Entry called))
 
--- `PatList { .. }`, whose entries stand behind those before it
-abbrev pub list_step : Setting → List BurstItem → Entry → Result (List BurstItem) FormFault
-list_step s before e =
-    and_then (bare_block s e) (λ _. stepping (entry_step s) before (unskipped s (inner_of e.body)))
+-- `PatList { .. }` says its entries
+abbrev pub entries_in : Setting → Entry → Result (List BurstItem) FormFault
+entries_in s e =
+    and_then (bare_block s e) (λ _. reading (λ _ inner. entry_item s inner) [] (unskipped s (inner_of e.body)))
 
--- a statement by its keyword; one without is left out
+-- a statement by its keyword, behind these names; one without is left out
 abbrev pub by_word : Setting → List BurstItem → Entry → Option BurstWord → Result (List BurstItem) FormFault
 by_word s before e None = Err (Refused LeftOut e.first)
-by_word s before e (Some word.Entry) = list_step s before e
-by_word s before e (Some word.SignalGroups) = named_step s before e word.SignalGroups
-by_word s before e (Some word.MacroDefs) = named_step s before e word.MacroDefs
-by_word s before e (Some word.Procedures) = named_step s before e word.Procedures
-by_word s before e (Some word.ScanStructures) = named_step s before e word.ScanStructures
+by_word s before e (Some word.Entry) = entries_in s e
+by_word s before e (Some word.SignalGroups) = named_item s before e word.SignalGroups
+by_word s before e (Some word.MacroDefs) = named_item s before e word.MacroDefs
+by_word s before e (Some word.Procedures) = named_item s before e word.Procedures
+by_word s before e (Some word.ScanStructures) = named_item s before e word.ScanStructures
 
--- a statement behind those before it
-abbrev pub burst_step : Setting → List BurstItem → Entry → Result (List BurstItem) FormFault
-burst_step s before e = by_word s before e (first_meaning burst_words (lexemes_at s e))
+-- the names that statements say, one behind the other
+abbrev pub names_in : List (List BurstItem) → List BurstItem
+names_in said = flat_map (λ (items : List BurstItem). items) said
+
+-- what a statement says behind those before it
+abbrev pub judge_burst : Setting → List (List BurstItem) → Entry → Result (List BurstItem) FormFault
+judge_burst s before e = by_word s (names_in before) e (first_meaning burst_words (lexemes_at s e))
+
+-- the names of a burst by its statements
+abbrev pub items_in : Setting → List Entry → Result (List BurstItem) FormFault
+items_in s es = and_then (reading (judge_burst s) [] (unskipped s es)) (λ said. Ok (names_in said))
 
 -- a burst of this name
 abbrev pub burst_called : List ℕ → List BurstItem → Burst
 burst_called called items = record { name = called; items = items }
-
--- the names of a burst by its statements
-abbrev pub items_in : Setting → List Entry → Result (List BurstItem) FormFault
-items_in s es = stepping (burst_step s) [] (unskipped s es)
 
 -- `PatternBurst name { .. }`
 abbrev pub burst_block : Setting → Entry → Result Burst FormFault

@@ -1,17 +1,16 @@
 -- PatternExec blocks (IEEE 1450-1999, clause 16).
-use Rattle.std.specs.Prelude.{ℕ, Bool, List, [], ◌∷◌, ◌++◌, codes, Option, Some, None, is_some, not, Result, Ok, Err}
+use Rattle.std.specs.Prelude.{ℕ, Bool, false, List, [], ◌∷◌, codes, filter_map, slice_get, Option, Some, None, is_some, not, if◌then◌else◌, Result, Ok, Err}
 use Rattle.stil_tree.specs.Trees.{Entry}
 use Rattle.stil_form.specs.declared.fault.FormFault.{FormFault}
 use Rattle.stil_form.specs.declared.fault.FormKind.{FormKind}
 use Rattle.stil_form.specs.declared.fault.FormKind.TheVariants.{Shape, LeftOut, Twice}
 use Rattle.stil_form.specs.Lexeme.{Lexeme}
-use Rattle.answers.specs.Reading.{and_then, stepping}
+use Rattle.answers.specs.Reading.{and_then, reading}
 use Rattle.stil_form.specs.Setting.{Setting, lexemes_at, at_statement, line_at, inner_of, unskipped}
 use Rattle.stil_ast.specs.declared.name.Named.{Named}
 use Rattle.stil_ast.specs.declared.executive.ExecDecl.{ExecDecl}
 use Rattle.pattern_blocks.specs.declared.executive.ExecWord.{ExecWord}
 use Rattle.pattern_blocks.specs.declared.executive.ExecWord.TheVariants as word
-use Rattle.pattern_blocks.specs.declared.executive.ExecParts.{ExecParts}
 use Rattle.pat_read.specs.Statements.{only_name}
 use Rattle.block_forms.specs.Heads.{where_so, name_or_empty, titled_block}
 use Rattle.block_forms.specs.Keywords.{meaning}
@@ -45,84 +44,64 @@ abbrev pub exec_said : Bool → List Lexeme → Result (ExecWord × List ℕ) Fo
 exec_said has_block [] = Err LeftOut
 exec_said has_block (one ∷ rest) = by_word (meaning exec_words one) has_block rest
 
--- a name for what has none yet
-abbrev pub first_named : Option Named → Named → Result (Option Named) FormKind
-first_named None named = Ok (Some named)
-first_named (Some before) named = Err Twice
+-- what a statement says: its keyword, and the name behind it
+abbrev pub Said : Type 0
+Said = ExecWord × Named
 
--- one more Category
-abbrev pub with_category : ExecParts → Named → ExecParts
-with_category before named = record {
-  categories = before.categories ++ named ∷ [];
-  selector = before.selector;
-  timing = before.timing;
-  burst = before.burst;
-}
+-- the name that a statement says, if its keyword is this one
+abbrev pub name_by : ExecWord → Said → Option Named
+name_by word.Category (word.Category, named) = Some named
+name_by word.Selector (word.Selector, named) = Some named
+name_by word.Timing (word.Timing, named) = Some named
+name_by word.Burst (word.Burst, named) = Some named
+name_by _ _ = None
 
--- the Selector
-abbrev pub with_selector : ExecParts → Result (Option Named) FormKind → Result ExecParts FormKind
-with_selector before (Err kind) = Err kind
-with_selector before (Ok named) = Ok (record {
-  categories = before.categories;
-  selector = named;
-  timing = before.timing;
-  burst = before.burst;
-})
+-- the names behind a keyword, in text order
+abbrev pub names_by : ExecWord → List Said → List Named
+names_by word said = filter_map (name_by word) said
 
--- the Timing
-abbrev pub with_timing : ExecParts → Result (Option Named) FormKind → Result ExecParts FormKind
-with_timing before (Err kind) = Err kind
-with_timing before (Ok named) = Ok (record {
-  categories = before.categories;
-  selector = before.selector;
-  timing = named;
-  burst = before.burst;
-})
+-- the first of them
+abbrev pub first_by : ExecWord → List Said → Option Named
+first_by word said = slice_get (names_by word said) 0
 
--- the PatternBurst
-abbrev pub with_burst : ExecParts → Result (Option Named) FormKind → Result ExecParts FormKind
-with_burst before (Err kind) = Err kind
-with_burst before (Ok named) = Ok (record {
-  categories = before.categories;
-  selector = before.selector;
-  timing = before.timing;
-  burst = named;
-})
+-- a keyword that may stand once stands already; a Category may stand again
+abbrev pub stands_already : ExecWord → List Said → Bool
+stands_already word.Category before = false
+stands_already word.Selector before = is_some (first_by word.Selector before)
+stands_already word.Timing before = is_some (first_by word.Timing before)
+stands_already word.Burst before = is_some (first_by word.Burst before)
 
--- any number of Categories, the others at most once
-abbrev pub with_named : ExecParts → ExecWord → Named → Result ExecParts FormKind
-with_named before word.Category named = Ok (with_category before named)
-with_named before word.Selector named = with_selector before (first_named before.selector named)
-with_named before word.Timing named = with_timing before (first_named before.timing named)
-with_named before word.Burst named = with_burst before (first_named before.burst named)
+-- a keyword and a name, behind those before it
+abbrev pub new_said : List Said → Said → Result Said FormKind
+new_said before said = if stands_already said.0 before then Err Twice else Ok said
 
 -- a statement behind those before it
-abbrev pub exec_step : Setting → ExecParts → Entry → Result ExecParts FormFault
-exec_step s before e =
-    and_then (at_statement e.first (exec_said (is_some e.body) (lexemes_at s e))) (λ said.
-    at_statement e.first (with_named before said.0 (named_on s e said.1)))
+abbrev pub judge_exec : Setting → List Said → Entry → Result Said FormFault
+judge_exec s before e =
+    and_then (at_statement e.first (exec_said (is_some e.body) (lexemes_at s e))) (λ told.
+    at_statement e.first (new_said before (told.0, named_on s e told.1)))
 
--- before the first statement
-abbrev pub no_parts : ExecParts
-no_parts = record { categories = []; selector = None; timing = None; burst = None }
-
--- an executive must have a PatternBurst
-abbrev pub exec_by : ℕ → List ℕ → ExecParts → Option Named → Result ExecDecl FormKind
-exec_by line title parts None = Err Shape
-exec_by line title parts (Some burst) = Ok (record {
+-- an executive of what its statements say, and of its PatternBurst, which must be there
+abbrev pub exec_by : ℕ → List ℕ → List Said → Option Named → Result ExecDecl FormKind
+exec_by line title said None = Err Shape
+exec_by line title said (Some burst) = Ok (record {
   name = title;
-  categories = parts.categories;
-  selector = parts.selector;
-  timing = parts.timing;
+  categories = names_by word.Category said;
+  selector = first_by word.Selector said;
+  timing = first_by word.Timing said;
   burst = burst;
   line = line;
 })
 
+-- the same of the first PatternBurst
+abbrev pub exec_called : ℕ → List ℕ → List Said → Result ExecDecl FormKind
+exec_called line title said = exec_by line title said (first_by word.Burst said)
+
 -- an executive of this title by its statements
 abbrev pub exec_in : Setting → Entry → List ℕ → Result ExecDecl FormFault
 exec_in s e title =
-    and_then (stepping (exec_step s) no_parts (unskipped s (inner_of e.body))) (λ parts.
-    at_statement e.first (exec_by (line_at s.tokens e.first) title parts parts.burst))
+    and_then (reading (judge_exec s) [] (unskipped s (inner_of e.body))) (λ said.
+    at_statement e.first (exec_called (line_at s.tokens e.first) title said))
 
 -- `PatternExec [name] { .. }`
 abbrev pub exec_block : Setting → Entry → Result ExecDecl FormFault

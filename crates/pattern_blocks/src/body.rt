@@ -41,18 +41,18 @@ pub fn read_pattern_block(alloc: Global, reader: &Reader, stmt: &Stmt) -> Result
     Ok(Pattern { name, body })
 }
 
-/// A macro or a procedure, and the names that are declared with it.
+/// A macro or a procedure, whose name is declared with it.
 fn read_def<'a>(
     alloc: Global,
     reader: &Reader<'_, 'a>,
     place: BodyPlace,
     title: &'a [u8],
-    declared: Declared<'a>,
+    declared: &mut Declared<'a>,
     stmt: &Stmt,
-) -> Result<(BodyDef, Declared<'a>), FormFault>
-    ensures read { AnswersBy (λ read. read.0) result
-        (def_said (setting_of reader.now) place title.entry.now declared.entry (entry_of stmt.now)) }
-    ensures declared { IfOk result (λ read. read.1 ≡ declared.entry ++ (title.entry.now, read.0.name) ∷ []) }
+) -> Result<BodyDef, FormFault>
+    ensures read { Answers result
+        (def_said (setting_of reader.now) place title.entry.now declared.old (entry_of stmt.now)) }
+    ensures declared { IfOk result (λ read. declared.new ≡ declared.old ++ (title.entry.now, read.name) ∷ []) }
 {
     let called = with_block(stmt, only_name(head_at(reader.source, stmt)))?;
     if declared.has(title, called) {
@@ -60,52 +60,51 @@ fn read_def<'a>(
     }
     let body = body_in(alloc, reader, place, stmt)?;
     let name = Items::from_slice(alloc, called)?;
-    let declared = declared.with(title, called)?;
-    Ok((BodyDef { name, body }, declared))
+    declared.add(alloc, title, called)?;
+    Ok(BodyDef { name, body })
 }
 
-/// The bodies of a block, and the names that are declared with them.
+/// The bodies of a block, whose names are declared with them.
 fn read_defs<'a>(
     alloc: Global,
     reader: &Reader<'_, 'a>,
     place: BodyPlace,
     title: &'a [u8],
-    declared: Declared<'a>,
+    declared: &mut Declared<'a>,
     stmts: &[Stmt],
-) -> Result<(Vec<BodyDef>, Declared<'a>), FormFault>
-    ensures read { AnswersBy (λ read. read.0.items) result
-        (defs_in (setting_of reader.now) place title.entry.now declared.entry (map entry_of stmts.now)) }
+) -> Result<Vec<BodyDef>, FormFault>
+    ensures read { AnswersBy (λ read. read.items) result
+        (defs_in (setting_of reader.now) place title.entry.now declared.old (map entry_of stmts.now)) }
     ensures declared { IfOk result
-        (λ read. read.1 ≡ declared.entry ++ under title.entry.now (names_of read.0.items)) }
+        (λ read. declared.new ≡ declared.old ++ under title.entry.now (names_of read.items)) }
 {
     let mut read = Vec::new(alloc);
-    let mut declared = declared;
     for stmt in stmts {
         if skips(reader, stmt) {
             continue;
         }
-        let (def, more) = read_def(alloc, reader, place, title, declared, stmt)?;
-        declared = more;
+        let def = read_def(alloc, reader, place, title, declared, stmt)?;
         read.push(def)?;
     }
-    Ok((read, declared))
+    Ok(read)
 }
 
-/// The MacroDefs or Procedures block that a statement is, and the names that are declared with it.
+/// The MacroDefs or Procedures block that a statement is, behind the bodies declared so far, each under the title of its block; its
+/// own are declared with it.
 pub fn read_defs_block<'a>(
     alloc: Global,
     reader: &Reader<'_, 'a>,
     place: BodyPlace,
-    declared: Declared<'a>,
+    declared: &mut Declared<'a>,
     stmt: &Stmt,
-) -> Result<(DefBlock, Declared<'a>), FormFault>
-    ensures read { AnswersBy (λ read. read.0) result
-        (defs.defs_block (setting_of reader.now) place declared.entry (entry_of stmt.now)) }
-    ensures declared { IfOk result (λ read. read.1 ≡ declared.entry ++ under read.0.name (names_of read.0.bodies)) }
+) -> Result<DefBlock, FormFault>
+    ensures read { Answers result
+        (defs.defs_block (setting_of reader.now) place declared.old (entry_of stmt.now)) }
+    ensures declared { IfOk result (λ read. declared.new ≡ declared.old ++ under read.name (names_of read.bodies)) }
 {
     let title = titled_block(reader, stmt)?;
-    let (read, declared) = read_defs(alloc, reader, place, title, declared, inner_of(stmt))?;
+    let read = read_defs(alloc, reader, place, title, declared, inner_of(stmt))?;
     let name = Items::from_slice(alloc, title)?;
     let bodies = Items::from_vec(read);
-    Ok((DefBlock { name, bodies }, declared))
+    Ok(DefBlock { name, bodies })
 }

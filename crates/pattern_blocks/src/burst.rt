@@ -9,7 +9,8 @@ ghost use Rattle.stil_ast.specs.Data.BlockForms.{is_macros_word, is_procedures_w
 ghost use Rattle.stil_ast.specs.declared.executive.BurstItem.{BurstItem};
 ghost use Rattle.pat_read.specs.Statements as statements;
 ghost use Rattle.pattern_blocks.specs.Bursts as bursts;
-ghost use Rattle.pattern_blocks.specs.Bursts.{item_on, stands_already, named_step, left_out, entry_step, burst_step, items_in};
+ghost use Rattle.pattern_blocks.specs.Bursts.{item_on, stands_already, items_in};
+ghost use Rattle.pattern_blocks.specs.Working.{named_step, left_out, entry_step, burst_step};
 
 use block_forms::{
     bare_block, first_keyword, name_or_empty, named_block, only_name, rest_at, with_one,

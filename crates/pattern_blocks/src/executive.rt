@@ -8,7 +8,8 @@ ghost use Rattle.stil_form.specs.Setting.{setting_of, lexemes_at, at_statement, 
 ghost use Rattle.stil_form.specs.Lexeme.{lexemes};
 ghost use Rattle.block_forms.specs.Heads.{Says};
 ghost use Rattle.pattern_blocks.specs.Executives as executives;
-ghost use Rattle.pattern_blocks.specs.Executives.{exec_said, first_named, with_named, exec_step, no_parts};
+ghost use Rattle.pattern_blocks.specs.Executives.{exec_said};
+ghost use Rattle.pattern_blocks.specs.Working.{first_named, with_named, exec_step, no_parts, executive_of};
 
 use block_forms::{keyword_in, name_or_empty, named_on, only_name, titled_block, with_one};
 use std::alloc::Global;
@@ -151,11 +152,15 @@ fn read_parts(alloc: Global, reader: &Reader, stmts: &[Stmt]) -> Result<ExecPart
     read_unskipped_steps(alloc, &form, reader, start, stmts)
 }
 
-/// The PatternExec that a statement is.
-pub fn read_exec_block(alloc: Global, reader: &Reader, stmt: &Stmt) -> Result<ExecDecl, FormFault>
-    ensures { Answers result (executives.exec_block (setting_of reader.now) (entry_of stmt.now)) }
+/// The PatternExec of this title that a statement is.
+fn read_exec_in(
+    alloc: Global,
+    reader: &Reader,
+    stmt: &Stmt,
+    title: &[u8],
+) -> Result<ExecDecl, FormFault>
+    ensures { Answers result (executive_of (setting_of reader.now) (entry_of stmt.now) title.now) }
 {
-    let title = titled_block(reader, stmt)?;
     let parts = read_parts(alloc, reader, inner_of(stmt))?;
     let ExecParts {
         categories,
@@ -174,4 +179,12 @@ pub fn read_exec_block(alloc: Global, reader: &Reader, stmt: &Stmt) -> Result<Ex
         burst,
         line: line_at(reader.source.tokens, first_of(stmt) as usize),
     })
+}
+
+/// The PatternExec that a statement is.
+pub fn read_exec_block(alloc: Global, reader: &Reader, stmt: &Stmt) -> Result<ExecDecl, FormFault>
+    ensures { Answers result (executives.exec_block (setting_of reader.now) (entry_of stmt.now)) }
+{
+    let title = titled_block(reader, stmt)?;
+    read_exec_in(alloc, reader, stmt, title)
 }

@@ -7,7 +7,8 @@ use Rattle.std.proofs.lemmas.Bool.{and_parts, and_from, le-leb, leb-true, ne_eqb
 use Rattle.std.proofs.lemmas.List.{length-map}
 use Rattle.text_bytes.specs.Numbers.{is_within}
 use Rattle.answers.specs.Reading.{and_then}
-use Rattle.plan_rows.specs.Rows.{AreKept, one, each_of, as_lot, dies_of, dies_at, lot_of}
+use Rattle.plan_rows.specs.Limits.{last_site}
+use Rattle.plan_rows.specs.Rows.{AreKept, one, each_of, as_lot, dies_of, dies_at, lot_of, site_in}
 use Rattle.plan_rows.specs.Forms.{Written, a_lot, a_clock, a_bind, a_die, a_fault, a_stop, a_bin, a_skew, written_of}
 use Rattle.plan_rows.specs.Judging.{is_lot, stands, lot_fits, die_fits, tries_fit, ending_fits, number_at, of_die, within, row_of, says_again, placed, once, row_at, judge}
 use Rattle.plan_rows.specs.declared.row.Row.{Row}
@@ -18,7 +19,6 @@ use Rattle.plan_rows.specs.declared.fault.PlanFault.{PlanFault}
 use Rattle.plan_rows.specs.declared.fault.PlanFault.TheVariants.{Shape, UnknownName, Twice}
 use Rattle.plan_rows.proofs.JudgeLemmas.{steps, stands_where_placed, fresh_once, fits_within, die_there}
 use Rattle.plan_parts.specs.Moved.{moved}
-use Rattle.plan_parts.specs.Cut.{site_in}
 use Rattle.plan_parts.specs.PartText.{with_site}
 use Rattle.plan_parts.proofs.CutLemmas.{IsCut, Counts, AllCount, cut_rows, lots_cut, dies_cut, dies_cut-le, names_cut, die_to}
 use Rattle.plan_parts.proofs.SaidLemmas.{Numbered, moved-stays, said_cut}
@@ -65,21 +65,21 @@ site_made place before (a_lot batch tries keep) x h =
 site_made place before (a_clock signal) x h = let same : x ≡ row.Clock signal = cc in ap site_in same
 site_made place before (a_bind signal net) x h = let same : x ≡ row.Bind (record { signal = signal; net = net }) = cc in ap site_in same
 site_made place before (a_die site name file) x h =
-    let m : ok_row (row.Die (record { site = site; name = name; file = file })) ≡ ok_row x = (fits_within place (nat_le site 63 && die_fits before) _ x h).1 in
+    let m : ok_row (row.Die (record { site = site; name = name; file = file })) ≡ ok_row x = (fits_within place (nat_le site last_site && die_fits before) _ x h).1 in
     let same : x ≡ row.Die (record { site = site; name = name; file = file }) = cc in ap site_in same
 site_made place before (a_fault site name net value tries) x h =
-    let found = (fits_within place (nat_le site 63 && nat_le value 1 && tries_fit tries) _ x h).1 in
+    let found = (fits_within place (nat_le site last_site && nat_le value 1 && tries_fit tries) _ x h).1 in
     let (n, at, made) = die_there place (number_at before site name) _ x found in
     ap site_in (sym made)
 site_made place before (a_stop site name number batch) x h =
-    let found = (fits_within place (nat_le site 63 && is_within 1 8 number && nat_le batch (2 ^ 48)) _ x h).1 in
+    let found = (fits_within place (nat_le site last_site && is_within 1 8 number && nat_le batch (2 ^ 48)) _ x h).1 in
     let (n, at, made) = die_there place (number_at before site name) _ x found in
     ap site_in (sym made)
 site_made place before (a_bin ending number) x h =
     let m : ok_row (row.Bin (record { ending = ending; bin = number })) ≡ ok_row x = (fits_within place (ending_fits ending && is_within 1 99 number) _ x h).1 in
     let same : x ≡ row.Bin (record { ending = ending; bin = number }) = cc in ap site_in same
 site_made place before (a_skew site signal back size) x h =
-    by (nat_lt 0 (length (dies_at site before))) _ (Some site) (fits_within place (nat_le site 63 && nat_le size 1000000000000) _ x h).1 refl
+    by (nat_lt 0 (length (dies_at site before))) _ (Some site) (fits_within place (nat_le site last_site && nat_le size 1000000000000) _ x h).1 refl
   where
     by : (b : Bool) (y : Row) (s : Option ℕ) → cond {A = Result Row PlanFault} b (Ok y) (Err (UnknownName place)) ≡ Ok x → site_in y ≡ s → site_in x ≡ s
     by true y s h at = let same : x ≡ y = cc in ap site_in same ∙ at
@@ -167,8 +167,8 @@ skew_cut place place' n false b' y y' x same is h = cc
 
 module _ (cut : ℕ → Option ℕ) (counts : ℕ → Bool) (is_cut : IsCut cut counts) where
   -- a number that fits its range
-  small_at : (site n : ℕ) → counts site ≡ true → cut site ≡ Some n → nat_le n 63 ≡ true
-  small_at site n has at = le-leb n 63 (is_cut.small site n has at)
+  small_at : (site n : ℕ) → counts site ≡ true → cut site ≡ Some n → nat_le n last_site ≡ true
+  small_at site n has at = le-leb n last_site (is_cut.small site n has at)
 
   -- what is made of what is left
   row_cut : (place place' : ℕ) (before : List Row) (w : Written) (x : Row) (n : ℕ) → AllCount counts before
@@ -180,31 +180,31 @@ module _ (cut : ℕ → Option ℕ) (counts : ℕ → Bool) (is_cut : IsCut cut 
   row_cut place place' before (a_bind signal net) x n all at h = moved_ok n (row.Bind (record { signal = signal; net = net })) x h
   row_cut place place' before (a_die site name file) x n all at h =
       let own = at site refl in
-      within_cut place place' n (nat_le site 63 && die_fits before) (nat_le n 63 && die_fits (cut_rows cut before)) _ _ x
-      (λ f. and_from (nat_le n 63) (die_fits (cut_rows cut before)) (small_at site n own.0 own.1)
-      (room_cut cut counts is_cut before (and_parts (nat_le site 63) (die_fits before) f).1)) (λ m. moved_ok n _ x m) h
+      within_cut place place' n (nat_le site last_site && die_fits before) (nat_le n last_site && die_fits (cut_rows cut before)) _ _ x
+      (λ f. and_from (nat_le n last_site) (die_fits (cut_rows cut before)) (small_at site n own.0 own.1)
+      (room_cut cut counts is_cut before (and_parts (nat_le site last_site) (die_fits before) f).1)) (λ m. moved_ok n _ x m) h
   row_cut place place' before (a_fault site name net value tries) x n all at h =
       let own = at site refl in
-      within_cut place place' n (nat_le site 63 && nat_le value 1 && tries_fit tries) (nat_le n 63 && nat_le value 1 && tries_fit tries) _ _ x
-      (λ f. let p = and_parts (nat_le site 63 && nat_le value 1) (tries_fit tries) f in
-      let q = and_parts (nat_le site 63) (nat_le value 1) p.0 in
-      and_from (nat_le n 63 && nat_le value 1) (tries_fit tries) (and_from (nat_le n 63) (nat_le value 1) (small_at site n own.0 own.1) q.1) p.1)
+      within_cut place place' n (nat_le site last_site && nat_le value 1 && tries_fit tries) (nat_le n last_site && nat_le value 1 && tries_fit tries) _ _ x
+      (λ f. let p = and_parts (nat_le site last_site && nat_le value 1) (tries_fit tries) f in
+      let q = and_parts (nat_le site last_site) (nat_le value 1) p.0 in
+      and_from (nat_le n last_site && nat_le value 1) (tries_fit tries) (and_from (nat_le n last_site) (nat_le value 1) (small_at site n own.0 own.1) q.1) p.1)
       (λ m. of_cut place place' n (number_at before site name) (number_at (cut_rows cut before) n name) _ _ x
       (ap (position (bytes_eq name)) (names_cut cut counts is_cut site n own.0 own.1 before all)) (λ k. refl) m) h
   row_cut place place' before (a_stop site name number batch) x n all at h =
       let own = at site refl in
-      within_cut place place' n (nat_le site 63 && is_within 1 8 number && nat_le batch (2 ^ 48)) (nat_le n 63 && is_within 1 8 number && nat_le batch (2 ^ 48)) _ _ x
-      (λ f. let p = and_parts (nat_le site 63 && is_within 1 8 number) (nat_le batch (2 ^ 48)) f in
-      let q = and_parts (nat_le site 63) (is_within 1 8 number) p.0 in
-      and_from (nat_le n 63 && is_within 1 8 number) (nat_le batch (2 ^ 48)) (and_from (nat_le n 63) (is_within 1 8 number) (small_at site n own.0 own.1) q.1) p.1)
+      within_cut place place' n (nat_le site last_site && is_within 1 8 number && nat_le batch (2 ^ 48)) (nat_le n last_site && is_within 1 8 number && nat_le batch (2 ^ 48)) _ _ x
+      (λ f. let p = and_parts (nat_le site last_site && is_within 1 8 number) (nat_le batch (2 ^ 48)) f in
+      let q = and_parts (nat_le site last_site) (is_within 1 8 number) p.0 in
+      and_from (nat_le n last_site && is_within 1 8 number) (nat_le batch (2 ^ 48)) (and_from (nat_le n last_site) (is_within 1 8 number) (small_at site n own.0 own.1) q.1) p.1)
       (λ m. of_cut place place' n (number_at before site name) (number_at (cut_rows cut before) n name) _ _ x
       (ap (position (bytes_eq name)) (names_cut cut counts is_cut site n own.0 own.1 before all)) (λ k. refl) m) h
   row_cut place place' before (a_bin ending number) x n all at h =
       within_cut place place' n (ending_fits ending && is_within 1 99 number) (ending_fits ending && is_within 1 99 number) _ _ x (λ f. f) (λ m. moved_ok n _ x m) h
   row_cut place place' before (a_skew site signal back size) x n all at h =
       let own = at site refl in
-      within_cut place place' n (nat_le site 63 && nat_le size 1000000000000) (nat_le n 63 && nat_le size 1000000000000) _ _ x
-      (λ f. and_from (nat_le n 63) (nat_le size 1000000000000) (small_at site n own.0 own.1) (and_parts (nat_le site 63) (nat_le size 1000000000000) f).1)
+      within_cut place place' n (nat_le site last_site && nat_le size 1000000000000) (nat_le n last_site && nat_le size 1000000000000) _ _ x
+      (λ f. and_from (nat_le n last_site) (nat_le size 1000000000000) (small_at site n own.0 own.1) (and_parts (nat_le site last_site) (nat_le size 1000000000000) f).1)
       (λ m. skew_cut place place' n (nat_lt 0 (length (dies_at site before))) (nat_lt 0 (length (dies_at n (cut_rows cut before)))) _ _ x
       (ap (nat_lt 0) (ap (λ (l : List DieRow). length l) (dies_cut cut counts is_cut site n own.0 own.1 before all) ∙ length-map (dies_at site before) (die_to n))) refl m) h
 

@@ -14,11 +14,10 @@ use Rattle.plan_rows.specs.declared.row.DieRow.{DieRow}
 use Rattle.plan_rows.specs.declared.row.FaultRow.{FaultRow}
 use Rattle.plan_rows.specs.declared.row.SkewRow.{SkewRow}
 use Rattle.plan_rows.specs.declared.row.StopRow.{StopRow}
-use Rattle.plan_rows.specs.Rows.{one, each_of, as_lot, as_die, dies_of, dies_at}
+use Rattle.plan_rows.specs.Rows.{one, each_of, as_lot, as_die, dies_of, dies_at, site_in}
 use Rattle.plan_rows.specs.Judging.{names_at}
 use Rattle.plan_rows.proofs.RowLemmas.{each_of-append}
 use Rattle.plan_parts.specs.Moved.{moved}
-use Rattle.plan_parts.specs.Cut.{site_in}
 
 -- ---- a cut: each site has a number or none
 

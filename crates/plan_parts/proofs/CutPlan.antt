@@ -10,7 +10,7 @@ use Rattle.std.specs.List.{list_any}
 use Rattle.csv.specs.declared.parser.State.TheVariants as st
 use Rattle.csv.proofs.RoundTrip.{read-write-many}
 use Rattle.answers.specs.Reading.{and_then, reading}
-use Rattle.plan_rows.specs.Rows.{AreKept, one, each_of, as_lot}
+use Rattle.plan_rows.specs.Rows.{AreKept, one, each_of, as_lot, site_in}
 use Rattle.plan_rows.specs.Forms.{Written, written_of}
 use Rattle.plan_rows.specs.Judging.{judge, plan_of}
 use Rattle.plan_rows.specs.Plan.{HasRecords}
@@ -20,7 +20,6 @@ use Rattle.plan_rows.specs.declared.fault.PlanFault.{PlanFault}
 use Rattle.plan_rows.proofs.JudgeLemmas.{next_is}
 use Rattle.plan_rows.proofs.KeptLemmas.{kept_next, each_of-last}
 use Rattle.plan_parts.specs.Moved.{moved}
-use Rattle.plan_parts.specs.Cut.{site_in}
 use Rattle.plan_parts.specs.PartText.{with_site, records_text}
 use Rattle.plan_parts.proofs.TextLemmas.{read_of}
 use Rattle.plan_parts.proofs.CutLemmas.{IsCut, Counts, AllCount, AllCount-parts, said_at, cut_row, cut_rows, lots_cut}

@@ -3,6 +3,7 @@ use Rattle.std.proofs.Common.{◌≡◌, ℕ, zero, suc, ◌+◌, ◌-◌, ◌<�
 use Rattle.std.specs.List.{list_all, range_with_len}
 use Rattle.std.specs.Int.{div_ceil}
 use Rattle.std.proofs.lemmas.Bool.{and_parts, leb-true, ltb-true, cases_lt, ne_eqb}
+use Rattle.text_bytes.specs.Limits.{most_sites}
 use Rattle.plan_rows.specs.declared.row.Row.{Row}
 use Rattle.plan_parts.specs.Cut.{AreEnough, AreNeeded, sites_in_part, sites_with_dies}
 
@@ -18,11 +19,11 @@ all_in_range p a (suc n) k all low high =
 
 -- as many parts as are needed
 abbrev pub needed : ℕ → ℕ
-needed ranks = cond (ranks == 0) 1 (div_ceil ranks 16)
+needed ranks = cond (ranks == 0) 1 (div_ceil ranks most_sites)
 
 -- none of them has too many sites
 abbrev fits : ℕ → Bool
-fits ranks = list_all (λ part. nat_le (sites_in_part (needed ranks) part ranks) 16) (range_with_len 0 (needed ranks))
+fits ranks = list_all (λ part. nat_le (sites_in_part (needed ranks) part ranks) most_sites) (range_with_len 0 (needed ranks))
 
 -- so with up to 64 sites
 all_fit : list_all fits (range_with_len 0 65) ≡ true
@@ -30,7 +31,7 @@ all_fit = refl
 
 -- with fewer the first has too many
 abbrev fails : ℕ → Bool
-fails ranks = list_all (λ fewer. nat_lt 16 (sites_in_part fewer 0 ranks)) (range_with_len 1 (needed ranks - 1))
+fails ranks = list_all (λ fewer. nat_lt most_sites (sites_in_part fewer 0 ranks)) (range_with_len 1 (needed ranks - 1))
 
 -- so with up to 64 sites
 all_fail : list_all fails (range_with_len 0 65) ≡ true
@@ -51,22 +52,22 @@ are_needed rows ranks parts few count is = subst (AreNeeded rows) (sym is) (reco
     some : 1 ≤ needed ranks
     some = leb-true 1 (needed ranks) (all_in_range (λ (n : ℕ). nat_le 1 (needed n)) 0 65 ranks some_needed (omega arith) (omega arith))
 
-    each : (part : ℕ) → part < needed ranks → sites_in_part (needed ranks) part (length (sites_with_dies rows)) ≤ 16
-    each part within = subst (λ (n : ℕ). sites_in_part (needed ranks) part n ≤ 16) count
-        (leb-true _ 16 (all_in_range (λ (p : ℕ). nat_le (sites_in_part (needed ranks) p ranks) 16) 0 (needed ranks) part
+    each : (part : ℕ) → part < needed ranks → sites_in_part (needed ranks) part (length (sites_with_dies rows)) ≤ most_sites
+    each part within = subst (λ (n : ℕ). sites_in_part (needed ranks) part n ≤ most_sites) count
+        (leb-true _ most_sites (all_in_range (λ (p : ℕ). nat_le (sites_in_part (needed ranks) p ranks) most_sites) 0 (needed ranks) part
         (all_in_range fits 0 65 ranks all_fit (omega arith) (omega arith)) (omega arith) (omega (arith, within))))
 
     least : (fewer : ℕ) → AreEnough rows fewer → needed ranks ≤ fewer
     least fewer enough = elim (cases_lt fewer (needed ranks)) [
       | inl less ↦
           let least_one : 1 ≤ fewer = enough.some in
-          let first : sites_in_part fewer 0 ranks ≤ 16 = subst (λ (n : ℕ). sites_in_part fewer 0 n ≤ 16) (sym count) (enough.each 0 (omega arith)) in
-          let many : 16 < sites_in_part fewer 0 ranks = ltb-true 16 (sites_in_part fewer 0 ranks) (all_in_range (λ (f : ℕ). nat_lt 16 (sites_in_part f 0 ranks)) 1 (needed ranks - 1) fewer
+          let first : sites_in_part fewer 0 ranks ≤ most_sites = subst (λ (n : ℕ). sites_in_part fewer 0 n ≤ most_sites) (sym count) (enough.each 0 (omega arith)) in
+          let many : most_sites < sites_in_part fewer 0 ranks = ltb-true most_sites (sites_in_part fewer 0 ranks) (all_in_range (λ (f : ℕ). nat_lt most_sites (sites_in_part f 0 ranks)) 1 (needed ranks - 1) fewer
           (all_in_range fails 0 65 ranks all_fail (omega arith) (omega arith)) least_one (omega (arith, less, least_one))) in
           absurd (omega (arith, first, many))
       | inr h ↦ h
     ]
 
 -- as many sites as there are, by sixteens
-pub needed_some : (ranks parts : ℕ) → (ranks ≡ 0 → ⊥) → parts ≡ div_ceil ranks 16 → parts ≡ needed ranks
-needed_some ranks parts some is = is ∙ sym (ap (λ b. cond b 1 (div_ceil ranks 16)) (ne_eqb ranks 0 some))
+pub needed_some : (ranks parts : ℕ) → (ranks ≡ 0 → ⊥) → parts ≡ div_ceil ranks most_sites → parts ≡ needed ranks
+needed_some ranks parts some is = is ∙ sym (ap (λ b. cond b 1 (div_ceil ranks most_sites)) (ne_eqb ranks 0 some))

@@ -6,7 +6,8 @@ use Rattle.std.proofs.lemmas.List.{map-append}
 use Rattle.std.proofs.lemmas.List.Elements.{filter-append}
 use Rattle.text_bytes.specs.Numbers.{is_within}
 use Rattle.answers.specs.Reading.{and_then, reading}
-use Rattle.plan_rows.specs.Rows.{one, dies_at}
+use Rattle.plan_rows.specs.Limits.{last_site}
+use Rattle.plan_rows.specs.Rows.{one, dies_at, site_in, is_here, is_about}
 use Rattle.plan_rows.specs.Forms.{Written, a_lot, a_clock, a_bind, a_die, a_fault, a_stop, a_bin, a_skew}
 use Rattle.plan_rows.specs.Judging.{judge, row_of, number_at, die_fits, tries_fit}
 use Rattle.plan_rows.specs.Plan.{HasRecords, IsPlan}
@@ -17,7 +18,7 @@ use Rattle.plan_rows.specs.declared.fault.PlanFault.TheVariants.{UnknownName}
 use Rattle.plan_rows.proofs.JudgeLemmas.{fits_within, die_there, number_within as number_inside}
 use Rattle.plan_rows.proofs.KeptLemmas.{kept_where_read}
 use Rattle.plan_parts.specs.Moved.{moved}
-use Rattle.plan_parts.specs.Cut.{has_dies, sites_with_dies, site_at, site_in, is_here, is_about, part_rows, sites_in_part}
+use Rattle.plan_parts.specs.Cut.{has_dies, sites_with_dies, site_at, part_rows, sites_in_part}
 use Rattle.plan_parts.specs.PartText.{IsPartText, records_text}
 use Rattle.plan_parts.specs.Inside.{site_of_die}
 use Rattle.plan_parts.proofs.SiteLemmas.{has_dies-more, is_at}
@@ -39,20 +40,20 @@ made_there place before (a_clock signal) x s h at = cc
 made_there place before (a_bind signal net) x s h at = cc
 made_there place before (a_bin ending number) x s h at = cc
 made_there place before (a_die site name file) x s h at =
-    let m : ok_row (row.Die (record { site = site; name = name; file = file })) ≡ ok_row x = (fits_within place (nat_le site 63 && die_fits before) _ x h).1 in
+    let m : ok_row (row.Die (record { site = site; name = name; file = file })) ≡ ok_row x = (fits_within place (nat_le site last_site && die_fits before) _ x h).1 in
     let same : x ≡ row.Die (record { site = site; name = name; file = file }) = cc in inr (ap site_of_die same ∙ at)
 made_there place before (a_fault site name net value tries) x s h at =
-    let found = (fits_within place (nat_le site 63 && nat_le value 1 && tries_fit tries) _ x h).1 in
+    let found = (fits_within place (nat_le site last_site && nat_le value 1 && tries_fit tries) _ x h).1 in
     let (n, is, made) = die_there place (number_at before site name) _ x found in
     let same : site ≡ s = cc in
     inl (ap (has_dies before) (sym same) ∙ lt-ltb 0 (length (dies_at site before)) (omega (arith, number_inside before site name n is)))
 made_there place before (a_stop site name number batch) x s h at =
-    let found = (fits_within place (nat_le site 63 && is_within 1 8 number && nat_le batch (2 ^ 48)) _ x h).1 in
+    let found = (fits_within place (nat_le site last_site && is_within 1 8 number && nat_le batch (2 ^ 48)) _ x h).1 in
     let (n, is, made) = die_there place (number_at before site name) _ x found in
     let same : site ≡ s = cc in
     inl (ap (has_dies before) (sym same) ∙ lt-ltb 0 (length (dies_at site before)) (omega (arith, number_inside before site name n is)))
 made_there place before (a_skew site signal back size) x s h at =
-    let found = (fits_within place (nat_le site 63 && nat_le size 1000000000000) _ x h).1 in
+    let found = (fits_within place (nat_le site last_site && nat_le size 1000000000000) _ x h).1 in
     let same : site ≡ s = cc in
     inl (ap (has_dies before) (sym same) ∙ by (has_dies before site) _ found)
   where

@@ -7,12 +7,13 @@ use Rattle.std.proofs.lemmas.Bool.{eq-eqb, eqb-true, ne_eqb, cases_lt}
 use Rattle.std.proofs.lemmas.List.Elements.{filter_passes}
 use Rattle.std.proofs.lemmas.List.FromFn.{length-range_with_len}
 use Rattle.std.proofs.lemmas.List.Sums.{position_or_len_is}
+use Rattle.text_bytes.specs.Limits.{most_plan_sites}
 use Rattle.text_bytes.proofs.ListLemmas.{length-filter-le}
-use Rattle.plan_rows.specs.Rows.{AreKept, one, each_of, sites_of}
+use Rattle.plan_rows.specs.Rows.{AreKept, one, each_of, sites_of, site_in}
 use Rattle.plan_rows.specs.declared.row.Row.{Row}
 use Rattle.plan_rows.proofs.RowLemmas.{sites_of-within}
 use Rattle.plan_parts.specs.Moved.{moved}
-use Rattle.plan_parts.specs.Cut.{has_dies, sites_with_dies, rank_of, rank_at, site_at, site_in, of_rank, of_site, row_in, part_rows, sites_in_part}
+use Rattle.plan_parts.specs.Cut.{has_dies, sites_with_dies, rank_of, rank_at, site_at, of_rank, of_site, row_in, part_rows, sites_in_part}
 use Rattle.plan_parts.specs.PartText.{with_site, records_in}
 use Rattle.plan_parts.proofs.SiteLemmas.{has_dies-below, count_more}
 use Rattle.plan_parts.proofs.RecordLemmas.{of_rank-number}
@@ -130,7 +131,7 @@ has_at_rank rows k inside =
     (filter_passes (has_dies rows) (range_with_len 0 (sites_of rows)) k 0 inside, place_of (has_dies rows) 0 (sites_of rows) k inside)
 
 -- there are at most 64 of them
-pub few_sites : (rows : List Row) → AreKept rows → length (sites_with_dies rows) ≤ 64
+pub few_sites : (rows : List Row) → AreKept rows → length (sites_with_dies rows) ≤ most_plan_sites
 unfolding sites_with_dies
 few_sites rows kept =
     omega (arith, length-filter-le (has_dies rows) (range_with_len 0 (sites_of rows)), length-range_with_len 0 (sites_of rows), sites_of-within rows kept)

@@ -8,9 +8,9 @@ use Rattle.std.specs.List.{position_or_len}
 use Rattle.std.specs.Option.{option_map}
 use Rattle.csv.specs.Records.{field_at}
 use Rattle.csv.specs.Writing.{default_writer, row_text}
-use Rattle.plan_rows.specs.Rows.{one}
+use Rattle.plan_rows.specs.Rows.{one, site_in}
 use Rattle.plan_rows.specs.declared.row.Row.{Row}
-use Rattle.plan_parts.specs.Cut.{of_rank, of_site, site_in, sites_with_dies}
+use Rattle.plan_parts.specs.Cut.{of_rank, of_site, sites_with_dies}
 use Rattle.plan_parts.specs.PartText.{record_in, records_text, with_site}
 
 -- a field that is there

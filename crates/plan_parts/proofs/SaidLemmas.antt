@@ -5,11 +5,10 @@ use Rattle.std.specs.Str.{bytes_eq}
 use Rattle.std.specs.Option.{option_map}
 use Rattle.std.proofs.lemmas.Bool.{eq-eqb, eqb-true, and_parts, and_from, or_cases, or_left, or_right}
 use Rattle.plan_rows.specs.declared.row.Row.{Row}
-use Rattle.plan_rows.specs.Rows.{one}
+use Rattle.plan_rows.specs.Rows.{one, site_in}
 use Rattle.plan_rows.specs.Judging.{says_again}
 use Rattle.plan_rows.specs.Subjects.{Subject, the_lot, the_clock, the_signal, the_name, the_net, the_try, the_ending, the_skew, subject_of, same_subject}
 use Rattle.plan_parts.specs.Moved.{moved}
-use Rattle.plan_parts.specs.Cut.{site_in}
 use Rattle.plan_parts.proofs.CutLemmas.{IsCut, Counts, AllCount, by_kind, cut_rows, said_at}
 
 -- a subject at another site

@@ -1,10 +1,10 @@
 -- Which rows of a plan each of its parts has. The sites with dies go round the parts: of so many parts, the first site
 -- belongs to part 0, the next one to part 1, and so on, and again from part 0. Parts are counted from 0 here.
-use Rattle.std.specs.Prelude.{ℕ, ◌+◌, ◌*◌, ◌/◌, ◌%◌, ◌==◌, ◌<◌, ◌≤◌, nat_lt, Bool, true, Option, Some, None, List, filter, length, slice_index_or, if◌then◌else◌}
+use Rattle.std.specs.Prelude.{ℕ, ◌+◌, ◌*◌, ◌/◌, ◌%◌, ◌==◌, ◌<◌, ◌≤◌, nat_lt, Bool, Option, Some, None, List, filter, length, slice_index_or, if◌then◌else◌}
 use Rattle.std.specs.List.{position_or_len, range_with_len}
+use Rattle.text_bytes.specs.Limits.{most_sites}
 use Rattle.plan_rows.specs.declared.row.Row.{Row}
-use Rattle.plan_rows.specs.declared.row.Row.TheVariants as row
-use Rattle.plan_rows.specs.Rows.{dies_at, each_of, sites_of}
+use Rattle.plan_rows.specs.Rows.{dies_at, each_of, sites_of, site_in}
 use Rattle.plan_parts.specs.Moved.{moved}
 
 -- ---- sites
@@ -35,26 +35,6 @@ site_at parts part rows number = slice_index_or (sites_with_dies rows) (rank_at 
 
 -- ---- rows
 
--- the site that a row names, if it names one
-abbrev pub site_in : Row → Option ℕ
-site_in (row.Lot lot) = None
-site_in (row.Clock signal) = None
-site_in (row.Bind bind) = None
-site_in (row.Die die) = Some die.site
-site_in (row.Fault fault) = Some fault.site
-site_in (row.Stop stop) = Some stop.site
-site_in (row.Bin bin) = None
-site_in (row.Skew skew) = Some skew.site
-
--- whether a site is this one, or there is none
-abbrev pub is_here : ℕ → Option ℕ → Bool
-is_here site None = true
-is_here site (Some s) = s == site
-
--- whether a row names this site, or none
-abbrev pub is_about : ℕ → Row → Bool
-is_about site r = is_here site (site_in r)
-
 -- What a part has of something that is said of the site of this rank: nothing where the site belongs to another part,
 -- else the same under the site's number there.
 abbrev pub of_rank : {A : Type 0} → ℕ → ℕ → (ℕ → A) → ℕ → Option A
@@ -74,10 +54,6 @@ unfoldable pub part_rows : ℕ → ℕ → List Row → List Row
 part_rows parts part rows = each_of (row_in parts part rows) rows
 
 -- ---- how many parts
-
--- the most sites with dies that a part may have: a tester has so many sockets
-abbrev pub most_sites : ℕ
-most_sites = 16
 
 -- no part of so many has more sites with dies than a tester has sockets
 pub record AreEnough (rows : List Row) (parts : ℕ) : Type 0 where

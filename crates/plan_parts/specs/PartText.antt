@@ -3,10 +3,10 @@ use Rattle.std.specs.Prelude.{◌≡◌, ℕ, Option, List, [], ◌∷◌, ◌++
 use Rattle.std.specs.List.{flat_map}
 use Rattle.csv.specs.Writing.{default_writer, row_text}
 use Rattle.plan_rows.specs.declared.row.Row.{Row}
-use Rattle.plan_rows.specs.Rows.{one}
+use Rattle.plan_rows.specs.Rows.{one, site_in}
 use Rattle.plan_rows.specs.Judging.{plan_of}
 use Rattle.plan_rows.specs.Plan.{HasRecords}
-use Rattle.plan_parts.specs.Cut.{of_site, site_in}
+use Rattle.plan_parts.specs.Cut.{of_site}
 
 -- the fields of a record with this number in the place of its site, which stands behind the record's kind
 abbrev pub with_site : List (List ℕ) → ℕ → List (List ℕ)

@@ -4,10 +4,10 @@
 ghost use Rattle.std.specs.Prelude.{◌≡◌, ◌<◌, ◌/◌, ◌%◌, ◌↔◌, ℕ, List, filter, length, map, true};
 ghost use Rattle.plan_rows.specs.Judging.{names_at};
 ghost use Rattle.plan_rows.specs.Plan.{IsPlan};
-ghost use Rattle.plan_rows.specs.Rows.{sites_of};
+ghost use Rattle.plan_rows.specs.Rows.{sites_of, is_about};
 ghost use Rattle.plan_rows.specs.declared.row.Row.{Row};
 ghost use Rattle.plan_parts.specs.Moved.{moved};
-ghost use Rattle.plan_parts.specs.Cut.{has_dies, is_about, part_rows, rank_at, rank_of, site_at, sites_in_part, sites_with_dies};
+ghost use Rattle.plan_parts.specs.Cut.{has_dies, part_rows, rank_at, rank_of, site_at, sites_in_part, sites_with_dies};
 ghost use Rattle.plan_parts.specs.PartText.{IsPartText};
 
 /// The text of a part is a plan: that of the part's rows.

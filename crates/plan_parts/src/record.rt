@@ -3,10 +3,10 @@
 ghost use Rattle.std.specs.Prelude.{◌≡◌, ◌<◌, ◌++◌, ℕ, List, Some, OnOk, IfOk, IfErr, length, map};
 ghost use Rattle.csv.specs.Records.{field_at, fields_of};
 ghost use Rattle.csv.specs.Writing.{default_writer, row_text};
-ghost use Rattle.plan_rows.specs.Rows.{one};
+ghost use Rattle.plan_rows.specs.Rows.{one, site_in};
 ghost use Rattle.plan_rows.specs.declared.row.Row.{Row};
 ghost use Rattle.plan_rows.specs.declared.fault.PlanFault.TheVariants.{NoMemory};
-ghost use Rattle.plan_parts.specs.Cut.{site_in, sites_with_dies};
+ghost use Rattle.plan_parts.specs.Cut.{sites_with_dies};
 ghost use Rattle.plan_parts.specs.PartText.{record_in, records_text, with_site};
 ghost use Rattle.plan_parts.specs.Inside.{IsWriting};
 
@@ -14,19 +14,6 @@ use crate::sites::Sites;
 use csv::{ByteRecord, Writer};
 use itoa::Buffer;
 use plan_rows::{PlanFault, Row};
-
-/// The site that a row names.
-fn site_in(row: &Row) -> Option<u8>
-    ensures { result ≡ site_in row.now }
-{
-    match row {
-        Row::Lot(_) | Row::Clock(_) | Row::Bind(_) | Row::Bin(_) => None,
-        Row::Die(die) => Some(die.site),
-        Row::Fault(fault) => Some(fault.site),
-        Row::Stop(stop) => Some(stop.site),
-        Row::Skew(skew) => Some(skew.site),
-    }
-}
 
 /// A field of a record, which has it.
 fn field_of(fields: &ByteRecord, place: usize) -> &[u8]
@@ -98,7 +85,7 @@ pub(crate) fn put_record(
         (before ++ records_text (one (record_in parts part rows row.now (fields_of fields.now))))) }
     ensures fault { IfErr result (λ e. e ≡ NoMemory) }
 {
-    match site_in(row) {
+    match row.site() {
         None => put_same(out, fields),
         Some(site) => match sites.number_in(parts, part, site) {
             Some(number) => put_moved(out, fields, number),

@@ -6,6 +6,7 @@ use Rattle.std.proofs.lemmas.Bool.{and_parts, leb-true, ne_eqb}
 use Rattle.std.proofs.lemmas.List.{length-map}
 use Rattle.std.proofs.lemmas.List.Quantifiers.{position-Some}
 use Rattle.text_bytes.specs.Numbers.{is_within}
+use Rattle.plan_rows.specs.Limits.{last_site}
 use Rattle.plan_rows.specs.Rows.{dies_of, dies_at, IsLot}
 use Rattle.plan_rows.specs.Forms.{Written, a_lot, a_clock, a_bind, a_die, a_fault, a_stop, a_bin, a_skew, written_of}
 use Rattle.answers.specs.Reading.{and_then}
@@ -108,8 +109,8 @@ suits place before (a_lot batch tries keep) x says st h =
 suits place before (a_clock signal) x says st h = of_same (Suits before) _ x _ refl h (not_first before (a_clock signal) refl st)
 suits place before (a_bind signal net) x says st h = of_same (Suits before) _ x _ refl h (not_first before (a_bind signal net) refl st)
 suits place before (a_die site name file) x says st h =
-    let (fits, made) = fits_within place (nat_le site 63 && die_fits before) _ x h in
-    let (low, room) = and_parts (nat_le site 63) (die_fits before) fits in
+    let (fits, made) = fits_within place (nat_le site last_site && die_fits before) _ x h in
+    let (low, room) = and_parts (nat_le site last_site) (die_fits before) fits in
     let (few, kept) = and_parts (nat_le (length (dies_of before) + 1) 4096) _ room in
     of_same (Suits before) _ x _ refl made (
       not_first before (a_die site name file) refl st,
@@ -119,11 +120,11 @@ suits place before (a_die site name file) x says st h =
       says,
     )
 suits place before (a_fault site name net value tries) x says st h =
-    let (fits, found) = fits_within place (nat_le site 63 && nat_le value 1 && tries_fit tries) _ x h in
+    let (fits, found) = fits_within place (nat_le site last_site && nat_le value 1 && tries_fit tries) _ x h in
     let (n, at, made) = die_there place (number_at before site name) _ x found in
     subst (Suits before) made (not_first before (a_fault site name net value tries) refl st, number_within before site name n at)
 suits place before (a_stop site name number batch) x says st h =
-    let (fits, found) = fits_within place (nat_le site 63 && is_within 1 8 number && nat_le batch (2 ^ 48)) _ x h in
+    let (fits, found) = fits_within place (nat_le site last_site && is_within 1 8 number && nat_le batch (2 ^ 48)) _ x h in
     let (n, at, made) = die_there place (number_at before site name) _ x found in
     subst (Suits before) made (not_first before (a_stop site name number batch) refl st, number_within before site name n at)
 suits place before (a_bin ending number) x says st h =
@@ -132,7 +133,7 @@ suits place before (a_bin ending number) x says st h =
     of_same (Suits before) _ x _ refl made
     (not_first before (a_bin ending number) refl st, leb-true 1 number least, leb-true number 99 most)
 suits place before (a_skew site signal back size) x says st h =
-    let (fits, found) = fits_within place (nat_le site 63 && nat_le size 1000000000000) _ x h in
+    let (fits, found) = fits_within place (nat_le site last_site && nat_le size 1000000000000) _ x h in
     of_same (Suits before) _ x _ refl (where_some (nat_lt 0 (length (dies_at site before))) (UnknownName place) _ x found)
     (not_first before (a_skew site signal back size) refl st)
 

@@ -7,6 +7,7 @@ use Rattle.std.proofs.lemmas.Bool.{cases_lt, eqb-true, and_parts, or_cases, or_l
 use Rattle.std.proofs.lemmas.List.{append-nil}
 use Rattle.std.proofs.lemmas.List.Elements.{All-append, filter-append, filter_passes}
 use Rattle.std.proofs.lemmas.List.Folds.{list_any_at}
+use Rattle.plan_rows.specs.Limits.{last_site}
 use Rattle.plan_rows.specs.Rows.{one, each_of, as_lot, as_clock, as_die, as_fault, as_stop, as_bin, dies_of, dies_at, faults_at, lot_of, IsLot, HasDie, AreApart, AreKept}
 use Rattle.answers.specs.Reading.{and_then, reading}
 use Rattle.answers.proofs.ReadingLemmas.{length-reading}
@@ -133,7 +134,7 @@ lot_among lots = get_or lots 0 (record { batch = 0; tries = 0; keep = 0 })
 pub record Adds (before : List Row) (x : Row) : Type 0 where
   pub no_lot : as_lot x ≡ None
   pub clocks : length (each_of as_clock before) + length (one (as_clock x)) ≤ 1
-  pub site : All (λ (d : DieRow). d.site ≤ 63) (one (as_die x))
+  pub site : All (λ (d : DieRow). d.site ≤ last_site) (one (as_die x))
   pub file : All (λ (d : DieRow). is_name d.file ≡ true) (one (as_die x))
   pub few : length (dies_of before) + length (one (as_die x)) ≤ 4096
   pub kept : (length (dies_of before) + length (one (as_die x))) * ((lot_of before).tries * (lot_of before).keep) ≤ 1048576
@@ -157,7 +158,7 @@ kept_more before x kept adds =
     ap (λ n. n * ((lot_of rows).tries * (lot_of rows).keep)) dies
     ∙ ap (λ (l : LotRow). (length (dies_of before) + length (one (as_die x))) * (l.tries * l.keep)) same in
     let stays : (site die : ℕ) → HasDie before site die → HasDie rows site die = λ site die h. omega (arith, dies_at-le site before x, h) in
-    let IsSite : DieRow → Type 0 = λ d. d.site ≤ 63 in
+    let IsSite : DieRow → Type 0 = λ d. d.site ≤ last_site in
     let IsNamed : DieRow → Type 0 = λ d. is_name d.file ≡ true in
     let FaultIn : FaultRow → Type 0 = λ f. HasDie rows f.site f.die in
     let StopIn : StopRow → Type 0 = λ s. HasDie rows s.site s.die in
@@ -218,7 +219,7 @@ adds_none before x kept no_lot no_clock no_die no_fault no_stop bin fresh =
     record {
       no_lot = no_lot;
       clocks = omega (arith, ap (λ (o : Option (List ℕ)). length (one o)) no_clock, kept.clocks);
-      site = subst (λ (o : Option DieRow). All (λ (d : DieRow). d.site ≤ 63) (one o)) (sym no_die) (none_of _);
+      site = subst (λ (o : Option DieRow). All (λ (d : DieRow). d.site ≤ last_site) (one o)) (sym no_die) (none_of _);
       file = subst (λ (o : Option DieRow). All (λ (d : DieRow). is_name d.file ≡ true) (one o)) (sym no_die) (none_of _);
       few = omega (arith, none, kept.dies);
       kept = let P : ℕ → Type 0 = λ n. n * ((lot_of before).tries * (lot_of before).keep) ≤ 1048576 in subst P (sym none) kept.few_kept;
@@ -255,7 +256,7 @@ adds before (row.Bin b) kept some next =
 adds before (row.Die d) kept some next = record {
   no_lot = refl;
   clocks = omega (arith, kept.clocks);
-  site = one_of (λ (e : DieRow). e.site ≤ 63) d next.suits.1;
+  site = one_of (λ (e : DieRow). e.site ≤ last_site) d next.suits.1;
   file = one_of (λ (e : DieRow). is_name e.file ≡ true) d next.suits.4;
   few = next.suits.2;
   kept = next.suits.3;

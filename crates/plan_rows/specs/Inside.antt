@@ -1,5 +1,6 @@
 -- What the code keeps beside the rows so far; no public clause cites it.
 use Rattle.std.specs.Prelude.{◌≡◌, ℕ, ◌+◌, ◌*◌, false, ◌<◌, ◌≤◌, ◌⊎◌, List, [], ◌∷◌, ◌++◌, length, map, slice_index_or, slice_set, Result, Ok, Err, true}
+use Rattle.text_bytes.specs.Limits.{most_plan_sites}
 use Rattle.text_bytes.specs.Texts.{key_texts, added}
 use Rattle.plan_rows.specs.Rows.{dies_of, dies_at, lot_of, IsLot}
 use Rattle.answers.specs.Reading.{reading}
@@ -31,8 +32,8 @@ pub record IsTally (t : DieTally) (rows : List Row) : Type 0 where
   pub lot : t.lot ≡ lot_of rows
   pub dies : t.dies ≡ length (dies_of rows)
   pub few : t.dies ≤ most_dies
-  pub sites : length t.names.items ≡ 64
-  pub names : (site : ℕ) → site < 64 → slice_index_or (kept_names t) site [] ≡ names_at site rows
+  pub sites : length t.names.items ≡ most_plan_sites
+  pub names : (site : ℕ) → site < most_plan_sites → slice_index_or (kept_names t) site [] ≡ names_at site rows
 
 -- an ending in numbers
 abbrev pub ending_key : Ending → List ℕ

@@ -1,5 +1,5 @@
 -- The rows of a plan as plain data: the lists that they make, and what accepted rows keep.
-use Rattle.std.specs.Prelude.{◌≡◌, ◌==◌, ◌+◌, ◌*◌, ◌&&◌, max, ℕ, ◌<◌, ◌≤◌, Option, Some, None, List, [], ◌∷◌, ◌++◌, length, filter, fold, slice_index_or, All, true}
+use Rattle.std.specs.Prelude.{◌≡◌, ◌==◌, ◌+◌, ◌*◌, ◌&&◌, max, ℕ, ◌<◌, ◌≤◌, Option, Some, None, List, [], ◌∷◌, ◌++◌, length, filter, fold, slice_index_or, All, Bool, true}
 use Rattle.text_bytes.specs.Texts.{added}
 use Rattle.plan_rows.specs.Limits.{last_site, most_dies, most_batch, most_tries, most_keep, most_kept, last_bin}
 use Rattle.plan_rows.specs.Words.{is_name}
@@ -110,6 +110,26 @@ as_skew (row.Fault f) = None
 as_skew (row.Stop s) = None
 as_skew (row.Bin b) = None
 as_skew (row.Skew k) = Some k
+
+-- the site that a row names, if it names one
+abbrev pub site_in : Row → Option ℕ
+site_in (row.Lot lot) = None
+site_in (row.Clock signal) = None
+site_in (row.Bind bind) = None
+site_in (row.Die die) = Some die.site
+site_in (row.Fault fault) = Some fault.site
+site_in (row.Stop stop) = Some stop.site
+site_in (row.Bin bin) = None
+site_in (row.Skew skew) = Some skew.site
+
+-- whether a site is this one, or there is none
+abbrev pub is_here : ℕ → Option ℕ → Bool
+is_here site None = true
+is_here site (Some s) = s == site
+
+-- whether a row names this site, or none
+abbrev pub is_about : ℕ → Row → Bool
+is_about site r = is_here site (site_in r)
 
 -- the dies of a plan, in order
 abbrev pub dies_of : List Row → List DieRow

@@ -2,6 +2,7 @@
 
 ghost use Rattle.std.specs.Prelude.{◌≡◌, ◌==◌, ◌<◌, ◌≤◌, ◌⊎◌, ◌∷◌, ◌++◌, ◌-◌, ◌^◌, [], Ok, Err, length, OnOk, IfOk, IfErr};
 ghost use Rattle.csv.specs.Records.{fields_of};
+ghost use Rattle.plan_rows.specs.Limits.{last_site};
 ghost use Rattle.plan_rows.specs.Judging.{row_of, number_at, placed, row_at, judge};
 ghost use Rattle.plan_rows.specs.Forms.{a_die, a_stop, a_skew, written_of};
 ghost use Rattle.plan_rows.specs.Views.{written_seen, placed_seen, fault_seen};
@@ -67,7 +68,7 @@ impl Book {
     /// The number of the die of this name at a site.
     fn number_at(&self, site: u64, name: &[u8]) -> Option<u16>
         requires book { IsBook self.now }
-        requires site { site ≤ 63 }
+        requires site { site ≤ last_site }
         ensures { result ≡ number_at self.now.rows.items site name.now }
     {
         let number = self.tally.place_of(site, name)?;

@@ -12,9 +12,10 @@ use crate::row::{BinRow, BindRow, Ending, LotRow, Row};
 use crate::written::Ended;
 use std::alloc::Global;
 use tester_types::Items;
+use text_bytes::MOST_PLAN_SITES;
 
 /// The greatest number of a site.
-pub(crate) const LAST_SITE: u64 = 63;
+pub(crate) const LAST_SITE: u64 = MOST_PLAN_SITES as u64 - 1;
 
 /// The most tries of a die.
 pub(crate) const MOST_TRIES: u64 = 8;
@@ -26,10 +27,10 @@ pub(crate) const LAST_BATCH: u64 = 281_474_976_710_656;
 pub(crate) const MOST_SKEW: u64 = 1_000_000_000_000;
 
 /// The most cycles of a batch.
-const MOST_CYCLES: u64 = 1_048_576;
+const MOST_BATCH: u64 = 1_048_576;
 
 /// The most kept fails of a try.
-const MOST_KEPT: u64 = 1024;
+const MOST_KEEP: u64 = 1024;
 
 /// The greatest number of an executive.
 const LAST_EXECUTIVE: u64 = 63;
@@ -41,7 +42,7 @@ const LAST_BIN: u64 = 99;
 pub(crate) fn lot_row(place: u32, batch: u64, tries: u64, keep: u64) -> Result<Row, PlanFault>
     ensures { result ≡ row_of place [] (a_lot batch tries keep) }
 {
-    if batch < 1 || batch > MOST_CYCLES || tries < 1 || tries > MOST_TRIES || keep > MOST_KEPT {
+    if batch < 1 || batch > MOST_BATCH || tries < 1 || tries > MOST_TRIES || keep > MOST_KEEP {
         return Err(PlanFault::OutOfRange(place));
     }
     Ok(Row::Lot(LotRow {

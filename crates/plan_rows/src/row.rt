@@ -1,5 +1,8 @@
 //! The rows of a lot's plan, as plain data.
 
+ghost use Rattle.std.specs.Prelude.{◌≡◌};
+ghost use Rattle.plan_rows.specs.Rows.{site_in};
+
 use tester_types::{Items, Text};
 
 /// What holds of the whole lot.
@@ -93,6 +96,21 @@ pub enum Row {
     Stop(StopRow),
     Bin(BinRow),
     Skew(SkewRow),
+}
+
+impl Row {
+    /// The site that the row names, if it names one.
+    pub fn site(&self) -> Option<u8>
+        ensures { result ≡ site_in self.now }
+    {
+        match self {
+            Row::Lot(_) | Row::Clock(_) | Row::Bind(_) | Row::Bin(_) => None,
+            Row::Die(die) => Some(die.site),
+            Row::Fault(fault) => Some(fault.site),
+            Row::Stop(stop) => Some(stop.site),
+            Row::Skew(skew) => Some(skew.site),
+        }
+    }
 }
 
 /// Rows in order.

@@ -3,15 +3,14 @@
 ghost use Rattle.std.specs.Prelude.{◌≡◌, ◌+◌, ◌*◌, ◌<◌, ◌≤◌, ◌^◌, nat_lt, nat_le, ◌&&◌, [], length, All, slice_index_or, slice_set, option_map, OnOk, IfOk};
 ghost use Rattle.std.specs.List.{position};
 ghost use Rattle.std.specs.Str.{bytes_eq};
+ghost use Rattle.text_bytes.specs.Limits.{most_plan_sites};
 ghost use Rattle.text_bytes.specs.Texts.{key_texts, added};
 ghost use Rattle.plan_rows.specs.Inside.{kept_names, IsTally, HasPlace, Notes};
 
 use crate::row::{DieRow, LotRow, Row};
 use indexmap::IndexSet;
 use std::alloc::{AllocError, Global};
-
-/// How many sites there may be.
-const SITES: usize = 64;
+use text_bytes::MOST_PLAN_SITES;
 
 /// The most dies of a plan.
 const MOST_DIES: u64 = 4096;
@@ -38,11 +37,11 @@ fn put_name(alloc: Global, names: &mut IndexSet<Vec<u8>>, name: &[u8]) -> Result
 
 /// No names, for each site.
 fn no_names(alloc: Global) -> Result<Vec<IndexSet<Vec<u8>>>, AllocError>
-    ensures sites { IfOk result (λ names. length names.items ≡ 64) }
+    ensures sites { IfOk result (λ names. length names.items ≡ most_plan_sites) }
     ensures none { IfOk result (λ names. All (λ s. s.keys ≡ []) names.items) }
 {
     let mut names = Vec::new(alloc);
-    for _ in 0..SITES {
+    for _ in 0..MOST_PLAN_SITES {
         names.push(IndexSet::new(alloc))?;
     }
     Ok(names)

@@ -4,9 +4,9 @@ use Rattle.std.specs.Int.{Width, byte_len, from_le_bytes}
 use Rattle.std.specs.List.{list_all, take_while, prefix_len}
 use Rattle.std.proofs.lemmas.Bool.{cases_lt, ltb-false, lt-ltb, le-ltb}
 use Rattle.std.proofs.lemmas.List.{take-append-drop, length-append, length-take}
-use Rattle.packed_code.specs.Letters.{is_place}
+use Rattle.packed_code.specs.RowBytes.{is_place}
 use Rattle.page_code.specs.Fields.{◌>>=◌, Read, byte_at, piece_at, number_at, judged, checked}
-use Rattle.page_code.specs.Reading.{letters_at}
+use Rattle.page_code.specs.Reading.{characters_at}
 use Rattle.page_code.proofs.ReaderLaws.{bind_ok, guard_ok, guard_not, ok_is, piece_again}
 use Rattle.saved_laws.proofs.Sights.{torn, refused, Sees, takes, ends, IsLocal, IsShort, then_local, done_local, alike, checked_local}
 
@@ -122,66 +122,66 @@ less_next a b =
     ]
 
 -- behind a character that may stand in a row
-letters_good : (n b : ℕ) (bytes : List ℕ) (q r s : Bool) → s ≡ r
+characters_good : (n b : ℕ) (bytes : List ℕ) (q r s : Bool) → s ≡ r
     → cond {A = Read (List ℕ)} q (cond s torn (Ok (b ∷ take n bytes, drop n bytes)))
     (refused (suc (length bytes) - length (take (1 + prefix_len is_place bytes) (b ∷ bytes))))
     ≡ (cond {A = Read (List ℕ)} q (cond r torn (Ok (take n bytes, drop n bytes)))
     (refused (length bytes - length (take_while is_place bytes))) >>= λ x. Ok (b ∷ x.0, x.1))
-letters_good n b bytes true true s is = ap (λ (c : Bool). cond {A = Read (List ℕ)} c torn (Ok (b ∷ take n bytes, drop n bytes))) is
-letters_good n b bytes true false s is = ap (λ (c : Bool). cond {A = Read (List ℕ)} c torn (Ok (b ∷ take n bytes, drop n bytes))) is
-letters_good n b bytes false r s is =
+characters_good n b bytes true true s is = ap (λ (c : Bool). cond {A = Read (List ℕ)} c torn (Ok (b ∷ take n bytes, drop n bytes))) is
+characters_good n b bytes true false s is = ap (λ (c : Bool). cond {A = Read (List ℕ)} c torn (Ok (b ∷ take n bytes, drop n bytes))) is
+characters_good n b bytes false r s is =
     let k = prefix_len is_place bytes in
     let as_many : suc (length bytes) - length (take (1 + k) (b ∷ bytes)) ≡ length bytes - length (take k bytes) =
     omega (arith, length-take (1 + k) (b ∷ bytes), length-take k bytes) in
     ap (λ (k : ℕ). refused {A = List ℕ} k) as_many
 
-letters_by : (n b : ℕ) (bytes : List ℕ) (p : Bool)
+characters_by : (n b : ℕ) (bytes : List ℕ) (p : Bool)
     → cond {A = Read (List ℕ)} (p && list_all is_place (take n bytes))
     (cond (ltb (suc (length bytes)) (suc n)) torn (Ok (b ∷ take n bytes, drop n bytes)))
     (refused (suc (length bytes) - length (take (cond p (1 + prefix_len is_place bytes) 0) (b ∷ bytes))))
-    ≡ (cond {A = Read ℕ} p (Ok (b, bytes)) (refused (suc (length bytes))) >>= λ c. letters_at n c.1 >>= λ x. Ok (c.0 ∷ x.0, x.1))
-unfolding letters_at
-letters_by n b bytes true =
-    letters_good n b bytes (list_all is_place (take n bytes)) (ltb (length bytes) n) (ltb (suc (length bytes)) (suc n)) (less_next (length bytes) n)
-letters_by n b bytes false =
+    ≡ (cond {A = Read ℕ} p (Ok (b, bytes)) (refused (suc (length bytes))) >>= λ c. characters_at n c.1 >>= λ x. Ok (c.0 ∷ x.0, x.1))
+unfolding characters_at
+characters_by n b bytes true =
+    characters_good n b bytes (list_all is_place (take n bytes)) (ltb (length bytes) n) (ltb (suc (length bytes)) (suc n)) (less_next (length bytes) n)
+characters_by n b bytes false =
     let all : suc (length bytes) - 0 ≡ suc (length bytes) = omega arith in ap (λ (k : ℕ). refused {A = List ℕ} k) all
 
-letters_first : (n : ℕ) (bytes : List ℕ)
-    → letters_at (suc n) bytes ≡ (checked byte_at is_place bytes >>= λ c. letters_at n c.1 >>= λ x. Ok (c.0 ∷ x.0, x.1))
-unfolding letters_at
-letters_first n [] =
+characters_first : (n : ℕ) (bytes : List ℕ)
+    → characters_at (suc n) bytes ≡ (checked byte_at is_place bytes >>= λ c. characters_at n c.1 >>= λ x. Ok (c.0 ∷ x.0, x.1))
+unfolding characters_at
+characters_first n [] =
     let few : ltb 0 (suc n) ≡ true = lt-ltb 0 (suc n) (omega arith) in
     ap (λ (c : Bool). cond {A = Read (List ℕ)} c torn (Ok ([], []))) few
-letters_first n (b ∷ bytes) = letters_by n b bytes (is_place b)
+characters_first n (b ∷ bytes) = characters_by n b bytes (is_place b)
 
-letters_none : (bytes : List ℕ) → letters_at 0 bytes ≡ Ok ([], bytes)
-unfolding letters_at
-letters_none bytes =
+characters_none : (bytes : List ℕ) → characters_at 0 bytes ≡ Ok ([], bytes)
+unfolding characters_at
+characters_none bytes =
     let all : ltb (length bytes) 0 ≡ false = le-ltb (length bytes) 0 (omega arith) in
     ap (λ (c : Bool). cond {A = Read (List ℕ)} c torn (Ok ([], bytes))) all
 
-pub letters_local : (n : ℕ) → IsLocal (letters_at n)
-letters_local zero = alike (λ bytes. Ok ([], bytes)) (letters_at 0) letters_none (done_local [])
-letters_local (suc n) =
-    alike (λ bytes. checked byte_at is_place bytes >>= λ c. letters_at n c.1 >>= λ x. Ok (c.0 ∷ x.0, x.1)) (letters_at (suc n)) (letters_first n)
-    (then_local (checked byte_at is_place) (λ c. letters_at n c.1 >>= λ x. Ok (c.0 ∷ x.0, x.1))
+pub characters_local : (n : ℕ) → IsLocal (characters_at n)
+characters_local zero = alike (λ bytes. Ok ([], bytes)) (characters_at 0) characters_none (done_local [])
+characters_local (suc n) =
+    alike (λ bytes. checked byte_at is_place bytes >>= λ c. characters_at n c.1 >>= λ x. Ok (c.0 ∷ x.0, x.1)) (characters_at (suc n)) (characters_first n)
+    (then_local (checked byte_at is_place) (λ c. characters_at n c.1 >>= λ x. Ok (c.0 ∷ x.0, x.1))
     (checked_local byte_at is_place (byte_short 1026 (omega arith)) byte_local)
-    (λ c. then_local (letters_at n) (λ x. Ok (c ∷ x.0, x.1)) (letters_local n) (λ x. done_local (c ∷ x))))
+    (λ c. then_local (characters_at n) (λ x. Ok (c ∷ x.0, x.1)) (characters_local n) (λ x. done_local (c ∷ x))))
 
-letters_behind : (n : ℕ) → IsShort n (letters_at n) → (c : ℕ) → IsShort n (λ bytes. letters_at n bytes >>= λ x. Ok (c ∷ x.0, x.1))
-letters_behind n short c bytes a rest e =
-    let step = bind_ok (letters_at n bytes) (λ x. Ok (c ∷ x.0, x.1)) (a, rest) e in
+characters_behind : (n : ℕ) → IsShort n (characters_at n) → (c : ℕ) → IsShort n (λ bytes. characters_at n bytes >>= λ x. Ok (c ∷ x.0, x.1))
+characters_behind n short c bytes a rest e =
+    let step = bind_ok (characters_at n bytes) (λ x. Ok (c ∷ x.0, x.1)) (a, rest) e in
     let one = short bytes step.0.0 step.0.1 step.1 in
     let same : step.0.1 ≡ rest = ap (λ p. p.1) (ok_is (c ∷ step.0.0, step.0.1) (a, rest) step.2) in
     omega (arith, one, ap length same)
 
-pub letters_short : (n : ℕ) → IsShort n (letters_at n)
-letters_short zero bytes a rest e = done_short [] bytes a rest (sym (letters_none bytes) ∙ e)
-letters_short (suc n) bytes a rest e =
-    let read : List ℕ → Read (List ℕ) = λ bytes. checked byte_at is_place bytes >>= λ c. letters_at n c.1 >>= λ x. Ok (c.0 ∷ x.0, x.1) in
+pub characters_short : (n : ℕ) → IsShort n (characters_at n)
+characters_short zero bytes a rest e = done_short [] bytes a rest (sym (characters_none bytes) ∙ e)
+characters_short (suc n) bytes a rest e =
+    let read : List ℕ → Read (List ℕ) = λ bytes. checked byte_at is_place bytes >>= λ c. characters_at n c.1 >>= λ x. Ok (c.0 ∷ x.0, x.1) in
     let short : IsShort (1 + n) read =
-    then_short 1 n (checked byte_at is_place) (λ c. letters_at n c.1 >>= λ x. Ok (c.0 ∷ x.0, x.1))
+    then_short 1 n (checked byte_at is_place) (λ c. characters_at n c.1 >>= λ x. Ok (c.0 ∷ x.0, x.1))
     (checked_short 1 byte_at is_place (byte_short 1 (omega arith)))
-    (λ bytes c rest is. letters_behind n (letters_short n) c) in
-    let is = short bytes a rest (sym (letters_first n bytes) ∙ e) in
+    (λ bytes c rest is. characters_behind n (characters_short n) c) in
+    let is = short bytes a rest (sym (characters_first n bytes) ∙ e) in
     omega (arith, is)

@@ -10,7 +10,8 @@ use Rattle.tester_types.specs.declared.wave.Wave.{Wave}
 use Rattle.tester_types.specs.declared.wave.Table.{Table}
 use Rattle.packed_code.specs.declared.instr.Instr.{Instr}
 use Rattle.packed_code.specs.declared.parts.CodeSignal.{CodeSignal}
-use Rattle.packed_code.specs.Letters.{direction_of, act_of}
+use Rattle.tester_types.specs.Acts.{act_of}
+use Rattle.tester_types.specs.Directions.{direction_of}
 use Rattle.packed_code.specs.Conditions.{is_named, latest}
 use Rattle.page_code.specs.Fields.{◌>>=◌, Read, byte_at, piece_at, number_at, checked, meant, known, items_at}
 use Rattle.page_code.specs.Reading.{raw_text_at, text_at, name_at, signal_at, event_at, pair_at, may_stand, wave_at, table_with, table_at, chain_at, may_follow, instr_with, instr_at, exec_at}
@@ -92,32 +93,32 @@ pair_local : (signals : ℕ) → IsLocal (pair_at signals)
 unfolding pair_at
 pair_local signals =
     then_local (checked (number_at w16) (λ signal. ltb signal signals))
-    (λ signal. checked byte_at is_character signal.1 >>= λ letter. Ok ((signal.0, letter.0), letter.1))
+    (λ signal. checked byte_at is_character signal.1 >>= λ character. Ok ((signal.0, character.0), character.1))
     (small16 (λ signal. ltb signal signals))
-    (λ signal. made_local (checked byte_at is_character) (λ letter. (signal, letter)) (small8 is_character))
+    (λ signal. made_local (checked byte_at is_character) (λ character. (signal, character)) (small8 is_character))
 
 pair_short : (signals : ℕ) → IsShort 3 (pair_at signals)
 unfolding pair_at
 pair_short signals =
     then_short 2 1 (checked (number_at w16) (λ signal. ltb signal signals))
-    (λ signal. checked byte_at is_character signal.1 >>= λ letter. Ok ((signal.0, letter.0), letter.1))
+    (λ signal. checked byte_at is_character signal.1 >>= λ character. Ok ((signal.0, character.0), character.1))
     (short16 (λ signal. ltb signal signals))
-    (λ bytes signal rest e. then_short 1 0 (checked byte_at is_character) (λ letter. Ok ((signal, letter.0), letter.1)) (short8 is_character)
-    (λ bytes letter rest e. done_short (signal, letter)))
+    (λ bytes signal rest e. then_short 1 0 (checked byte_at is_character) (λ character. Ok ((signal, character.0), character.1)) (short8 is_character)
+    (λ bytes character rest e. done_short (signal, character)))
 
 pub wave_local : (signals period most : ℕ) (before : List Wave) → IsLocal (wave_at signals period most before)
 unfolding wave_at
 wave_local signals period most before =
     then_local (checked (pair_at signals) (may_stand most before))
     (λ pair. checked byte_at (λ count. leb count 16) pair.1 >>= λ count. items_at (event_at period) count.0 [] count.1 >>=
-    λ events. Ok (record { signal = pair.0.0; letter = pair.0.1; events = events.0 }, events.1))
+    λ events. Ok (record { signal = pair.0.0; character = pair.0.1; events = events.0 }, events.1))
     (checked_local (pair_at signals) (may_stand most before) (shorter 3 1026 (pair_at signals) (omega arith) (pair_short signals))
     (pair_local signals))
     (λ pair. then_local (checked byte_at (λ count. leb count 16))
     (λ count. items_at (event_at period) count.0 [] count.1 >>=
-    λ events. Ok (record { signal = pair.0; letter = pair.1; events = events.0 }, events.1))
+    λ events. Ok (record { signal = pair.0; character = pair.1; events = events.0 }, events.1))
     (small8 (λ count. leb count 16))
-    (λ count. made_local (items_at (event_at period) count []) (λ events. record { signal = pair.0; letter = pair.1; events = events })
+    (λ count. made_local (items_at (event_at period) count []) (λ events. record { signal = pair.0; character = pair.1; events = events })
     (items_local (event_at period) (event_local period) count [])))
 
 table_local : (signals most : ℕ) → IsLocal (table_with signals most)

@@ -3,14 +3,14 @@ use Rattle.std.proofs.Common.{◌≡◌, ℕ, zero, suc, ◌+◌, ◌*◌, ◌<�
 use Rattle.std.specs.Prelude.{slice_index}
 use Rattle.std.specs.Int.{w16}
 use Rattle.std.proofs.lemmas.Bool.{ltb-true}
-use Rattle.packed_code.specs.Letters.{is_place}
+use Rattle.packed_code.specs.RowBytes.{is_place}
 use Rattle.packed_code.specs.Rows.{is_row_of}
-use Rattle.packed_code.specs.Changes.{last_row, with_changes, is_shorter, is_difference, least_behind}
+use Rattle.page_code.specs.Changes.{last_row, with_changes, is_shorter, is_difference, least_behind}
 use Rattle.page_code.specs.Fields.{◌>>=◌, Read, byte_at, number_at, judged, checked, items_at}
-use Rattle.page_code.specs.Reading.{letters_at, change_from, change_at, changed_at, difference_at, whole_row_at, formed_row_at, row_at, version_of, known_version}
+use Rattle.page_code.specs.Reading.{characters_at, change_from, change_at, changed_at, difference_at, whole_row_at, formed_row_at, row_at, version_of, known_version}
 use Rattle.page_code.proofs.ReaderLaws.{bind_ok, ok_is}
 use Rattle.saved_laws.proofs.Sights.{refused, IsLocal, IsShort, then_local, done_local, either_local, alike, checked_local, items_local}
-use Rattle.saved_laws.proofs.FieldSights.{shorter, then_short, done_short, judged_is, letters_local, letters_short}
+use Rattle.saved_laws.proofs.FieldSights.{shorter, then_short, done_short, judged_is, characters_local, characters_short}
 use Rattle.saved_laws.proofs.PartSights.{made_local, small16, small8, short16, short8}
 
 -- ---- changes
@@ -19,24 +19,24 @@ change_local : (least signals : ℕ) (last : List ℕ) → IsLocal (change_from 
 unfolding change_from
 change_local least signals last =
     then_local (checked (number_at w16) (λ signal. leb least signal && ltb signal signals))
-    (λ signal. checked byte_at (λ letter. is_place letter && not (eqb letter (slice_index last signal.0))) signal.1 >>=
-    λ letter. Ok ((signal.0, letter.0), letter.1))
+    (λ signal. checked byte_at (λ character. is_place character && not (eqb character (slice_index last signal.0))) signal.1 >>=
+    λ character. Ok ((signal.0, character.0), character.1))
     (small16 (λ signal. leb least signal && ltb signal signals))
-    (λ signal. made_local (checked byte_at (λ letter. is_place letter && not (eqb letter (slice_index last signal)))) (λ letter. (signal, letter))
-    (small8 (λ letter. is_place letter && not (eqb letter (slice_index last signal)))))
+    (λ signal. made_local (checked byte_at (λ character. is_place character && not (eqb character (slice_index last signal)))) (λ character. (signal, character))
+    (small8 (λ character. is_place character && not (eqb character (slice_index last signal)))))
 
 change_short : (least signals : ℕ) (last : List ℕ) → IsShort 3 (change_from least signals last)
 unfolding change_from
 change_short least signals last =
     then_short 2 1 (checked (number_at w16) (λ signal. leb least signal && ltb signal signals))
-    (λ signal. checked byte_at (λ letter. is_place letter && not (eqb letter (slice_index last signal.0))) signal.1 >>=
-    λ letter. Ok ((signal.0, letter.0), letter.1))
+    (λ signal. checked byte_at (λ character. is_place character && not (eqb character (slice_index last signal.0))) signal.1 >>=
+    λ character. Ok ((signal.0, character.0), character.1))
     (short16 (λ signal. leb least signal && ltb signal signals))
     (λ bytes signal rest e.
-    then_short 1 0 (checked byte_at (λ letter. is_place letter && not (eqb letter (slice_index last signal))))
-    (λ letter. Ok ((signal, letter.0), letter.1))
-    (short8 (λ letter. is_place letter && not (eqb letter (slice_index last signal))))
-    (λ bytes letter rest e. done_short (signal, letter)))
+    then_short 1 0 (checked byte_at (λ character. is_place character && not (eqb character (slice_index last signal))))
+    (λ character. Ok ((signal, character.0), character.1))
+    (short8 (λ character. is_place character && not (eqb character (slice_index last signal))))
+    (λ bytes character rest e. done_short (signal, character)))
 
 changes_short : (signals : ℕ) (last : List ℕ) (count : ℕ) (before : List (ℕ × ℕ)) → IsShort (3 * count) (items_at (change_at signals last) count before)
 unfolding items_at
@@ -79,7 +79,7 @@ is_count signals count = ltb 0 count && leb count signals
 
 abbrev behind_form : ℕ → ℕ → List ℕ → Read Begun
 behind_form signals form bytes =
-    cond (eqb form 0) (letters_at signals bytes >>= λ x. Ok (whole_begun x.0, x.1))
+    cond (eqb form 0) (characters_at signals bytes >>= λ x. Ok (whole_begun x.0, x.1))
     (checked (number_at w16) (is_count signals) bytes >>= λ x. Ok (count_begun x.0, x.1))
 
 abbrev begun_at : ℕ → List (List ℕ) → List ℕ → Read Begun
@@ -128,10 +128,10 @@ by_form left signals before (Ok form) = by_test (eqb form.0 0)
   where
     by_test : (b : Bool)
         → cond {A = Read (List ℕ)} b (whole_row_at left signals before form.1) (difference_at left signals (last_row before) form.1)
-        ≡ ((cond {A = Read Begun} b (letters_at signals form.1 >>= λ x. Ok (whole_begun x.0, x.1))
+        ≡ ((cond {A = Read Begun} b (characters_at signals form.1 >>= λ x. Ok (whole_begun x.0, x.1))
         (checked (number_at w16) (is_count signals) form.1 >>= λ x. Ok (count_begun x.0, x.1))
         >>= judged left (suits signals before)) >>= finished signals (last_row before))
-    by_test true = whole_is left signals before (letters_at signals form.1)
+    by_test true = whole_is left signals before (characters_at signals form.1)
     by_test false = difference_is left signals before (checked (number_at w16) (is_count signals) form.1)
 by_form left signals before (Err e) = refl
 
@@ -144,9 +144,9 @@ formed_is signals before bytes = by_form (length bytes) signals before (checked 
 begun_local : (signals : ℕ) (before : List (List ℕ)) → IsLocal (begun_at signals before)
 begun_local signals before =
     then_local (checked byte_at (is_form before)) (λ form. behind_form signals form.0 form.1) (small8 (is_form before))
-    (λ form. either_local (eqb form 0) (λ bytes. letters_at signals bytes >>= λ x. Ok (whole_begun x.0, x.1))
+    (λ form. either_local (eqb form 0) (λ bytes. characters_at signals bytes >>= λ x. Ok (whole_begun x.0, x.1))
     (λ bytes. checked (number_at w16) (is_count signals) bytes >>= λ x. Ok (count_begun x.0, x.1))
-    (made_local (letters_at signals) whole_begun (letters_local signals))
+    (made_local (characters_at signals) whole_begun (characters_local signals))
     (made_local (checked (number_at w16) (is_count signals)) count_begun (small16 (is_count signals))))
 
 -- how many bytes are taken up to where the form is judged, and behind that
@@ -163,12 +163,12 @@ begun_reaches signals before bytes k rest e =
     omega (arith, one, two)
   where
     by_test : (b : Bool) (after : List ℕ)
-        → cond {A = Read Begun} b (letters_at signals after >>= λ x. Ok (whole_begun x.0, x.1))
+        → cond {A = Read Begun} b (characters_at signals after >>= λ x. Ok (whole_begun x.0, x.1))
         (checked (number_at w16) (is_count signals) after >>= λ x. Ok (count_begun x.0, x.1)) ≡ Ok (k, rest)
         → 1 + length after ≤ reach signals k + length rest
     by_test true after e =
-        let step = bind_ok (letters_at signals after) (λ x. Ok (whole_begun x.0, x.1)) (k, rest) e in
-        let one = letters_short signals after step.0.0 step.0.1 step.1 in
+        let step = bind_ok (characters_at signals after) (λ x. Ok (whole_begun x.0, x.1)) (k, rest) e in
+        let one = characters_short signals after step.0.0 step.0.1 step.1 in
         let same = ok_is (whole_begun step.0.0, step.0.1) (k, rest) step.2 in
         subst (λ (p : Begun × List ℕ). 1 + length after ≤ reach signals p.0 + length p.1) same (omega (arith, one))
     by_test false after e =
@@ -202,8 +202,8 @@ formed_short signals before few bytes row rest e =
   where
     by_kind : (k : Begun) (after : List ℕ) → length bytes ≤ reach signals k + length after → suits signals before k ≡ true
         → finished signals (last_row before) (k, after) ≡ Ok (row, rest) → length bytes ≤ 1026 + length rest
-    by_kind (inl letters) after one test e =
-        let same : after ≡ rest = ap (λ p. p.1) (ok_is (letters, after) (row, rest) e) in
+    by_kind (inl characters) after one test e =
+        let same : after ≡ rest = ap (λ p. p.1) (ok_is (characters, after) (row, rest) e) in
         omega (arith, one, few, ap length same)
     by_kind (inr count) after one test e =
         let two = changed_short signals (last_row before) count after row rest e in
@@ -218,8 +218,8 @@ row_by n signals before bytes = known_version (version_of n) bytes >>= λ v. row
 pub first_row_local : (signals : ℕ) (before : List (List ℕ)) → signals ≤ 1024 → IsLocal (row_by 1 signals before)
 unfolding row_at
 first_row_local signals before few =
-    checked_local (letters_at signals) (λ row. not (is_row_of before row))
-    (shorter signals 1026 (letters_at signals) (omega (arith, few)) (letters_short signals)) (letters_local signals)
+    checked_local (characters_at signals) (λ row. not (is_row_of before row))
+    (shorter signals 1026 (characters_at signals) (omega (arith, few)) (characters_short signals)) (characters_local signals)
 
 pub second_row_local : (signals : ℕ) (before : List (List ℕ)) → signals ≤ 1024 → IsLocal (row_by 2 signals before)
 unfolding row_at

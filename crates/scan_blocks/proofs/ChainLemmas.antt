@@ -1,13 +1,15 @@
 -- Scan structures that are read have their form.
 use Rattle.std.proofs.Common.{◌≡◌, ℕ, Bool, true, false, cond, nat_le, nat_lt, nat_eq, ◌≤◌, ◌+◌, arith, ◌||◌, List, [], ◌∷◌, ◌++◌, map, Option, Some, None, is_some, Result, Ok, Err, refl, sym, ap, subst, ◌∙◌}
-use Rattle.std.specs.List.{list_all, list_any}
+use Rattle.std.specs.List.{AllByRecursion, list_all, list_any, cons_option}
+use Rattle.std.specs.Prelude.{option_map}
 use Rattle.std.specs.Cmp.Derive.{both_true}
 use Rattle.std.proofs.lemmas.Bool.{or_parts, ne_eqb, ltb-true}
 use Rattle.std.proofs.lemmas.List.Sums.{sum_by_push}
 use Rattle.std.proofs.lemmas.Slice.Eq.{bytes_eq-Decides}
 use Rattle.std.proofs.Math.Dec.{T, eqb_refl}
-use Rattle.std.proofs.lemmas.List.{map-append, append_assoc, append-nil}
+use Rattle.std.proofs.lemmas.List.{map-append, append-nil}
 use Rattle.std.proofs.lemmas.List.Folds.{list_any-append}
+use Rattle.std.proofs.lemmas.List.Elements.{filter_map-append}
 use Rattle.text_bytes.proofs.ListLemmas.{list_any-map}
 use Rattle.stil_tree.specs.Trees.{Entry}
 use Rattle.answers.specs.Reading.{and_then}
@@ -25,17 +27,17 @@ use Rattle.stil_ast.specs.declared.scan.ChainStmt.TheVariants.{Length, In, Out}
 use Rattle.stil_ast.specs.declared.scan.ScanBlock.{ScanBlock}
 use Rattle.scan_blocks.specs.declared.chain.ChainWord.{ChainWord}
 use Rattle.scan_blocks.specs.declared.chain.ChainWord.TheVariants as word
-use Rattle.scan_blocks.specs.declared.chain.ChainParts.{ChainParts}
+use Rattle.scan_blocks.specs.declared.chain.ChainSaid.{ChainSaid}
 use Rattle.pat_read.specs.Statements.{only_name}
 use Rattle.block_forms.specs.Heads.{rest_at, titled_block, count_under, under}
 use Rattle.block_forms.specs.Named.{Names, named_on}
 use Rattle.scan_blocks.specs.Cells.{cells_said}
 use Rattle.block_forms.specs.Keywords.{first_meaning}
-use Rattle.scan_blocks.specs.Chains.{names_of, chain_words, word_number, same_word, only_number, length_by, end_by, inversion_by, cells_on, stmt_said, plain_said, with_said, with_stmt, by_word, chain_step, no_parts, is_chain, chain_name, one_more, new_chain, chain_on, parts_in, chain_said, judge_chain, chains_in, scans_called, scan_block}
+use Rattle.scan_blocks.specs.Chains.{names_of, chain_words, word_number, same_word, only_number, length_by, end_by, inversion_by, cells_on, stmt_said, plain_said, has_word, new_said, judge_stmt, with_words, stmts_in, effects_of, is_chain, chain_name, one_more, new_chain, chain_on, chain_said, judge_chain, chains_in, scans_called, scan_block}
 use Rattle.pat_read.proofs.AcceptedLemmas.{said_at, list_all-one}
 use Rattle.pat_read.proofs.AcceptedBodies.{is_name-only_name}
-use Rattle.block_forms.proofs.AcceptedLemmas.{both_taken, kept, kept_each, kept_read, IsLined, HasLine, inner_lined}
-use Rattle.block_forms.proofs.FormLemmas.{made_where, is_name-named_block, is_optional_name-titled_block}
+use Rattle.block_forms.proofs.AcceptedLemmas.{both_taken, kept_each, kept_read, IsLined, HasLine, inner_lined}
+use Rattle.block_forms.proofs.FormLemmas.{made_where, said_unless, is_name-named_block, is_optional_name-titled_block}
 use Rattle.block_forms.proofs.DeclaredForms.{under-more, all_differ-push}
 use Rattle.scan_blocks.proofs.CellLemmas.{cells_said-are}
 
@@ -133,8 +135,17 @@ abbrev Among : List ChainWord → List ChainStmt → Type 0
 Among words stmts = (n : ℕ) → list_any (nat_eq n) (map word_number words) ≡ false → list_any (nat_eq n) (map chain_kind stmts) ≡ false
 
 -- the statements of a chain have their form, and none of them stands twice
-abbrev Fit : ChainParts → Type 0
-Fit p = (list_all is_chain_stmt p.stmts ≡ true) × (all_differ nat_eq (map chain_kind p.stmts) ≡ true) × Among p.words p.stmts
+abbrev FitBy : List ChainWord → List ChainStmt → Type 0
+FitBy words stmts =
+    (list_all is_chain_stmt stmts ≡ true) × (all_differ nat_eq (map chain_kind stmts) ≡ true) × Among words stmts
+
+-- the keywords of what is said
+abbrev words_of : List ChainSaid → List ChainWord
+words_of said = map (λ (d : ChainSaid). d.word) said
+
+-- the same of what is said
+abbrev Fit : List ChainSaid → Type 0
+Fit said = FitBy (words_of said) (effects_of said)
 
 -- of more keywords
 of_more : (words : List ChainWord) (w : ChainWord) (n : ℕ) → list_any (nat_eq n)
@@ -147,11 +158,13 @@ of_more words w n is =
     (parts.0, (or_parts (nat_eq n (word_number w)) false parts.1).0)
 
 -- one more statement of a new keyword
-said_fits : (words : List ChainWord) (stmts : List ChainStmt) (w : ChainWord) (said : Option ChainStmt)
-    → Fit (record { words = words; stmts = stmts }) → SaidFits w said → list_any (same_word w) words ≡ false
-    → Fit (record { words = words ++ w ∷ []; stmts = with_said stmts said })
-said_fits words stmts w None fit one new = (fit.0, fit.1, λ n none_of. fit.2 n (of_more words w n none_of).0)
-said_fits words stmts w (Some stmt) fit one new =
+effect_fits : (words : List ChainWord) (stmts : List ChainStmt) (w : ChainWord) (effect : Option ChainStmt)
+    → FitBy words stmts → SaidFits w effect → list_any (same_word w) words ≡ false
+    → FitBy (words ++ w ∷ []) (stmts ++ cons_option effect [])
+effect_fits words stmts w None fit one new =
+    subst (FitBy (words ++ w ∷ [])) (sym (append-nil stmts))
+    (fit.0, fit.1, λ n none_of. fit.2 n (of_more words w n none_of).0)
+effect_fits words stmts w (Some stmt) fit one new =
     let away : list_any (nat_eq (word_number w)) (map chain_kind stmts) ≡ false =
     fit.2 (word_number w) (list_any-map word_number (nat_eq (word_number w)) words ∙ new) in (
       list_all-one is_chain_stmt stmts stmt fit.0 one.0,
@@ -164,27 +177,39 @@ said_fits words stmts w (Some stmt) fit one new =
           ∙ none (list_any (nat_eq n) (map chain_kind stmts)) (nat_eq n (chain_kind stmt)) (fit.2 n parts.0) (ap (nat_eq n) one.1 ∙ parts.1),
     )
 
-with_fits : (before next : ChainParts) (w : ChainWord) (said : Option ChainStmt) (b : Bool)
-    → list_any (same_word w) before.words ≡ b → Fit before → SaidFits w said
-    → cond {A = Result ChainParts FormKind} b (Err Twice)
-    (Ok (record { words = before.words ++ w ∷ []; stmts = with_said before.stmts said })) ≡ Ok next → Fit next
-with_fits before next w said true stands fit one is = cc
-with_fits before next w said false stands fit one is =
-    let same : record { words = before.words ++ w ∷ []; stmts = with_said before.stmts said } ≡ next = cc in
-    subst Fit same (said_fits before.words before.stmts w said fit one stands)
+said_fits : (before : List ChainSaid) (w : ChainWord) (effect : Option ChainStmt) → Fit before
+    → SaidFits w effect → has_word before w ≡ false → Fit (before ++ record { word = w; effect = effect } ∷ [])
+said_fits before w effect fit one new =
+    let said : ChainSaid = record { word = w; effect = effect } in
+    let more = effect_fits (words_of before) (effects_of before) w effect fit one
+    (list_any-map (λ (d : ChainSaid). d.word) (same_word w) before ∙ new) in
+    subst (λ (words : List ChainWord). FitBy words (effects_of (before ++ said ∷ [])))
+    (sym (map-append (λ (d : ChainSaid). d.word) before (said ∷ [])))
+    (subst (FitBy (words_of before ++ w ∷ [])) (sym (filter_map-append (λ (d : ChainSaid). d.effect) before (said ∷ []))) more)
 
--- a statement behind those before it
-by_word_fits : (s : Setting) (before next : ChainParts) (e : Entry) (o : Option ChainWord) → HasLine s e
-    → Fit before → by_word s before e o ≡ Ok next → Fit next
-by_word_fits s before next e None lined fit is = let same : before ≡ next = cc in subst Fit same fit
-by_word_fits s before next e (Some w) lined fit is =
-    let parts = both_taken (plain_said s e w (is_some e.body)) (λ said. at_statement e.first (with_stmt before w said)) next is in
-    with_fits before next w parts.0 (list_any (same_word w) before.words) refl fit (plain_fits s e w (is_some e.body) parts.0 lined parts.1)
-    (said_at e.first (with_stmt before w parts.0) next parts.2)
+-- what a statement says behind those before it
+judge_fits : (s : Setting) (before : List ChainSaid) (p : ChainWord × Entry) (said : ChainSaid) → IsLined s p.1
+    → Fit before → judge_stmt s before p ≡ Ok said → Fit (before ++ said ∷ [])
+judge_fits s before (w, e) said lined fit is =
+    let parts = both_taken (plain_said s e w (is_some e.body)) (λ effect. at_statement e.first (new_said before w effect)) said is in
+    let new = said_unless (has_word before w) Twice (Ok (record { word = w; effect = parts.0 })) said
+    (said_at e.first (new_said before w parts.0) said parts.2) in
+    let same : record { word = w; effect = parts.0 } ≡ said = cc (new.1) in
+    subst (λ (x : ChainSaid). Fit (before ++ x ∷ [])) same
+    (said_fits before w parts.0 fit (plain_fits s e w (is_some e.body) parts.0 lined.0 parts.1) new.0)
 
-step_fits : (s : Setting) (before next : ChainParts) (e : Entry) → IsLined s e → Fit before
-    → chain_step s before e ≡ Ok next → Fit next
-step_fits s before next e lined fit is = by_word_fits s before next e (first_meaning chain_words (lexemes_at s e)) lined.0 fit is
+-- those that have a keyword have lines too
+lined_by : (s : Setting) (e : Entry) (o : Option ChainWord) (ps : List (ChainWord × Entry)) → IsLined s e
+    → AllByRecursion (λ (p : ChainWord × Entry). IsLined s p.1) ps
+    → AllByRecursion (λ (p : ChainWord × Entry). IsLined s p.1) (cons_option (option_map (λ word. (word, e)) o) ps)
+lined_by s e None ps one all = all
+lined_by s e (Some word) ps one all = (one, all)
+
+words_lined : (s : Setting) (es : List Entry) → AllByRecursion (IsLined s) es
+    → AllByRecursion (λ (p : ChainWord × Entry). IsLined s p.1) (with_words s es)
+words_lined s [] all = tt
+words_lined s (e ∷ es) all =
+    lined_by s e (first_meaning chain_words (lexemes_at s e)) (with_words s es) all.0 (words_lined s es all.1)
 
 -- the name of a chain
 name_fits : (s : Setting) (e : Entry) (b : Bool) (c : List ℕ) → chain_name s e b ≡ Ok c → is_name c ≡ true
@@ -195,14 +220,15 @@ name_fits s e false c is = cc
 chain_fits : (s : Setting) (title : List ℕ) (declared : Names) (e : Entry) (d : ChainDecl) → IsLined s e
     → chain_said s title declared e ≡ Ok d → is_chain_decl d ≡ true
 chain_fits s title declared e d lined is =
-    let outer = both_taken (new_chain s title declared e) (λ called. and_then (parts_in s (inner_of e.body)) (λ parts. Ok (chain_on s e called parts))) d is in
+    let outer = both_taken (new_chain s title declared e) (λ called. and_then (stmts_in s (inner_of e.body)) (λ said. Ok (chain_on s e called said))) d is in
     let heads = both_taken (chain_name s e (is_chain (lexemes_at s e))) (λ called. at_statement e.first (one_more declared title called)) outer.0 outer.1 in
     let called : is_name outer.0 ≡ true =
     subst (λ (c : List ℕ). is_name c ≡ true) (made_where (nat_lt (count_under declared title) most_chains) OutOfRange heads.0 outer.0 (said_at e.first (one_more declared title heads.0) outer.0 heads.2)).1
     (name_fits s e (is_chain (lexemes_at s e)) heads.0 heads.1) in
-    let inner = both_taken (parts_in s (inner_of e.body)) (λ parts. Ok (chain_on s e outer.0 parts)) d outer.2 in
-    let fit = kept (chain_step s) Fit (IsLined s) (step_fits s) no_parts inner.0 (unskipped s (inner_of e.body)) (inner_lined s e lined)
-    (refl, refl, λ n none_of. refl) inner.1 in
+    let inner = both_taken (stmts_in s (inner_of e.body)) (λ said. Ok (chain_on s e outer.0 said)) d outer.2 in
+    let fit = kept_read (judge_stmt s) Fit (λ (p : ChainWord × Entry). IsLined s p.1) (judge_fits s)
+    [] inner.0 (with_words s (unskipped s (inner_of e.body)))
+    (words_lined s (unskipped s (inner_of e.body)) (inner_lined s e lined)) (refl, refl, λ n none_of. refl) inner.1 in
     let same : chain_on s e outer.0 inner.0 ≡ d = cc in
     subst (λ (x : ChainDecl). is_chain_decl x ≡ true) same (both_true (both_true (both_true called fit.0) fit.1) lined.0)
 
@@ -245,7 +271,7 @@ chain_room : (s : Setting) (title : List ℕ) (declared : Names) (e : Entry) (d 
     → chain_said s title declared e ≡ Ok d → nat_lt (count_under declared title) most_chains ≡ true
 chain_room s title declared e d is =
     let outer = both_taken (new_chain s title declared e)
-    (λ called. and_then (parts_in s (inner_of e.body)) (λ parts. Ok (chain_on s e called parts))) d is in
+    (λ called. and_then (stmts_in s (inner_of e.body)) (λ said. Ok (chain_on s e called said))) d is in
     let heads = both_taken (chain_name s e (is_chain (lexemes_at s e)))
     (λ called. at_statement e.first (one_more declared title called)) outer.0 outer.1 in
     (made_where (nat_lt (count_under declared title) most_chains) OutOfRange heads.0 outer.0

@@ -1,3 +1,5 @@
 pub mod StandardFacts
+pub mod LimitLemmas
+pub mod WorkingLemmas
 pub mod CellLemmas
 pub mod ChainLemmas

@@ -1,2 +1,3 @@
 -- Known texts, whose results the definitions give.
 pub mod ScanBlocks
+pub mod Cells

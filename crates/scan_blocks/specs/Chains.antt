@@ -1,6 +1,6 @@
 -- ScanStructures blocks (IEEE 1450-1999, clause 20).
-use Rattle.std.specs.Prelude.{ℕ, nat_le, nat_lt, nat_eq, Bool, true, false, List, [], ◌∷◌, ◌++◌, map, codes, Option, Some, None, is_some, if◌then◌else◌, Result, Ok, Err}
-use Rattle.std.specs.List.{list_any}
+use Rattle.std.specs.Prelude.{ℕ, nat_le, nat_lt, nat_eq, Bool, true, false, List, [], ◌∷◌, ◌++◌, map, codes, Option, Some, None, is_some, option_map, if◌then◌else◌, Result, Ok, Err}
+use Rattle.std.specs.List.{filter_map, list_any}
 use Rattle.stil_tree.specs.Trees.{Entry}
 use Rattle.stil_form.specs.declared.fault.FormFault.{FormFault}
 use Rattle.stil_form.specs.declared.fault.FormFault.TheVariants.{Refused}
@@ -8,7 +8,7 @@ use Rattle.stil_form.specs.declared.fault.FormKind.{FormKind}
 use Rattle.stil_form.specs.declared.fault.FormKind.TheVariants.{Shape, LeftOut, OutOfRange, Twice}
 use Rattle.stil_form.specs.Lexeme.{Lexeme}
 use Rattle.stil_form.specs.Fronts.{index_by}
-use Rattle.answers.specs.Reading.{and_then, reading, stepping}
+use Rattle.answers.specs.Reading.{and_then, reading}
 use Rattle.stil_form.specs.Setting.{Setting, lexemes_at, line_at, at_statement, inner_of, unskipped}
 use Rattle.text_bytes.specs.Limits.{most_chains, most_cells}
 use Rattle.stil_ast.specs.declared.scan.ChainDecl.{ChainDecl}
@@ -18,7 +18,7 @@ use Rattle.stil_ast.specs.declared.scan.ScanBlock.{ScanBlock}
 use Rattle.stil_ast.specs.declared.name.NameRef.{NameRef}
 use Rattle.scan_blocks.specs.declared.chain.ChainWord.{ChainWord}
 use Rattle.scan_blocks.specs.declared.chain.ChainWord.TheVariants as word
-use Rattle.scan_blocks.specs.declared.chain.ChainParts.{ChainParts}
+use Rattle.scan_blocks.specs.declared.chain.ChainSaid.{ChainSaid}
 use Rattle.pat_read.specs.Statements.{is_there, only_name}
 use Rattle.block_forms.specs.Heads.{is_first, named_block, titled_block, rest_at, count_under, under}
 use Rattle.block_forms.specs.Keywords.{first_meaning}
@@ -80,30 +80,24 @@ abbrev pub plain_said : Setting → Entry → ChainWord → Bool → Result (Opt
 plain_said s e word true = Err (Refused Shape e.first)
 plain_said s e word false = stmt_said s e word
 
--- one more statement, where it has an effect
-abbrev pub with_said : List ChainStmt → Option ChainStmt → List ChainStmt
-with_said before None = before
-with_said before (Some stmt) = before ++ stmt ∷ []
+-- one of these statements has the keyword
+abbrev pub has_word : List ChainSaid → ChainWord → Bool
+has_word before word = list_any (λ (said : ChainSaid). same_word word said.word) before
 
 -- a statement of each keyword may stand once
-abbrev pub with_stmt : ChainParts → ChainWord → Option ChainStmt → Result ChainParts FormKind
-with_stmt before word said =
-    if list_any (same_word word) before.words then Err Twice
-    else Ok (record { words = before.words ++ word ∷ []; stmts = with_said before.stmts said })
+abbrev pub new_said : List ChainSaid → ChainWord → Option ChainStmt → Result ChainSaid FormKind
+new_said before word effect =
+    if has_word before word then Err Twice else Ok (record { word = word; effect = effect })
 
--- a statement by its keyword; one without is skipped
-abbrev pub by_word : Setting → ChainParts → Entry → Option ChainWord → Result ChainParts FormFault
-by_word s before e None = Ok before
-by_word s before e (Some word) =
-    and_then (plain_said s e word (is_some e.body)) (λ said. at_statement e.first (with_stmt before word said))
+-- what a statement with this keyword says, behind those before it
+abbrev pub judge_stmt : Setting → List ChainSaid → ChainWord × Entry → Result ChainSaid FormFault
+judge_stmt s before (word, e) =
+    and_then (plain_said s e word (is_some e.body)) (λ effect. at_statement e.first (new_said before word effect))
 
--- a statement behind those before it
-abbrev pub chain_step : Setting → ChainParts → Entry → Result ChainParts FormFault
-chain_step s before e = by_word s before e (first_meaning chain_words (lexemes_at s e))
-
--- before the first statement
-abbrev pub no_parts : ChainParts
-no_parts = record { words = []; stmts = [] }
+-- the statements that have a keyword, each with it; one without is skipped
+abbrev pub with_words : Setting → List Entry → List (ChainWord × Entry)
+with_words s es =
+    filter_map (λ (e : Entry). option_map (λ word. (word, e)) (first_meaning chain_words (lexemes_at s e))) es
 
 -- a statement that begins a chain
 abbrev pub is_chain : List Lexeme → Bool
@@ -124,19 +118,23 @@ new_chain s title declared e =
     and_then (chain_name s e (is_chain (lexemes_at s e))) (λ called.
     at_statement e.first (one_more declared title called))
 
--- a chain of this name on the line of its statement
-abbrev pub chain_on : Setting → Entry → List ℕ → ChainParts → ChainDecl
-chain_on s e called parts = record { name = called; stmts = parts.stmts; line = line_at s.tokens e.first }
+-- what the statements of a chain say
+abbrev pub stmts_in : Setting → List Entry → Result (List ChainSaid) FormFault
+stmts_in s es = reading (judge_stmt s) [] (with_words s (unskipped s es))
 
--- the statements of a chain
-abbrev pub parts_in : Setting → List Entry → Result ChainParts FormFault
-parts_in s es = stepping (chain_step s) no_parts (unskipped s es)
+-- those of them that have an effect
+abbrev pub effects_of : List ChainSaid → List ChainStmt
+effects_of said = filter_map (λ (stmt : ChainSaid). stmt.effect) said
+
+-- a chain of this name and these statements, on the line of its own
+abbrev pub chain_on : Setting → Entry → List ℕ → List ChainSaid → ChainDecl
+chain_on s e called said = record { name = called; stmts = effects_of said; line = line_at s.tokens e.first }
 
 -- a chain under a title, where these are declared
 abbrev pub chain_said : Setting → List ℕ → Names → Entry → Result ChainDecl FormFault
 chain_said s title declared e =
     and_then (new_chain s title declared e) (λ called.
-    and_then (parts_in s (inner_of e.body)) (λ parts. Ok (chain_on s e called parts)))
+    and_then (stmts_in s (inner_of e.body)) (λ said. Ok (chain_on s e called said)))
 
 -- the names of chains
 abbrev pub names_of : List ChainDecl → List (List ℕ)

@@ -7,7 +7,8 @@ ghost use Rattle.stil_form.specs.Setting.{at_statement};
 ghost use Rattle.stil_form.specs.Lexeme.{lexeme_of, lexemes};
 ghost use Rattle.stil_form.specs.Fronts.{index_by};
 ghost use Rattle.stil_ast.specs.Data.BlockForms as forms;
-ghost use Rattle.scan_blocks.specs.Cells as cells;
+ghost use Rattle.scan_blocks.specs.Cells.{cells_said};
+ghost use Rattle.scan_blocks.specs.Working as cells;
 
 use block_forms::with_one;
 use std::alloc::{AllocError, Global};
@@ -212,9 +213,9 @@ fn read_parts(alloc: Global, first: u32, head: Source) -> Result<CellsRead, Form
     Ok(read)
 }
 
-/// The cells that stand behind the keyword of the statement with this first token.
-pub(crate) fn read_cells(alloc: Global, first: u32, rest: Source) -> Result<CellDeclList, FormFault>
-    ensures { Answers result (cells.cells_said first (lexemes rest.entry)) }
+/// The cells by one pass over what stands behind the keyword of the statement with this first token.
+fn read_worked(alloc: Global, first: u32, rest: Source) -> Result<CellDeclList, FormFault>
+    ensures { Answers result (cells.cells_worked first (lexemes rest.entry)) }
 {
     if rest.tokens.is_empty() {
         return Err(FormFault::Refused(FormKind::Shape, first));
@@ -229,4 +230,11 @@ pub(crate) fn read_cells(alloc: Global, first: u32, rest: Source) -> Result<Cell
         Some(CellsLeft { cells, .. }) => Ok(cells),
         None => Err(FormFault::Refused(FormKind::OutOfRange, first)),
     }
+}
+
+/// The cells that stand behind the keyword of the statement with this first token.
+pub(crate) fn read_cells(alloc: Global, first: u32, rest: Source) -> Result<CellDeclList, FormFault>
+    ensures { Answers result (cells_said first (lexemes rest.entry)) }
+{
+    read_worked(alloc, first, rest)
 }

@@ -1,7 +1,6 @@
 //! ScanStructures blocks (IEEE 1450-1999, clause 20).
 
 ghost use Rattle.std.specs.Prelude.{◌≡◌, ◌∷◌, ◌++◌, [], Ok, IfOk, is_some, map};
-ghost use Rattle.std.specs.List.{list_any};
 ghost use Rattle.stil_tree.specs.Trees.{entry_of};
 ghost use Rattle.stil_form.specs.Reading.{Answers, AnswersBy};
 ghost use Rattle.stil_form.specs.Setting.{setting_of, at_statement};
@@ -13,13 +12,12 @@ ghost use Rattle.scan_blocks.specs.Chains as chains;
 use crate::cells::{index_of, read_cells};
 use block_forms::{
     Declared, first_keyword, is_first, named_block, named_on, only_name, rest_at, titled_block,
-    with_one,
 };
-use std::alloc::Global;
+use std::alloc::{AllocError, Global};
 use stil_ast::{CellsDecl, ChainDecl, ChainStmt, ChainStmtList, ScanBlock};
 use stil_form::{
-    FormFault, FormKind, Reader, Source, StepForm, first_of, first_part, has_block, head_at,
-    inner_of, line_at, read_unskipped_steps, skips,
+    FormFault, FormKind, Reader, Source, first_of, first_part, has_block, head_at, inner_of,
+    line_at, skips,
 };
 use stil_tree::Stmt;
 use tester_types::Items;
@@ -35,11 +33,11 @@ pub(crate) enum ChainWord {
     Inversion,
 }
 
-/// The keywords of a chain's statements so far, and what they say.
+/// What a statement of a ScanChain says: its keyword, and the statement, where it has an effect.
 #[derive(Drop)]
-pub(crate) struct ChainParts {
-    words: Items<ChainWord>,
-    stmts: ChainStmtList,
+pub(crate) struct ChainSaid {
+    word: ChainWord,
+    effect: Option<ChainStmt>,
 }
 
 /// The keywords of a ScanChain.
@@ -63,12 +61,12 @@ fn word_number(word: ChainWord) -> u8
     }
 }
 
-fn has_word(words: &[ChainWord], word: ChainWord) -> bool
-    ensures { result ≡ list_any (chains.same_word word) words.now }
+fn has_word(before: &[ChainSaid], word: ChainWord) -> bool
+    ensures { result ≡ chains.has_word before.now word }
 {
-    words
+    before
         .iter()
-        .any(|before| word_number(word) == word_number(*before))
+        .any(|said| word_number(word) == word_number(said.word))
 }
 
 /// One number behind a keyword.
@@ -165,66 +163,61 @@ fn plain_said(
     }
 }
 
-/// Statements of a ScanChain.
-#[derive(Clone, Copy)]
-struct ChainForm<'k, 'a> {
-    reader: Reader<'k, 'a>,
-}
-
-impl StepForm for ChainForm<'_, '_> {
-    type State = ChainParts;
-
-    ghost step = { λ form before e. chains.chain_step (setting_of form.reader) before e };
-
-    fn take(
-        &self,
-        alloc: Global,
-        before: ChainParts,
-        stmt: &Stmt,
-    ) -> Result<ChainParts, FormFault> {
-        let head = head_at(self.reader.source, stmt);
-        let Some(word) = first_keyword(&CHAIN_WORDS, head) else {
-            return Ok(before);
-        };
-        let said = plain_said(alloc, &self.reader, stmt, word)?;
-        let ChainParts { words, stmts } = before;
-        if has_word(words.as_slice(), word) {
-            return Err(FormFault::Refused(FormKind::Twice, first_of(stmt)));
-        }
-        let words = with_one(words, word)?;
-        match said {
-            Some(said) => {
-                let stmts = with_one(stmts, said)?;
-                Ok(ChainParts { words, stmts })
-            }
-            None => Ok(ChainParts { words, stmts }),
-        }
-    }
-}
-
-/// The statements of a chain.
-fn read_parts(alloc: Global, reader: &Reader, stmts: &[Stmt]) -> Result<ChainParts, FormFault>
-    ensures { Answers result (chains.parts_in (setting_of reader.now) (map entry_of stmts.now)) }
+/// What a statement with this keyword says, behind those before it.
+fn judge_stmt(
+    alloc: Global,
+    reader: &Reader,
+    before: &[ChainSaid],
+    stmt: &Stmt,
+    word: ChainWord,
+) -> Result<ChainSaid, FormFault>
+    ensures { Answers result (chains.judge_stmt (setting_of reader.now) before.now (word, entry_of stmt.now)) }
 {
-    let form = ChainForm { reader: *reader };
-    let start = ChainParts {
-        words: Items::from_vec(Vec::new(alloc)),
-        stmts: Items::from_vec(Vec::new(alloc)),
-    };
-    read_unskipped_steps(alloc, &form, reader, start, stmts)
+    let effect = plain_said(alloc, reader, stmt, word)?;
+    if has_word(before, word) {
+        return Err(FormFault::Refused(FormKind::Twice, first_of(stmt)));
+    }
+    Ok(ChainSaid { word, effect })
 }
 
-/// A chain, and the names that are declared with it.
+/// What the statements of a chain say.
+fn read_stmts(alloc: Global, reader: &Reader, stmts: &[Stmt]) -> Result<Vec<ChainSaid>, FormFault>
+    ensures { AnswersBy (λ read. read.items) result
+        (chains.stmts_in (setting_of reader.now) (map entry_of stmts.now)) }
+{
+    let mut read = Vec::new(alloc);
+    for stmt in stmts {
+        if skips(reader, stmt) {
+            continue;
+        }
+        let Some(word) = first_keyword(&CHAIN_WORDS, head_at(reader.source, stmt)) else {
+            continue;
+        };
+        let said = judge_stmt(alloc, reader, read.as_slice(), stmt, word)?;
+        read.push(said)?;
+    }
+    Ok(read)
+}
+
+/// The statements that have an effect.
+fn effects(alloc: Global, said: Vec<ChainSaid>) -> Result<ChainStmtList, AllocError>
+    ensures { IfOk result (λ stmts. stmts ≡ chains.effects_of said.items) }
+{
+    let stmts = said.into_iter().filter_map(|one| one.effect);
+    Ok(Items::from_vec(stmts.collect(alloc)?))
+}
+
+/// A chain, whose name is declared with it.
 fn read_chain<'a>(
     alloc: Global,
     reader: &Reader<'_, 'a>,
     title: &'a [u8],
-    declared: Declared<'a>,
+    declared: &mut Declared<'a>,
     stmt: &Stmt,
-) -> Result<(ChainDecl, Declared<'a>), FormFault>
-    ensures read { AnswersBy (λ read. read.0) result
-        (chains.chain_said (setting_of reader.now) title.entry.now declared.entry (entry_of stmt.now)) }
-    ensures declared { IfOk result (λ read. read.1 ≡ declared.entry ++ (title.entry.now, read.0.name) ∷ []) }
+) -> Result<ChainDecl, FormFault>
+    ensures read { Answers result
+        (chains.chain_said (setting_of reader.now) title.entry.now declared.old (entry_of stmt.now)) }
+    ensures declared { IfOk result (λ read. declared.new ≡ declared.old ++ (title.entry.now, read.name) ∷ []) }
 {
     if !is_first(b"ScanChain", head_at(reader.source, stmt)) {
         return Err(FormFault::Refused(FormKind::LeftOut, first_of(stmt)));
@@ -233,54 +226,54 @@ fn read_chain<'a>(
     if declared.count(title) >= MOST_CHAINS {
         return Err(FormFault::Refused(FormKind::OutOfRange, first_of(stmt)));
     }
-    let ChainParts { stmts, .. } = read_parts(alloc, reader, inner_of(stmt))?;
+    let said = read_stmts(alloc, reader, inner_of(stmt))?;
+    let stmts = effects(alloc, said)?;
     let name = Items::from_slice(alloc, called)?;
     let line = line_at(reader.source.tokens, first_of(stmt) as usize);
-    let declared = declared.with(title, called)?;
-    Ok((ChainDecl { name, stmts, line }, declared))
+    declared.add(alloc, title, called)?;
+    Ok(ChainDecl { name, stmts, line })
 }
 
-/// The chains of a block, and the names that are declared with them.
+/// The chains of a block, whose names are declared with them.
 fn read_chains<'a>(
     alloc: Global,
     reader: &Reader<'_, 'a>,
     title: &'a [u8],
-    declared: Declared<'a>,
+    declared: &mut Declared<'a>,
     stmts: &[Stmt],
-) -> Result<(Vec<ChainDecl>, Declared<'a>), FormFault>
-    ensures read { AnswersBy (λ read. read.0.items) result
-        (chains.chains_in (setting_of reader.now) title.entry.now declared.entry (map entry_of stmts.now)) }
+) -> Result<Vec<ChainDecl>, FormFault>
+    ensures read { AnswersBy (λ read. read.items) result
+        (chains.chains_in (setting_of reader.now) title.entry.now declared.old (map entry_of stmts.now)) }
     ensures declared { IfOk result
-        (λ read. read.1 ≡ declared.entry ++ under title.entry.now (chains.names_of read.0.items)) }
+        (λ read. declared.new ≡ declared.old ++ under title.entry.now (chains.names_of read.items)) }
 {
     let mut read = Vec::new(alloc);
-    let mut declared = declared;
     for stmt in stmts {
         if skips(reader, stmt) {
             continue;
         }
-        let (chain, more) = read_chain(alloc, reader, title, declared, stmt)?;
-        declared = more;
+        let chain = read_chain(alloc, reader, title, declared, stmt)?;
         read.push(chain)?;
     }
-    Ok((read, declared))
+    Ok(read)
 }
 
-/// The ScanStructures block that a statement is, and the names that are declared with it.
+/// The ScanStructures block that a statement is, behind the chains declared so far, each under the title of its block; its own are
+/// declared with it.
 pub fn read_scan_block<'a>(
     alloc: Global,
     reader: &Reader<'_, 'a>,
-    declared: Declared<'a>,
+    declared: &mut Declared<'a>,
     stmt: &Stmt,
-) -> Result<(ScanBlock, Declared<'a>), FormFault>
-    ensures read { AnswersBy (λ read. read.0) result
-        (chains.scan_block (setting_of reader.now) declared.entry (entry_of stmt.now)) }
+) -> Result<ScanBlock, FormFault>
+    ensures read { Answers result
+        (chains.scan_block (setting_of reader.now) declared.old (entry_of stmt.now)) }
     ensures declared { IfOk result
-        (λ read. read.1 ≡ declared.entry ++ under read.0.name (chains.names_of read.0.chains)) }
+        (λ read. declared.new ≡ declared.old ++ under read.name (chains.names_of read.chains)) }
 {
     let title = titled_block(reader, stmt)?;
-    let (read, declared) = read_chains(alloc, reader, title, declared, inner_of(stmt))?;
+    let read = read_chains(alloc, reader, title, declared, inner_of(stmt))?;
     let name = Items::from_slice(alloc, title)?;
     let chains = Items::from_vec(read);
-    Ok((ScanBlock { name, chains }, declared))
+    Ok(ScanBlock { name, chains })
 }

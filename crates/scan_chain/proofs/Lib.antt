@@ -1,4 +1,5 @@
 pub mod CellLemmas
 pub mod NumberLemmas
 pub mod StandardFacts
+pub mod WorkingLemmas
 pub mod ShortLemmas

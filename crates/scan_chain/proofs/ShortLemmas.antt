@@ -1,5 +1,5 @@
 -- The chains of one text are short, since each statement of a chain has its form.
-use Rattle.std.proofs.Common.{◌≡◌, ℕ, Bool, true, false, cond, ◌&&◌, List, [], ◌∷◌, ◌++◌, Option, Some, None, length, refl, ap, ◌∙◌}
+use Rattle.std.proofs.Common.{◌≡◌, ℕ, Bool, true, false, cond, ◌&&◌, List, [], ◌∷◌, ◌++◌, Option, Some, None, length, refl, sym, ap, ◌∙◌}
 use Rattle.std.specs.Prelude.{flat_map, nat_le, unwrap_or, ◌==◌}
 use Rattle.std.specs.List.{list_all, list_any}
 use Rattle.std.proofs.lemmas.Bool.{and_parts, and_from}
@@ -9,7 +9,7 @@ use Rattle.stil_ast.specs.Data.Texts.{same, is_name}
 use Rattle.stil_ast.specs.Data.Forms.{is_line, is_name_ref, is_optional_name}
 use Rattle.stil_ast.specs.Data.BlockForms.{cell_count, is_chain_stmt, is_chain_decl, is_scan_block}
 use Rattle.stil_ast.specs.Meaning.Signals.{names_of}
-use Rattle.stil_ast.specs.Meaning.Chains.{Chain, chains_named, length_in, cells_in, out_in, scan_out_of, chain_with, distinct_chains}
+use Rattle.stil_ast.specs.Meaning.Chains.{Chain, chains_named, length_in, cells_in, out_in, scan_out_of, chain_with}
 use Rattle.stil_ast.specs.Meaning.Bursts.{exec_scans}
 use Rattle.stil_ast.specs.declared.scan.ScanBlock.{ScanBlock}
 use Rattle.stil_ast.specs.declared.scan.ChainDecl.{ChainDecl}
@@ -17,6 +17,8 @@ use Rattle.stil_ast.specs.declared.scan.ChainStmt.{ChainStmt}
 use Rattle.stil_ast.specs.declared.scan.ChainStmt.TheVariants.{Length, In, Out, Cells}
 use Rattle.stil_ast.proofs.FormLemmas.{length-cells_of}
 use Rattle.scan_chain.proofs.CellLemmas.{declared_chains}
+use Rattle.scan_chain.proofs.WorkingLemmas.{distinct_behind-none}
+use Rattle.scan_chain.specs.Working.{distinct_behind}
 use Rattle.scan_chain.specs.Short.{is_short, ChainsAreShort}
 
 -- what is made of items that pass passes
@@ -31,7 +33,7 @@ flat_map-all q p f each (x ∷ xs) all =
 
 -- chains that are told apart are among those that there are
 distinct_chains-all : (p : Chain → Bool) (chains before : List Chain) → list_all p before ≡ true → list_all p chains ≡ true
-    → list_all p (distinct_chains before chains) ≡ true
+    → list_all p (distinct_behind before chains) ≡ true
 distinct_chains-all p [] before front all = front
 distinct_chains-all p (c ∷ chains) before front all =
     let parts = and_parts (p c) (list_all p chains) all in
@@ -102,7 +104,8 @@ pub chains-are_short : ChainsAreShort
 chains-are_short blocks e one =
     let names = names_of blocks in
     let decls = chains_named blocks.scans (exec_scans blocks e) in
-    distinct_chains-all is_short (declared_chains names decls) [] refl
+    ap (list_all is_short) (sym (distinct_behind-none (declared_chains names decls)))
+    ∙ distinct_chains-all is_short (declared_chains names decls) [] refl
     (flat_map-all is_chain_decl is_short (λ (d : ChainDecl). chain_with d (scan_out_of names (out_in d.stmts)))
     (λ d h. chain_with-short d (scan_out_of names (out_in d.stmts)) (stmts_of d h)) decls
     (named-all blocks.scans (exec_scans blocks e) one.each_scan_block))

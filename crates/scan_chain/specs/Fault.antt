@@ -16,12 +16,12 @@ chains_titled blocks title = chains_of (names_of blocks) (chains_named blocks.sc
 
 -- and their first fault
 abbrev pub titled_fault : Blocks → List ℕ → Option StilFault
-titled_fault blocks title = chains_fault (names_of blocks) title [] (chains_named blocks.scans title)
+titled_fault blocks title = chains_fault (names_of blocks) title (chains_named blocks.scans title)
 
 -- the first fault of the chains of an executive
 abbrev pub chain_list_fault : Blocks → ExecDecl → Option StilFault
 chain_list_fault blocks e =
-    chains_fault (names_of blocks) (exec_scans blocks e) [] (chains_named blocks.scans (exec_scans blocks e))
+    chains_fault (names_of blocks) (exec_scans blocks e) (chains_named blocks.scans (exec_scans blocks e))
 
 -- the fault by which an executive is refused for its chains
 pub record IsChainFault (blocks : Blocks) (e : ExecDecl) (r : StilRefusal) : Type 0 where

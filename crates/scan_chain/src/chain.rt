@@ -3,7 +3,6 @@
 ghost use Rattle.std.specs.Prelude.{◌≡◌, ◌==◌, ◌<◌, All, ℕ, List, find, filter, length, slice_get, option_map, IfOk, OnOk};
 ghost use Rattle.std.specs.List.{list_any};
 ghost use Rattle.std.specs.Option.{option_copied};
-ghost use Rattle.tester_types.specs.Cells.{cell_behind, marked_cell};
 ghost use Rattle.stil_ast.specs.Meaning.Signals.{Names};
 ghost use Rattle.stil_ast.specs.Meaning.Chains.{Chain, scan_outs};
 ghost use Rattle.signal_groups.specs.Table.{table_of};
@@ -75,8 +74,8 @@ impl Chains {
         Ok(SignalList::from_vec(outs))
     }
 
-    /// The names of the chain that ends at a signal and of its cell that a mark means, where there is such a cell. A
-    /// mark is 1 more than the index of a scan character, from 0: the first to leave a chain is that of its last cell.
+    /// No command calls it: the names of the chain that ends at a signal and of its cell that a mark means, where there is such a
+    /// cell. A mark is 1 more than the index of a scan character, from 0: the first to leave a chain is that of its last cell.
     pub fn cell_of(&self, signal: u16, mark: u32) -> Option<(&Text, &Text)>
         ensures { option_map by_names result ≡ cell_of self.now signal mark }
     {
@@ -126,29 +125,6 @@ fn chain_at(chains: &[ScanChain], signal: u16) -> Option<&ScanChain>
 fn cell_in(chain: &ScanChain, mark: u32) -> Option<(&Text, &Text)>
     ensures { option_map by_names result ≡ cell_in mark (chain_in chain.now) }
 {
-    let cell = marked_cell(chain, mark)?;
+    let cell = chain.cells.marked(chain.length, mark)?;
     Some((&chain.name, cell))
-}
-
-/// The cell that a mark means.
-fn marked_cell(chain: &ScanChain, mark: u32) -> Option<&Text>
-    ensures { option_copied result ≡ marked_cell chain.now.length chain.now.cells mark }
-{
-    if mark == 0 {
-        None
-    } else {
-        cell_behind(chain, mark - 1)
-    }
-}
-
-/// The cell whose character leaves a chain with this index, from 0.
-fn cell_behind(chain: &ScanChain, index: u32) -> Option<&Text>
-    ensures { option_copied result ≡ cell_behind chain.now.length chain.now.cells index }
-{
-    let index = index as usize;
-    if index < chain.length {
-        chain.cells.as_slice().get(chain.length - 1 - index)
-    } else {
-        None
-    }
 }

@@ -13,6 +13,7 @@ ghost use Rattle.stil_ast.specs.Meaning.Chains.{cells_of, scan_place, chain_stmt
 ghost use Rattle.stil_ast.specs.declared.scan.ChainDecl.{ChainDecl};
 ghost use Rattle.stil_ast.specs.declared.scan.ChainStmt.TheVariants as stmts;
 ghost use Rattle.signal_groups.specs.Table.{table_of};
+ghost use Rattle.scan_chain.specs.Working.{faults_behind};
 
 use itoa::Buffer;
 use signal_groups::{SignalTable, index_at, index_count};
@@ -170,6 +171,22 @@ fn check_chain(
     check_stmts(alloc, signals, block, decl.stmts.as_slice())
 }
 
+/// Checks chains in text order, each behind those before it.
+fn check_behind(
+    alloc: Global,
+    signals: &SignalTable,
+    block: &[u8],
+    decls: &[&ChainDecl],
+) -> Result<(), StilRefusal>
+    ensures { (names : Names) → signals.now ≡ table_of names
+        → Passes (faults_behind names block.now [] (behind decls.now)) result }
+{
+    for (place, decl) in decls.iter().enumerate() {
+        check_chain(alloc, signals, block, &decls[..place], decl)?;
+    }
+    Ok(())
+}
+
 /// Checks the chains of an executive in text order.
 pub(crate) fn check_chains(
     alloc: Global,
@@ -178,10 +195,7 @@ pub(crate) fn check_chains(
     decls: &[&ChainDecl],
 ) -> Result<(), StilRefusal>
     ensures { (names : Names) → signals.now ≡ table_of names
-        → Passes (chains_fault names block.now [] (behind decls.now)) result }
+        → Passes (chains_fault names block.now (behind decls.now)) result }
 {
-    for (place, decl) in decls.iter().enumerate() {
-        check_chain(alloc, signals, block, &decls[..place], decl)?;
-    }
-    Ok(())
+    check_behind(alloc, signals, block, decls)
 }

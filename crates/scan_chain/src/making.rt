@@ -5,9 +5,10 @@ ghost use Rattle.std.specs.Option.{option_copied};
 ghost use Rattle.text_bytes.specs.Texts.{behind};
 ghost use Rattle.stil_ast.specs.Data.Texts.{indices, indexed, names_with};
 ghost use Rattle.stil_ast.specs.Meaning.Signals.{Names};
-ghost use Rattle.stil_ast.specs.Meaning.Chains.{Chain, cells_of, cells_in, length_in, out_in, scan_out_of, chain_with, distinct_chains, chains_of};
+ghost use Rattle.stil_ast.specs.Meaning.Chains.{Chain, cells_of, cells_in, length_in, out_in, scan_out_of, chain_with, chains_of};
 ghost use Rattle.signal_groups.specs.Table.{table_of};
 ghost use Rattle.scan_chain.specs.Held.{chain_in, chains_in, cells_if};
+ghost use Rattle.scan_chain.specs.Working.{distinct_behind, chains_behind};
 
 use crate::chain::ScanChain;
 use crate::outs::is_end;
@@ -144,8 +145,8 @@ fn add_chain(
     decl: &ChainDecl,
     out: u16,
 ) -> Result<(), AllocError>
-    ensures { OnOk result ((rest : List Chain) → distinct_chains (chains_in chains.new.items) rest
-        ≡ distinct_chains (chains_in chains.old.items) (chain_with decl.now (Some out) ++ rest)) }
+    ensures { OnOk result ((rest : List Chain) → distinct_behind (chains_in chains.new.items) rest
+        ≡ distinct_behind (chains_in chains.old.items) (chain_with decl.now (Some out) ++ rest)) }
 {
     if is_end(chains.as_slice(), out) {
         return Ok(());
@@ -163,14 +164,30 @@ fn take_chain(
     decl: &ChainDecl,
 ) -> Result<(), AllocError>
     ensures { OnOk result ((names : Names) (rest : List Chain) → signals.now ≡ table_of names
-        → distinct_chains (chains_in chains.new.items) rest
-        ≡ distinct_chains (chains_in chains.old.items)
+        → distinct_behind (chains_in chains.new.items) rest
+        ≡ distinct_behind (chains_in chains.old.items)
         (chain_with decl.now (scan_out_of names (out_in decl.now.stmts)) ++ rest)) }
 {
     match scan_out_of(signals, decl.stmts.as_slice()) {
         Some(out) => add_chain(alloc, chains, decl, out),
         None => Ok(()),
     }
+}
+
+/// The chains of declarations, each behind those before it.
+fn chains_behind(
+    alloc: Global,
+    signals: &SignalTable,
+    decls: &[&ChainDecl],
+) -> Result<Vec<ScanChain>, AllocError>
+    ensures { IfOk result (λ chains. (names : Names) → signals.now ≡ table_of names
+        → chains_in chains.items ≡ chains_behind names (behind decls.now)) }
+{
+    let mut chains = Vec::new(alloc);
+    for decl in decls {
+        take_chain(alloc, signals, &mut chains, decl)?;
+    }
+    Ok(chains)
 }
 
 /// The chains of declarations.
@@ -182,9 +199,5 @@ pub(crate) fn chains_of(
     ensures { IfOk result (λ chains. (names : Names) → signals.now ≡ table_of names
         → chains_in chains.items ≡ chains_of names (behind decls.now)) }
 {
-    let mut chains = Vec::new(alloc);
-    for decl in decls {
-        take_chain(alloc, signals, &mut chains, decl)?;
-    }
-    Ok(chains)
+    chains_behind(alloc, signals, decls)
 }

@@ -68,8 +68,8 @@ pub fn column(alloc: Global, left: &[u8], passes: usize, out: bool) -> Result<Co
     Ok(ColumnList::from_vec(entries))
 }
 
-/// The place, in what is left of a signal's argument, of the character that a pass of a Shift takes, from 0. None stands
-/// for what the signal had before the Shift. So a column of data that are kept as runs needs no memory.
+/// No command calls it: the place, in what is left of a signal's argument, of the character that a pass of a Shift takes, from
+/// 0. None stands for what the signal had before the Shift. So a column of data that are kept as runs needs no memory.
 pub fn column_place(left: usize, passes: usize, out: bool, pass: usize) -> Option<usize>
     ensures place { (entries : List Entry) → length entries ≡ left
         → slice_index_or (column out passes entries) pass padding ≡ entry_at entries result }

@@ -9,7 +9,7 @@ use Rattle.tester_types.specs.declared.level.Drive.{Drive}
 use Rattle.tester_types.specs.declared.wave.Table.{Table}
 use Rattle.packed_code.specs.Program.{Program}
 use Rattle.packed_code.specs.Cycles.{period_of}
-use Rattle.packed_code.specs.Conditions.{letters_of}
+use Rattle.packed_code.specs.Conditions.{characters_of}
 use Rattle.bench_net.specs.Circuit.{Net, Circuit, IsWhole}
 use Rattle.edge_gen.specs.Moments.{moments_of}
 use Rattle.die_sim.specs.Die.{Device, State}
@@ -141,13 +141,13 @@ module _ (net : Net) (order order' : List ℕ) (readers readers' : List (List �
 
       -- the moments of a table, where there is one
       at_time : List Table → ℕ → List ℕ → ℕ → List Moment
-      at_time all table letters time = option_map_or (λ t. moments_of t letters skews time) (slice_get all table) []
+      at_time all table characters time = option_map_or (λ t. moments_of t characters skews time) (slice_get all table) []
 
       moments_in_alike : (time : ℕ) (c c' : Cycle) → Say code.rows code'.rows c c' → moments_in stand time c ≡ moments_in twins time c'
       unfolding moments_in at_time
       moments_in_alike time c c' says =
-          ap (λ (l : List Table). at_time l c.table (letters_of code.rows c.row) time) tables
-          ∙ ap (λ (s : SaidCycle). at_time code'.tables s.table s.letters time) says
+          ap (λ (l : List Table). at_time l c.table (characters_of code.rows c.row) time) tables
+          ∙ ap (λ (s : SaidCycle). at_time code'.tables s.table s.characters time) says
 
       -- a cycle by the moments that it has
       by_moments : Device → ℕ → Going → ℕ → List Moment → PlayedCycle

@@ -11,7 +11,7 @@ use Rattle.tester_types.specs.declared.wave.Event.{Event}
 use Rattle.tester_types.specs.declared.wave.Table.{Table}
 use Rattle.tester_types.specs.declared.cycle.Cycle.{Cycle}
 use Rattle.tester_types.specs.declared.cycle.Moment.{Moment}
-use Rattle.packed_code.specs.Conditions.{letters_of}
+use Rattle.packed_code.specs.Conditions.{characters_of}
 use Rattle.packed_code.specs.Cycles.{period_of}
 use Rattle.edge_gen.specs.Signals.{wave_of, events_of, moved_time, moved, skew_of, signals_of, stays_inside, stay_inside, is_inside, keeps_inside}
 use Rattle.edge_gen.specs.Moments.{times_of, instants, moment_at, moments_of}
@@ -29,13 +29,13 @@ use Rattle.site_meaning.specs.Part.{Part, IsPart, lot_in, skews_in, stand_for}
 -- ---- the events of a cycle are inside it
 
 -- each event of a signal, moved, stays inside the cycle
-events_inside : (table : Table) (skews : List ℤ) (signal letter : ℕ) → keeps_inside table skews ≡ true
-    → stay_inside table.period (skew_of skews signal) (events_of table.waves signal letter) ≡ true
-events_inside table skews signal letter all =
-    own_events table.period skews signal (wave_of table.waves signal letter) (wave_of-signal table.waves signal letter)
-    (cond_both (eqb letter 0) None (find (is_wave signal letter) (reverse table.waves))
+events_inside : (table : Table) (skews : List ℤ) (signal character : ℕ) → keeps_inside table skews ≡ true
+    → stay_inside table.period (skew_of skews signal) (events_of table.waves signal character) ≡ true
+events_inside table skews signal character all =
+    own_events table.period skews signal (wave_of table.waves signal character) (wave_of-signal table.waves signal character)
+    (cond_both (eqb character 0) None (find (is_wave signal character) (reverse table.waves))
     (λ o. IfSome o (λ w. is_inside table.period skews w ≡ true)) (λ _. tt)
-    (λ _. found_passes (is_wave signal letter) (is_inside table.period skews) (reverse table.waves)
+    (λ _. found_passes (is_wave signal character) (is_inside table.period skews) (reverse table.waves)
     (all_reversed (is_inside table.period skews) table.waves all)))
 
 time_inside : (period : ℕ) (skew : ℤ) (time : ℕ) → stays_inside period skew time ≡ true → moved_time skew time < period
@@ -95,7 +95,7 @@ unfolding moments_in moments_of
 moments_from stand time cycle = go (slice_get stand.code.tables cycle.table)
   where
     row : List ℕ
-    row = letters_of stand.code.rows cycle.row
+    row = characters_of stand.code.rows cycle.row
 
     go : (found : Option Table) → AllByRecursion (λ (m : Moment). time ≤ m.at)
         (option_map_or (λ table. moments_of table row stand.skews time) found [])
@@ -109,7 +109,7 @@ unfolding moments_in moments_of
 moments_before stand time cycle fit = go (slice_get stand.code.tables cycle.table) refl
   where
     row : List ℕ
-    row = letters_of stand.code.rows cycle.row
+    row = characters_of stand.code.rows cycle.row
 
     inside : (table : Table) → slice_get stand.code.tables cycle.table ≡ Some table → keeps_inside table stand.skews ≡ true
     inside table found =

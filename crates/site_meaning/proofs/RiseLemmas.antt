@@ -10,7 +10,7 @@ use Rattle.tester_types.specs.declared.wave.Event.{Event}
 use Rattle.tester_types.specs.declared.wave.Table.{Table}
 use Rattle.tester_types.specs.declared.cycle.Cycle.{Cycle}
 use Rattle.tester_types.specs.declared.cycle.Moment.{Moment}
-use Rattle.packed_code.specs.Conditions.{letters_of}
+use Rattle.packed_code.specs.Conditions.{characters_of}
 use Rattle.edge_gen.specs.Signals.{signals_of}
 use Rattle.edge_gen.specs.Moments.{Rises, times_of, instants, moment_at, moments_of}
 use Rattle.edge_gen.proofs.InstantLemmas.{instants_are}
@@ -66,7 +66,7 @@ unfolding moments_in moments_of
 moments_rise stand time cycle = go (slice_get stand.code.tables cycle.table)
   where
     row : List ℕ
-    row = letters_of stand.code.rows cycle.row
+    row = characters_of stand.code.rows cycle.row
 
     go : (found : Option Table) → Rises (map (λ (m : Moment). m.at) (option_map_or (λ table. moments_of table row stand.skews time) found []))
     go None = tt

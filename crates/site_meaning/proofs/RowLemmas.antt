@@ -9,15 +9,15 @@ use Rattle.plan_rows.specs.declared.row.DieRow.{DieRow}
 use Rattle.plan_rows.specs.declared.row.FaultRow.{FaultRow}
 use Rattle.plan_rows.specs.declared.row.StopRow.{StopRow}
 use Rattle.plan_rows.specs.declared.row.SkewRow.{SkewRow}
-use Rattle.plan_rows.specs.Rows.{one, each_of, as_lot, as_clock, as_bind, as_bin, as_die, as_fault, as_stop, as_skew, dies_at, faults_at, stops_at, skews_at}
-use Rattle.site_meaning.specs.Part.{concerns, rows_for}
+use Rattle.plan_rows.specs.Rows.{one, each_of, as_lot, as_clock, as_bind, as_bin, as_die, as_fault, as_stop, as_skew, dies_at, faults_at, stops_at, skews_at, is_about}
+use Rattle.site_meaning.specs.Part.{rows_for}
 
 -- ---- rows of another site
 
 -- a row of another site is a die, a fault, a stop or a skew of it
 of_other_site : (site : ℕ) (P : Row → Type 0) → ((d : DieRow) → eqb d.site site ≡ false → P (row.Die d))
     → ((f : FaultRow) → eqb f.site site ≡ false → P (row.Fault f)) → ((s : StopRow) → eqb s.site site ≡ false → P (row.Stop s))
-    → ((k : SkewRow) → eqb k.site site ≡ false → P (row.Skew k)) → (r : Row) → concerns site r ≡ false → P r
+    → ((k : SkewRow) → eqb k.site site ≡ false → P (row.Skew k)) → (r : Row) → is_about site r ≡ false → P r
 of_other_site site P die fault stop skew (row.Lot l) h = absurd (true≢false h)
 of_other_site site P die fault stop skew (row.Clock s) h = absurd (true≢false h)
 of_other_site site P die fault stop skew (row.Bind b) h = absurd (true≢false h)
@@ -36,12 +36,12 @@ step-siteless {A} f true r kept rows none same = ap (λ (l : List A). one (f r) 
 step-siteless {A} f false r kept rows none same = same ∙ ap (λ (o : Option A). one o ++ each_of f rows) (sym (none refl))
 
 -- what no row of another site gives
-each-siteless : {A : Type 0} (site : ℕ) (f : Row → Option A) → ((r : Row) → concerns site r ≡ false → f r ≡ None)
+each-siteless : {A : Type 0} (site : ℕ) (f : Row → Option A) → ((r : Row) → is_about site r ≡ false → f r ≡ None)
     → (rows : List Row) → each_of f (rows_for site rows) ≡ each_of f rows
 unfolding rows_for
 each-siteless site f none [] = refl
 each-siteless site f none (r ∷ rows) =
-    step-siteless f (concerns site r) r (rows_for site rows) rows (none r) (each-siteless site f none rows)
+    step-siteless f (is_about site r) r (rows_for site rows) rows (none r) (each-siteless site f none rows)
 
 step-sited : {A : Type 0} (f : Row → Option A) (test : A → Bool) (here : Bool) (r : Row) (kept rows : List Row)
     → (here ≡ false → filter test (one (f r)) ≡ []) → filter test (each_of f kept) ≡ filter test (each_of f rows)
@@ -55,12 +55,12 @@ step-sited {A} f test false r kept rows none same =
 
 -- what the rows of another site give that doesn't pass
 each-sited : {A : Type 0} (site : ℕ) (f : Row → Option A) (test : A → Bool)
-    → ((r : Row) → concerns site r ≡ false → filter test (one (f r)) ≡ []) → (rows : List Row)
+    → ((r : Row) → is_about site r ≡ false → filter test (one (f r)) ≡ []) → (rows : List Row)
     → filter test (each_of f (rows_for site rows)) ≡ filter test (each_of f rows)
 unfolding rows_for
 each-sited site f test none [] = refl
 each-sited site f test none (r ∷ rows) =
-    step-sited f test (concerns site r) r (rows_for site rows) rows (none r) (each-sited site f test none rows)
+    step-sited f test (is_about site r) r (rows_for site rows) rows (none r) (each-sited site f test none rows)
 
 -- ---- the rows that name no site
 
@@ -119,15 +119,15 @@ skews-same site rows =
     (λ k e. none_passes test k e) r h) rows
 
 -- the rows of a site are taken once
-step-once : (site : ℕ) (here : Bool) (r : Row) (kept : List Row) → concerns site r ≡ here → rows_for site kept ≡ kept
+step-once : (site : ℕ) (here : Bool) (r : Row) (kept : List Row) → is_about site r ≡ here → rows_for site kept ≡ kept
     → rows_for site (cond here (r ∷ kept) kept) ≡ cond here (r ∷ kept) kept
 unfolding rows_for
 step-once site true r kept is same =
-    cond-true (concerns site r) (r ∷ rows_for site kept) (rows_for site kept) is ∙ ap (λ (l : List Row). r ∷ l) same
+    cond-true (is_about site r) (r ∷ rows_for site kept) (rows_for site kept) is ∙ ap (λ (l : List Row). r ∷ l) same
 step-once site false r kept is same = same
 
 pub rows_for-rows_for : (site : ℕ) (rows : List Row) → rows_for site (rows_for site rows) ≡ rows_for site rows
 unfolding rows_for
 rows_for-rows_for site [] = refl
 rows_for-rows_for site (r ∷ rows) =
-    step-once site (concerns site r) r (rows_for site rows) refl (rows_for-rows_for site rows)
+    step-once site (is_about site r) r (rows_for site rows) refl (rows_for-rows_for site rows)

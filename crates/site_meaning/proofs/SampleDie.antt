@@ -27,7 +27,7 @@ inverter = record {
 
 -- a wave of one event
 abbrev pub wave : ℕ → ℕ → ℕ → Act → Wave
-wave signal letter time what = record { signal = signal; letter = letter; events = record { time = time; act = what } ∷ [] }
+wave signal character time what = record { signal = signal; character = character; events = record { time = time; act = what } ∷ [] }
 
 -- A is driven down by 0 and up by 1; Y is looked at after 40 ns: A=0 Y=H, then A=1 Y=L
 abbrev pub program : Program

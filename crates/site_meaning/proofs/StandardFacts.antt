@@ -396,12 +396,12 @@ windows what = record program {
     period = 100000000;
     waves = record {
       signal = 0;
-      letter = 114;
+      character = 114;
       events = record { time = 0; act = act.Push push.Up } ∷ record { time = 30000000; act = act.Push push.Down } ∷ [];
     }
         ∷ record {
           signal = 1;
-          letter = 119;
+          character = 119;
           events = record { time = 20000000; act = act.Look what } ∷ record { time = 60000000; act = act.Look look.Close } ∷ [];
         } ∷ [];
   } ∷ [];
@@ -442,9 +442,9 @@ flip_flop = record {
 
 -- down at first, and up from 50 ns on
 abbrev risen : ℕ → ℕ → Wave
-risen signal letter = record {
+risen signal character = record {
   signal = signal;
-  letter = letter;
+  character = character;
   events = record { time = 0; act = act.Push push.Down } ∷ record { time = 50000000; act = act.Push push.Up } ∷ [];
 }
 

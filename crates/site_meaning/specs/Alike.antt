@@ -4,7 +4,7 @@ use Rattle.std.specs.Prelude.{◌≡◌, ℕ, ◌<◌, List, length, map}
 use Rattle.tester_types.specs.declared.cycle.Cycle.{Cycle}
 use Rattle.packed_code.specs.Program.{Program}
 use Rattle.packed_code.specs.Cycles.{exec_of, cycles_of}
-use Rattle.packed_code.specs.Conditions.{letters_of}
+use Rattle.packed_code.specs.Conditions.{characters_of}
 use Rattle.bench_net.specs.Circuit.{Circuit, IsWhole}
 use Rattle.site_meaning.specs.Part.{Part, dies_in, circuit_in}
 
@@ -12,7 +12,7 @@ use Rattle.site_meaning.specs.Part.{Part, dies_in, circuit_in}
 pub record SaidCycle : Type 0 where
   pub start : ℕ
   pub table : ℕ
-  pub letters : List ℕ
+  pub characters : List ℕ
   pub mark : ℕ
 
 -- what a cycle says, its row read among these
@@ -20,7 +20,7 @@ abbrev pub said_by : List (List ℕ) → Cycle → SaidCycle
 said_by rows cycle = record {
   start = cycle.start;
   table = cycle.table;
-  letters = letters_of rows cycle.row;
+  characters = characters_of rows cycle.row;
   mark = cycle.mark;
 }
 

@@ -1,5 +1,5 @@
 -- What a site's tries run on: the program, the plan's rows of the site and of no site, and the circuits of its dies.
-use Rattle.std.specs.Prelude.{◌≡◌, ℕ, ◌==◌, ℤ, All, Bool, true, Option, List, map, filter, length, slice_index_or}
+use Rattle.std.specs.Prelude.{◌≡◌, ℕ, ℤ, All, true, Option, List, map, filter, length, slice_index_or}
 use Rattle.std.specs.List.{position_or_len, range_with_len}
 use Rattle.std.specs.Str.{bytes_eq}
 use Rattle.bench_net.specs.Circuit.{Circuit}
@@ -8,9 +8,8 @@ use Rattle.packed_code.specs.Program.{Program}
 use Rattle.packed_code.specs.Conditions.{IsProgram}
 use Rattle.edge_gen.specs.Signals.{keeps_inside}
 use Rattle.plan_rows.specs.declared.row.Row.{Row}
-use Rattle.plan_rows.specs.declared.row.Row.TheVariants as row
 use Rattle.plan_rows.specs.declared.row.LotRow.{LotRow}
-use Rattle.plan_rows.specs.Rows.{IsLot, dies_at, faults_at, skews_at, files_of, lot_of}
+use Rattle.plan_rows.specs.Rows.{IsLot, dies_at, faults_at, skews_at, files_of, lot_of, is_about}
 use Rattle.lot_plan.specs.Bound.{Bound, no_circuit, circuit_of, binding_to, numbered, loaded, stop_of}
 use Rattle.lot_plan.specs.Skews.{skews_of}
 use Rattle.site_meaning.specs.Playing.{Stand}
@@ -22,20 +21,9 @@ pub record Part : Type 0 where
   pub rows : List Row
   pub circuits : List Circuit
 
--- whether a row is of this site, or names no site
-abbrev pub concerns : ℕ → Row → Bool
-concerns site (row.Lot lot) = true
-concerns site (row.Clock signal) = true
-concerns site (row.Bind bind) = true
-concerns site (row.Die die) = die.site == site
-concerns site (row.Fault fault) = fault.site == site
-concerns site (row.Stop stop) = stop.site == site
-concerns site (row.Bin bin) = true
-concerns site (row.Skew skew) = skew.site == site
-
 -- the rows of a site, and those that name no site
 unfoldable pub rows_for : ℕ → List Row → List Row
-rows_for site rows = filter (concerns site) rows
+rows_for site rows = filter (is_about site) rows
 
 -- the circuits of a site's dies
 unfoldable pub circuits_for : Bound → ℕ → List Circuit

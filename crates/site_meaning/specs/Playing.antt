@@ -11,7 +11,7 @@ use Rattle.tester_types.specs.declared.cycle.Cycle.{Cycle}
 use Rattle.tester_types.specs.declared.cycle.Moment.{Moment}
 use Rattle.tester_types.specs.declared.record.Fail.{Fail}
 use Rattle.packed_code.specs.Program.{Program}
-use Rattle.packed_code.specs.Conditions.{letters_of}
+use Rattle.packed_code.specs.Conditions.{characters_of}
 use Rattle.packed_code.specs.Cycles.{period_of}
 use Rattle.edge_gen.specs.Signals.{keeps_inside}
 use Rattle.edge_gen.specs.Moments.{moments_of}
@@ -156,7 +156,7 @@ entries_in device whose along (moment ∷ later) =
 -- the moments of a cycle that starts at this time: those of its table and its row, with each signal moved by its skew
 unfoldable pub moments_in : Stand → ℕ → Cycle → List Moment
 moments_in stand time cycle =
-    option_map_or (λ table. moments_of table (letters_of stand.code.rows cycle.row) stand.skews time)
+    option_map_or (λ table. moments_of table (characters_of stand.code.rows cycle.row) stand.skews time)
     (slice_get stand.code.tables cycle.table) []
 
 -- a moment as it was played: its instant, whether it makes a call of the socket, and the fails of the earlier moments

@@ -14,7 +14,7 @@ use Rattle.tester_types.specs.declared.record.Fail.{Fail}
 use Rattle.tester_types.specs.declared.cycle.Cycle.{Cycle}
 use Rattle.tester_types.specs.declared.cycle.Moment.{Moment}
 use Rattle.packed_code.specs.Program.{Program}
-use Rattle.packed_code.specs.Conditions.{IsProgram, IsRow, letters_of}
+use Rattle.packed_code.specs.Conditions.{IsProgram, IsRow, characters_of}
 use Rattle.packed_code.specs.Cycles.{period_of}
 use Rattle.packed_code.proofs.Lists.{behind_at}
 use Rattle.edge_gen.specs.Signals.{signals_of}
@@ -71,12 +71,12 @@ between_moments table row skews start inside =
 
 -- whatever the row's number is, its events stay inside
 stay_inside_row : (code : Program) (skews : List ℤ) (number place : ℕ) (table : Table) → FitCode code skews → IsProgram code
-    → slice_get code.tables number ≡ Some table → StayInside table (letters_of code.rows place) skews
+    → slice_get code.tables number ≡ Some table → StayInside table (characters_of code.rows place) skews
 stay_inside_row code skews number place table fit program found =
     elim (cases_lt place (length code.rows)) [
       | inl within ↦
           let long = (behind_at (IsRow (length code.signals)) [] code.rows place [] program.rows within).places in
-          (moved_fit code skews number table (letters_of code.rows place) fit (slice_get_within code.tables number table found) found long).inside
+          (moved_fit code skews number table (characters_of code.rows place) fit (slice_get_within code.tables number table found) found long).inside
       | inr past ↦
           let none = ap (λ (l : List ℕ). length l) (get_or_past code.rows place [] past) in
           (λ signal low. absurd (omega (arith, low, none)))
@@ -88,9 +88,9 @@ unfolding moments_in
 cycle_rises stand time cycle = by (slice_get stand.code.tables cycle.table)
   where
     by : (o : Option Table)
-        → Rising (option_map_or (λ table. moments_of table (letters_of stand.code.rows cycle.row) stand.skews time) o [])
+        → Rising (option_map_or (λ table. moments_of table (characters_of stand.code.rows cycle.row) stand.skews time) o [])
     by None = tt
-    by (Some table) = rising_moments table (letters_of stand.code.rows cycle.row) stand.skews time
+    by (Some table) = rising_moments table (characters_of stand.code.rows cycle.row) stand.skews time
 
 -- and are inside it
 pub cycle_between : (stand : Stand) (time : ℕ) (cycle : Cycle) → FitCode stand.code stand.skews → IsProgram stand.code
@@ -100,10 +100,10 @@ cycle_between stand time cycle fit program = by (slice_get stand.code.tables cyc
   where
     by : (o : Option Table) → slice_get stand.code.tables cycle.table ≡ o
         → Between time (time + option_map_or (λ t. t.period) o 0)
-        (option_map_or (λ table. moments_of table (letters_of stand.code.rows cycle.row) stand.skews time) o [])
+        (option_map_or (λ table. moments_of table (characters_of stand.code.rows cycle.row) stand.skews time) o [])
     by None is = tt
     by (Some table) is =
-        between_moments table (letters_of stand.code.rows cycle.row) stand.skews time
+        between_moments table (characters_of stand.code.rows cycle.row) stand.skews time
         (stay_inside_row stand.code stand.skews cycle.table cycle.row table fit program is)
 
 -- ---- one of the moments

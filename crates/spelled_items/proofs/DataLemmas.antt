@@ -9,13 +9,13 @@ use Rattle.stil_form.specs.declared.part.SignKind.TheVariants as mark
 use Rattle.stil_form.specs.Lexeme.{Lexeme, word, name, text, sign, lexeme_at}
 use Rattle.text_bytes.specs.Numbers.{number_by}
 use Rattle.text_bytes.specs.Limits.{most_repeats}
-use Rattle.stil_ast.specs.Meaning.Statements.{Item, letter, hash, percent}
+use Rattle.stil_ast.specs.Meaning.Statements.{Item, a_character, hash, percent}
 use Rattle.stil_ast.proofs.GroupItems.{none_is_some}
 use Rattle.answers.specs.Reading.{and_then}
 use Rattle.pat_read.specs.Data as words
 use Rattle.pat_read.proofs.DataLemmas.{behind-append}
 use Rattle.pat_read.specs.Data.{has_underscore, times_by, unit_of, item_said, word_behind, repeat_said, unit_said, behind, data_from, data_of}
-use Rattle.spelled_items.specs.SpelledData.{IsUnit, hash_unit, percent_unit, letter_unit, Repeats, Spells, no_items, characters, one_hash, one_percent, repeated, may_begin, is_left_out, Fails, no_beginning, nothing_behind, left_out, no_form, no_more, no_unit, too_often, StopsAt}
+use Rattle.spelled_items.specs.SpelledData.{IsUnit, hash_unit, percent_unit, character_unit, Repeats, Spells, no_items, characters, one_hash, one_percent, repeated, may_begin, is_left_out, Fails, no_beginning, nothing_behind, left_out, no_form, no_more, no_unit, too_often, StopsAt}
 use Rattle.spelled_items.proofs.ChoiceLemmas.{chosen_first, chosen_second}
 use Rattle.spelled_items.specs.Laws.{DataAreSpelled, DataAreRefused}
 
@@ -66,14 +66,14 @@ at_times bytes slash next times tokens r =
 unit_found : (one : Lexeme) (item : Item) → IsUnit one item → unit_of one ≡ Some item
 unit_found _ _ hash_unit = refl
 unit_found _ _ percent_unit = refl
-unit_found _ _ (letter_unit byte apart) = ap (λ b. cond {A = Option Item} b None (Some (letter byte))) apart
+unit_found _ _ (character_unit byte apart) = ap (λ b. cond {A = Option Item} b None (Some (a_character byte))) apart
 
 -- what is found is a unit
-letter_is_unit : (byte : ℕ) (item : Item) (b : Bool) → (byte == 95) ≡ b
-    → cond {A = Option Item} b None (Some (letter byte)) ≡ Some item → IsUnit (word (byte ∷ [])) item
-letter_is_unit byte item true apart is = cc
-letter_is_unit byte item false apart is =
-    let same : letter byte ≡ item = cc in subst (λ (i : Item). IsUnit (word (byte ∷ [])) i) same (letter_unit byte apart)
+character_is_unit : (byte : ℕ) (item : Item) (b : Bool) → (byte == 95) ≡ b
+    → cond {A = Option Item} b None (Some (a_character byte)) ≡ Some item → IsUnit (word (byte ∷ [])) item
+character_is_unit byte item true apart is = cc
+character_is_unit byte item false apart is =
+    let same : a_character byte ≡ item = cc in subst (λ (i : Item). IsUnit (word (byte ∷ [])) i) same (character_unit byte apart)
 
 hash_is_unit : (item : Item) → Some hash ≡ Some item → IsUnit (sign mark.Hash) item
 hash_is_unit item is = let same : hash ≡ item = cc in subst (λ (i : Item). IsUnit (sign mark.Hash) i) same hash_unit
@@ -84,7 +84,7 @@ percent_is_unit item is =
 
 unit_is : (one : Lexeme) (item : Item) → unit_of one ≡ Some item → IsUnit one item
 unit_is (word []) item is = none_is_some item is
-unit_is (word (byte ∷ [])) item is = letter_is_unit byte item (byte == 95) refl is
+unit_is (word (byte ∷ [])) item is = character_is_unit byte item (byte == 95) refl is
 unit_is (word (byte ∷ next ∷ bytes)) item is = none_is_some item is
 unit_is (name bytes) item is = none_is_some item is
 unit_is (text bytes) item is = none_is_some item is
@@ -140,7 +140,7 @@ reads_on bytes _ rest _ no_items = sym (behind-nothing (data_of bytes rest))
 reads_on bytes _ rest _ (characters token tokens items spelled is apart more) =
     at_item bytes token (tokens ++ rest) (word spelled) is
     ∙ ap (λ said. then_read (λ s. data_from bytes s (tokens ++ rest)) said) (chosen_second (has_underscore spelled) _ _ apart)
-    ∙ read_behind bytes (map letter spelled) items (tokens ++ rest) rest (reads_on bytes tokens rest items more)
+    ∙ read_behind bytes (map a_character spelled) items (tokens ++ rest) rest (reads_on bytes tokens rest items more)
 reads_on bytes _ rest _ (one_hash token tokens items is more) =
     at_item bytes token (tokens ++ rest) (sign mark.Hash) is
     ∙ read_behind bytes (hash ∷ []) items (tokens ++ rest) rest (reads_on bytes tokens rest items more)
@@ -430,7 +430,7 @@ by_underscore : (bytes : List ℕ) (token : Token) (tokens : List Token) (spelle
 by_underscore bytes token tokens spelled true is has rest =
     stopped bytes (token ∷ tokens) Shape (no_beginning token tokens (ap may_begin is ∙ ap not has))
 by_underscore bytes token tokens spelled false is has rest =
-    extended bytes (token ∷ []) (map letter spelled)
+    extended bytes (token ∷ []) (map a_character spelled)
     (λ ts items s. characters token ts items spelled is has s) tokens rest
 
 -- a token that no item begins with

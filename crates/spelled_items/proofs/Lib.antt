@@ -1,4 +1,3 @@
 pub mod ChoiceLemmas
 pub mod DataLemmas
-pub mod LimitLemmas
 pub mod CellLemmas

@@ -1,5 +1,5 @@
 -- The cells of a ScanCells statement: what its tokens spell, and how many they may be (IEEE 1450-1999, clause 20).
-use Rattle.std.specs.Prelude.{◌≡◌, ◌<◌, ◌≤◌, ◌^◌, ℕ, ◌&&◌, nat_lt, Bool, true, List, [], ◌∷◌, length, Option, Some, None}
+use Rattle.std.specs.Prelude.{◌≡◌, ◌<◌, ◌≤◌, ℕ, true, List, [], ◌∷◌, length, Some, None}
 use Rattle.std.specs.List.{list_all}
 use Rattle.stil_form.specs.declared.fault.FormKind.{FormKind}
 use Rattle.stil_form.specs.declared.fault.FormKind.TheVariants.{Shape, OutOfRange}
@@ -9,8 +9,8 @@ use Rattle.stil_form.specs.Words.{named_by}
 use Rattle.stil_form.specs.Fronts.{index_by}
 use Rattle.text_bytes.specs.Limits.{most_cells}
 use Rattle.stil_ast.specs.Data.BlockForms.{cell_count}
-use Rattle.stil_ast.specs.declared.name.IndexRange.{IndexRange}
 use Rattle.stil_ast.specs.declared.name.NameRef.{NameRef}
+use Rattle.scan_blocks.specs.Cells.{has_small}
 
 -- tokens spell cells: nothing spells none; a `!` is skipped; a name is a cell, and a name with `[n]` or `[n..m]` stands
 -- for one cell for each index
@@ -29,15 +29,6 @@ pub data SpellsCells : List Lexeme → List NameRef → Type 0 where
       → named_by one ≡ Some called → index_by from ≡ Some first → index_by to ≡ Some last → SpellsCells rest cells
       → SpellsCells (one ∷ sign Open ∷ from ∷ sign Dot ∷ sign Dot ∷ to ∷ sign Close ∷ rest)
       (record { name = called; range = Some (record { first = first; last = last }) } ∷ cells)
-
--- the indices of a cell, where it has some, are at most 2^32 - 1
-abbrev pub are_small : Option IndexRange → Bool
-are_small None = true
-are_small (Some range) = nat_lt range.first (2 ^ 32) && nat_lt range.last (2 ^ 32)
-
--- the same of the cell
-abbrev pub has_small : NameRef → Bool
-has_small cell = are_small cell.range
 
 -- cells within their limits: each index, and how many they are
 pub record AreWithin (cells : List NameRef) : Type 0 where

@@ -7,14 +7,14 @@ use Rattle.stil_form.specs.declared.part.SignKind.TheVariants.{Hash, Percent, Ba
 use Rattle.stil_form.specs.Lexeme.{Lexeme, word, sign, lexeme_at}
 use Rattle.text_bytes.specs.Numbers.{number_by}
 use Rattle.text_bytes.specs.Limits.{most_repeats}
-use Rattle.stil_ast.specs.Meaning.Statements.{Item, letter, hash, percent}
+use Rattle.stil_ast.specs.Meaning.Statements.{Item, a_character, hash, percent}
 use Rattle.pat_read.specs.Data as words
 
 -- a unit: `#`, `%`, or a word of exactly one letter or digit
 pub data IsUnit : Lexeme → Item → Type 0 where
   hash_unit : IsUnit (sign Hash) hash
   percent_unit : IsUnit (sign Percent) percent
-  letter_unit : (byte : ℕ) → (byte == 95) ≡ false → IsUnit (word (byte ∷ [])) (letter byte)
+  character_unit : (byte : ℕ) → (byte == 95) ≡ false → IsUnit (word (byte ∷ [])) (a_character byte)
 
 -- `\rN`: a `\`, and directly behind it a word that is `r` and the digits of the number N
 pub record Repeats (bytes : List ℕ) (slash behind : Token) (times : ℕ) : Type 0 where
@@ -30,7 +30,7 @@ pub data Spells (bytes : List ℕ) : List Token → List Item → Type 0 where
   no_items : Spells bytes [] []
   characters : (token : Token) (tokens : List Token) (items : List Item) (spelled : List ℕ)
       → lexeme_at bytes token ≡ word spelled → words.has_underscore spelled ≡ false
-      → Spells bytes tokens items → Spells bytes (token ∷ tokens) (map letter spelled ++ items)
+      → Spells bytes tokens items → Spells bytes (token ∷ tokens) (map a_character spelled ++ items)
   one_hash : (token : Token) (tokens : List Token) (items : List Item)
       → lexeme_at bytes token ≡ sign Hash
       → Spells bytes tokens items → Spells bytes (token ∷ tokens) (hash ∷ items)

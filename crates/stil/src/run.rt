@@ -9,9 +9,7 @@ use std::sync::Wait;
 use std::thread::Threads;
 use stil_tool::{Status, no_memory, tester};
 use tester_types::{Desk, OpenGate, Shelf, Sink};
-
-/// How many sockets with simulated dies there are, one for each site.
-const SITES: usize = 16;
+use text_bytes::MOST_SITES;
 
 /// How many bytes of output are written at a time.
 const HELD_BACK: usize = 65_536;
@@ -26,7 +24,7 @@ fn run_words<R: Threads + Wait + Sync, F: Shelf, D: Desk, K: Sink>(
     sink: &mut K,
 ) -> Status {
     let mut sockets: Vec<SocketBox> = Vec::new(alloc);
-    for _ in 0..SITES {
+    for _ in 0..MOST_SITES {
         let Ok(socket) = Box::new(alloc, SimSocket::new(alloc)) else {
             return no_memory(sink);
         };

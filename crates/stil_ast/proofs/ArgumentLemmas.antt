@@ -4,7 +4,7 @@ use Rattle.std.proofs.lemmas.Bool.{eqb-true, or_cases}
 use Rattle.std.proofs.lemmas.List.{length-replicate, nil_from_length}
 use Rattle.std.proofs.lemmas.List.Folds.{list_any-append}
 use Rattle.stil_ast.specs.Data.Places.{Origin}
-use Rattle.stil_ast.specs.Meaning.Statements.{Item, letter, hash, percent, Assign, Statements, finish, place, wave, vector, condition, loop, expand, call, shift, stop}
+use Rattle.stil_ast.specs.Meaning.Statements.{Item, a_character, hash, percent, Assign, Statements, finish, place, wave, vector, condition, loop, expand, call, shift, stop}
 use Rattle.stil_ast.specs.Meaning.Arguments.{Entry, padding, Argument, no_argument, argument_of, one_taken, next_taken}
 use Rattle.stil_ast.specs.Meaning.Dealing.{deal_item, deal_pairs, spread, deal, hashed, takers, has_signal}
 use Rattle.stil_ast.specs.Meaning.Shift.{taking, passes, column, with_column, with_columns}
@@ -71,7 +71,7 @@ take-left args s signal =
 
 deal_item-left : (item : Item) (s : ℕ) (args : List Argument) (signal : ℕ)
     → left_at (deal_item item s args).args signal ≤ left_at args signal
-deal_item-left (letter c) s args signal = omega arith
+deal_item-left (a_character c) s args signal = omega arith
 deal_item-left hash s args signal = take-left args s signal
 deal_item-left percent s args signal = omega arith
 
@@ -99,7 +99,7 @@ deal_pairs-takes : (signals : List ℕ) (items : List Item) (args : List Argumen
     → left_at (deal_pairs signals items args).args signal ≤ left_at args signal - 1
 deal_pairs-takes [] items args signal e = cc
 deal_pairs-takes (s ∷ signals) [] args signal e = cc
-deal_pairs-takes (s ∷ signals) (letter c ∷ items) args signal e =
+deal_pairs-takes (s ∷ signals) (a_character c ∷ items) args signal e =
     deal_pairs-takes signals items args signal e
 deal_pairs-takes (s ∷ signals) (hash ∷ items) args signal e =
     let now = next_taken args s in

@@ -2,7 +2,7 @@
 use Rattle.std.proofs.Common.{◌≡◌, ℕ, zero, suc, ◌+◌, ◌^◌, ◌≤◌, Bool, true, false, List, [], ◌∷◌, refl, ap, sym, subst, arith, length, slice_index_or, nat_lt}
 use Rattle.std.proofs.lemmas.Bool.{cond_both, leb-true}
 use Rattle.stil_ast.specs.Data.Places.{of_macro, of_procedure}
-use Rattle.stil_ast.specs.Meaning.Statements.{Item, letter, hash, percent, Assign}
+use Rattle.stil_ast.specs.Meaning.Statements.{Item, a_character, hash, percent, Assign}
 use Rattle.stil_ast.specs.Meaning.Arguments.{Argument, argument_of, one_taken, next_taken}
 use Rattle.stil_ast.specs.Meaning.Dealing.{deal_item, deal_pairs, spread, has_signal, mark_of}
 use Rattle.stil_ast.specs.Meaning.Shift.{passes, column, with_column, with_columns, columns}
@@ -27,7 +27,7 @@ take-taken args s signal =
 
 deal_item-taken : (item : Item) (s : ℕ) (args : List Argument) (signal : ℕ)
     → taken_at (deal_item item s args).args signal ≤ taken_at args signal + 1
-deal_item-taken (letter c) s args signal = omega arith
+deal_item-taken (a_character c) s args signal = omega arith
 deal_item-taken hash s args signal = take-taken args s signal
 deal_item-taken percent s args signal = omega arith
 

@@ -3,7 +3,7 @@ use Rattle.std.proofs.Common.{◌≡◌, ℕ, true, List, [], ◌∷◌, Option,
 use Rattle.std.specs.List.{list_all}
 use Rattle.std.proofs.lemmas.Bool.{and_parts}
 use Rattle.stil_ast.specs.Meaning.State.{State}
-use Rattle.stil_ast.specs.Meaning.Statements.{Item, letter, hash, percent, Assign, Statements, finish, place, wave, vector, condition, loop, expand, call, shift, stop}
+use Rattle.stil_ast.specs.Meaning.Statements.{Item, a_character, hash, percent, Assign, Statements, finish, place, wave, vector, condition, loop, expand, call, shift, stop}
 use Rattle.stil_ast.specs.Meaning.Arguments.{Entry, given, padding, Argument, arguments}
 use Rattle.stil_ast.specs.Meaning.Dealing.{Gift, deal_item, deal_pairs, spread, deal, received}
 use Rattle.stil_ast.specs.Meaning.Running.{Setting, Made, Ran, still, behind, then_run, times}
@@ -17,11 +17,11 @@ pub flat_run-joined : (a b : Flat) (base s : State)
     → flat_run (joined a b) base s ≡ then_run (flat_run a base s) (flat_run b base)
 flat_run-joined done b base s = refl
 flat_run-joined (table t rest) b base s =
-    flat_run-joined rest b base (record { table = Some t; letters = s.letters })
+    flat_run-joined rest b base (record { table = Some t; characters = s.characters })
 flat_run-joined (character signal c rest) b base s = flat_run-joined rest b base _
 flat_run-joined (back signal rest) b base s = flat_run-joined rest b base _
 flat_run-joined (cycle mark spot rest) b base s =
-    ap (behind (record { vector = record { table = s.table; letters = s.letters; mark = mark }; place = spot } ∷ [])) (flat_run-joined rest b base s)
+    ap (behind (record { vector = record { table = s.table; characters = s.characters; mark = mark }; place = spot } ∷ [])) (flat_run-joined rest b base s)
 flat_run-joined (repeat count body rest) b base s =
     let first = times count (flat_run body base) s in
     ap (behind first.made) (flat_run-joined rest b base first.here) ∙ sym (then_run-assoc first (flat_run rest base) (flat_run b base))
@@ -49,7 +49,7 @@ then_run-still r = ap (λ (made : List Made). record { made = made; here = r.her
 -- without `#` the arguments stay
 deal_item-same : (item : Item) (signal : ℕ) (args : List Argument) → is_not_hash item ≡ true
     → (deal_item item signal args).args ≡ args
-deal_item-same (letter c) signal args e = refl
+deal_item-same (a_character c) signal args e = refl
 deal_item-same hash signal args e = cc
 deal_item-same percent signal args e = refl
 
@@ -68,7 +68,7 @@ percents (signal ∷ signals) = percents signals
 spread-same : (signals : List ℕ) (items : List Item) → list_all is_not_hash items ≡ true
     → list_all is_not_hash (spread signals items) ≡ true
 spread-same signals [] e = refl
-spread-same signals (letter c ∷ items) e = e
+spread-same signals (a_character c ∷ items) e = e
 spread-same signals (hash ∷ items) e = cc
 spread-same signals (percent ∷ []) e = percents signals
 spread-same signals (percent ∷ item ∷ items) e = e

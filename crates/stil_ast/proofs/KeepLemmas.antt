@@ -3,9 +3,9 @@ use Rattle.std.proofs.Common.{◌≡◌, ◌≢◌, ℕ, zero, suc, ◌==◌, �
 use Rattle.std.proofs.lemmas.Bool.{and_parts}
 use Rattle.stil_ast.specs.Meaning.State.{State}
 use Rattle.stil_ast.specs.Data.Places.{Origin}
-use Rattle.stil_ast.specs.Meaning.Statements.{Item, letter, hash, percent, Assign, Statements, finish, place, wave, vector, condition, loop, expand, call, shift, stop}
+use Rattle.stil_ast.specs.Meaning.Statements.{Item, a_character, hash, percent, Assign, Statements, finish, place, wave, vector, condition, loop, expand, call, shift, stop}
 use Rattle.stil_ast.specs.Meaning.Arguments.{Entry, Argument, next_entry}
-use Rattle.stil_ast.specs.Meaning.Dealing.{Gift, gift_of, deal_item, deal_pairs, spread, deal, letter_of, with_letter, received, has_signal}
+use Rattle.stil_ast.specs.Meaning.Dealing.{Gift, gift_of, deal_item, deal_pairs, spread, deal, character_of, with_character, received, has_signal}
 use Rattle.stil_ast.specs.Meaning.Shift.{taking, passes}
 use Rattle.stil_ast.specs.Meaning.Running.{Setting, Made, Ran, Here, then_run, times, pass_at, at_place, at_table, after, make, in_shift, from_shift, run_list, run, calls}
 use Rattle.stil_ast.specs.Meaning.Laws.{all_leave, leaves, EachShows, Keeps}
@@ -34,7 +34,7 @@ gift_of-NoneTo signal other (Some entry) ne = (ne, tt)
 
 deal_item-NoneTo : (signal other : ℕ) (item : Item) (args : List Argument) → signal ≢ other
     → NoneTo signal (deal_item item other args).gifts
-deal_item-NoneTo signal other (letter c) args ne = (ne, tt)
+deal_item-NoneTo signal other (a_character c) args ne = (ne, tt)
 deal_item-NoneTo signal other hash args ne = gift_of-NoneTo signal other (next_entry args other) ne
 deal_item-NoneTo signal other percent args ne = gift_of-NoneTo signal other (next_entry args other) ne
 
@@ -59,15 +59,15 @@ deal-NoneTo signal (a ∷ assigns) args e =
     (deal-NoneTo signal assigns first.args parts.1)
 
 received-keeps : (signal : ℕ) (held : State) (gifts : List Gift) (s : State) → NoneTo signal gifts
-    → get_or (received held gifts s).letters signal None ≡ get_or s.letters signal None
+    → get_or (received held gifts s).characters signal None ≡ get_or s.characters signal None
 received-keeps signal held [] s none = refl
 received-keeps signal held (g ∷ gifts) s none =
-    received-keeps signal held gifts (with_letter g.signal (letter_of held g.signal g.entry) s) none.1
-    ∙ get_or-set_other s.letters g.signal signal (letter_of held g.signal g.entry) None none.0
+    received-keeps signal held gifts (with_character g.signal (character_of held g.signal g.entry) s) none.1
+    ∙ get_or-set_other s.characters g.signal signal (character_of held g.signal g.entry) None none.0
 
 -- a V or C that doesn't name a signal
 pub after-keeps : (signal : ℕ) (assigns : List Assign) (h : Here) → all_leave signal assigns ≡ true
-    → get_or (after assigns h).state.letters signal None ≡ get_or h.state.letters signal None
+    → get_or (after assigns h).state.characters signal None ≡ get_or h.state.characters signal None
 after-keeps signal assigns h e =
     received-keeps signal h.held (deal assigns h.args).gifts h.state (deal-NoneTo signal assigns h.args e)
 
@@ -78,7 +78,7 @@ EachShows-append signal c (m ∷ a) b p q = (p.0, EachShows-append signal c a b 
 
 -- a run that keeps the character wherever it begins with it
 abbrev KeepsIt : ℕ → Option ℕ → (Here → Ran Here) → Type 0
-KeepsIt signal c f = (h : Here) → get_or h.state.letters signal None ≡ c → Keeps signal c (f h)
+KeepsIt signal c f = (h : Here) → get_or h.state.characters signal None ≡ c → Keeps signal c (f h)
 
 then_run-keeps : (signal : ℕ) (c : Option ℕ) (r : Ran Here) (f : Here → Ran Here) → Keeps signal c r
     → KeepsIt signal c f → Keeps signal c (then_run r f)
@@ -127,6 +127,6 @@ run_list-keeps t f signal c (stop rest) e h same = record { vectors = tt; state 
 
 pub signal_keeps : (t : Setting) (signal : ℕ) (statements : Statements) (h : Here)
     → leaves signal statements ≡ true
-    → Keeps signal (get_or h.state.letters signal None) (run t statements h)
+    → Keeps signal (get_or h.state.characters signal None) (run t statements h)
 signal_keeps t signal statements h e =
-    run_list-keeps t (calls t 64) signal (get_or h.state.letters signal None) statements e h refl
+    run_list-keeps t (calls t 64) signal (get_or h.state.characters signal None) statements e h refl

@@ -1,7 +1,7 @@
 pub mod StandardFacts
 pub mod RunLemmas
 pub mod CallLemmas
-pub mod LetterLemmas
+pub mod CharacterLemmas
 pub mod MacroLemmas
 pub mod CutLemmas
 pub mod CycleLemmas

@@ -9,7 +9,7 @@ use Rattle.stil_ast.specs.Meaning.Shift.{taking, passes}
 use Rattle.stil_ast.specs.Meaning.Running.{Setting, Ran, Here, behind, then_run, times, back_at, pass_at, at_place, at_table, after_deal, after, make, in_macro, from_macro, in_call, from_call, in_shift, from_shift, run_list, run, calls}
 use Rattle.stil_ast.specs.Meaning.Laws.{followed_by, all_characters, takes_nothing, bodies_pass, calls_within}
 use Rattle.stil_ast.proofs.CallLemmas.{run_list-same, calls-deeper, run_list-followed_by}
-use Rattle.stil_ast.proofs.LetterLemmas.{deal-characters, takers-characters, mark_of-none}
+use Rattle.stil_ast.proofs.CharacterLemmas.{deal-characters, takers-characters, mark_of-none}
 
 abbrev pub put_here : List Argument → Here → Here
 put_here args h = record { state = h.state; held = h.held; args = args; place = h.place }
@@ -39,7 +39,7 @@ after-args assigns args h e =
 -- one vector with a mark
 with_mark : Here → ℕ → Ran Here
 with_mark h mark = record {
-  made = record { vector = record { table = h.state.table; letters = h.state.letters; mark = mark }; place = h.place } ∷ [];
+  made = record { vector = record { table = h.state.table; characters = h.state.characters; mark = mark }; place = h.place } ∷ [];
   here = h;
 }
 

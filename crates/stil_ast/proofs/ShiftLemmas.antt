@@ -32,20 +32,20 @@ taken_from p signal h left = record {
 
 -- one pass after another
 passes-in_order : (t : Setting) (f : Option Statements → Here → Ran Here) (p : Origin) (signal : ℕ) (characters : List ℕ) (h : Here)
-    → signal < length h.state.letters → signal < length h.args
+    → signal < length h.state.characters → signal < length h.args
     → (argument_of h.args signal).left ≡ map given characters
     → shown_at signal (times (length characters) (pass_at p (run_list t f (vector (takes_one signal) finish))) h).made
     ≡ map (λ c. Some c) characters
 passes-in_order t f p signal [] h wide enough e = refl
 passes-in_order t f p signal (c ∷ characters) h wide enough e =
     let body = pass_at p (run_list t f (vector (takes_one signal) finish)) in
-    let shown = λ (now : Here). get_or now.state.letters signal None ∷ shown_at signal (times (length characters) body now).made in
+    let shown = λ (now : Here). get_or now.state.characters signal None ∷ shown_at signal (times (length characters) body now).made in
     let now = taken_from p signal h (given c ∷ map given characters) in
-    let still_wide : signal < length now.state.letters = rw length-set wide in
+    let still_wide : signal < length now.state.characters = rw length-set wide in
     let still_enough : signal < length now.args = rw length-set enough in
     let left : (argument_of now.args signal).left ≡ map given characters = ap (λ (a : Argument). a.left) (get_or-set_same h.args signal (one_taken (argument_of h.args signal) (given c ∷ map given characters)) no_argument enough) in
     ap (λ (left : List Entry). shown (taken_from p signal h left)) e
-    ∙ (ap (λ (x : Option ℕ). x ∷ shown_at signal (times (length characters) body now).made) (get_or-set_same h.state.letters signal (Some c) None wide)
+    ∙ (ap (λ (x : Option ℕ). x ∷ shown_at signal (times (length characters) body now).made) (get_or-set_same h.state.characters signal (Some c) None wide)
     ∙ ap (λ (xs : List (Option ℕ)). Some c ∷ xs) (passes-in_order t f p signal characters now still_wide still_enough left))
 
 -- the place where the passes begin, with so many of them and this left
@@ -61,7 +61,7 @@ at_most_zero : (n : ℕ) → max n 0 ≡ n
 at_most_zero n = omega arith
 
 pub shift_is_in_order : (t : Setting) (signal : ℕ) (characters : List ℕ) (h : Here)
-    → signal < length h.state.letters → signal < length h.args
+    → signal < length h.state.characters → signal < length h.args
     → (argument_of h.args signal).left ≡ map given characters
     → shown_at signal (run t (shift_of signal) h).made ≡ map (λ c. Some c) characters
 shift_is_in_order t signal characters h wide enough e =

@@ -91,7 +91,7 @@ patterns_fine times blocks before e none =
     let one = or_else-none (exec_names_fault blocks e) _ none in
     let two = or_else-none (variables_fault times (picked blocks e)) _ one.1 in
     let three = or_else-none (tables_fault (timed_of times blocks e) (sum_by (exec_waves blocks) before)) _ two.1 in
-    let four = or_else-none (chains_fault (names_of blocks) (exec_scans blocks e) [] (chains_named blocks.scans (exec_scans blocks e))) _ three.1 in
+    let four = or_else-none (chains_fault (names_of blocks) (exec_scans blocks e) (chains_named blocks.scans (exec_scans blocks e))) _ three.1 in
     checked-none (check_patterns blocks e (played blocks e) (sum_by (exec_walked blocks) before)) four.1
 
 -- the cycles of an executive without a fault are those of its plain data

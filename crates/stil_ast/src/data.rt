@@ -8,7 +8,7 @@ use text_bytes::MOST_REPEATS;
 #[derive(Clone, Copy, Debug, PartialEq, Eq)]
 pub enum VecItem {
     /// A waveform character, an ASCII letter or digit.
-    Letter(u8),
+    Character(u8),
     /// `#`: the next character of the signal's argument.
     Take,
     /// `%`: the same character, which stays there.
@@ -104,7 +104,7 @@ fn is_same(a: VecItem, b: VecItem) -> bool
     ensures { result ≡ true → item_of a ≡ item_of b }
 {
     match (a, b) {
-        (VecItem::Letter(first), VecItem::Letter(second)) => first == second,
+        (VecItem::Character(first), VecItem::Character(second)) => first == second,
         (VecItem::Take, VecItem::Take) => true,
         (VecItem::Peek, VecItem::Peek) => true,
         _ => false,

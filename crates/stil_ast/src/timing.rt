@@ -18,11 +18,11 @@ pub struct EventDecl {
 /// The events of a waveform in text order.
 pub type EventDeclList = Items<EventDecl>;
 
-/// `letters { events }`.
+/// `characters { events }`.
 #[derive(Debug, Drop)]
 pub struct WaveDecl {
     /// Waveform characters, none twice.
-    pub letters: Text,
+    pub characters: Text,
     pub events: EventDeclList,
 }
 

@@ -29,7 +29,7 @@ pub trait Form {
         ensures { Answers result (judge self.now before.now (entry_of stmt.now)) };
 }
 
-/// What statements of a form say, in text order, or the first fault.
+/// Only tests call it: what statements of a form say, in text order, or the first fault.
 pub fn read_each<F: Form>(
     alloc: Global,
     form: &F,

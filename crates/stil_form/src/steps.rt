@@ -29,7 +29,7 @@ pub trait StepForm {
         ensures { Answers result (step self.now before (entry_of stmt.now)) };
 }
 
-/// The state behind statements of a form, in text order, or the first fault.
+/// Only tests call it: the state behind statements of a form, in text order, or the first fault.
 pub fn read_steps<F: StepForm>(
     alloc: Global,
     form: &F,

@@ -9,7 +9,7 @@ use Rattle.stil_lex.specs.Bytes.{line_feed}
 use Rattle.text_bytes.specs.Bytes.{is_word, is_printing}
 use Rattle.stil_lex.specs.Pieces.{Piece, gap, token, spelling, IsPiece}
 use Rattle.stil_lex.specs.Tokens.{spelled, ArePieces, tokens_of, line_behind, Reads}
-use Rattle.stil_lex.specs.Faults.{IsFault}
+use Rattle.stil_lex.specs.Faults.{IsFaultBehind}
 use Rattle.stil_lex.specs.Step.{kept, feeds_of, front_of}
 use Rattle.stil_lex.specs.declared.token.TokenKind.TheVariants.{Word, Name, Text, Sign}
 use Rattle.stil_lex.specs.declared.token.TokenKind.{TokenKind}
@@ -18,7 +18,7 @@ use Rattle.stil_lex.specs.declared.front.Front.{Front}
 use Rattle.stil_lex.specs.declared.fault.LexFault.{LexFault}
 use Rattle.stil_lex.proofs.Found.{piece_of, IsFront, IsSo}
 use Rattle.stil_lex.proofs.Fronts.{front_is_so}
-use Rattle.stil_lex.proofs.Readings.{piece_not_empty, found_is_fault}
+use Rattle.stil_lex.proofs.Readings.{piece_not_empty, found_behind}
 
 -- the spelling of one piece more
 pub spelled-push : (ps : List Piece) (q : Piece) → spelled (ps ++ q ∷ []) ≡ spelled ps ++ spelling q
@@ -157,7 +157,8 @@ is_done bytes at line tokens r all =
 
 -- a fault
 pub stops : (bytes : List ℕ) (at line : ℕ) (tokens : List Token) (fault : LexFault) → IsRead bytes at line tokens
-    → Err fault ≡ front_of at (drop at bytes) → IsFault bytes fault
+    → Err fault ≡ front_of at (drop at bytes) → IsFaultBehind bytes tokens fault
 stops bytes at line tokens fault r is =
     let place : length (spelled r.pieces) ≡ at = sym (ap length r.whole) ∙ length-take-le at bytes r.within in
-    found_is_fault bytes r.pieces (drop at bytes) fault r.each (sym (take-append-drop at bytes) ∙ ap (λ ys. ys ++ drop at bytes) r.whole) (ap (λ n. front_of n (drop at bytes)) place ∙ sym is)
+    let found = found_behind bytes r.pieces (drop at bytes) fault r.each (sym (take-append-drop at bytes) ∙ ap (λ ys. ys ++ drop at bytes) r.whole) (ap (λ n. front_of n (drop at bytes)) place ∙ sym is) in
+    (found.0, r.are ∙ ap (tokens_of []) (sym found.1))

@@ -113,21 +113,28 @@ fault_is_found bytes fault f =
     let least = f.smallest found.found (record { pieces = h.pieces; rest = h.rest; each = h.each; whole = h.whole; refusal = found_is_refusal h.rest at found.found found.is }) in
     found.is ∙ ap Err (found.same (omega (arith, found.no_later)))
 
+-- what is found first is the fault, and before it stand these pieces
+pub found_behind : (bytes : List ℕ) (pieces : List Piece) (rest : List ℕ) (fault : LexFault) → ArePieces pieces rest → bytes ≡ spelled pieces ++ rest
+    → front_of (length (spelled pieces)) rest ≡ Err fault → (is : IsFault bytes fault) × (is.here.pieces ≡ pieces)
+found_behind bytes pieces rest fault each whole is =
+    let at = length (spelled pieces) in (
+      record {
+        here = record { pieces = pieces; rest = rest; each = each; whole = whole; refusal = found_is_refusal rest at fault is };
+        smallest = λ other o.
+            let same = one_reading pieces o.pieces rest o.rest each o.each (inr (at, fault, is)) (refusal_stops o.rest _ other o.refusal) (sym whole ∙ o.whole) in
+            let found = refusal_is_found o.rest (length (spelled o.pieces)) other o.refusal in
+            let one : ◌≡◌ {A = Result Front LexFault} (Err fault) (Err found.found) =
+            sym is ∙ (ap (λ ps. front_of (length (spelled ps)) rest) same.0 ∙ (ap (front_of (length (spelled o.pieces))) same.1 ∙ found.is)) in
+            let equal : fault ≡ found.found = cc in
+            rw equal found.no_later;
+      },
+      refl,
+    )
+
 -- what is found first is the fault
 pub found_is_fault : (bytes : List ℕ) (pieces : List Piece) (rest : List ℕ) (fault : LexFault) → ArePieces pieces rest → bytes ≡ spelled pieces ++ rest
     → front_of (length (spelled pieces)) rest ≡ Err fault → IsFault bytes fault
-found_is_fault bytes pieces rest fault each whole is =
-    let at = length (spelled pieces) in
-    record {
-      here = record { pieces = pieces; rest = rest; each = each; whole = whole; refusal = found_is_refusal rest at fault is };
-      smallest = λ other o.
-          let same = one_reading pieces o.pieces rest o.rest each o.each (inr (at, fault, is)) (refusal_stops o.rest _ other o.refusal) (sym whole ∙ o.whole) in
-          let found = refusal_is_found o.rest (length (spelled o.pieces)) other o.refusal in
-          let one : ◌≡◌ {A = Result Front LexFault} (Err fault) (Err found.found) =
-          sym is ∙ (ap (λ ps. front_of (length (spelled ps)) rest) same.0 ∙ (ap (front_of (length (spelled o.pieces))) same.1 ∙ found.is)) in
-          let equal : fault ≡ found.found = cc in
-          rw equal found.no_later;
-    }
+found_is_fault bytes pieces rest fault each whole is = (found_behind bytes pieces rest fault each whole is).0
 
 -- the fault of a text is one
 pub one_fault : (bytes : List ℕ) (fault other : LexFault) → IsFault bytes fault → IsFault bytes other → fault ≡ other

@@ -1,10 +1,11 @@
 -- The fault of a text without tokens: the refusal with the smallest place.
-use Rattle.std.specs.Prelude.{◌≡◌, ◌⊎◌, ℕ, ◌+◌, ◌≤◌, Bool, true, false, ◌==◌, ◌||◌, List, ◌∷◌, ◌++◌, length}
+use Rattle.std.specs.Prelude.{◌≡◌, ◌⊎◌, ℕ, ◌+◌, ◌≤◌, Bool, true, false, ◌==◌, ◌||◌, List, [], ◌∷◌, ◌++◌, length}
 use Rattle.std.specs.List.{list_any}
 use Rattle.stil_lex.specs.Bytes.{double_quote, single_quote, slash, star, close_brace, may_be_quoted, has_pair}
 use Rattle.text_bytes.specs.Bytes.{is_blank, is_printing}
 use Rattle.stil_lex.specs.Pieces.{Piece, ann, OpensAnnotation}
-use Rattle.stil_lex.specs.Tokens.{spelled, ArePieces}
+use Rattle.stil_lex.specs.Tokens.{spelled, ArePieces, tokens_of}
+use Rattle.stil_lex.specs.declared.token.Token.{Token}
 use Rattle.stil_lex.specs.declared.fault.LexFault.{LexFault}
 use Rattle.stil_lex.specs.declared.fault.LexFault.TheVariants.{NoMemory, BadByte, OpenQuote, OpenComment}
 
@@ -82,3 +83,7 @@ place (OpenComment at) = at
 pub record IsFault (bytes : List ℕ) (fault : LexFault) : Type 0 where
   pub here : Refuses bytes fault
   pub smallest : (other : LexFault) → Refuses bytes other → place fault ≤ place other
+
+-- the same, and these are the tokens of the pieces before it
+abbrev pub IsFaultBehind : List ℕ → List Token → LexFault → Type 0
+IsFaultBehind bytes read fault = (is : IsFault bytes fault) × (read ≡ tokens_of [] is.here.pieces)

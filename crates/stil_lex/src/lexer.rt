@@ -1,9 +1,9 @@
 //! The tokens of a whole text.
 
-ghost use Rattle.std.specs.Prelude.{◌≡◌, ◌≤◌, ◌⊎◌, ◌++◌, List, length, IfOk, IfErr, OnOk, MatchResult};
+ghost use Rattle.std.specs.Prelude.{◌≡◌, ◌≤◌, ◌⊎◌, ◌++◌, [], List, length, IfOk, IfErr, OnOk, MatchResult};
 ghost use Rattle.text_bytes.specs.Limits.{most_bytes};
 ghost use Rattle.stil_lex.specs.Tokens.{Reads};
-ghost use Rattle.stil_lex.specs.Faults.{IsFault};
+ghost use Rattle.stil_lex.specs.Faults.{IsFault, IsFaultBehind};
 ghost use Rattle.stil_lex.specs.Step.{kept, feeds_of};
 ghost use Rattle.stil_lex.specs.declared.token.Token.{Token};
 ghost use Rattle.stil_lex.specs.declared.fault.LexFault.{LexFault};
@@ -15,6 +15,13 @@ use crate::list::TokenList;
 use crate::token::{Token, TokenKind};
 use std::alloc::{AllocError, Global};
 use text_bytes::line_feeds;
+
+/// Why a text has no tokens, and those that stand before the place of its fault. Where there was no memory, they are some of them.
+#[derive(Drop)]
+pub struct LexStop {
+    pub fault: LexFault,
+    pub read: TokenList,
+}
 
 /// Appends the token, where it has a kind: a gap has none.
 pub(crate) fn keep(
@@ -47,26 +54,31 @@ fn feeds_of(kind: Option<TokenKind>, piece: &[u8]) -> usize
     }
 }
 
-fn tokens_of(alloc: Global, bytes: &[u8]) -> Result<Vec<Token>, LexFault>
-    requires { length bytes.now ≤ most_bytes }
-    ensures found { IfOk result (λ tokens. Reads bytes.now tokens.items) }
-    ensures fault { IfErr result (λ e. (e ≡ NoMemory) ⊎ IsFault bytes.now e) }
+/// Appends the tokens of a text to none, in order, up to its fault with the smallest place.
+fn read_onto(bytes: &[u8], tokens: &mut Vec<Token>) -> Result<(), LexFault>
+    requires short { length bytes.now ≤ most_bytes }
+    requires none { tokens.old.items ≡ [] }
+    ensures found { OnOk result (Reads bytes.now tokens.new.items) }
+    ensures fault { IfErr result (λ e. (e ≡ NoMemory) ⊎ IsFaultBehind bytes.now tokens.new.items e) }
 {
-    let mut tokens = Vec::new(alloc);
     let mut at = 0usize;
     let mut line = 1u32;
     while at < bytes.len() {
         let rest = &bytes[at..];
-        let front = front_of(rest, at)?;
+        let front = match front_of(rest, at) {
+            Ok(front) => front,
+            Err(fault) => return Err(fault),
+        };
         let end = at + front.len;
-        keep(&mut tokens, front.kind, at as u32, end as u32, line)?;
+        keep(tokens, front.kind, at as u32, end as u32, line)?;
         line += feeds_of(front.kind, &rest[..front.len]) as u32;
         at = end;
     }
-    Ok(tokens)
+    Ok(())
 }
 
-/// The tokens of a text, in order, or its fault with the smallest place. A text has at most 16,777,216 bytes.
+/// Only tests and measurements call it, the program calls `lex_front`: the tokens of a text, in order, or its fault with the
+/// smallest place. A text has at most 16,777,216 bytes.
 pub fn lex(alloc: Global, bytes: &[u8]) -> Result<TokenList, LexFault>
     requires { length bytes.now ≤ most_bytes }
     ensures found { IfOk result (λ tokens. Reads bytes.now tokens) }
@@ -76,6 +88,26 @@ pub fn lex(alloc: Global, bytes: &[u8]) -> Result<TokenList, LexFault>
     ensures refused { (fault : LexFault) → IsFault bytes.now fault
         → MatchResult result (λ _. ⊥) (λ e. (e ≡ NoMemory) ⊎ (e ≡ fault)) }
 {
-    let tokens = tokens_of(alloc, bytes)?;
-    Ok(TokenList::from_vec(tokens))
+    let mut tokens = Vec::new(alloc);
+    match read_onto(bytes, &mut tokens) {
+        Ok(()) => Ok(TokenList::from_vec(tokens)),
+        Err(fault) => Err(fault),
+    }
+}
+
+/// The tokens of a text, in order, or its fault with the smallest place and the tokens before it. A text has at most 16,777,216
+/// bytes.
+pub fn lex_front(alloc: Global, bytes: &[u8]) -> Result<TokenList, LexStop>
+    requires { length bytes.now ≤ most_bytes }
+    ensures found { IfOk result (λ tokens. Reads bytes.now tokens) }
+    ensures fault { IfErr result (λ stop. (stop.fault ≡ NoMemory) ⊎ IsFaultBehind bytes.now stop.read stop.fault) }
+{
+    let mut tokens = Vec::new(alloc);
+    match read_onto(bytes, &mut tokens) {
+        Ok(()) => Ok(TokenList::from_vec(tokens)),
+        Err(fault) => Err(LexStop {
+            fault,
+            read: TokenList::from_vec(tokens),
+        }),
+    }
 }

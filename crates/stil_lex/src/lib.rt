@@ -11,7 +11,7 @@ mod token;
 
 pub use fault::LexFault;
 pub use laws::{one_token_list, tokens_or_fault};
-pub use lexer::lex;
+pub use lexer::{LexStop, lex, lex_front};
 pub use list::TokenList;
 pub use token::{Token, TokenKind};
 

@@ -1,11 +1,11 @@
 -- What the readers answer is told of the text.
-use Rattle.std.proofs.Common.{◌≡◌, ◌⊎◌, ◌≤◌, ℕ, List, [], length, Result, Ok, Err, refl, sym, subst, ◌∙◌, inl, inr}
+use Rattle.std.proofs.Common.{◌≡◌, ◌⊎◌, ◌≤◌, ℕ, List, length, Result, Ok, Err, refl, sym, subst, ◌∙◌, inl, inr}
 use Rattle.std.specs.Prelude.{IfOk, IfErr}
 use Rattle.text_bytes.specs.Limits.{most_bytes}
 use Rattle.stil_lex.specs.declared.token.Token.{Token}
 use Rattle.stil_lex.specs.declared.fault.LexFault.{LexFault}
 use Rattle.stil_lex.specs.declared.fault.LexFault.TheVariants as lexical
-use Rattle.stil_lex.specs.Tokens.{tokens_of, Reads}
+use Rattle.stil_lex.specs.Tokens.{Reads}
 use Rattle.stil_lex.specs.Faults as tokens
 use Rattle.stil_tree.specs.Trees.{Trees, entries}
 use Rattle.stil_tree.specs.Grammar.{Parses}
@@ -13,9 +13,6 @@ use Rattle.stil_tree.specs.Faults as statements
 use Rattle.stil_tree.specs.declared.fault.TreeFault.{TreeFault}
 use Rattle.stil_tree.specs.declared.fault.TreeFault.TheVariants as tree
 use Rattle.stil_ast.specs.declared.blocks.Blocks.{Blocks}
-use Rattle.stil_ast.specs.declared.fault.StilKind.{StilKind}
-use Rattle.stil_ast.specs.declared.fault.StilKind.TheVariants as stil
-use Rattle.stil_ast.specs.declared.fault.StilFault.{StilFault}
 use Rattle.stil_ast.specs.Data.Refusal.{StilRefusal}
 use Rattle.answers.specs.declared.short.Short.TheVariants.{NoMemory, Fault}
 use Rattle.stil_ast.specs.Data.OneText.{AreOfOneText}
@@ -23,47 +20,20 @@ use Rattle.stil_ast.specs.Faults.FrontFaults.{read_as}
 use Rattle.stil_read.specs.Top.{blocks_of}
 use Rattle.stil_read.specs.Text.{IsTextFault}
 use Rattle.stil_read.proofs.OneTextLemmas.{blocks_are_of_one_text}
-use Rattle.stil_program.specs.Places.{IsToldBehind, Tells}
-use Rattle.stil_program.specs.TokenFaults.{line_of_place, IsTokenFault}
+use Rattle.stil_program.specs.Places.{Tells}
+use Rattle.stil_program.specs.TokenFaults as lexed
 use Rattle.stil_program.specs.StatementFaults.{IsToldOf, IsStatementFault}
 use Rattle.stil_program.specs.Front.{of_tokens, of_statements, of_blocks, IsFront, IsRefusedFor, FrontAnswers}
 
--- what is told at the place of each fault of the tokens
-abbrev ToldAt : List ℕ → StilKind → ℕ → StilRefusal → Type 0
-ToldAt bytes kind at result =
-    (fault : LexFault) → (is : tokens.IsFault bytes fault) → tokens.place fault ≡ at
-    → Tells (IsToldBehind bytes (tokens_of [] is.here.pieces) kind (line_of_place bytes at)) result
-
 -- a fault of tokens that is told
-pub tells_bad : (bytes : List ℕ) (at : ℕ) (fault : LexFault) (result : StilRefusal) → fault ≡ lexical.BadByte at
-    → (fault ≡ lexical.NoMemory) ⊎ tokens.IsFault bytes fault → ToldAt bytes stil.BadByte at result
-    → Tells (IsTokenFault bytes) result
-tells_bad bytes at fault result same (inl none) told =
-    let clash : lexical.BadByte at ≡ lexical.NoMemory = sym same ∙ none in cc
-tells_bad bytes at fault NoMemory same (inr is) told = tt
-tells_bad bytes at fault (Fault f) same (inr is) told =
-    let here = subst (tokens.IsFault bytes) same is in
-    record { which = lexical.BadByte at; refused = here; told = told (lexical.BadByte at) here refl }
-
-pub tells_quote : (bytes : List ℕ) (at : ℕ) (fault : LexFault) (result : StilRefusal) → fault ≡ lexical.OpenQuote at
-    → (fault ≡ lexical.NoMemory) ⊎ tokens.IsFault bytes fault → ToldAt bytes stil.OpenQuote at result
-    → Tells (IsTokenFault bytes) result
-tells_quote bytes at fault result same (inl none) told =
-    let clash : lexical.OpenQuote at ≡ lexical.NoMemory = sym same ∙ none in cc
-tells_quote bytes at fault NoMemory same (inr is) told = tt
-tells_quote bytes at fault (Fault f) same (inr is) told =
-    let here = subst (tokens.IsFault bytes) same is in
-    record { which = lexical.OpenQuote at; refused = here; told = told (lexical.OpenQuote at) here refl }
-
-pub tells_comment : (bytes : List ℕ) (at : ℕ) (fault : LexFault) (result : StilRefusal)
-    → fault ≡ lexical.OpenComment at → (fault ≡ lexical.NoMemory) ⊎ tokens.IsFault bytes fault
-    → ToldAt bytes stil.OpenComment at result → Tells (IsTokenFault bytes) result
-tells_comment bytes at fault result same (inl none) told =
-    let clash : lexical.OpenComment at ≡ lexical.NoMemory = sym same ∙ none in cc
-tells_comment bytes at fault NoMemory same (inr is) told = tt
-tells_comment bytes at fault (Fault f) same (inr is) told =
-    let here = subst (tokens.IsFault bytes) same is in
-    record { which = lexical.OpenComment at; refused = here; told = told (lexical.OpenComment at) here refl }
+pub tells_token : (bytes : List ℕ) (read : List Token) (fault which : LexFault) (result : StilRefusal) → fault ≡ which
+    → (fault ≡ lexical.NoMemory) ⊎ tokens.IsFaultBehind bytes read fault → (which ≡ lexical.NoMemory → ⊥)
+    → Tells (lexed.IsToldOf bytes read which) result → Tells (lexed.IsTokenFault bytes) result
+tells_token bytes read fault which result same (inl none) some told = absurd (some (sym same ∙ none))
+tells_token bytes read fault which NoMemory same (inr is) some told = tt
+tells_token bytes read fault which (Fault f) same (inr is) some told =
+    let here = subst (tokens.IsFaultBehind bytes read) same is in
+    record { which = which; refused = here.0; told = subst (λ (ts : List Token). lexed.IsToldOf bytes ts which f) here.1 told }
 
 -- a fault of statements that is told
 pub tells_statement : (bytes : List ℕ) (ts : List Token) (fault which : TreeFault) (result : StilRefusal)
@@ -75,7 +45,7 @@ tells_statement bytes ts fault which (Fault f) same (inr is) some told =
     record { which = which; refused = subst (statements.IsFault ts) same is; told = told }
 
 -- a text without tokens
-pub tokens_answer : (bytes : List ℕ) (refusal : StilRefusal) → Tells (IsTokenFault bytes) refusal
+pub tokens_answer : (bytes : List ℕ) (refusal : StilRefusal) → Tells (lexed.IsTokenFault bytes) refusal
     → FrontAnswers bytes (Err refusal)
 tokens_answer bytes NoMemory told = tt
 tokens_answer bytes (Fault f) told = of_tokens told

@@ -1,5 +1,5 @@
 -- The fault that is looked for in flat trees is that of what the patterns run to.
-use Rattle.std.proofs.Common.{◌≡◌, ℕ, Bool, true, false, List, [], ◌∷◌, Option, None, refl, ap, ◌∙◌, length, map, sum_by}
+use Rattle.std.proofs.Common.{◌≡◌, ℕ, Bool, true, false, List, [], ◌∷◌, None, refl, ap, ◌∙◌, length, map, sum_by}
 use Rattle.tester_types.specs.declared.wave.Table.{Table}
 use Rattle.stil_ast.specs.Data.Places.{of_pattern}
 use Rattle.stil_ast.specs.Meaning.State.{State, start_of}
@@ -20,7 +20,6 @@ use Rattle.stil_ast.specs.Faults.CodeFaults.{vector_fault, trees_fault}
 use Rattle.stil_ast.specs.Faults.CheckedLaws.{parts_of}
 use Rattle.stil_ast.specs.declared.executive.ExecDecl.{ExecDecl}
 use Rattle.stil_ast.specs.declared.blocks.Blocks.{Blocks}
-use Rattle.stil_ast.specs.declared.fault.StilFault.{StilFault}
 use Rattle.stil_ast.proofs.SteadyLemmas.{checked_tree_agrees}
 use Rattle.stil_ast.proofs.TreeLemmas.{patterns_fine}
 use Rattle.stil_program.specs.Runs.{runs_fault}

@@ -55,7 +55,7 @@ fn code_of(alloc: Global, blocks: &Blocks) -> Result<Code, StilRefusal>
         Ok(execs) => execs,
         Err(refusal) => return Err(refusal),
     };
-    compile(alloc, &signals, &execs)
+    compile(alloc, &signals, execs)
 }
 
 /// The code of blocks, with the lines of their executives.

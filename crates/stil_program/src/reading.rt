@@ -14,7 +14,7 @@ use crate::statements::statements_refused;
 use crate::tokens::tokens_refused;
 use std::alloc::Global;
 use stil_ast::{Blocks, StilRefusal};
-use stil_lex::{Token, lex};
+use stil_lex::{Token, lex_front};
 use stil_read::read_blocks;
 use stil_tree::forest;
 
@@ -35,9 +35,9 @@ fn read_bytes(alloc: Global, bytes: &[u8]) -> Result<Blocks, StilRefusal>
     requires { length bytes.now ≤ most_bytes }
     ensures { FrontAnswers bytes.now result }
 {
-    match lex(alloc, bytes) {
+    match lex_front(alloc, bytes) {
         Ok(tokens) => read_tokens(alloc, bytes, tokens.as_slice()),
-        Err(fault) => Err(tokens_refused(alloc, bytes, fault)),
+        Err(stop) => Err(tokens_refused(alloc, bytes, stop.read.as_slice(), stop.fault)),
     }
 }
 

@@ -13,7 +13,6 @@ use pattern_blocks::{read_burst_block, read_defs_block, read_exec_block, read_pa
 use scan_blocks::read_scan_block;
 use signal_blocks::{read_groups_block, read_signals_block};
 use std::alloc::Global;
-use std::mem;
 use stil_ast::{
     Burst, DefBlock, ExecDecl, GroupBlock, Pattern, ScanBlock, Selector, SignalDecl, SpecBlock,
     TimingBlock,
@@ -42,27 +41,12 @@ fn add_all<T: Drop>(list: &mut Vec<T>, more: Vec<T>) -> Result<(), FormFault>
     Ok(())
 }
 
-/// Takes names out, and leaves none.
-fn taken<'a>(alloc: Global, names: &mut Declared<'a>) -> Declared<'a>
-    ensures { result ≡ names.old }
-{
-    mem::replace(names, Declared::new(alloc))
-}
-
-/// Puts names in the place of others.
-fn put_back<'a>(names: &mut Declared<'a>, known: Declared<'a>)
-    ensures { names.new ≡ known.entry }
-{
-    let _others = mem::replace(names, known);
-}
-
 /// Adds a name without a title.
 fn add_name<'a>(alloc: Global, names: &mut Declared<'a>, called: &'a [u8]) -> Result<(), FormFault>
     ensures added { OnOk result (names.new ≡ names.old ++ ([], called.now) ∷ []) }
     ensures want { IfErr result (λ e. e ≡ NoMemory) }
 {
-    let known = taken(alloc, names).with(b"", called)?;
-    put_back(names, known);
+    names.add(alloc, b"", called)?;
     Ok(())
 }
 
@@ -149,8 +133,7 @@ pub(crate) fn put_timing<'a>(
         (more_timings (setting_of reader.now) before.old.items (entry_of stmt.now)) }
     ensures names { OnOk result (names.new ≡ tables_in before.new.items) }
 {
-    let (one, known) = read_timing_block(alloc, reader, taken(alloc, names), stmt)?;
-    put_back(names, known);
+    let one = read_timing_block(alloc, reader, names, stmt)?;
     add(before, one)?;
     Ok(())
 }
@@ -169,8 +152,7 @@ pub(crate) fn put_scans<'a>(
         (more_scans (setting_of reader.now) before.old.items (entry_of stmt.now)) }
     ensures names { OnOk result (names.new ≡ chains_in before.new.items) }
 {
-    let (one, known) = read_scan_block(alloc, reader, taken(alloc, names), stmt)?;
-    put_back(names, known);
+    let one = read_scan_block(alloc, reader, names, stmt)?;
     add(before, one)?;
     Ok(())
 }
@@ -190,8 +172,7 @@ pub(crate) fn put_defs<'a>(
         (more_defs (setting_of reader.now) place before.old.items (entry_of stmt.now)) }
     ensures names { OnOk result (names.new ≡ bodies_in before.new.items) }
 {
-    let (one, known) = read_defs_block(alloc, reader, place, taken(alloc, names), stmt)?;
-    put_back(names, known);
+    let one = read_defs_block(alloc, reader, place, names, stmt)?;
     add(before, one)?;
     Ok(())
 }

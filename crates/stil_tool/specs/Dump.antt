@@ -1,5 +1,6 @@
 -- What `dump` answers, and why.
 use Rattle.std.specs.Prelude.{◌≡◌, ℕ, ◌<◌, ◌≤◌, List, [], ◌∷◌, length, codes, decimal, Option, Some, None}
+use Rattle.plan_rows.specs.Limits.{last_site}
 use Rattle.tester_types.specs.Outside.{HasRisen, Files}
 use Rattle.plan_rows.specs.Rows.{dies_at}
 use Rattle.lot_plan.specs.Bound.{Bound}
@@ -18,7 +19,7 @@ use Rattle.tool_inputs.specs.FineInputs.{AreFine}
 -- the words `dump PROGRAM PLAN SITE`, of a site from 0 to 63
 pub record AreDump (words : List (List ℕ)) (program plan : List ℕ) (site : ℕ) : Type 0 where
   pub is : words ≡ codes "dump" ∷ program ∷ plan ∷ decimal site ∷ []
-  pub few : site ≤ 63
+  pub few : site ≤ last_site
 
 -- why there is no dump: what it reads is refused, the plan has no die at the site, or the tape is too long
 pub data IsDumpRefused (told : Option Files) (before now : ℕ) (program plan : List ℕ) (site : ℕ) (r : Refusal)

@@ -1,5 +1,6 @@
 -- What `lot` answers, and why.
 use Rattle.std.specs.Prelude.{◌≡◌, ℕ, ◌<◌, ◌≤◌, Bool, true, List, [], ◌∷◌, length, min, codes, Option, None}
+use Rattle.text_bytes.specs.Limits.{most_sites}
 use Rattle.tester_types.specs.Outside.{Files}
 use Rattle.tester_types.specs.Records.{SiteRecords, records_of}
 use Rattle.plan_rows.specs.Rows.{sites_of}
@@ -22,7 +23,7 @@ AreLot words program plan = words ≡ codes "lot" ∷ program ∷ plan ∷ []
 
 -- how many of so many sockets a lot can have
 abbrev pub usable : ℕ → ℕ
-usable sockets = min sockets 16
+usable sockets = min sockets most_sites
 
 -- why a lot isn't run: what it reads is refused, or there are fewer sockets than sites
 pub data IsRefused (told : Option Files) (before now sockets : ℕ) (program plan : List ℕ) (r : Refusal) : Type 0 where

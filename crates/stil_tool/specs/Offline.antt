@@ -1,5 +1,5 @@
 -- What the commands that need no tester answer, and why.
-use Rattle.std.specs.Prelude.{◌≡◌, ℕ, ◌≤◌, ◌⊎◌, List, [], ◌∷◌, ◌++◌, Option, map, length, codes, String, string_bytes}
+use Rattle.std.specs.Prelude.{◌≡◌, ℕ, ◌≤◌, ◌⊎◌, List, [], ◌∷◌, Option, map, length, String, string_bytes}
 use Rattle.std.specs.declared.alloc.Global.{Global}
 use Rattle.tester_types.specs.Outside.{HasRisen, Files}
 use Rattle.tool_inputs.specs.declared.status.Status.{Status}
@@ -7,6 +7,7 @@ use Rattle.tool_inputs.specs.declared.status.Status.TheVariants.{Usage}
 use Rattle.text_commands.specs.declared.command.Command.{Command}
 use Rattle.tool_inputs.specs.Endings.{limit, IsThere}
 use Rattle.text_commands.specs.Commands.{command_word, FileWants, IsAccepted}
+use Rattle.stil_tool.specs.declared.offline_call.TheConstants.{USAGE}
 use Rattle.stil_tool.specs.Dump.{AreDump, DumpWants}
 
 -- words without where they lie in memory
@@ -19,9 +20,7 @@ AreOf words command file = words ≡ command_word command ∷ file ∷ []
 
 -- what is written where the words are none of the forms
 abbrev pub usage_line : List ℕ
-usage_line =
-    codes "usage: check FILE | cycles FILE | events FILE | save FILE | lot PROGRAM PLAN | drill N"
-    ++ codes " | flat FILE | grade PROGRAM PLAN | dump PROGRAM PLAN SITE\n"
+usage_line = USAGE.now
 
 -- the words are those of a command on a text, or of a dump
 abbrev pub NeedNoTester : List (List ℕ) → Type 0

@@ -59,13 +59,13 @@ fn put_vector(text: &mut Vec<u8>, number: u64, place: u64) -> Result<(), AllocEr
     ensures { OnOk result (text.new.items ≡ text.old.items ++ vector_line number place) }
 {
     text.extend_from_slice(b"V { d=")?;
-    text.extend_from_slice(bit_letter(number, place, b"1", b"0"))?;
+    text.extend_from_slice(bit_character(number, place, b"1", b"0"))?;
     text.extend_from_slice(b"; ck=P; q=")?;
     text.extend_from_slice(look_letter(number, place))?;
     text.extend_from_slice(b"; }\n")
 }
 
-/// The letter of `q` in a vector.
+/// The character of `q` in a vector.
 fn look_letter(number: u64, place: u64) -> &'static [u8]
     requires number { number < 256 }
     requires place { place < 127500 }
@@ -75,12 +75,12 @@ fn look_letter(number: u64, place: u64) -> &'static [u8]
     if place < number {
         b"X"
     } else {
-        bit_letter(number, place - number, b"H", b"L")
+        bit_character(number, place - number, b"H", b"L")
     }
 }
 
-/// The letter for what a vector drives: one where `d` is high, and the other where it is low.
-fn bit_letter(number: u64, place: u64, high: &'static [u8], low: &'static [u8]) -> &'static [u8]
+/// The character for what a vector drives: one where `d` is high, and the other where it is low.
+fn bit_character(number: u64, place: u64, high: &'static [u8], low: &'static [u8]) -> &'static [u8]
     requires number { number < 256 }
     requires place { place < 127500 }
     ensures { result.now ≡ (if driven_bit number place then high.now else low.now) }

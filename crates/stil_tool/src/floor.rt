@@ -13,10 +13,8 @@ use std::sync::Wait;
 use std::thread::Threads;
 use tester_run::run_lot;
 use tester_types::{Desk, Gate, NoMemory};
+use text_bytes::MOST_SITES;
 use tool_inputs::ReadyLot;
-
-/// How many sockets a lot has at most.
-const SITES: usize = 16;
 
 /// How many pages of the program are kept decoded.
 const FRAMES: u16 = 64;
@@ -33,7 +31,7 @@ pub(crate) struct TestedLot {
 pub(crate) fn usable(sockets: usize) -> u8
     ensures { result ≡ usable sockets }
 {
-    sockets.min(SITES) as u8
+    sockets.min(MOST_SITES) as u8
 }
 
 /// Runs a lot.

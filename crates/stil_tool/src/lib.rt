@@ -14,7 +14,7 @@ mod offline_call;
 mod top_call;
 
 pub use laws::{alone_lines, one_text, other_site, text_is_sites};
-pub use offline_call::offline;
+pub use offline_call::{USAGE, offline};
 pub use stil_program::program;
 pub use text_commands::Command;
 pub use tool_inputs::{LIMIT, Refusal, Status, no_memory};

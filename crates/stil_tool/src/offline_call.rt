@@ -9,6 +9,7 @@ ghost use Rattle.stil_tool.specs.Dump.{AreDump, IsFineDump};
 use crate::dump::dump;
 use std::alloc::Global;
 use tester_types::{Piece, Shelf, Sink};
+use text_bytes::MOST_PLAN_SITES;
 use text_commands::{Command, command_of, run_file};
 use tool_inputs::{Status, ended, read_number};
 
@@ -45,7 +46,8 @@ pub fn offline<F: Shelf, K: Sink>(
     }
 }
 
-const USAGE: &[u8] =
+/// What is written where the words are none of the forms of the program's commands.
+pub const USAGE: &[u8] =
     b"usage: check FILE | cycles FILE | events FILE | save FILE | lot PROGRAM PLAN | drill N | \
 flat FILE | grade PROGRAM PLAN | dump PROGRAM PLAN SITE\n";
 
@@ -72,7 +74,7 @@ fn dump_command(words: &[String]) -> Option<(&str, &str, u8)>
     match words {
         [command, program, plan, site] => {
             if command.as_str() == "dump" {
-                match read_number(site.as_str(), 0, 63) {
+                match read_number(site.as_str(), 0, MOST_PLAN_SITES as u8 - 1) {
                     Some(site) => Some((program.as_str(), plan.as_str(), site)),
                     None => None,
                 }

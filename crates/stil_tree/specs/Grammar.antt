@@ -5,10 +5,11 @@ use Rattle.std.specs.List.{list_any}
 use Rattle.stil_lex.specs.declared.token.Token.{Token}
 use Rattle.stil_tree.specs.Signs.{semicolon, open_brace, close_brace, is_sign, is_delimiter}
 use Rattle.stil_tree.specs.Trees.{Trees, end, plain, block}
+use Rattle.stil_tree.specs.declared.builder.TheConstants.{MOST_LEVELS}
 
 -- how many blocks may stand one inside another
 abbrev pub most_levels : ℕ
-most_levels = 16
+most_levels = MOST_LEVELS
 
 -- head tokens: any but `;`, `{` and `}`
 abbrev pub AreHead : List Token → Type 0

@@ -5,6 +5,7 @@ use lib.ListN.{get_elem?}
 use Rattle.std.proofs.lemmas.List.{get_or-append-add, get_or-map, length-map, map-append, take_at}
 use Rattle.std.proofs.lemmas.List.Sums.{sum_by_push}
 use Rattle.std.proofs.lemmas.List.Elements.{All-push}
+use Rattle.text_bytes.specs.Limits.{most_sites}
 use Rattle.text_bytes.proofs.SumLemmas.{sum_by-set_there}
 use Rattle.atomic_table.specs.Table.{State, Me, Joins, Final, Seen}
 use Rattle.atomic_table.proofs.Lists.{at_set}
@@ -50,7 +51,7 @@ joins id other v w is is_site s kept there apart other_there =
       views = ap (λ vs. set vs other Spent) views_then ∙ ap (λ i. set (Desk desk ∷ kept.seats) i Spent) here.1;
       no_desk = still_no_desk kept.seats k Spent (λ d e. cc) kept.no_desk;
       words = kept.words ∙ ap (λ n. kept.desk.asked ++ n ∷ []) (sym (sum if_finished));
-      sixteen = kept.sixteen;
+      each_site = kept.each_site;
       looked = omega (arith, sum if_finished, kept.looked);
       seen = λ j x e.
           ⊎_elim (λ t. let never : Spent ≡ Site x = t.1 in cc) (λ t. kept.seen j x t.1) (at_set kept.seats k j Spent (Site x) e);
@@ -63,12 +64,12 @@ joins id other v w is is_site s kept there apart other_there =
 -- at the end the words 0 to 15 are the desk's numbers, and no seat that came back saw more
 pub closes : {S : Type 0} (id : ℕ) (me : Me S View) (words : List ℕ) (slots : List S) → IsDeskSeat me
     → Final (Seen IsKept id me.0) words slots
-    → (take 16 words ≡ (as_desk me.0).asked) × All (IsWithin (as_desk me.0).asked) (as_desk me.0).ended
+    → (take most_sites words ≡ (as_desk me.0).asked) × All (IsWithin (as_desk me.0).asked) (as_desk me.0).ended
 closes {S = S} id me words slots is final =
     let s : State S View = final.0 in
     let kept : IsKept s = final.1.0 in
     let same = (desk_place s kept id (as_desk me.0) (desk_there s id me is final.1.1)).1 in (
-      ap (λ ws. take 16 ws) (sym final.2 ∙ kept.words) ∙ take_at kept.desk.asked (finished s kept ∷ []) 16 kept.sixteen
+      ap (λ ws. take most_sites ws) (sym final.2 ∙ kept.words) ∙ take_at kept.desk.asked (finished s kept ∷ []) most_sites kept.each_site
           ∙ ap (λ (x : DeskView). x.asked) same,
       subst (λ (x : DeskView). All (IsWithin x.asked) x.ended) same kept.seen_ended,
     )

@@ -2,6 +2,7 @@
 use Rattle.std.proofs.Common.{◌≡◌, ℕ, ◌+◌, ◌<◌, List, [], ◌∷◌, ◌++◌, false, replicate, set, sym, refl, ap, ◌∙◌, subst, ⊎_elim, arith}
 use mathlib.Core.Option.{some, some-ne-none}
 use Rattle.std.proofs.lemmas.List.Sums.{sum_by_push}
+use Rattle.text_bytes.specs.Limits.{most_sites}
 use Rattle.text_bytes.proofs.BoolLemmas.{below_no, below_one_more}
 use Rattle.atomic_table.specs.Table.{Splits}
 use Rattle.atomic_table.proofs.Lists.{at_snoc}
@@ -14,14 +15,14 @@ use Rattle.stop_board.specs.declared.view.SiteView.{SiteView}
 use Rattle.stop_board.proofs.RuleLemmas.{state, desk_place}
 
 -- a board at the start
-pub begins : {S : Type 0} → IsKept {S = S} (state (replicate 17 0) [] (first_view ∷ []))
+pub begins : {S : Type 0} → IsKept {S = S} (state (replicate (most_sites + 1) 0) [] (first_view ∷ []))
 begins = record {
-  desk = desk_view 0 (replicate 16 0) 0 [];
+  desk = desk_view 0 (replicate most_sites 0) 0 [];
   seats = [];
   views = refl;
   no_desk = λ k d e. absurd (some-ne-none (Desk d) (sym e));
   words = refl;
-  sixteen = refl;
+  each_site = refl;
   looked = omega arith;
   seen = λ k v e. absurd (some-ne-none (Site v) (sym e));
   seen_ended = λ k v h. absurd (omega arith);
@@ -44,7 +45,7 @@ over_seats_more : (f : SiteView → ℕ) (desk : DeskView) (seats : List View)
 over_seats_more f desk seats = omega (arith, sum_by_push (of_site f) seats (made_by desk))
 
 -- a site's seat is made
-pub splits : {S : Type 0} (id : ℕ) (v : View) → v ≡ Desk (as_desk v) → (as_desk v).made < 16
+pub splits : {S : Type 0} (id : ℕ) (v : View) → v ≡ Desk (as_desk v) → (as_desk v).made < most_sites
     → Splits {S = S} IsKept id v (desk_after_making v) (site_made v)
 splits id v is room s kept there =
     let desk = kept.desk in
@@ -59,7 +60,7 @@ splits id v is room s kept there =
       no_desk = λ k e there.
           ⊎_elim (λ t. kept.no_desk k e t) (λ (t : made_by desk ≡ Desk e). cc) (at_snoc kept.seats (made_by desk) (Desk e) k there);
       words = kept.words ∙ ap (λ n. desk.asked ++ n ∷ []) (omega (arith, sum if_finished));
-      sixteen = kept.sixteen;
+      each_site = kept.each_site;
       looked = omega (arith, sum if_finished, kept.looked);
       seen = λ k u there.
           ⊎_elim (λ t. kept.seen k u t)

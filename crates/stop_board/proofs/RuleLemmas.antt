@@ -1,5 +1,6 @@
 -- The rule is kept where one seat's view changes.
 use Rattle.std.proofs.Common.{◌≡◌, ℕ, zero, suc, ◌+◌, ◌≤◌, List, [], ◌∷◌, ◌++◌, cond, ◌==◌, length, get_or, set, slice_index, sym, refl, ap, ◌∙◌, subst, ⊎_elim, arith}
+use Rattle.text_bytes.specs.Limits.{most_sites}
 use Rattle.text_bytes.proofs.SumLemmas.{sum_by-set_there}
 use mathlib.Core.Option.{Option, some, some-injective}
 use lib.ListN.{get_elem?}
@@ -71,7 +72,7 @@ module _ {S : Type 0} (s : State S View) (kept : IsKept s) where
         views = ap (λ i. set s.views i (Site w)) here.1 ∙ ap (λ vs. set vs (suc k) (Site w)) kept.views;
         no_desk = still_no_desk kept.seats k (Site w) (λ d e. cc) kept.no_desk;
         words = wide ∙ ap (λ n. kept.desk.asked ++ n ∷ []) total;
-        sixteen = kept.sixteen;
+        each_site = kept.each_site;
         looked = omega (arith, sum if_finished, kept.looked);
         seen = λ j u e.
             ⊎_elim (λ t. subst (IsWithin kept.desk.asked) (site-injective w u t.1) within) (λ t. kept.seen j u t.1)
@@ -86,10 +87,10 @@ module _ {S : Type 0} (s : State S View) (kept : IsKept s) where
 
   -- where the desk asks or looks, the rule is kept with the words that this makes
   pub desk_moves : (id : ℕ) (d : DeskView) (asked : List ℕ) (looked : ℕ) (words : List ℕ) → get_elem? s.views id ≡ some (Desk d)
-      → length asked ≡ 16 → looked ≤ finished → ((site : ℕ) → slice_index d.asked site ≤ slice_index asked site)
+      → length asked ≡ most_sites → looked ≤ finished → ((site : ℕ) → slice_index d.asked site ≤ slice_index asked site)
       → words ≡ asked ++ finished ∷ []
       → IsKept (state words s.homes (set s.views id (Desk (desk_view d.made asked looked d.ended))))
-  desk_moves id d asked looked words there sixteen least grows wide =
+  desk_moves id d asked looked words there each_site least grows wide =
       let here = desk_place id d there in
       let after : DeskView → View = λ x. Desk (desk_view x.made asked looked x.ended) in
       let more : (site : ℕ) → slice_index kept.desk.asked site ≤ slice_index asked site =
@@ -100,7 +101,7 @@ module _ {S : Type 0} (s : State S View) (kept : IsKept s) where
         views = ap (λ i. set s.views i (after kept.desk)) here.0 ∙ ap (λ vs. set vs 0 (after kept.desk)) kept.views;
         no_desk = kept.no_desk;
         words = wide;
-        sixteen = sixteen;
+        each_site = each_site;
         looked = least;
         seen = λ k v e. omega (arith, kept.seen k v e, more v.site);
         seen_ended = λ k v h. omega (arith, kept.seen_ended k v h, more (get_or kept.desk.ended k v).site);

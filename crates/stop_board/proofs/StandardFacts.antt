@@ -4,6 +4,7 @@ use Rattle.text_bytes.proofs.BoolLemmas.{below_no, below_one_more}
 use mathlib.Core.Option.{some, some-injective, some-ne-none}
 use lib.ListN.{get_elem?}
 use Rattle.atomic_table.specs.Table.{State}
+use Rattle.text_bytes.specs.Limits.{most_sites}
 use Rattle.stop_board.specs.Rule.{desk_view, site_view, over_seats, if_at, if_finished, IsWithin, IsKept}
 use Rattle.stop_board.specs.Steps.{asked_once_more}
 use Rattle.stop_board.specs.declared.view.View.{View}
@@ -26,7 +27,7 @@ abbrev board : SiteView → SiteView → ℕ → State (Unit {0}) View
 board first second count = state (asked ++ count ∷ []) [] (Desk desk ∷ Site first ∷ Site second ∷ [])
 
 -- an ask at site 1 adds 1 to its number alone
-an_ask : asked_once_more (replicate 16 0) 1 ≡ asked
+an_ask : asked_once_more (replicate most_sites 0) 1 ≡ asked
 an_ask = refl
 
 -- among two sites' views none is a desk's
@@ -57,7 +58,7 @@ allowed = record {
   views = refl;
   no_desk = no_desk_of_two has_finished has_seen;
   words = refl;
-  sixteen = refl;
+  each_site = refl;
   looked = omega arith;
   seen = each_of_two (IsWithin asked) has_finished has_seen (omega arith) (omega arith);
   seen_ended = λ k v h. absurd (omega arith);

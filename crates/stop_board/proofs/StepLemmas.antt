@@ -1,5 +1,6 @@
 -- A poll, a finish, an ask and a look each keep the rule.
 use Rattle.std.proofs.Common.{◌≡◌, ℕ, ◌+◌, ◌%◌, ◌^◌, ◌<◌, ◌≤◌, [], ◌∷◌, ◌++◌, false, cond, length, set, slice_index, sym, refl, ap, ◌∙◌, arith}
+use Rattle.text_bytes.specs.Limits.{most_sites}
 use mathlib.Core.Option.{none, some}
 use lib.ListN.{get_elem?}
 use Rattle.atomic_table.specs.Table.{State, Me, keeps, step, Allows}
@@ -49,19 +50,19 @@ polls slots id site me is s kept wide there fits =
 
 -- a finish
 pub finishes : {S : Type 0} (slots id site : ℕ) (me : Me S View) → IsSiteSeat me site → (as_site me.0).finished ≡ false
-    → Allows IsKept slots id me 16 (λ n. (n + 1) % 2 ^ 64) (Finishes (step slots 16 1 0 none) me)
+    → Allows IsKept slots id me most_sites (λ n. (n + 1) % 2 ^ 64) (Finishes (step slots most_sites 1 0 none) me)
 finishes slots id site me is once s kept wide there fits =
     let v = as_site me.0 in
-    let n : ℕ = (slice_index s.words 16 + 1) % 2 ^ 64 in
+    let n : ℕ = (slice_index s.words most_sites + 1) % 2 ^ 64 in
     let at = site_there s id site me is there in
-    let few : finished s kept ≤ 16 = omega (arith, finished-le-made s kept, kept.few) in
+    let few : finished s kept ≤ most_sites = omega (arith, finished-le-made s kept, kept.few) in
     let more : n ≡ finished s kept + 1 = omega (arith, last_word s kept) in
     let not_yet : if_finished v ≡ 0 = ap (λ b. cond b 1 0) once in
     let after = after_finish v in (
       Site after,
       keeps,
       tt,
-      site_moves s kept id v after (set s.words 16 n) (finished s kept + 1) at refl (seen_there s kept id v at)
+      site_moves s kept id v after (set s.words most_sites n) (finished s kept + 1) at refl (seen_there s kept id v at)
           (omega arith) (omega arith) (finished_once s kept n more),
       refl,
     )
@@ -76,40 +77,40 @@ asks slots id site me is made room s kept wide there fits =
     let at = desk_there s id me is there in
     let same = (desk_place s kept id d at).1 in
     let asked_same : kept.desk.asked ≡ d.asked = ap (λ (x : DeskView). x.asked) same in
-    let few : site < 16 = omega (arith, is.1) in
+    let few : site < most_sites = omega (arith, is.1) in
     let before = word_of_site s kept site few in
     let more : n ≡ slice_index kept.desk.asked site + 1 = omega (arith, ap (λ l. slice_index l site) asked_same) in
     let words : set s.words site n ≡ asked_once_more d.asked site ++ finished s kept ∷ [] =
     asked_once s kept site n few more ∙ ap (λ l. asked_once_more l site ++ finished s kept ∷ []) asked_same in
-    let sixteen : length d.asked ≡ 16 = ap length (sym asked_same) ∙ kept.sixteen in
+    let each_site : length d.asked ≡ most_sites = ap length (sym asked_same) ∙ kept.each_site in
     let looked = ap (λ (x : DeskView). x.looked) same in (
       Desk (after_ask d site),
       keeps,
       tt,
       desk_moves s kept id d (asked_once_more d.asked site) d.looked (set s.words site n) at
-          (length-asked_once_more d.asked site ∙ sixteen) (omega (arith, kept.looked))
+          (length-asked_once_more d.asked site ∙ each_site) (omega (arith, kept.looked))
           (λ i. grows-asked_once_more d.asked site i (omega arith)) words,
       refl,
     )
 
 -- a look
 pub looks : {S : Type 0} (slots id : ℕ) (me : Me S View) → IsDeskSeat me
-    → Allows IsKept slots id me 16 (λ n. n) (Looks (step slots 16 0 0 none) me)
+    → Allows IsKept slots id me most_sites (λ n. n) (Looks (step slots most_sites 0 0 none) me)
 looks slots id me is s kept wide there fits =
     let d = as_desk me.0 in
-    let n : ℕ = slice_index s.words 16 in
+    let n : ℕ = slice_index s.words most_sites in
     let at = desk_there s id me is there in
     let same = (desk_place s kept id d at).1 in
     let asked_same : kept.desk.asked ≡ d.asked = ap (λ (x : DeskView). x.asked) same in
     let word = last_word s kept in
-    let words : set s.words 16 n ≡ d.asked ++ finished s kept ∷ [] =
-    loaded s kept 16 ∙ ap (λ l. l ++ finished s kept ∷ []) asked_same in
+    let words : set s.words most_sites n ≡ d.asked ++ finished s kept ∷ [] =
+    loaded s kept most_sites ∙ ap (λ l. l ++ finished s kept ∷ []) asked_same in
     let looked = ap (λ (x : DeskView). x.looked) same in
     let made = ap (λ (x : DeskView). x.made) same in (
       Desk (after_look d n),
       keeps,
       tt,
-      desk_moves s kept id d d.asked n (set s.words 16 n) at (ap length (sym asked_same) ∙ kept.sixteen) (omega arith)
+      desk_moves s kept id d d.asked n (set s.words most_sites n) at (ap length (sym asked_same) ∙ kept.each_site) (omega arith)
           (λ i. omega arith) words,
       (refl, omega (arith, kept.looked), omega (arith, finished-le-made s kept)),
     )

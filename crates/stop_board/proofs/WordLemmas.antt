@@ -2,6 +2,7 @@
 use Rattle.std.proofs.Common.{◌≡◌, ℕ, ◌+◌, ◌<◌, ◌≤◌, List, [], ◌∷◌, ◌++◌, length, get_or, set, slice_index, ap, ◌∙◌, arith, length-set, get_or-set_other}
 use Rattle.std.proofs.lemmas.List.{get_or_append_left, get_or-append_right, set-append_left, set-append_right, set-get_or}
 use Rattle.std.proofs.lemmas.Grind.{get_or-set_at}
+use Rattle.text_bytes.specs.Limits.{most_sites}
 use mathlib.Core.Logic.{dite}
 use native.Mathlib.Decide.{ℕ_discrete}
 use Rattle.atomic_table.specs.Table.{State}
@@ -25,16 +26,16 @@ length-asked_once_more asked site = length-set asked site (slice_index asked sit
 
 module _ {S : Type 0} (s : State S View) (kept : IsKept s) where
   -- a site's word is the desk's number of it
-  pub word_of_site : (site : ℕ) → site < 16 → slice_index s.words site ≡ slice_index kept.desk.asked site
+  pub word_of_site : (site : ℕ) → site < most_sites → slice_index s.words site ≡ slice_index kept.desk.asked site
   word_of_site site small =
-      let here : site < length kept.desk.asked = omega (arith, kept.sixteen) in
+      let here : site < length kept.desk.asked = omega (arith, kept.each_site) in
       ap (λ ws. get_or ws site 0) kept.words ∙ get_or_append_left kept.desk.asked (finished s kept ∷ []) 0 site here
 
   -- word 16 is the number of seats that have finished
-  pub last_word : slice_index s.words 16 ≡ finished s kept
+  pub last_word : slice_index s.words most_sites ≡ finished s kept
   last_word =
-      ap (λ ws. get_or ws 16 0) kept.words
-      ∙ get_or-append_right kept.desk.asked (finished s kept ∷ []) 16 16 0 kept.sixteen (omega arith)
+      ap (λ ws. get_or ws most_sites 0) kept.words
+      ∙ get_or-append_right kept.desk.asked (finished s kept ∷ []) most_sites most_sites 0 kept.each_site (omega arith)
 
   -- no more seats have finished than were made
   pub finished-le-made : finished s kept ≤ kept.desk.made
@@ -45,17 +46,17 @@ module _ {S : Type 0} (s : State S View) (kept : IsKept s) where
   loaded word = set-get_or s.words word 0 ∙ kept.words
 
   -- a site's word after an ask
-  pub asked_once : (site n : ℕ) → site < 16 → n ≡ slice_index kept.desk.asked site + 1
+  pub asked_once : (site n : ℕ) → site < most_sites → n ≡ slice_index kept.desk.asked site + 1
       → set s.words site n ≡ asked_once_more kept.desk.asked site ++ finished s kept ∷ []
   asked_once site n small e =
       let asked = kept.desk.asked in
-      let here : site < length asked = omega (arith, kept.sixteen) in
+      let here : site < length asked = omega (arith, kept.each_site) in
       ap (λ ws. set ws site n) kept.words ∙ set-append_left asked (finished s kept ∷ []) site n here
       ∙ ap (λ m. set asked site m ++ finished s kept ∷ []) e
 
   -- word 16 after a finish
-  pub finished_once : (n : ℕ) → n ≡ finished s kept + 1 → set s.words 16 n ≡ kept.desk.asked ++ (finished s kept + 1) ∷ []
+  pub finished_once : (n : ℕ) → n ≡ finished s kept + 1 → set s.words most_sites n ≡ kept.desk.asked ++ (finished s kept + 1) ∷ []
   finished_once n e =
-      ap (λ ws. set ws 16 n) kept.words
-      ∙ set-append_right kept.desk.asked (finished s kept ∷ []) 16 16 n kept.sixteen (omega arith)
+      ap (λ ws. set ws most_sites n) kept.words
+      ∙ set-append_right kept.desk.asked (finished s kept ∷ []) most_sites most_sites n kept.each_site (omega arith)
       ∙ ap (λ m. kept.desk.asked ++ m ∷ []) e

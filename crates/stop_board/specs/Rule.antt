@@ -2,6 +2,7 @@
 -- A board has 17 words: word s below 16 counts the stops that were asked for at site s, and word 16 the seats that have
 -- finished. The desk's view stands first, and the views of the sites' seats follow in the order of their making.
 use Rattle.std.specs.Prelude.{◌≡◌, ℕ, ◌+◌, ◌≤◌, Bool, false, cond, ◌==◌, nat_lt, List, [], ◌∷◌, ◌++◌, length, replicate, slice_index, sum_by, All}
+use Rattle.text_bytes.specs.Limits.{most_sites}
 use mathlib.Core.Option.{some}
 use lib.ListN.{get_elem?}
 use Rattle.atomic_table.specs.Table.{State}
@@ -32,7 +33,7 @@ as_site Spent = site_view 0 0 0 false
 
 -- no stop was asked for, and no site has a seat
 abbrev pub first_view : View
-first_view = Desk (desk_view 0 (replicate 16 0) 0 [])
+first_view = Desk (desk_view 0 (replicate most_sites 0) 0 [])
 
 -- f of what the seat of a site knows; 0 where the seat has come back
 abbrev pub of_site : (SiteView → ℕ) → View → ℕ
@@ -69,7 +70,7 @@ pub record IsKept {S : Type 0} (s : State S View) : Type 0 where
   pub no_desk : (k : ℕ) (d : DeskView) → get_elem? seats k ≡ some (Desk d) → ⊥
   -- word s is the number of stops that the desk asked for at site s, and word 16 that of the seats that have finished
   pub words : s.words ≡ desk.asked ++ over_seats if_finished desk seats ∷ []
-  pub sixteen : length desk.asked ≡ 16
+  pub each_site : length desk.asked ≡ most_sites
   -- the desk saw no more finished seats than there are
   pub looked : desk.looked ≤ over_seats if_finished desk seats
   -- no seat, out or back, saw more stops than were asked for
@@ -78,4 +79,4 @@ pub record IsKept {S : Type 0} (s : State S View) : Type 0 where
   -- each site below the number made has one seat, and no other site has any
   pub once : (site : ℕ) → over_seats (if_at site) desk seats ≡ cond (nat_lt site desk.made) 1 0
   pub all : over_seats one desk seats ≡ desk.made
-  pub few : desk.made ≤ 16
+  pub few : desk.made ≤ most_sites

@@ -1,6 +1,7 @@
 -- Boards and their seats as clauses see them: plain data, and which board it is as an identity.
 use Rattle.std.specs.Prelude.{◌≡◌, ℕ, ◌<◌, ◌≤◌, Bool, false, [], List, ◌++◌, replicate, map}
 use Rattle.std.specs.List.{range_with_len}
+use Rattle.text_bytes.specs.Limits.{most_sites}
 use Rattle.atomic_table.specs.Seated.{TableId}
 use Rattle.atomic_table.specs.Table.{Me}
 use Rattle.stop_board.specs.Rule.{desk_view, site_view, as_desk, as_site}
@@ -45,15 +46,15 @@ new_seats board sites = map (new_seat board) (range_with_len 0 sites)
 
 -- the desk of a new board
 abbrev pub new_desk : TableId → ℕ → DeskFacts
-new_desk board sites = record { board = board; sites = sites; asked = replicate 16 0; looked = 0 }
+new_desk board sites = record { board = board; sites = sites; asked = replicate most_sites 0; looked = 0 }
 
 -- a seat of the table that is a site's, holds no slot, and whose site is that number
 abbrev pub IsSiteSeat : {S : Type 0} → Me S View → ℕ → Type 0
-IsSiteSeat me site = (me ≡ (Site (as_site me.0), [])) × (site ≡ (as_site me.0).site) × (site < 16)
+IsSiteSeat me site = (me ≡ (Site (as_site me.0), [])) × (site ≡ (as_site me.0).site) × (site < most_sites)
 
 -- a seat of the table that is the desk's, and holds no slot
 abbrev pub IsDeskSeat : {S : Type 0} → Me S View → Type 0
-IsDeskSeat me = (me ≡ (Desk (as_desk me.0), [])) × ((as_desk me.0).made ≤ 16)
+IsDeskSeat me = (me ≡ (Desk (as_desk me.0), [])) × ((as_desk me.0).made ≤ most_sites)
 
 -- what a site's seat knows
 abbrev pub view_of : SiteFacts → SiteView
@@ -65,4 +66,4 @@ after_return d seats = desk_view d.made d.asked d.looked (d.ended ++ map view_of
 
 -- the desk's seat of a board with that many sites
 abbrev pub made_desk : ℕ → View
-made_desk made = Desk (desk_view made (replicate 16 0) 0 [])
+made_desk made = Desk (desk_view made (replicate most_sites 0) 0 [])

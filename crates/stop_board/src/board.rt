@@ -1,7 +1,8 @@
-//! The board: seventeen words that the desk's thread and the sites' threads share.
+//! The board: a word for each site and one more, which the desk's thread and the sites' threads share.
 
 ghost use Rattle.std.specs.Prelude.{◌≡◌, ◌<◌, ◌≤◌, [], All, IfOk, OnOk, length, slice_index, take};
 ghost use Rattle.std.specs.Slots.{slots_items, slots_len, IsFull};
+ghost use Rattle.text_bytes.specs.Limits.{most_sites};
 ghost use Rattle.stop_board.specs.Rule.{as_desk};
 ghost use Rattle.stop_board.specs.Seats.{new_desk, new_seats, made_desk, after_return, IsDeskSeat};
 
@@ -13,6 +14,7 @@ use atomic_table::{Closed, Seat, Table};
 use std::alloc::{AllocError, Global};
 use std::marker::Model;
 use tester_types::{Items, NoMemory};
+use text_bytes::MOST_SITES;
 
 /// The words on which stops are asked for and counted. It is shared by reference, and its calls never wait.
 #[derive(Drop)]
@@ -21,14 +23,15 @@ pub struct Board {
 }
 
 impl Model for Board {
-    ghost use Rattle.std.specs.Prelude.{◌≡◌};
+    ghost use Rattle.std.specs.Prelude.{◌≡◌, ◌+◌};
+    ghost use Rattle.text_bytes.specs.Limits.{most_sites};
     ghost use Rattle.atomic_table.specs.Seated.{TableId};
 
     ghost Value = { TableId };
 
     ghost view = { λ b. b.table.shared.table_id };
 
-    ghost invariant = { λ b. (b.table.shared.table_id.words ≡ 17) × (b.table.shared.table_id.slots ≡ 0) };
+    ghost invariant = { λ b. (b.table.shared.table_id.words ≡ most_sites + 1) × (b.table.shared.table_id.slots ≡ 0) };
 }
 
 /// What a board leaves: how often a stop was asked for at each site.
@@ -41,11 +44,11 @@ impl Board {
     /// A board for so many sites, the desk's seat, and a seat for each site from 0 in order. It is an `Err` only for want
     /// of memory.
     pub fn new(alloc: Global, sites: u8) -> Result<(Board, DeskSeat, SiteSeatList), NoMemory>
-        requires { sites ≤ 16 }
+        requires { sites ≤ most_sites }
         ensures desk { IfOk result (λ made. made.1 ≡ new_desk made.0 sites) }
         ensures seats { IfOk result (λ made. made.2 ≡ new_seats made.0 sites) }
     {
-        let (table, mut seat) = Table::of_words(alloc, &[0; 17], &())?;
+        let (table, mut seat) = Table::of_words(alloc, &[0; MOST_SITES + 1], &())?;
         let board = Board { table };
         let seats = board.seats(alloc, &mut seat, sites)?;
         Ok((board, DeskSeat { seat }, Items::from_vec(seats)))
@@ -58,7 +61,7 @@ impl Board {
         desk: &mut Seat<(), View>,
         sites: u8,
     ) -> Result<Vec<SiteSeat>, AllocError>
-        requires sites { sites ≤ 16 }
+        requires sites { sites ≤ most_sites }
         requires board { desk.old.table_id ≡ self.now }
         requires desk { desk.old.me ≡ (made_desk 0, []) }
         ensures seats { IfOk result (λ seats. seats.items ≡ new_seats self.now sites) }
@@ -112,12 +115,12 @@ impl Board {
 }
 
 // The words 0 to 15 of a table that was closed.
-fn first_words(closed: &Closed<(), Global>) -> [u64; 16]
-    requires { (16 < slots_len closed.now.words) × IsFull closed.now.words }
-    ensures { result ≡ take 16 (slots_items closed.now.words) }
+fn first_words(closed: &Closed<(), Global>) -> [u64; MOST_SITES]
+    requires { (most_sites < slots_len closed.now.words) × IsFull closed.now.words }
+    ensures { result ≡ take most_sites (slots_items closed.now.words) }
 {
-    let mut words = [0; 16];
-    for site in 0..16 {
+    let mut words = [0; MOST_SITES];
+    for site in 0..MOST_SITES {
         words[site] = closed.word(site);
     }
     words

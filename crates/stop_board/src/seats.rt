@@ -9,9 +9,10 @@ use crate::view::View;
 use atomic_table::Seat;
 use std::marker::Model;
 use tester_types::Items;
+use text_bytes::MOST_SITES;
 
 /// The word that counts the seats that have finished.
-const FINISHED: usize = 16;
+const FINISHED: usize = MOST_SITES;
 
 /// The right to ask for stops and to see how many seats have finished. It is for one thread at a time.
 #[derive(Drop)]

@@ -10,6 +10,7 @@ use Rattle.strobe_check.specs.Extent.{Extent, extents}
 use Rattle.strobe_check.specs.Fails.{meets, fails}
 use Rattle.strobe_check.specs.Sensed.{is_sensed}
 use Rattle.strobe_check.specs.Count.{Count, HasCounted}
+use Rattle.strobe_check.specs.declared.checker.TheConstants.{MOST_NUMBERED}
 
 -- which signals are bound, how many fails are to be kept, the fails of the cycles that are closed, and the entries of
 -- the cycle that is open
@@ -21,7 +22,7 @@ pub record History : Type 0 where
 
 -- how many signals can have a number of 16 bits
 abbrev pub most_numbered : ℕ
-most_numbered = 2 ^ 16
+most_numbered = MOST_NUMBERED
 
 -- the signals that have numbers of 16 bits: all of them, where there are no more than 65,536
 unfoldable pub numbered : List Bool → List Bool

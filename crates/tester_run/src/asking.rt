@@ -1,6 +1,7 @@
 //! The asking of the desk, while the sites work.
 
 ghost use Rattle.std.specs.Prelude.{◌≡◌, ◌+◌, ◌≤◌, ◌<◌, ℕ, true, replicate, slice_index};
+ghost use Rattle.text_bytes.specs.Limits.{most_sites};
 ghost use Rattle.tester_types.specs.Desk.{Says};
 ghost use Rattle.tester_run.specs.Asking.{IsPassedOn, after_answer};
 
@@ -8,9 +9,7 @@ use std::sync::Wait;
 use std::thread::yield_now;
 use stop_board::{Board, DeskSeat};
 use tester_types::{Ask, Desk};
-
-/// How many sites a board has at most.
-const SITES: usize = 16;
+use text_bytes::MOST_SITES;
 
 /// So often a site is asked to stop, and no more.
 const MOST: u64 = 1 << 63;
@@ -24,14 +23,14 @@ pub(crate) fn ask_all<R: Wait, D: Desk>(
     sites: u8,
 )
     requires board { seat.old.board ≡ board.now }
-    requires sites { (seat.old.sites ≡ sites) × (sites ≤ 16) }
-    requires none { seat.old.asked ≡ replicate 16 0 }
+    requires sites { (seat.old.sites ≡ sites) × (sites ≤ most_sites) }
+    requires none { seat.old.asked ≡ replicate most_sites 0 }
     ensures asked { D.asked desk.new ≡ true }
     ensures board { seat.new.board ≡ seat.old.board }
     ensures sites { seat.new.sites ≡ seat.old.sites }
     ensures most { (site : ℕ) → slice_index seat.new.asked site + D.stops desk.old site ≤ D.stops desk.new site }
 {
-    let mut asked = [0; SITES];
+    let mut asked = [0; MOST_SITES];
     for _ in rt.forever() {
         pass_on(board, seat, &mut asked, desk, sites);
         if seat.finished(board) >= u64::from(sites) {
@@ -45,12 +44,12 @@ pub(crate) fn ask_all<R: Wait, D: Desk>(
 fn pass_on<D: Desk>(
     board: &Board,
     seat: &mut DeskSeat,
-    asked: &mut [u64; SITES],
+    asked: &mut [u64; MOST_SITES],
     desk: &mut D,
     sites: u8,
 )
     requires board { seat.old.board ≡ board.now }
-    requires sites { (seat.old.sites ≡ sites) × (sites ≤ 16) }
+    requires sites { (seat.old.sites ≡ sites) × (sites ≤ most_sites) }
     requires counts { seat.old.asked ≡ asked.old }
     ensures asked { D.asked desk.new ≡ true }
     ensures board { seat.new.board ≡ seat.old.board }
@@ -63,9 +62,9 @@ fn pass_on<D: Desk>(
 }
 
 /// Asks for the stop that the desk answered, where it is for one of so many sites.
-fn heed(board: &Board, seat: &mut DeskSeat, asked: &mut [u64; SITES], answer: Ask, sites: u8)
+fn heed(board: &Board, seat: &mut DeskSeat, asked: &mut [u64; MOST_SITES], answer: Ask, sites: u8)
     requires board { seat.old.board ≡ board.now }
-    requires sites { (seat.old.sites ≡ sites) × (sites ≤ 16) }
+    requires sites { (seat.old.sites ≡ sites) × (sites ≤ most_sites) }
     requires counts { seat.old.asked ≡ asked.old }
     ensures heeded { seat.new.asked ≡ after_answer sites answer seat.old.asked }
     ensures board { seat.new.board ≡ seat.old.board }

@@ -2,6 +2,7 @@
 
 ghost use Rattle.std.specs.Prelude.{◌≡◌, ◌+◌, ◌<◌, ◌≤◌, ℕ, true, length, replicate, slice_index, slice_index_or};
 ghost use Rattle.std.specs.Thread.{IsSync, IsSend};
+ghost use Rattle.text_bytes.specs.Limits.{most_sites};
 ghost use Rattle.floor_core.specs.Book.{planned};
 ghost use Rattle.tester_run.specs.Jobs.{IsNew, IsDone};
 ghost use Rattle.tester_run.specs.declared.jobs.Job.{Job};
@@ -40,8 +41,8 @@ pub(crate) fn work_beside<R: Threads + Wait + Sync, K: Socket + Send, D: Desk, G
         (slice_index_or jobs.old k d).share (slice_index_or jobs.old k d).seat (slice_index_or jobs.old k d).pass }
     requires seats { (k : ℕ) (d : Job K) → k < length jobs.old → (slice_index_or jobs.old k d).seat.board ≡ board.now }
     requires board { seat.old.board ≡ board.now }
-    requires sites { (seat.old.sites ≡ sites) × (sites ≤ 16) }
-    requires none { seat.old.asked ≡ replicate 16 0 }
+    requires sites { (seat.old.sites ≡ sites) × (sites ≤ most_sites) }
+    requires none { seat.old.asked ≡ replicate most_sites 0 }
     ensures all { length jobs.new ≡ length jobs.old }
     ensures done { (k : ℕ) (d : Job K) → k < length jobs.old → IsDone K.told plan.now
         (slice_index_or jobs.old k d).socket (slice_index_or jobs.new k d).socket
@@ -53,8 +54,8 @@ pub(crate) fn work_beside<R: Threads + Wait + Sync, K: Socket + Send, D: Desk, G
     ensures most { (site : ℕ) → slice_index seat.new.asked site + D.stops desk.old site ≤ D.stops desk.new site }
 {
     let mut asking = ||
-        requires { IsSync R.row × IsSend D.row × (seat.now.board ≡ board.now) × (seat.now.sites ≡ sites) × (sites ≤ 16)
-            × (seat.now.asked ≡ replicate 16 0) }
+        requires { IsSync R.row × IsSend D.row × (seat.now.board ≡ board.now) × (seat.now.sites ≡ sites)
+            × (sites ≤ most_sites) × (seat.now.asked ≡ replicate most_sites 0) }
         ensures { (D.asked desk.exit.now ≡ true) × (seat.exit.now.board ≡ seat.entry.now.board)
             × (seat.exit.now.sites ≡ seat.entry.now.sites)
             × ((site : ℕ)

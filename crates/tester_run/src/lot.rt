@@ -1,6 +1,7 @@
 //! The work of all sites of a lot.
 
 ghost use Rattle.std.specs.Prelude.{◌≡◌, ℕ, ◌+◌, ◌≤◌, ◌++◌, true, All, IfOk, OnOk, length, slice_index};
+ghost use Rattle.text_bytes.specs.Limits.{most_sites};
 ghost use Rattle.plan_rows.specs.Rows.{sites_of};
 ghost use Rattle.floor_core.specs.Book.{at_site, planned};
 ghost use Rattle.stop_board.specs.Seats.{new_desk};
@@ -34,7 +35,7 @@ pub fn run_lot<R: Threads + Wait + Sync, D: Desk, G: Gate>(
     gate: &G,
 ) -> Result<BookState, NoMemory>
     requires one_program { plan.now.program ≡ mem.now.code }
-    requires sites { sites_of plan.now.rows ≤ 16 }
+    requires sites { sites_of plan.now.rows ≤ most_sites }
     requires passes { All (λ pass. pass ≡ mem.now) passes }
     requires enough { sites_of plan.now.rows ≤ length passes }
     requires sockets { sites_of plan.now.rows ≤ length sockets.old.items }
@@ -59,7 +60,7 @@ fn lot_at<R: Threads + Wait + Sync, K: Socket + Send, D: Desk, G: Gate>(
     gate: &G,
 ) -> Result<BookState, NoMemory>
     requires one_program { plan.now.program ≡ mem.now.code }
-    requires sites { sites_of plan.now.rows ≤ 16 }
+    requires sites { sites_of plan.now.rows ≤ most_sites }
     requires passes { All (λ pass. pass ≡ mem.now) passes }
     requires enough { sites_of plan.now.rows ≤ length passes }
     requires sockets { sites_of plan.now.rows ≤ length sockets.old.items }
@@ -110,7 +111,7 @@ fn do_jobs<R: Threads + Wait + Sync, K: Socket + Send, D: Desk, G: Gate>(
     requires book { book.now.places ≡ planned plan.now.rows }
     requires new { AreNew mem.now plan.now book.now board.now jobs.old.items }
     requires asker { asker.old ≡ new_desk board.now sites }
-    requires sites { sites ≤ 16 }
+    requires sites { sites ≤ most_sites }
     ensures done { AreDone K.told plan.now book.now board.now jobs.old.items jobs.new.items }
     ensures asked { D.asked desk.new ≡ true }
     ensures board { asker.new.board ≡ board.now }

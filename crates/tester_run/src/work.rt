@@ -21,7 +21,7 @@ use std::thread::Threads;
 use stop_board::{Board, SiteSeat};
 use tester_types::Gate;
 
-/// Does the whole work of a share's site: in turn it passes the gate, polls the seat, runs a batch, and files the record
+/// Only tests call it: does the whole work of a share's site. In turn it passes the gate, polls the seat, runs a batch, and files the record
 /// of a touchdown that has ended, until the site is done. At its end no die is loaded and the seat finishes, after a fault
 /// too. It may wait at the gate, and for the turns of the memory and the book.
 pub fn site_work<R: Threads + Wait + Sync, G: Gate>(

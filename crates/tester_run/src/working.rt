@@ -16,11 +16,9 @@ use std::sync::Wait;
 use std::thread::{Threads, for_each_mut};
 use stop_board::Board;
 use tester_types::Gate;
+use text_bytes::MOST_SITES;
 
-/// How many threads work at most.
-const THREADS: usize = 16;
-
-/// Does the work of each job, in threads of their own as far as they can be made.
+/// Does the work of each job, each site's in a thread of its own as far as they can be made.
 pub(crate) fn work_all<R: Threads + Wait + Sync, K: Socket + Send, G: Gate>(
     rt: &R,
     alloc: Global,
@@ -45,7 +43,7 @@ pub(crate) fn work_all<R: Threads + Wait + Sync, K: Socket + Send, G: Gate>(
     for_each_mut(
         rt,
         jobs,
-        THREADS,
+        MOST_SITES,
         &|_: usize, job: &mut Job<K>|
             requires one_program { plan.now.program ≡ mem.now.code }
             requires book { book.now.places ≡ planned plan.now.rows }

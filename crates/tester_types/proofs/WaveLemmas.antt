@@ -58,20 +58,20 @@ find-reverse_none p xs d none =
     find_none p (reverse xs) d each
 
 -- a wave of a signal and a character has their number
-pub own_key : (w : Wave) (signal letter : ℕ) → is_wave signal letter w ≡ true → key_in w ≡ wave_key signal letter
-own_key w signal letter is =
-    let parts = and_parts (w.signal == signal) (w.letter == letter) is in
-    ap (λ (n : ℕ). n * 256 + w.letter) (eqb-true w.signal signal parts.0)
-    ∙ ap (λ (n : ℕ). signal * 256 + n) (eqb-true w.letter letter parts.1)
+pub own_key : (w : Wave) (signal character : ℕ) → is_wave signal character w ≡ true → key_in w ≡ wave_key signal character
+own_key w signal character is =
+    let parts = and_parts (w.signal == signal) (w.character == character) is in
+    ap (λ (n : ℕ). n * 256 + w.character) (eqb-true w.signal signal parts.0)
+    ∙ ap (λ (n : ℕ). signal * 256 + n) (eqb-true w.character character parts.1)
 
 -- a wave of another number is for another signal or character
-pub other_key : (w : Wave) (signal letter : ℕ) → key_in w ≢ wave_key signal letter → is_wave signal letter w ≡ false
-other_key w signal letter other =
-    false_from_ne_true (is_wave signal letter w) (λ is. other (own_key w signal letter is))
+pub other_key : (w : Wave) (signal character : ℕ) → key_in w ≢ wave_key signal character → is_wave signal character w ≡ false
+other_key w signal character other =
+    false_from_ne_true (is_wave signal character w) (λ is. other (own_key w signal character is))
 
 -- a wave without events
 abbrev blank : Wave
-blank = record { signal = 0; letter = 0; events = [] }
+blank = record { signal = 0; character = 0; events = [] }
 
 -- waves up to a place rise, and so do they with one more
 abbrev pub RiseTo : List Wave → ℕ → Type 0
@@ -102,23 +102,23 @@ RiseTo-more waves place before here within was is less rise = λ i j d lt inside
     ]
 
 -- the last wave of a signal and a character among any waves
-pub last_found : (waves : List Wave) (signal letter i : ℕ) (wave : Wave) → i < length waves → wave ≡ get_or waves i wave
-    → is_wave signal letter wave ≡ true
-    → ((j : ℕ) (d : Wave) → i < j → j < length waves → is_wave signal letter (get_or waves j d) ≡ false)
-    → IsPlaceOf waves signal letter i
-last_found waves signal letter i wave within is own after = record {
+pub last_found : (waves : List Wave) (signal character i : ℕ) (wave : Wave) → i < length waves → wave ≡ get_or waves i wave
+    → is_wave signal character wave ≡ true
+    → ((j : ℕ) (d : Wave) → i < j → j < length waves → is_wave signal character (get_or waves j d) ≡ false)
+    → IsPlaceOf waves signal character i
+last_found waves signal character i wave within is own after = record {
   within = within;
   last = slice_get-get_or waves i wave within
-      ∙ sym (find-reverse_last (is_wave signal letter) waves i wave within (ap (is_wave signal letter) (sym is) ∙ own)
+      ∙ sym (find-reverse_last (is_wave signal character) waves i wave within (ap (is_wave signal character) (sym is) ∙ own)
       (λ j lt inside. after j wave lt inside));
 }
 
 -- no wave is for the signal and the character
-pub none_last : (waves : List Wave) (signal letter : ℕ)
-    → ((j : ℕ) (d : Wave) → j < length waves → is_wave signal letter (get_or waves j d) ≡ false)
-    → find (is_wave signal letter) (reverse waves) ≡ None
-none_last waves signal letter none =
-    find-reverse_none (is_wave signal letter) waves blank (λ j inside. none j blank inside)
+pub none_last : (waves : List Wave) (signal character : ℕ)
+    → ((j : ℕ) (d : Wave) → j < length waves → is_wave signal character (get_or waves j d) ≡ false)
+    → find (is_wave signal character) (reverse waves) ≡ None
+none_last waves signal character none =
+    find-reverse_none (is_wave signal character) waves blank (λ j inside. none j blank inside)
 
 module _ (waves : List Wave) (rise : Rise waves) where
   -- the waves up to one with a smaller number have smaller ones
@@ -146,31 +146,31 @@ module _ (waves : List Wave) (rise : Rise waves) where
       ]
 
   -- a wave of the signal and the character is the last of them
-  pub found_place : (signal letter i : ℕ) (wave : Wave) → i < length waves → wave ≡ get_or waves i wave
-      → is_wave signal letter wave ≡ true → IsPlaceOf waves signal letter i
-  found_place signal letter i wave within is own =
-      let key = own_key wave signal letter own in
-      last_found waves signal letter i wave within is own (λ j d lt inside.
+  pub found_place : (signal character i : ℕ) (wave : Wave) → i < length waves → wave ≡ get_or waves i wave
+      → is_wave signal character wave ≡ true → IsPlaceOf waves signal character i
+  found_place signal character i wave within is own =
+      let key = own_key wave signal character own in
+      last_found waves signal character i wave within is own (λ j d lt inside.
       let here : key_in wave ≡ key_in (get_or waves i d) = ap key_in (get_or_read waves i wave within is d) in
-      other_key (get_or waves j d) signal letter (λ e. omega (arith, e, key, here, rise i j d lt inside)))
+      other_key (get_or waves j d) signal character (λ e. omega (arith, e, key, here, rise i j d lt inside)))
 
   -- there is none where the waves before a place have smaller numbers, and the one there is another
-  pub no_place : (signal letter i : ℕ) → AreBelow waves i (wave_key signal letter) → AreFrom waves i (wave_key signal letter)
-      → ((d : Wave) → i < length waves → is_wave signal letter (get_or waves i d) ≡ false)
-      → find (is_wave signal letter) (reverse waves) ≡ None
-  no_place signal letter i below above other =
-      none_last waves signal letter (λ j d inside.
+  pub no_place : (signal character i : ℕ) → AreBelow waves i (wave_key signal character) → AreFrom waves i (wave_key signal character)
+      → ((d : Wave) → i < length waves → is_wave signal character (get_or waves i d) ≡ false)
+      → find (is_wave signal character) (reverse waves) ≡ None
+  no_place signal character i below above other =
+      none_last waves signal character (λ j d inside.
       elim (cases_lt j i) [
-        | inl before ↦ other_key (get_or waves j d) signal letter (λ e. omega (arith, e, below j d before inside))
+        | inl before ↦ other_key (get_or waves j d) signal character (λ e. omega (arith, e, below j d before inside))
         | inr from ↦
             elim (cases_lt i j) [
               | inl behind ↦
                   let within : i < length waves = omega (arith, behind, inside) in
                   let least = above i d (omega arith) within in
-                  other_key (get_or waves j d) signal letter (λ e. omega (arith, e, least, rise i j d behind inside))
+                  other_key (get_or waves j d) signal character (λ e. omega (arith, e, least, rise i j d behind inside))
               | inr upto ↦
                   let same : i ≡ j = omega (arith, from, upto) in
-                  subst (λ (n : ℕ). is_wave signal letter (get_or waves n d) ≡ false) same
+                  subst (λ (n : ℕ). is_wave signal character (get_or waves n d) ≡ false) same
                   (other d (omega (arith, same, inside)))
             ]
       ])
@@ -182,16 +182,16 @@ joined false None wave none = refl
 joined false (Some other) wave none = refl
 
 -- among waves that rise the last is the first
-pub find-reverse_rising : (signal letter : ℕ) (waves : List Wave) → Rise waves
-    → find (is_wave signal letter) (reverse waves) ≡ find (is_wave signal letter) waves
-find-reverse_rising signal letter [] rise = refl
-find-reverse_rising signal letter (w ∷ ws) rise =
-    let test = is_wave signal letter in
+pub find-reverse_rising : (signal character : ℕ) (waves : List Wave) → Rise waves
+    → find (is_wave signal character) (reverse waves) ≡ find (is_wave signal character) waves
+find-reverse_rising signal character [] rise = refl
+find-reverse_rising signal character (w ∷ ws) rise =
+    let test = is_wave signal character in
     let rest : Rise ws = λ i j d lt inside. rise (suc i) (suc j) d (suc-le-suc lt) (suc-le-suc inside) in
     let alone : test w ≡ true → find test ws ≡ None = λ own.
     find_none test ws blank (λ j inside.
-    other_key (get_or ws j blank) signal letter (λ e.
-    omega (arith, e, own_key w signal letter own, rise zero (suc j) blank (omega arith) (suc-le-suc inside)))) in
+    other_key (get_or ws j blank) signal character (λ e.
+    omega (arith, e, own_key w signal character own, rise zero (suc j) blank (omega arith) (suc-le-suc inside)))) in
     ap (find test) (reverse-append (w ∷ []) ws) ∙ find-append test (reverse ws) (w ∷ [])
-    ∙ ap (λ o. option_or o (find test (w ∷ []))) (find-reverse_rising signal letter ws rest)
+    ∙ ap (λ o. option_or o (find test (w ∷ []))) (find-reverse_rising signal character ws rest)
     ∙ joined (test w) (find test ws) w alone

@@ -5,3 +5,5 @@ pub mod Desk
 pub mod Cells
 pub mod Records
 pub mod Waves
+pub mod Acts
+pub mod Directions

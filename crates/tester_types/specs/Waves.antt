@@ -4,15 +4,15 @@ use Rattle.tester_types.specs.declared.wave.Wave.{Wave}
 
 -- whether the wave is for this signal and this character
 abbrev pub is_wave : ℕ → ℕ → Wave → Bool
-is_wave signal letter wave = wave.signal == signal && wave.letter == letter
+is_wave signal character wave = wave.signal == signal && wave.character == character
 
 -- a number for each signal and character, in their order
 abbrev pub wave_key : ℕ → ℕ → ℕ
-wave_key signal letter = signal * 256 + letter
+wave_key signal character = signal * 256 + character
 
 -- the same of a wave
 abbrev pub key_in : Wave → ℕ
-key_in w = wave_key w.signal w.letter
+key_in w = wave_key w.signal w.character
 
 -- each wave has a signal and a character behind those before it
 abbrev pub Rise : List Wave → Type 0
@@ -30,11 +30,11 @@ AreFrom waves place key = (j : ℕ) (d : Wave) → place ≤ j → j < length wa
     → key ≤ key_in (slice_index_or waves j d)
 
 -- the last wave of the signal and the character stands at this place
-pub record IsPlaceOf (waves : List Wave) (signal letter place : ℕ) : Type 0 where
+pub record IsPlaceOf (waves : List Wave) (signal character place : ℕ) : Type 0 where
   pub within : place < length waves
-  pub last : slice_get waves place ≡ find (is_wave signal letter) (reverse waves)
+  pub last : slice_get waves place ≡ find (is_wave signal character) (reverse waves)
 
 -- the place was found, or there is no such wave
 abbrev pub FindsLast : List Wave → ℕ → ℕ → Result ℕ ℕ → Type 0
-FindsLast waves signal letter result =
-    MatchResult result (IsPlaceOf waves signal letter) (λ _. find (is_wave signal letter) (reverse waves) ≡ None)
+FindsLast waves signal character result =
+    MatchResult result (IsPlaceOf waves signal character) (λ _. find (is_wave signal character) (reverse waves) ≡ None)

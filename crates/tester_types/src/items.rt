@@ -55,7 +55,7 @@ impl<T> Items<T> {
 }
 
 impl<T: Drop> Items<T> {
-    /// The list of one item.
+    /// Only tests and measurements call it: the list of one item.
     pub fn of_one(alloc: Global, item: T) -> Result<Self, AllocError>
         ensures { IfOk result (λ list. list ≡ item ∷ []) }
     {

@@ -56,7 +56,7 @@ pub struct Wave {
     /// The signal's number in declared order, from 0.
     pub signal: u16,
     /// The waveform character, an ASCII letter or digit.
-    pub letter: u8,
+    pub character: u8,
     pub events: EventList,
 }
 

@@ -39,7 +39,7 @@ impl WaveList {
         WaveList { waves, rising }
     }
 
-    /// The list of one wave.
+    /// Only tests call it: the list of one wave.
     pub fn of_one(alloc: Global, wave: Wave) -> Result<WaveList, AllocError>
         ensures { IfOk result (λ list. list ≡ wave ∷ []) }
     {
@@ -77,10 +77,10 @@ impl WaveList {
     }
 
     /// The last wave of a signal and a character.
-    pub fn wave(&self, signal: u16, letter: u8) -> Option<&Wave>
-        ensures { option_map (λ w. w.now) result ≡ find (is_wave signal letter) (reverse self.now) }
+    pub fn wave(&self, signal: u16, character: u8) -> Option<&Wave>
+        ensures { option_map (λ w. w.now) result ≡ find (is_wave signal character) (reverse self.now) }
     {
-        match self.search(0, usize::from(signal), letter) {
+        match self.search(0, usize::from(signal), character) {
             Ok(place) => Some(&self.waves[place]),
             Err(_) => None,
         }
@@ -92,15 +92,15 @@ impl WaveList {
     /// before `from` is of a signal and character before these. `Err` then has the place where such a wave would stand, from
     /// which the search for a later one may begin. Where the waves don't rise, and for a signal beyond 16 bits, it goes over all
     /// of them. The answer is the same whatever `from` is.
-    pub fn search(&self, from: usize, signal: usize, letter: u8) -> Result<usize, usize>
-        ensures { FindsLast self.now signal letter result }
+    pub fn search(&self, from: usize, signal: usize, character: u8) -> Result<usize, usize>
+        ensures { FindsLast self.now signal character result }
     {
         if !self.rising {
-            return last_place(self.waves.as_slice(), signal, letter);
+            return last_place(self.waves.as_slice(), signal, character);
         }
         if signal > usize::from(u16::MAX) {
-            return last_place(self.waves.as_slice(), signal, letter);
+            return last_place(self.waves.as_slice(), signal, character);
         }
-        search(self.waves.as_slice(), from, signal, letter)
+        search(self.waves.as_slice(), from, signal, character)
     }
 }

@@ -6,25 +6,25 @@ ghost use Rattle.tester_types.specs.Waves.{is_wave, wave_key, key_in, Rise, AreB
 use crate::wave::Wave;
 
 /// A number for each signal and character, in their order.
-fn key_of(signal: usize, letter: u8) -> u64
+fn key_of(signal: usize, character: u8) -> u64
     requires { signal < 2 ^ 16 }
-    ensures { result ≡ wave_key signal letter }
+    ensures { result ≡ wave_key signal character }
 {
-    signal as u64 * 256 + u64::from(letter)
+    signal as u64 * 256 + u64::from(character)
 }
 
 /// The same of a wave.
 fn key_in(wave: &Wave) -> u64
     ensures { result ≡ key_in wave.now }
 {
-    key_of(usize::from(wave.signal), wave.letter)
+    key_of(usize::from(wave.signal), wave.character)
 }
 
 /// Whether a wave is for this signal and this character.
-fn is_wave(wave: &Wave, signal: usize, letter: u8) -> bool
-    ensures { result ≡ is_wave signal letter wave.now }
+fn is_wave(wave: &Wave, signal: usize, character: u8) -> bool
+    ensures { result ≡ is_wave signal character wave.now }
 {
-    usize::from(wave.signal) == signal && wave.letter == letter
+    usize::from(wave.signal) == signal && wave.character == character
 }
 
 /// Whether each wave has a signal and a character behind those before it.
@@ -42,13 +42,13 @@ pub(crate) fn rise(waves: &[Wave]) -> bool
 }
 
 /// The place of the last wave of a signal and a character among any waves. It looks from the end on.
-pub(crate) fn last_place(waves: &[Wave], signal: usize, letter: u8) -> Result<usize, usize>
-    ensures { FindsLast waves.now signal letter result }
+pub(crate) fn last_place(waves: &[Wave], signal: usize, character: u8) -> Result<usize, usize>
+    ensures { FindsLast waves.now signal character result }
 {
     let mut place = waves.len();
     while place > 0 {
         place -= 1;
-        if is_wave(&waves[place], signal, letter) {
+        if is_wave(&waves[place], signal, character) {
             return Ok(place);
         }
     }
@@ -57,16 +57,21 @@ pub(crate) fn last_place(waves: &[Wave], signal: usize, letter: u8) -> Result<us
 
 /// The same among waves that rise, or the place where such a wave would stand. It looks from `from` on, where none of these
 /// stands before it.
-pub(crate) fn search(waves: &[Wave], from: usize, signal: usize, letter: u8) -> Result<usize, usize>
+pub(crate) fn search(
+    waves: &[Wave],
+    from: usize,
+    signal: usize,
+    character: u8,
+) -> Result<usize, usize>
     requires rising { Rise waves.now }
     requires small { signal < 2 ^ 16 }
-    ensures { FindsLast waves.now signal letter result }
+    ensures { FindsLast waves.now signal character result }
 {
-    let place = place_of(waves, from, key_of(signal, letter));
+    let place = place_of(waves, from, key_of(signal, character));
     if place >= waves.len() {
         return Err(place);
     }
-    if is_wave(&waves[place], signal, letter) {
+    if is_wave(&waves[place], signal, character) {
         return Ok(place);
     }
     Err(place)

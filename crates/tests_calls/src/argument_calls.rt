@@ -8,7 +8,7 @@ use stil_ast::{ItemRun, VecItem};
 /// A run of a character.
 fn run(character: u8, times: u32) -> ItemRun {
     ItemRun {
-        item: VecItem::Letter(character),
+        item: VecItem::Character(character),
         times,
     }
 }

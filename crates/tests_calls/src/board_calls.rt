@@ -1,5 +1,6 @@
 //! Boards that two threads share, and boards of no site and of sixteen.
 ghost use Rattle.std.specs.Prelude.{◌≡◌, ◌<◌, ◌≤◌, replicate};
+ghost use Rattle.text_bytes.specs.Limits.{most_sites};
 
 use std::test::Fail;
 use std::thread::{join_mut, yield_now};
@@ -15,7 +16,7 @@ const POLLS: u32 = 10_000_000;
 fn ask_often(board: &Board, desk: &mut DeskSeat)
     requires board { desk.old.board ≡ board.now }
     requires site { 0 < desk.old.sites }
-    requires asked { desk.old.asked ≡ replicate 16 0 }
+    requires asked { desk.old.asked ≡ replicate most_sites 0 }
     ensures board { desk.new.board ≡ desk.old.board }
     ensures sites { desk.new.sites ≡ desk.old.sites }
 {

@@ -13,7 +13,7 @@ use tester_types::{EventList, Table, Text, Wave, WaveList};
 use wave_tables::WaveSet;
 
 /// A table with a wave for one character of the first signal.
-fn table(alloc: Global, letter: u8) -> Result<Table, AllocError>
+fn table(alloc: Global, character: u8) -> Result<Table, AllocError>
     ensures { IfOk result (λ t. AreInOrder t.waves) }
 {
     let events = EventList::from_vec(Vec::new(alloc));
@@ -21,7 +21,7 @@ fn table(alloc: Global, letter: u8) -> Result<Table, AllocError>
         alloc,
         Wave {
             signal: 0,
-            letter,
+            character,
             events,
         },
     )?;
@@ -43,7 +43,7 @@ fn two_tables(alloc: Global) -> Result<WaveSet, AllocError>
 }
 
 /// Under the second table, three passes of two vectors and an assignment behind them.
-fn looped(alloc: Global, letter: u8) -> Result<Vec<FlatList>, AllocError> {
+fn looped(alloc: Global, character: u8) -> Result<Vec<FlatList>, AllocError> {
     let mut body = FlatList::new(alloc);
     for mark in 0..2 {
         let place = Origin {
@@ -52,7 +52,7 @@ fn looped(alloc: Global, letter: u8) -> Result<Vec<FlatList>, AllocError> {
         };
         body.push_cycle(0, place)?;
     }
-    body.push_character(0, letter)?;
+    body.push_character(0, character)?;
     let mut tree = FlatList::new(alloc);
     tree.push_table(1)?;
     tree.push_repeat(3, body)?;

@@ -30,10 +30,10 @@ type Seen<'a> = (u128, &'a [(u16, Push)], &'a [(u16, Look)]);
 
 fn table(alloc: Global, period: u64, waves: &[Plain]) -> Result<Table, NoMemory> {
     let mut list = Vec::new(alloc);
-    for (signal, letter, events) in waves {
+    for (signal, character, events) in waves {
         list.push(Wave {
             signal: *signal,
-            letter: *letter,
+            character: *character,
             events: event_list(alloc, events)?,
         })?;
     }
@@ -83,8 +83,8 @@ fn slow_moment(
 ) -> Result<Option<Moment>, NoMemory> {
     let mut drives = Vec::new(alloc);
     let mut looks = Vec::new(alloc);
-    for (signal, letter) in row.iter().enumerate() {
-        if let Some(wave) = slow_wave(table, signal, *letter) {
+    for (signal, character) in row.iter().enumerate() {
+        if let Some(wave) = slow_wave(table, signal, *character) {
             slow_signal(wave, time, &mut drives, &mut looks)?;
         }
     }
@@ -99,10 +99,10 @@ fn slow_moment(
 }
 
 /// The last wave that the table lists for a signal and a character.
-fn slow_wave(table: &Table, signal: usize, letter: u8) -> Option<&Wave> {
+fn slow_wave(table: &Table, signal: usize, character: u8) -> Option<&Wave> {
     let mut found = None;
     for wave in table.waves.as_slice() {
-        if usize::from(wave.signal) == signal && wave.letter == letter && letter != 0 {
+        if usize::from(wave.signal) == signal && wave.character == character && character != 0 {
             found = Some(wave);
         }
     }

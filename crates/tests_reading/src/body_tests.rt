@@ -35,11 +35,11 @@ fn a_run_is_kept_once(rt: HostRuntime) -> Result<(), Fail> {
     let read = data_of(rt.alloc(), b"\\r3 X 1").map_err(|_| "data")?;
     let wanted = [
         ItemRun {
-            item: VecItem::Letter(b'X'),
+            item: VecItem::Character(b'X'),
             times: 3,
         },
         ItemRun {
-            item: VecItem::Letter(b'1'),
+            item: VecItem::Character(b'1'),
             times: 1,
         },
     ];

@@ -1,6 +1,7 @@
 //! The work of one site, alone and while it is asked to stop.
 
 ghost use Rattle.std.specs.Prelude.{◌≡◌, ◌<◌, ◌≤◌, length, replicate, IfOk};
+ghost use Rattle.text_bytes.specs.Limits.{most_sites};
 
 use crate::sample::{Outcome, bound, code_of, outcomes};
 use die_sim::{SimSocket, SocketBox};
@@ -22,7 +23,7 @@ const PLAN: &[u8] = b"lot,4,1,3,,\nclock,c,,,,\ndie,0,d,inv,,\ndie,0,e,inv,,\nst
 fn ask_often(board: &Board, desk: &mut DeskSeat, times: u8)
     requires board { desk.old.board ≡ board.now }
     requires site { 0 < desk.old.sites }
-    requires asked { desk.old.asked ≡ replicate 16 0 }
+    requires asked { desk.old.asked ≡ replicate most_sites 0 }
     ensures board { desk.new.board ≡ desk.old.board }
     ensures sites { desk.new.sites ≡ desk.old.sites }
 {

@@ -1,4 +1,4 @@
-//! What all readers of text share: classes of bytes, digits read and judged, and the limits of texts.
+//! What all readers of text share: classes of bytes, digits read and judged, and the limits of texts and testers.
 #![tactic(auto)]
 
 mod byte;
@@ -13,7 +13,7 @@ pub use limit::{
     DEEPEST_CALLS, DEEPEST_LOOPS, LONGEST_LABEL, LONGEST_NAME, LONGEST_PERIOD, MOST_BYTES,
     MOST_CELLS, MOST_CHAINS, MOST_CODE_TABLES, MOST_CYCLES, MOST_EVENTS, MOST_EXECUTIVES,
     MOST_GROUPS, MOST_INPUTS, MOST_LISTED, MOST_MEASURE, MOST_NETS, MOST_PASSES, MOST_PATTERNS,
-    MOST_REPEATS, MOST_ROW_CHARACTERS, MOST_SIGNALS, MOST_TABLES, MOST_VARIABLES, MOST_WALKED,
-    MOST_WAVES, limits_agree,
+    MOST_PLAN_SITES, MOST_REPEATS, MOST_ROW_CHARACTERS, MOST_SIGNALS, MOST_SITES, MOST_TABLES,
+    MOST_VARIABLES, MOST_WALKED, MOST_WAVES,
 };
 pub use number::{are_digits, number_by, number_of};

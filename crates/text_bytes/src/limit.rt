@@ -1,8 +1,4 @@
-//! The limits of texts and of what they declare. They are this project's own.
-
-ghost use Rattle.std.specs.Prelude.{◌≡◌};
-ghost use Rattle.text_bytes.specs.Limits as limits;
-ghost use Rattle.text_bytes.specs.declared.limit.TheConstants.{MOST_BYTES, LONGEST_NAME, LONGEST_LABEL, MOST_SIGNALS, MOST_GROUPS, MOST_EXECUTIVES, MOST_CHAINS, MOST_CELLS, MOST_REPEATS, MOST_PASSES, MOST_VARIABLES, MOST_TABLES, MOST_CODE_TABLES, MOST_PATTERNS, MOST_LISTED, MOST_EVENTS, LONGEST_PERIOD, MOST_WAVES, DEEPEST_CALLS, DEEPEST_LOOPS, MOST_WALKED, MOST_MEASURE, MOST_CYCLES, MOST_ROW_CHARACTERS, MOST_NETS, MOST_INPUTS};
+//! The limits of texts, of what they declare and of testers. They are this project's own.
 
 /// The most bytes of a file.
 pub const MOST_BYTES: usize = 16_777_216;
@@ -82,32 +78,8 @@ pub const MOST_NETS: usize = 65_536;
 /// The most inputs of a gate.
 pub const MOST_INPUTS: usize = 1024;
 
-/// The constants of this file are the limits that the definitions name.
-pub fn limits_agree()
-    ensures bytes { MOST_BYTES ≡ limits.most_bytes }
-    ensures name { LONGEST_NAME ≡ limits.longest_name }
-    ensures label { LONGEST_LABEL ≡ limits.longest_label }
-    ensures signals { MOST_SIGNALS ≡ limits.most_signals }
-    ensures groups { MOST_GROUPS ≡ limits.most_groups }
-    ensures executives { MOST_EXECUTIVES ≡ limits.most_executives }
-    ensures chains { MOST_CHAINS ≡ limits.most_chains }
-    ensures cells { MOST_CELLS ≡ limits.most_cells }
-    ensures repeats { MOST_REPEATS ≡ limits.most_repeats }
-    ensures passes { MOST_PASSES ≡ limits.most_passes }
-    ensures variables { MOST_VARIABLES ≡ limits.most_variables }
-    ensures tables { MOST_TABLES ≡ limits.most_tables }
-    ensures code_tables { MOST_CODE_TABLES ≡ limits.most_code_tables }
-    ensures patterns { MOST_PATTERNS ≡ limits.most_patterns }
-    ensures listed { MOST_LISTED ≡ limits.most_listed }
-    ensures events { MOST_EVENTS ≡ limits.most_events }
-    ensures period { LONGEST_PERIOD ≡ limits.longest_period }
-    ensures waves { MOST_WAVES ≡ limits.most_waves }
-    ensures calls { DEEPEST_CALLS ≡ limits.deepest_calls }
-    ensures loops { DEEPEST_LOOPS ≡ limits.deepest_loops }
-    ensures walked { MOST_WALKED ≡ limits.most_walked }
-    ensures measure { MOST_MEASURE ≡ limits.most_measure }
-    ensures cycles { MOST_CYCLES ≡ limits.most_cycles }
-    ensures characters { MOST_ROW_CHARACTERS ≡ limits.most_row_characters }
-    ensures nets { MOST_NETS ≡ limits.most_nets }
-    ensures inputs { MOST_INPUTS ≡ limits.most_inputs }
-{}
+/// The most sites of a tester, which run side by side.
+pub const MOST_SITES: usize = 16;
+
+/// The most sites that a lot plan may name, over all testers.
+pub const MOST_PLAN_SITES: usize = 64;

@@ -15,9 +15,9 @@ use Rattle.stil_ast.specs.declared.blocks.Blocks.{Blocks}
 use Rattle.stil_ast.specs.declared.executive.ExecDecl.{ExecDecl}
 use Rattle.time_expr.specs.TimesOf.{times_of}
 use Rattle.packed_code.specs.Program.{Program}
-use Rattle.packed_code.specs.Conditions.{letters_of}
+use Rattle.packed_code.specs.Conditions.{characters_of}
 use Rattle.packed_code.specs.Cycles.{cycles_of, exec_of}
-use Rattle.cycle_comp.specs.Compiled.{letter_of, table_in, read_cycle, read_cycles}
+use Rattle.cycle_comp.specs.Compiled.{character_of, table_in, read_cycle, read_cycles}
 use Rattle.code_listing.specs.Listing.{Listed, ListedExec, no_table, listed, listed_exec, listing_of}
 use Rattle.stil_program.specs.Program.{IsBlocksCode}
 use Rattle.stil_program.proofs.ProgramLemmas.{execs_are, tables_are, exec_behind}
@@ -26,17 +26,17 @@ use Rattle.text_commands.specs.TextListing.{listed_cycle, text_listing}
 -- ---- one cycle
 
 -- a byte is read as a character and shown again
-byte_again : (b : ℕ) → unwrap_or (letter_of b) 0 ≡ b
+byte_again : (b : ℕ) → unwrap_or (character_of b) 0 ≡ b
 byte_again b = by (eqb_tells b 0)
   where
-    by : ((eqb b 0 ≡ true) × (b ≡ 0)) ⊎ ((eqb b 0 ≡ false) × (b ≡ 0 → ⊥)) → unwrap_or (letter_of b) 0 ≡ b
+    by : ((eqb b 0 ≡ true) × (b ≡ 0)) ⊎ ((eqb b 0 ≡ false) × (b ≡ 0 → ⊥)) → unwrap_or (character_of b) 0 ≡ b
     by (inl none) = ap (λ (t : Bool). unwrap_or (cond t None (Some b)) 0) none.0 ∙ sym none.1
     by (inr some) = ap (λ (t : Bool). unwrap_or (cond t None (Some b)) 0) some.0
 
-bytes_again : (bytes : List ℕ) → map (λ (c : Option ℕ). unwrap_or c 0) (map letter_of bytes) ≡ bytes
+bytes_again : (bytes : List ℕ) → map (λ (c : Option ℕ). unwrap_or c 0) (map character_of bytes) ≡ bytes
 bytes_again [] = refl
 bytes_again (b ∷ bytes) =
-    ap (λ x. x ∷ map (λ (c : Option ℕ). unwrap_or c 0) (map letter_of bytes)) (byte_again b) ∙ ap (λ xs. b ∷ xs) (bytes_again bytes)
+    ap (λ x. x ∷ map (λ (c : Option ℕ). unwrap_or c 0) (map character_of bytes)) (byte_again b) ∙ ap (λ xs. b ∷ xs) (bytes_again bytes)
 
 -- a table among others
 table_here : (before tables after : List Table) (t : ℕ) → length before ≤ t → t < length before + length tables
@@ -57,8 +57,8 @@ cycle_same : (code : Program) (before tables after : List Table) (n : ℕ) (c : 
     → listed code (n, c) ≡ listed_cycle tables (read_cycle (length before) code.rows (n, c))
 cycle_same code before tables after n c cut inside =
     let table = ap (λ ts. get_or ts c.table no_table) cut ∙ table_here before tables after c.table inside.0 inside.1 in
-    let row = sym (bytes_again (letters_of code.rows c.row)) in
-    ap (λ (t : Table). record { number = n; start = c.start; table = t; row = letters_of code.rows c.row }) table
+    let row = sym (bytes_again (characters_of code.rows c.row)) in
+    ap (λ (t : Table). record { number = n; start = c.start; table = t; row = characters_of code.rows c.row }) table
     ∙ ap (λ (r : List ℕ). record {
       number = n;
       start = c.start;

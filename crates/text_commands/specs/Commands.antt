@@ -8,7 +8,7 @@ use Rattle.stil_ast.specs.declared.fault.StilFault.{StilFault}
 use Rattle.packed_code.specs.Program.{Program}
 use Rattle.packed_code.specs.Conditions.{IsProgram}
 use Rattle.page_code.specs.Reading.{version_of}
-use Rattle.packed_code.specs.Spelling as spell
+use Rattle.page_code.specs.Spelling as spell
 use Rattle.code_listing.specs.Lines.{AreFirstLines}
 use Rattle.code_listing.specs.Text.{check_text, cycles_text, events_text}
 use Rattle.stil_program.specs.Program.{IsTextFault, IsTextOf, IsProgramOf}

@@ -22,7 +22,7 @@ abbrev strobed : List ℕ → SignalWaves
 strobed time = record {
   reference = by_name (codes "y");
   waves = record {
-    letters = codes "L";
+    characters = codes "L";
     events = record { time = record { text = time; line = 7 }; acts = Look Low ∷ [] } ∷ [];
   } ∷ [];
   line = 7;

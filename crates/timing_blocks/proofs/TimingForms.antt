@@ -30,11 +30,13 @@ use Rattle.timing_blocks.specs.declared.timings.TableWord.{TableWord}
 use Rattle.timing_blocks.specs.declared.timings.TableWord.TheVariants as word_of
 use Rattle.pat_read.specs.Statements.{only_name}
 use Rattle.block_forms.specs.Heads.{where_so, only_text, rest_at, bare_block, named_block, titled_block, is_declared, count_under, under}
-use Rattle.timing_blocks.specs.Waveforms.{time_of, acts_of, event_at, new_event, judge_event, are_letters, letters_of, in_block, letters_at, judge_wave, lone, lone_ref, ref_at, judge_signal, signals_of}
+use Rattle.timing_blocks.specs.Waveforms.{time_of, acts_of, event_at, new_event, judge_event, are_wave_characters, characters_of, in_block, characters_at, judge_wave, lone, lone_ref, ref_at, judge_signal, signals_of}
 use Rattle.block_forms.specs.Named.{named_on}
 use Rattle.block_forms.specs.Quotes.{quoted_at}
 use Rattle.block_forms.specs.Keywords.{first_meaning}
-use Rattle.timing_blocks.specs.Timings.{plain_text, plain_name, with_period, with_inherit, with_waveforms, table_by, table_words, table_step, empty_table, table_of, is_table, new_name, table_name, table_names, table_said, judge_table, timing_block}
+use Rattle.timing_blocks.specs.Timings.{plain_text, plain_name, table_words, table_of, is_table, new_name, table_name, table_names, table_said, judge_table, timing_block}
+use Rattle.timing_blocks.specs.Working.{with_period, with_inherit, with_waveforms, table_by, table_step, empty_table}
+use Rattle.timing_blocks.proofs.TableLemmas.{table_computed}
 use Rattle.pat_read.specs.Accepted.{HasLines}
 use Rattle.pat_read.proofs.AcceptedLemmas.{both_ok, said_at, reading-each, list_all-one, first_line, second_line, FitsRef, fits_front, is_sig_ref-ref_of}
 use Rattle.pat_read.proofs.AcceptedBodies.{is_name-only_name}
@@ -47,30 +49,30 @@ time_head (one ∷ rest) said is = omega arith
 
 -- what is said of a new event
 abbrev event_fits : ℕ → List EventDecl → EventDecl → Type 0
-event_fits letters before event =
-    ((length event.acts == 1 || length event.acts == letters) ≡ true) × (nat_lt (length before) most_events ≡ true)
+event_fits characters before event =
+    ((length event.acts == 1 || length event.acts == characters) ≡ true) × (nat_lt (length before) most_events ≡ true)
 
-new_event-fits : (letters : ℕ) (before : List EventDecl) (has_block : Bool) (event x : EventDecl)
-    → new_event letters before has_block event ≡ Ok x → event_fits letters before event × (event ≡ x)
-new_event-fits letters before has_block event x is =
-    let count : Bool = length event.acts == 1 || length event.acts == letters in
+new_event-fits : (characters : ℕ) (before : List EventDecl) (has_block : Bool) (event x : EventDecl)
+    → new_event characters before has_block event ≡ Ok x → event_fits characters before event × (event ≡ x)
+new_event-fits characters before has_block event x is =
+    let count : Bool = length event.acts == 1 || length event.acts == characters in
     let outer = said_where (not has_block && count) (cond (nat_lt (length before) most_events) (Ok event) (Err OutOfRange)) Shape x is in
     let inner = said_where (nat_lt (length before) most_events) (Ok event) OutOfRange x outer.1 in
     (((and_parts (not has_block) count outer.0).1, inner.0), cc)
 
 -- an event that was read: one act or one for each character, on a line, and there was room
-event_parts : (s : Setting) → HasLines s → (letters : ℕ) (before : List EventDecl) (e : Entry) (x : EventDecl)
-    → judge_event s letters before e ≡ Ok x → (is_event letters x ≡ true) × (nat_lt (length before) most_events ≡ true)
-event_parts s lines letters before e x is =
+event_parts : (s : Setting) → HasLines s → (characters : ℕ) (before : List EventDecl) (e : Entry) (x : EventDecl)
+    → judge_event s characters before e ≡ Ok x → (is_event characters x ≡ true) × (nat_lt (length before) most_events ≡ true)
+event_parts s lines characters before e x is =
     let outer = both_ok (at_statement e.first (time_of (lexemes_at s e))) _ x is in
     let said = outer.given in
     let inner = both_ok (at_statement e.first (acts_of said.1)) _ x outer.made in
     let event : EventDecl = event_at said.0 (line_at s.tokens e.first) inner.given in
-    let new = said_at e.first (new_event letters before (is_some e.body) event) x inner.made in
-    let fits = new_event-fits letters before (is_some e.body) event x new in
+    let new = said_at e.first (new_event characters before (is_some e.body) event) x inner.made in
+    let fits = new_event-fits characters before (is_some e.body) event x new in
     let line = first_line s lines e (time_head (lexemes_at s e) said (said_at e.first (time_of (lexemes_at s e)) said outer.met)) in (
-      subst (λ (y : EventDecl). is_event letters y ≡ true) fits.1
-          (and_from (is_line (line_at s.tokens e.first)) (length event.acts == 1 || length event.acts == letters) line fits.0.0),
+      subst (λ (y : EventDecl). is_event characters y ≡ true) fits.1
+          (and_from (is_line (line_at s.tokens e.first)) (length event.acts == 1 || length event.acts == characters) line fits.0.0),
       fits.0.1,
     )
 
@@ -80,40 +82,40 @@ said_in true r x is = is
 said_in false r x is = cc
 
 -- waveform characters that were read
-letters_fit : (head : List Lexeme) (letters : List ℕ) → letters_of head ≡ Ok letters → are_letters letters ≡ true
-letters_fit (word bytes ∷ []) letters is =
-    let said = said_where (are_letters bytes) (Ok bytes) Shape letters is in
-    let same : bytes ≡ letters = cc in
-    subst (λ (b : List ℕ). are_letters b ≡ true) same said.0
-letters_fit _ letters is = cc
+characters_fit : (head : List Lexeme) (characters : List ℕ) → characters_of head ≡ Ok characters → are_wave_characters characters ≡ true
+characters_fit (word bytes ∷ []) characters is =
+    let said = said_where (are_wave_characters bytes) (Ok bytes) Shape characters is in
+    let same : bytes ≡ characters = cc in
+    subst (λ (b : List ℕ). are_wave_characters b ≡ true) same said.0
+characters_fit _ characters is = cc
 
 -- waveforms
 pub is_wave_decl-judge_wave : (s : Setting) → HasLines s → (before : List WaveDecl) (e : Entry) (x : WaveDecl)
     → judge_wave s before e ≡ Ok x → is_wave_decl x ≡ true
 is_wave_decl-judge_wave s lines before e x is =
-    let outer = both_ok (letters_at s e) _ x is in
-    let letters : List ℕ = outer.given in
+    let outer = both_ok (characters_at s e) _ x is in
+    let characters : List ℕ = outer.given in
     let es : List Entry = unskipped s (inner_of e.body) in
-    let inner = both_ok (reading (judge_event s (length letters)) [] es) _ x outer.made in
+    let inner = both_ok (reading (judge_event s (length characters)) [] es) _ x outer.made in
     let events : List EventDecl = inner.given in
-    let same : record { letters = letters; events = events } ≡ x = cc in
-    let fit = letters_fit (lexemes_at s e) letters
-    (said_in (is_some e.body) (letters_of (lexemes_at s e)) letters
-    (said_at e.first (in_block (is_some e.body) (letters_of (lexemes_at s e))) letters outer.met)) in
-    let both = and_parts (nat_lt 0 (length letters) && list_all is_character letters) (all_differ nat_eq letters) fit in
-    let some = and_parts (nat_lt 0 (length letters)) (list_all is_character letters) both.0 in
-    let one : nat_le 1 (length letters) ≡ true = le-leb 1 (length letters) (omega (arith, ltb-true 0 (length letters) some.0)) in
-    let judge = judge_event s (length letters) in
+    let same : record { characters = characters; events = events } ≡ x = cc in
+    let fit = characters_fit (lexemes_at s e) characters
+    (said_in (is_some e.body) (characters_of (lexemes_at s e)) characters
+    (said_at e.first (in_block (is_some e.body) (characters_of (lexemes_at s e))) characters outer.met)) in
+    let both = and_parts (nat_lt 0 (length characters) && list_all is_character characters) (all_differ nat_eq characters) fit in
+    let some = and_parts (nat_lt 0 (length characters)) (list_all is_character characters) both.0 in
+    let one : nat_le 1 (length characters) ≡ true = le-leb 1 (length characters) (omega (arith, ltb-true 0 (length characters) some.0)) in
+    let judge = judge_event s (length characters) in
     subst (λ (w : WaveDecl). is_wave_decl w ≡ true) same
-    (and_from _ (list_all (is_event (length letters)) events)
+    (and_from _ (list_all (is_event (length characters)) events)
     (and_from _ (nat_le (length events) 16)
-    (and_from _ (all_differ nat_eq letters)
-    (and_from (nat_le 1 (length letters)) (list_all is_character letters) one some.1)
+    (and_from _ (all_differ nat_eq characters)
+    (and_from (nat_le 1 (length characters)) (list_all is_character characters) one some.1)
     both.1)
-    (reading-within judge most_events (λ front one event judged. (event_parts s lines (length letters) front one event judged).1)
+    (reading-within judge most_events (λ front one event judged. (event_parts s lines (length characters) front one event judged).1)
     es events inner.met))
-    (reading-each judge (is_event (length letters))
-    (λ front one event judged. (event_parts s lines (length letters) front one event judged).0) es events inner.met))
+    (reading-each judge (is_event (length characters))
+    (λ front one event judged. (event_parts s lines (length characters) front one event judged).0) es events inner.met))
 
 -- a reference that stands alone fits
 lone_fits : (o : Option (Ref × List Lexeme)) (found : Ref) → ((pair : Ref × List Lexeme) → o ≡ Some pair → FitsRef pair.0)
@@ -232,7 +234,7 @@ table_fits : (s : Setting) → HasLines s → (called : List ℕ) (line : ℕ) (
 table_fits s lines called line es table named on_line is =
     stepping-keeps (table_step s) TableFits
     (λ state e next stepped fits. step_fits s lines state e next (first_meaning table_words (lexemes_at s e)) stepped fits)
-    (empty_table called line) (unskipped s es) table is
+    (empty_table called line) (unskipped s es) table (table_computed s called line (unskipped s es) ∙ is)
     (record { named = named; period = refl; inherits = refl; waveforms = refl; line = on_line })
 
 -- what is judged of a new name: there is room, it was not declared, and it is the name

@@ -1,5 +1,5 @@
 -- Variables and selections that are read have their forms.
-use Rattle.std.proofs.Common.{◌≡◌, ℕ, ◌+◌, ◌<◌, Bool, true, false, not, cond, ◌&&◌, List, [], ◌∷◌, ◌++◌, map, length, Option, Some, None, is_some, Result, Ok, Err, refl, ap, subst, ◌∙◌, arith}
+use Rattle.std.proofs.Common.{◌≡◌, ℕ, ◌+◌, ◌<◌, Bool, true, false, not, cond, ◌&&◌, List, [], ◌∷◌, ◌++◌, map, length, Option, Some, None, is_some, Result, Ok, refl, ap, subst, ◌∙◌, arith}
 use Rattle.std.specs.Prelude.{codes}
 use Rattle.std.specs.List.{list_all}
 use Rattle.std.proofs.lemmas.Bool.{and_parts, and_from}
@@ -32,12 +32,14 @@ use Rattle.pat_read.specs.Statements.{is_there, only_name}
 use Rattle.block_forms.specs.Keywords.{meaning}
 use Rattle.block_forms.specs.Heads.{is_first, where_so, only_text, named_block, titled_block}
 use Rattle.block_forms.specs.Quotes.{equal_text_at, quoted_at}
-use Rattle.timing_blocks.specs.Variables.{choice_words, chosen_text, choice_by, choice_said, choice_at, given, none_given, give_once, choice_step, choices_of, variable_of, variable_name_at, chosen_variable, same_variable, judge_variable, variables_of, category_at, category_of, judge_category, categories_of, spec_of, spec_block}
-use Rattle.timing_blocks.specs.Selectors.{only_choice, selected, selection_said, selection_at, is_selected, select_once, selection_step, selections_of, selector_of, selector_block}
+use Rattle.timing_blocks.specs.Variables.{choice_words, chosen_text, choice_by, choice_said, choice_at, choices_of, variable_of, variable_name_at, chosen_variable, same_variable, judge_variable, variables_of, category_at, category_of, judge_category, categories_of, spec_of, spec_block}
+use Rattle.timing_blocks.specs.Selectors.{only_choice, selected, selection_said, selection_at, is_selected, new_selection, judge_selection, selections_of, selector_of, selector_block}
+use Rattle.timing_blocks.specs.Working.{given, none_given, give_once, choice_step}
+use Rattle.timing_blocks.proofs.ChoiceLemmas.{choices_computed}
 use Rattle.pat_read.proofs.AcceptedBodies.{all_three, is_name-only_name}
 use Rattle.block_forms.proofs.DeclaredForms.{all_differ-push}
 use Rattle.pat_read.specs.Accepted.{HasLines}
-use Rattle.pat_read.proofs.AcceptedLemmas.{both_ok, said_at, reading-each, list_all-one, first_line}
+use Rattle.pat_read.proofs.AcceptedLemmas.{both_ok, said_at, reading-each, reading-keeps, list_all-one, first_line}
 use Rattle.block_forms.proofs.FormLemmas.{said_where, made_unless, said_so, stepping-keeps, is_name-named_block, is_optional_name-titled_block}
 use Rattle.block_forms.proofs.QuoteForms.{same_ok, is_name-there, line_in_head, equal_text_at-is}
 
@@ -111,7 +113,8 @@ choices_of-are : (s : Setting) → HasLines s → (es : List Entry) (c : Choices
     → are_choices c ≡ true
 choices_of-are s lines es c is =
     stepping-keeps (choice_step s) (λ c. are_choices c ≡ true)
-    (λ before e next. choice_step-are s lines before e next) none_given (unskipped s es) c is refl
+    (λ before e next. choice_step-are s lines before e next) none_given (unskipped s es) c
+    (choices_computed s (unskipped s es) ∙ is) refl
 
 -- one name is one token
 only_name-length : (head : List Lexeme) (called : List ℕ) → only_name head ≡ Ok called → 0 < length head
@@ -207,16 +210,15 @@ record AreSelections (cs : List Selection) : Type 0 where
   differ : all_differ same (map (λ (c : Selection). c.name) cs) ≡ true
 
 -- one more selection
-selection_step-are : (s : Setting) (before : List Selection) (e : Entry) (next : List Selection)
-    → selection_step s before e ≡ Ok next → AreSelections before → AreSelections next
-selection_step-are s before e next is held =
-    let both = both_ok (selection_at s e) (select_once before e) next is in
+judge_selection-are : (s : Setting) (before : List Selection) (e : Entry) (x : Selection)
+    → judge_selection s before e ≡ Ok x → AreSelections before → AreSelections (before ++ x ∷ [])
+judge_selection-are s before e x is held =
+    let both = both_ok (selection_at s e) (new_selection before e) x is in
     let c = both.given in
     let said = said_so (not (is_some e.body)) (selection_said (lexemes_at s e)) c
     (said_at e.first (where_so (not (is_some e.body)) (selection_said (lexemes_at s e))) c both.met) in
-    let answered = made_unless (is_selected before c.name) (Refused Twice e.first) (before ++ c ∷ []) next
-    both.made in
-    subst AreSelections answered.1
+    let answered = made_unless (is_selected before c.name) (Refused Twice e.first) c x both.made in
+    subst (λ (one : Selection). AreSelections (before ++ one ∷ [])) answered.1
     (record {
       named = list_all-one (λ (x : Selection). is_name x.name) before c held.named
           (selection_said-is (lexemes_at s e) c said);
@@ -234,7 +236,7 @@ selector_block-is s e b is =
     is in
     let inside = both_ok (selections_of s (inner_of e.body)) (λ selections. Ok (selector_of head.given selections))
     b head.made in
-    let are = stepping-keeps (selection_step s) AreSelections (λ before x next. selection_step-are s before x next)
+    let are = reading-keeps (judge_selection s) AreSelections (λ before e x. judge_selection-are s before e x)
     []
     (unskipped s (inner_of e.body)) inside.given inside.met (record { named = refl; differ = refl }) in
     subst (λ (x : Selector). is_selector x ≡ true) (same_ok (selector_of head.given inside.given) b inside.made)

@@ -10,7 +10,7 @@ use Rattle.stil_form.specs.declared.fault.FormFault.{FormFault}
 use Rattle.stil_form.specs.declared.fault.FormFault.TheVariants.{NoMemory, Refused}
 use Rattle.stil_form.specs.Reading.{AnswersBy}
 use Rattle.stil_form.specs.Setting.{at_statement}
-use Rattle.timing_blocks.specs.Waveforms.{with_token, acts_from}
+use Rattle.timing_blocks.specs.Working.{with_token, acts_from}
 
 -- a fault at the first of two steps
 pub first_stops : {X Y Z W : Type 0} (view : Z → X) (view' : W → Y) (first : ℕ) (o : Result X FormKind)

@@ -1,8 +1,8 @@
 -- Selector blocks (IEEE 1450-1999, clause 19).
-use Rattle.std.specs.Prelude.{ℕ, not, Bool, List, [], ◌∷◌, ◌++◌, map, is_some, Result, Ok, Err, if◌then◌else◌}
+use Rattle.std.specs.Prelude.{ℕ, not, Bool, List, [], ◌∷◌, map, is_some, Result, Ok, Err, if◌then◌else◌}
 use Rattle.std.specs.List.{list_any}
 use Rattle.stil_tree.specs.Trees.{Entry}
-use Rattle.answers.specs.Reading.{and_then, stepping}
+use Rattle.answers.specs.Reading.{and_then, reading}
 use Rattle.stil_form.specs.declared.fault.FormFault.{FormFault}
 use Rattle.stil_form.specs.declared.fault.FormFault.TheVariants.{Refused}
 use Rattle.stil_form.specs.declared.fault.FormKind.{FormKind}
@@ -50,17 +50,17 @@ is_selected selections called = list_any (λ (c : Selection). same c.name called
 abbrev pub names_in : List Selection → List (List ℕ × List ℕ)
 names_in selections = under [] (map (λ (c : Selection). c.name) selections)
 
--- a selection more, of a name that isn't there yet
-abbrev pub select_once : List Selection → Entry → Selection → Result (List Selection) FormFault
-select_once before e c = if is_selected before c.name then Err (Refused Twice e.first) else Ok (before ++ c ∷ [])
+-- a selection, of a name that isn't among those before it
+abbrev pub new_selection : List Selection → Entry → Selection → Result Selection FormFault
+new_selection before e c = if is_selected before c.name then Err (Refused Twice e.first) else Ok c
 
--- one more statement of a Selector
-abbrev pub selection_step : Setting → List Selection → Entry → Result (List Selection) FormFault
-selection_step s before e = and_then (selection_at s e) (select_once before e)
+-- what one more statement of a Selector says
+abbrev pub judge_selection : Setting → List Selection → Entry → Result Selection FormFault
+judge_selection s before e = and_then (selection_at s e) (new_selection before e)
 
 -- the selections of a block's statements
 abbrev pub selections_of : Setting → List Entry → Result (List Selection) FormFault
-selections_of s es = stepping (selection_step s) [] (unskipped s es)
+selections_of s es = reading (judge_selection s) [] (unskipped s es)
 
 -- the Selector of these
 abbrev pub selector_of : List ℕ → List Selection → Selector

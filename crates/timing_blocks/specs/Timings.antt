@@ -1,7 +1,8 @@
 -- Timing blocks and their waveform tables (IEEE 1450-1999, clause 18).
-use Rattle.std.specs.Prelude.{ℕ, suc, not, nat_lt, Bool, List, [], ◌∷◌, ◌++◌, map, codes, Option, Some, None, is_some, Result, Ok, Err, if◌then◌else◌}
+use Rattle.std.specs.Prelude.{ℕ, suc, not, nat_lt, Bool, List, [], ◌∷◌, ◌++◌, map, slice_get, codes, Option, Some, None, is_some, Result, Ok, Err, if◌then◌else◌}
+use Rattle.std.specs.List.{filter_map, flat_map}
 use Rattle.text_bytes.specs.Limits.{most_tables}
-use Rattle.answers.specs.Reading.{and_then, reading, stepping}
+use Rattle.answers.specs.Reading.{and_then, reading}
 use Rattle.stil_tree.specs.Trees.{Entry}
 use Rattle.stil_form.specs.declared.fault.FormFault.{FormFault}
 use Rattle.stil_form.specs.declared.fault.FormFault.TheVariants.{Refused}
@@ -37,62 +38,64 @@ plain_text s e = at_statement e.first (where_so (not (is_some e.body)) (only_tex
 abbrev pub plain_name : Setting → Entry → Result (List ℕ) FormFault
 plain_name s e = at_statement e.first (where_so (not (is_some e.body)) (only_name (rest_at s e)))
 
--- a table with this period, where it has none
-abbrev pub with_period : TableDecl → Quoted → Result TableDecl FormKind
-with_period table period =
-    if is_some table.period then Err Twice
-    else Ok (record {
-      name = table.name;
-      period = Some period;
-      inherits = table.inherits;
-      waveforms = table.waveforms;
-      line = table.line;
-    })
+-- what a statement of a waveform table says
+pub data TableLine : Type 0 where
+  period : Quoted → TableLine
+  inherit : Named → TableLine
+  waves : List SignalWaves → TableLine
 
--- a table that inherits one more
-abbrev pub with_inherit : TableDecl → Named → TableDecl
-with_inherit table inherited =
-    record {
-      name = table.name;
-      period = table.period;
-      inherits = table.inherits ++ inherited ∷ [];
-      waveforms = table.waveforms;
-      line = table.line;
-    }
+-- the period that a statement says
+abbrev pub period_in : TableLine → Option Quoted
+period_in (period said) = Some said
+period_in _ = None
 
--- a table with more waveforms
-abbrev pub with_waveforms : TableDecl → List SignalWaves → TableDecl
-with_waveforms table waveforms =
-    record {
-      name = table.name;
-      period = table.period;
-      inherits = table.inherits;
-      waveforms = table.waveforms ++ waveforms;
-      line = table.line;
-    }
+-- the table that a statement inherits
+abbrev pub inherit_in : TableLine → Option Named
+inherit_in (inherit said) = Some said
+inherit_in _ = None
+
+-- the waveforms that a statement says
+abbrev pub waves_in : TableLine → List SignalWaves
+waves_in (waves said) = said
+waves_in _ = []
+
+-- the period that is said first
+abbrev pub period_of : List TableLine → Option Quoted
+period_of said = slice_get (filter_map period_in said) 0
+
+-- a period, where none is said before it
+abbrev pub new_period : List TableLine → Quoted → Result TableLine FormKind
+new_period before said = if is_some (period_of before) then Err Twice else Ok (period said)
 
 -- `Period Text;`, `InheritWaveformTable name;` and `Waveforms { }` in a table; any other statement is left out
-abbrev pub table_by : Setting → TableDecl → Entry → Option TableWord → Result TableDecl FormFault
-table_by s table e None = Err (Refused LeftOut e.first)
-table_by s table e (Some word.Period) =
-    and_then (plain_text s e) (λ text. at_statement e.first (with_period table (quoted_at s (suc e.first) text)))
-table_by s table e (Some word.Inherit) =
-    and_then (plain_name s e) (λ called. Ok (with_inherit table (named_on s e called)))
-table_by s table e (Some word.Waveforms) =
-    and_then (bare_block s e) (λ nothing. and_then (signals_of s (inner_of e.body)) (λ waveforms.
-    Ok (with_waveforms table waveforms)))
+abbrev pub line_by : Setting → List TableLine → Entry → Option TableWord → Result TableLine FormFault
+line_by s before e None = Err (Refused LeftOut e.first)
+line_by s before e (Some word.Period) =
+    and_then (plain_text s e) (λ text. at_statement e.first (new_period before (quoted_at s (suc e.first) text)))
+line_by s before e (Some word.Inherit) =
+    and_then (plain_name s e) (λ called. Ok (inherit (named_on s e called)))
+line_by s before e (Some word.Waveforms) =
+    and_then (bare_block s e) (λ nothing. and_then (signals_of s (inner_of e.body)) (λ said. Ok (waves said)))
 
--- a table with one more of its statements
-abbrev pub table_step : Setting → TableDecl → Entry → Result TableDecl FormFault
-table_step s table e = table_by s table e (first_meaning table_words (lexemes_at s e))
+-- what one more statement of a waveform table says
+abbrev pub judge_line : Setting → List TableLine → Entry → Result TableLine FormFault
+judge_line s before e = line_by s before e (first_meaning table_words (lexemes_at s e))
 
--- a table of which nothing was read but its name
-abbrev pub empty_table : List ℕ → ℕ → TableDecl
-empty_table called line = record { name = called; period = None; inherits = []; waveforms = []; line = line }
+-- the table of this name, on this line, of which this is said
+abbrev pub table_in : List ℕ → ℕ → List TableLine → TableDecl
+table_in called line said =
+    record {
+      name = called;
+      period = period_of said;
+      inherits = filter_map inherit_in said;
+      waveforms = flat_map waves_in said;
+      line = line;
+    }
 
 -- the table of this name, on this line, that statements say
 abbrev pub table_of : Setting → List ℕ → ℕ → List Entry → Result TableDecl FormFault
-table_of s called line es = stepping (table_step s) (empty_table called line) (unskipped s es)
+table_of s called line es =
+    and_then (reading (judge_line s) [] (unskipped s es)) (λ said. Ok (table_in called line said))
 
 -- the keyword that a Timing may hold
 abbrev pub is_table : List Lexeme → Bool

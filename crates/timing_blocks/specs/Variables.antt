@@ -1,8 +1,8 @@
 -- Spec blocks (IEEE 1450-1999, clause 19).
-use Rattle.std.specs.Prelude.{ℕ, ◌+◌, not, Bool, List, [], ◌∷◌, codes, Option, Some, None, is_some, Result, Ok, Err, if◌then◌else◌}
-use Rattle.stil_ast.specs.Meaning.Variables.{chosen_of}
+use Rattle.std.specs.Prelude.{ℕ, ◌+◌, not, Bool, true, false, List, [], ◌∷◌, codes, Option, Some, None, is_some, option_map, Result, Ok, Err, if◌then◌else◌}
+use Rattle.std.specs.List.{find}
 use Rattle.stil_tree.specs.Trees.{Entry}
-use Rattle.answers.specs.Reading.{and_then, reading, stepping}
+use Rattle.answers.specs.Reading.{and_then, reading}
 use Rattle.stil_form.specs.declared.fault.FormFault.{FormFault}
 use Rattle.stil_form.specs.declared.fault.FormFault.TheVariants.{Refused}
 use Rattle.stil_form.specs.declared.fault.FormKind.{FormKind}
@@ -41,34 +41,42 @@ abbrev pub choice_said : Bool → List Lexeme → Result (Choice × List ℕ) Fo
 choice_said has_block [] = Err LeftOut
 choice_said has_block (one ∷ rest) = choice_by (meaning choice_words one) has_block rest
 
--- a text more
-abbrev pub given : Choice → Quoted → Choices → Choices
-given Min q c = record { min = Some q; typ = c.typ; max = c.max; meas = c.meas }
-given Typ q c = record { min = c.min; typ = Some q; max = c.max; meas = c.meas }
-given Max q c = record { min = c.min; typ = c.typ; max = Some q; meas = c.meas }
-given Meas q c = record { min = c.min; typ = c.typ; max = c.max; meas = Some q }
-
--- no text yet
-abbrev pub none_given : Choices
-none_given = record { min = None; typ = None; max = None; meas = None }
-
 -- what a statement of a variable's block says
 abbrev pub choice_at : Setting → Entry → Result (Choice × List ℕ) FormFault
 choice_at s e = at_statement e.first (choice_said (is_some e.body) (lexemes_at s e))
 
--- a text for a choice that has none yet; it is the second token of its statement
-abbrev pub give_once : Setting → Choices → Entry → Choice × List ℕ → Result Choices FormFault
-give_once s before e said =
-    if is_some (chosen_of said.0 before) then Err (Refused Twice e.first)
-    else Ok (given said.0 (quoted_at s (e.first + 1) said.1) before)
+-- two choices are one
+abbrev pub same_choice : Choice → Choice → Bool
+same_choice Min Min = true
+same_choice Typ Typ = true
+same_choice Max Max = true
+same_choice Meas Meas = true
+same_choice _ _ = false
 
--- one more statement of a variable's block
-abbrev pub choice_step : Setting → Choices → Entry → Result Choices FormFault
-choice_step s before e = and_then (choice_at s e) (give_once s before e)
+-- the text that is said for a choice
+abbrev pub text_for : Choice → List (Choice × Quoted) → Option Quoted
+text_for choice said =
+    option_map (λ (one : Choice × Quoted). one.1) (find (λ (one : Choice × Quoted). same_choice one.0 choice) said)
+
+-- a choice that isn't among those before it, with its text, which is the second token of its statement
+abbrev pub new_choice : Setting → List (Choice × Quoted) → Entry → Choice × List ℕ
+    → Result (Choice × Quoted) FormFault
+new_choice s before e said =
+    if is_some (text_for said.0 before) then Err (Refused Twice e.first)
+    else Ok (said.0, quoted_at s (e.first + 1) said.1)
+
+-- what one more statement of a variable's block says
+abbrev pub judge_choice : Setting → List (Choice × Quoted) → Entry → Result (Choice × Quoted) FormFault
+judge_choice s before e = and_then (choice_at s e) (new_choice s before e)
+
+-- the texts of these, by their choices
+abbrev pub choices_in : List (Choice × Quoted) → Choices
+choices_in said =
+    record { min = text_for Min said; typ = text_for Typ said; max = text_for Max said; meas = text_for Meas said }
 
 -- the texts of a variable's block
 abbrev pub choices_of : Setting → List Entry → Result Choices FormFault
-choices_of s es = stepping (choice_step s) none_given (unskipped s es)
+choices_of s es = and_then (reading (judge_choice s) [] (unskipped s es)) (λ said. Ok (choices_in said))
 
 -- a variable of a name
 abbrev pub variable_of : Setting → Entry → List ℕ → VariableValue → VariableDecl

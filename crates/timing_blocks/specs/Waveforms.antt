@@ -1,13 +1,11 @@
 -- Waveforms: what a table says of signals by their waveform characters (IEEE 1450-1999, clause 18).
-use Rattle.std.specs.Prelude.{ℕ, ◌==◌, ◌&&◌, ◌||◌, not, nat_eq, nat_lt, Bool, true, false, List, [], ◌∷◌, ◌++◌, length, codes, Option, Some, None, is_some, Result, Ok, Err, if◌then◌else◌}
-use Rattle.std.specs.List.{list_all}
+use Rattle.std.specs.Prelude.{ℕ, ◌==◌, ◌%◌, ◌&&◌, ◌||◌, not, nat_eq, nat_lt, Bool, true, false, List, [], ◌∷◌, length, map, zip, filter, Option, Some, None, is_some, Result, Ok, Err, if◌then◌else◌}
+use Rattle.std.specs.List.{list_all, list_any, enumerate_from, filter_map}
 use Rattle.text_bytes.specs.Bytes.{is_character}
 use Rattle.text_bytes.specs.Limits.{most_events}
 use Rattle.answers.specs.Reading.{and_then, reading}
 use Rattle.tester_types.specs.declared.wave.Act.{Act}
-use Rattle.tester_types.specs.declared.wave.Act.TheVariants as act
-use Rattle.tester_types.specs.declared.wave.Push.TheVariants as push
-use Rattle.tester_types.specs.declared.wave.Look.TheVariants as look
+use Rattle.tester_types.specs.Acts.{act_names}
 use Rattle.stil_tree.specs.Trees.{Entry}
 use Rattle.stil_form.specs.declared.fault.FormFault.{FormFault}
 use Rattle.stil_form.specs.declared.fault.FormKind.{FormKind}
@@ -23,56 +21,41 @@ use Rattle.stil_ast.specs.declared.timing.EventDecl.{EventDecl}
 use Rattle.stil_ast.specs.declared.timing.WaveDecl.{WaveDecl}
 use Rattle.stil_ast.specs.declared.timing.SignalWaves.{SignalWaves}
 
--- the acts by their letters and their long names; `x` and `X` are one
-abbrev pub acts : List (List ℕ × Act)
-acts =
-    (codes "D", act.Push push.Down) ∷ (codes "ForceDown", act.Push push.Down)
-    ∷ (codes "U", act.Push push.Up) ∷ (codes "ForceUp", act.Push push.Up)
-    ∷ (codes "Z", act.Push push.Off) ∷ (codes "ForceOff", act.Push push.Off)
-    ∷ (codes "N", act.Push push.Unknown) ∷ (codes "ForceUnknown", act.Push push.Unknown)
-    ∷ (codes "P", act.Push push.Prior) ∷ (codes "ForcePrior", act.Push push.Prior)
-    ∷ (codes "L", act.Look look.Low) ∷ (codes "CompareLow", act.Look look.Low)
-    ∷ (codes "H", act.Look look.High) ∷ (codes "CompareHigh", act.Look look.High)
-    ∷ (codes "T", act.Look look.Off) ∷ (codes "CompareOff", act.Look look.Off)
-    ∷ (codes "X", act.Look look.Close) ∷ (codes "x", act.Look look.Close)
-    ∷ (codes "CompareUnknown", act.Look look.Close)
-    ∷ (codes "l", act.Look look.LowWindow) ∷ (codes "CompareLowWindow", act.Look look.LowWindow)
-    ∷ (codes "h", act.Look look.HighWindow) ∷ (codes "CompareHighWindow", act.Look look.HighWindow)
-    ∷ (codes "t", act.Look look.OffWindow) ∷ (codes "CompareOffWindow", act.Look look.OffWindow) ∷ []
-
 -- the act that a token is
 abbrev pub act_of : Lexeme → Option Act
-act_of one = meaning acts one
-
--- one more act; a token in its place that is none is left out
-abbrev pub with_act : List Act → Option Act → Result (List Act) FormKind
-with_act before None = Err LeftOut
-with_act before (Some found) = Ok (before ++ found ∷ [])
+act_of one = meaning act_names one
 
 -- the sign `/`
 abbrev pub is_slash : Lexeme → Bool
 is_slash (sign Slash) = true
 is_slash _ = false
 
--- one more token of acts: a `/`, or else an act
-abbrev pub with_token : Bool → List Act → Lexeme → Result (List Act) FormKind
-with_token true before one = if is_slash one then Ok before else Err Shape
-with_token false before one = with_act before (act_of one)
+-- each token beside the one before it; in front of the first one a `/` is thought
+abbrev pub beside_earlier : List Lexeme → List (Lexeme × Lexeme)
+beside_earlier parts = zip (sign Slash ∷ parts) parts
 
--- acts behind others, with `/` between them; whether a `/` comes next. The last token is an act
-abbrev pub acts_from : Bool → List Act → List Lexeme → Result (List Act) FormKind
-acts_from slash_next before [] = if slash_next then Ok before else Err Shape
-acts_from slash_next before (one ∷ rest) =
-    and_then (with_token slash_next before one) (λ read. acts_from (not slash_next) read rest)
+-- the tokens at the places of acts: the first one, and each behind a `/`
+abbrev pub act_places : List Lexeme → List Lexeme
+act_places parts =
+    map (λ (pair : Lexeme × Lexeme). pair.1)
+    (filter (λ (pair : Lexeme × Lexeme). is_slash pair.0) (beside_earlier parts))
 
--- whether a token at an act's place is no act; such a place is the first one, and each behind a `/`
-abbrev pub lacks_act : Bool → List Lexeme → Bool
-lacks_act at_act [] = false
-lacks_act at_act (one ∷ rest) = (at_act && not (is_some (act_of one))) || lacks_act (is_slash one) rest
+-- some token at the place of an act is none
+abbrev pub lacks_act : List Lexeme → Bool
+lacks_act parts = list_any (λ one. not (is_some (act_of one))) (act_places parts)
+
+-- an act at an even index, and a `/` at an odd one
+abbrev pub fits_index : ℕ × Lexeme → Bool
+fits_index part = if part.0 % 2 == 0 then is_some (act_of part.1) else is_slash part.1
+
+-- acts with a `/` between each two
+abbrev pub alternate : List Lexeme → Bool
+alternate parts = list_all fits_index (enumerate_from 0 parts) && length parts % 2 == 1
 
 -- `act` or `act/act/..`; a token at an act's place that is none is left out, whatever else stands there
 abbrev pub acts_of : List Lexeme → Result (List Act) FormKind
-acts_of parts = if lacks_act true parts then Err LeftOut else acts_from false [] parts
+acts_of parts =
+    if lacks_act parts then Err LeftOut else if alternate parts then Ok (filter_map act_of parts) else Err Shape
 
 -- the text with which an event begins, and what stands behind it
 abbrev pub time_of : List Lexeme → Result (List ℕ × List Lexeme) FormKind
@@ -85,27 +68,27 @@ event_at time line acts = record { time = record { text = time; line = line }; a
 
 -- one act for so many characters, or one for each, and no block; and a waveform has room for one more event
 abbrev pub new_event : ℕ → List EventDecl → Bool → EventDecl → Result EventDecl FormKind
-new_event letters before has_block event =
-    if not has_block && (length event.acts == 1 || length event.acts == letters)
+new_event characters before has_block event =
+    if not has_block && (length event.acts == 1 || length event.acts == characters)
     then (if nat_lt (length before) most_events then Ok event else Err OutOfRange)
     else Err Shape
 
 -- `Text act;` or `Text act/act/..;`: an event of a waveform of so many characters
 abbrev pub judge_event : Setting → ℕ → List EventDecl → Entry → Result EventDecl FormFault
-judge_event s letters before e =
+judge_event s characters before e =
     and_then (at_statement e.first (time_of (lexemes_at s e))) (λ said.
     and_then (at_statement e.first (acts_of said.1)) (λ acts.
     at_statement e.first
-    (new_event letters before (is_some e.body) (event_at said.0 (line_at s.tokens e.first) acts))))
+    (new_event characters before (is_some e.body) (event_at said.0 (line_at s.tokens e.first) acts))))
 
 -- waveform characters: at least one letter or digit, none twice
-abbrev pub are_letters : List ℕ → Bool
-are_letters bytes = nat_lt 0 (length bytes) && list_all is_character bytes && all_differ nat_eq bytes
+abbrev pub are_wave_characters : List ℕ → Bool
+are_wave_characters bytes = nat_lt 0 (length bytes) && list_all is_character bytes && all_differ nat_eq bytes
 
 -- the waveform characters that a head is
-abbrev pub letters_of : List Lexeme → Result (List ℕ) FormKind
-letters_of (word bytes ∷ []) = if are_letters bytes then Ok bytes else Err Shape
-letters_of _ = Err Shape
+abbrev pub characters_of : List Lexeme → Result (List ℕ) FormKind
+characters_of (word bytes ∷ []) = if are_wave_characters bytes then Ok bytes else Err Shape
+characters_of _ = Err Shape
 
 -- a statement without a block is left out, whatever it says
 abbrev pub in_block : {X : Type 0} → Bool → Result X FormKind → Result X FormKind
@@ -113,15 +96,15 @@ in_block true said = said
 in_block false said = Err LeftOut
 
 -- the waveform characters of a statement with a block
-abbrev pub letters_at : Setting → Entry → Result (List ℕ) FormFault
-letters_at s e = at_statement e.first (in_block (is_some e.body) (letters_of (lexemes_at s e)))
+abbrev pub characters_at : Setting → Entry → Result (List ℕ) FormFault
+characters_at s e = at_statement e.first (in_block (is_some e.body) (characters_of (lexemes_at s e)))
 
--- `letters { events }`
+-- `characters { events }`
 abbrev pub judge_wave : Setting → List WaveDecl → Entry → Result WaveDecl FormFault
 judge_wave s before e =
-    and_then (letters_at s e) (λ letters.
-    and_then (reading (judge_event s (length letters)) [] (unskipped s (inner_of e.body))) (λ events.
-    Ok (record { letters = letters; events = events })))
+    and_then (characters_at s e) (λ characters.
+    and_then (reading (judge_event s (length characters)) [] (unskipped s (inner_of e.body))) (λ events.
+    Ok (record { characters = characters; events = events })))
 
 -- a reference and nothing behind it
 abbrev pub lone : Ref → List Lexeme → Result Ref FormKind

@@ -8,6 +8,7 @@ ghost use Rattle.stil_form.specs.Setting.{setting_of, inner_of};
 ghost use Rattle.block_forms.specs.Heads.{Says};
 ghost use Rattle.timing_blocks.specs.Selectors as selectors;
 ghost use Rattle.timing_blocks.specs.Selectors.{selection_of, is_selected};
+ghost use Rattle.timing_blocks.specs.Working as working;
 
 use crate::variables::CHOICES;
 use block_forms::{Declared, named_block, only_keyword};
@@ -113,7 +114,7 @@ struct SelectionForm<'k, 'a> {
 impl<'k, 'a> StepForm for SelectionForm<'k, 'a> {
     type State = Selections<'a>;
 
-    ghost step = { λ form before e. selectors.selection_step (setting_of form.reader) before e };
+    ghost step = { λ form before e. working.selection_step (setting_of form.reader) before e };
 
     fn take(
         &self,

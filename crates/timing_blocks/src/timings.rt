@@ -6,6 +6,7 @@ ghost use Rattle.stil_form.specs.Reading.{Answers, AnswersBy};
 ghost use Rattle.stil_form.specs.Setting.{setting_of};
 ghost use Rattle.block_forms.specs.Heads.{under};
 ghost use Rattle.timing_blocks.specs.Timings as timings;
+ghost use Rattle.timing_blocks.specs.Working as working;
 
 use crate::waveforms::read_signals;
 use block_forms::{
@@ -62,7 +63,7 @@ struct TableForm<'k, 'a> {
 impl StepForm for TableForm<'_, '_> {
     type State = TableDecl;
 
-    ghost step = { λ form. timings.table_step (setting_of form.reader) };
+    ghost step = { λ form. working.table_step (setting_of form.reader) };
 
     fn take(&self, alloc: Global, before: TableDecl, stmt: &Stmt) -> Result<TableDecl, FormFault> {
         let reader = &self.reader;
@@ -112,17 +113,17 @@ fn read_table(
     read_unskipped_steps(alloc, &form, reader, start, stmts)
 }
 
-/// One more table of a Timing of this title, and the names declared so far with its own.
+/// One more table of a Timing of this title, whose name is declared with it.
 fn read_one<'a>(
     alloc: Global,
     reader: &Reader<'_, 'a>,
-    declared: Declared<'a>,
+    declared: &mut Declared<'a>,
     title: &'a [u8],
     stmt: &Stmt,
-) -> Result<(TableDecl, Declared<'a>), FormFault>
-    ensures table { AnswersBy (λ read. read.0) result
-        (timings.table_said (setting_of reader.now) declared.entry title.now (entry_of stmt.now)) }
-    ensures names { IfOk result (λ read. read.1 ≡ declared.entry ++ (title.now, read.0.name) ∷ []) }
+) -> Result<TableDecl, FormFault>
+    ensures table { Answers result
+        (timings.table_said (setting_of reader.now) declared.old title.now (entry_of stmt.now)) }
+    ensures names { IfOk result (λ table. declared.new ≡ declared.old ++ (title.now, table.name) ∷ []) }
 {
     if !is_first(b"WaveformTable", head_at(reader.source, stmt)) {
         return Err(FormFault::Refused(FormKind::LeftOut, first_of(stmt)));
@@ -136,51 +137,49 @@ fn read_one<'a>(
     }
     let line = line_at(reader.source.tokens, first_of(stmt) as usize);
     let table = read_table(alloc, reader, called, line, inner_of(stmt))?;
-    let declared = declared.with(title, called)?;
-    Ok((table, declared))
+    declared.add(alloc, title, called)?;
+    Ok(table)
 }
 
-/// The tables of a Timing of this title, and the names declared so far with theirs.
+/// The tables of a Timing of this title, whose names are declared with them.
 fn read_tables<'a>(
     alloc: Global,
     reader: &Reader<'_, 'a>,
-    declared: Declared<'a>,
+    declared: &mut Declared<'a>,
     title: &'a [u8],
     stmts: &[Stmt],
-) -> Result<(Vec<TableDecl>, Declared<'a>), FormFault>
-    ensures tables { AnswersBy (λ read. read.0.items) result
-        (timings.tables_of (setting_of reader.now) declared.entry title.now (map entry_of stmts.now)) }
+) -> Result<Vec<TableDecl>, FormFault>
+    ensures tables { AnswersBy (λ read. read.items) result
+        (timings.tables_of (setting_of reader.now) declared.old title.now (map entry_of stmts.now)) }
     ensures names { IfOk result
-        (λ read. read.1 ≡ declared.entry ++ under title.now (timings.table_names read.0.items)) }
+        (λ read. declared.new ≡ declared.old ++ under title.now (timings.table_names read.items)) }
 {
     let mut tables = Vec::new(alloc);
-    let mut declared = declared;
     for stmt in stmts {
         if skips(reader, stmt) {
             continue;
         }
-        let (table, more) = read_one(alloc, reader, declared, title, stmt)?;
-        declared = more;
+        let table = read_one(alloc, reader, declared, title, stmt)?;
         tables.push(table)?;
     }
-    Ok((tables, declared))
+    Ok(tables)
 }
 
-/// A Timing block, and the names of tables declared so far, each under the title of its Timing, with its own.
+/// A Timing block behind the tables declared so far, each under the title of its Timing; its own are declared with it.
 pub fn read_timing_block<'a>(
     alloc: Global,
     reader: &Reader<'_, 'a>,
-    declared: Declared<'a>,
+    declared: &mut Declared<'a>,
     stmt: &Stmt,
-) -> Result<(TimingBlock, Declared<'a>), FormFault>
-    ensures block { AnswersBy (λ read. read.0) result
-        (timings.timing_block (setting_of reader.now) declared.entry (entry_of stmt.now)) }
+) -> Result<TimingBlock, FormFault>
+    ensures block { Answers result
+        (timings.timing_block (setting_of reader.now) declared.old (entry_of stmt.now)) }
     ensures names { IfOk result
-        (λ read. read.1 ≡ declared.entry ++ under read.0.name (timings.table_names read.0.tables)) }
+        (λ read. declared.new ≡ declared.old ++ under read.name (timings.table_names read.tables)) }
 {
     let title = titled_block(reader, stmt)?;
     let name = Items::from_slice(alloc, title)?;
-    let (tables, declared) = read_tables(alloc, reader, declared, title, inner_of(stmt))?;
+    let tables = read_tables(alloc, reader, declared, title, inner_of(stmt))?;
     let tables = Items::from_vec(tables);
-    Ok((TimingBlock { name, tables }, declared))
+    Ok(TimingBlock { name, tables })
 }

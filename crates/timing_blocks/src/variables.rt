@@ -8,6 +8,7 @@ ghost use Rattle.stil_form.specs.Reading.{Answers, AnswersBy};
 ghost use Rattle.stil_form.specs.Setting.{setting_of, inner_of};
 ghost use Rattle.block_forms.specs.Heads.{Says};
 ghost use Rattle.timing_blocks.specs.Variables as variables;
+ghost use Rattle.timing_blocks.specs.Working as working;
 
 use block_forms::{
     equal_text_at, is_first, keyword_in, named_block, only_name, only_text, quoted_at, titled_block,
@@ -62,7 +63,7 @@ fn is_given(choice: Choice, choices: &Choices) -> bool
 
 /// The choices with one text more.
 fn given(choice: Choice, text: Quoted, choices: Choices) -> Choices
-    ensures { result ≡ variables.given choice text choices }
+    ensures { result ≡ working.given choice text choices }
 {
     let Choices {
         min,
@@ -108,7 +109,7 @@ struct ChoiceForm<'k, 'a> {
 impl StepForm for ChoiceForm<'_, '_> {
     type State = Choices;
 
-    ghost step = { λ form before e. variables.choice_step (setting_of form.reader) before e };
+    ghost step = { λ form before e. working.choice_step (setting_of form.reader) before e };
 
     fn take(&self, alloc: Global, before: Choices, stmt: &Stmt) -> Result<Choices, FormFault> {
         let head = head_at(self.reader.source, stmt);

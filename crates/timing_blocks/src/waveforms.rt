@@ -11,6 +11,7 @@ ghost use Rattle.stil_form.specs.Reading.{Answers, AnswersBy};
 ghost use Rattle.stil_form.specs.Setting.{setting_of, lexemes_at, at_statement};
 ghost use Rattle.pat_read.specs.References as references;
 ghost use Rattle.timing_blocks.specs.Waveforms as waveforms;
+ghost use Rattle.timing_blocks.specs.Working as working;
 
 use block_forms::{keyword_in, only_part, quoted_at};
 use pat_read::read_ref;
@@ -21,37 +22,8 @@ use stil_form::{
     has_block, head_at, inner_of, line_at, part_of, read_unskipped, reference_front,
 };
 use stil_tree::Stmt;
-use tester_types::{Act, Items, Look, Push};
+use tester_types::{ACT_NAMES, Act, Items};
 use text_bytes::{MOST_EVENTS, is_character};
-
-/// The acts, by their letters and their long names; an `x` is an `X`.
-const ACTS: [(&[u8], Act); 25] = [
-    (b"D", Act::Push(Push::Down)),
-    (b"ForceDown", Act::Push(Push::Down)),
-    (b"U", Act::Push(Push::Up)),
-    (b"ForceUp", Act::Push(Push::Up)),
-    (b"Z", Act::Push(Push::Off)),
-    (b"ForceOff", Act::Push(Push::Off)),
-    (b"N", Act::Push(Push::Unknown)),
-    (b"ForceUnknown", Act::Push(Push::Unknown)),
-    (b"P", Act::Push(Push::Prior)),
-    (b"ForcePrior", Act::Push(Push::Prior)),
-    (b"L", Act::Look(Look::Low)),
-    (b"CompareLow", Act::Look(Look::Low)),
-    (b"H", Act::Look(Look::High)),
-    (b"CompareHigh", Act::Look(Look::High)),
-    (b"T", Act::Look(Look::Off)),
-    (b"CompareOff", Act::Look(Look::Off)),
-    (b"X", Act::Look(Look::Close)),
-    (b"x", Act::Look(Look::Close)),
-    (b"CompareUnknown", Act::Look(Look::Close)),
-    (b"l", Act::Look(Look::LowWindow)),
-    (b"CompareLowWindow", Act::Look(Look::LowWindow)),
-    (b"h", Act::Look(Look::HighWindow)),
-    (b"CompareHighWindow", Act::Look(Look::HighWindow)),
-    (b"t", Act::Look(Look::OffWindow)),
-    (b"CompareOffWindow", Act::Look(Look::OffWindow)),
-];
 
 /// Takes one more part of the acts of the statement with this first token: a `/`, or an act.
 fn take_part(
@@ -61,7 +33,7 @@ fn take_part(
     first: u32,
 ) -> Result<(), FormFault>
     ensures { AnswersBy (λ _. acts.new.items) result
-        (at_statement first (waveforms.with_token slash_next acts.old.items (lexeme_of part.now))) }
+        (at_statement first (working.with_token slash_next acts.old.items (lexeme_of part.now))) }
 {
     if slash_next {
         return match part {
@@ -69,7 +41,7 @@ fn take_part(
             _ => Err(FormFault::Refused(FormKind::Shape, first)),
         };
     }
-    match keyword_in(&ACTS, part) {
+    match keyword_in(&ACT_NAMES, part) {
         Some(act) => Ok(acts.push(act)?),
         None => Err(FormFault::Refused(FormKind::LeftOut, first)),
     }
@@ -79,12 +51,12 @@ fn take_part(
 fn is_no_act(at_act: bool, part: &Part) -> bool
     ensures { result ≡ (at_act && not (is_some (waveforms.act_of (lexeme_of part.now)))) }
 {
-    at_act && keyword_in(&ACTS, part).is_none()
+    at_act && keyword_in(&ACT_NAMES, part).is_none()
 }
 
 /// Whether a part at an act's place is no act. Such a place is the first one, and each behind a `/`.
 fn lacks_act(rest: Source) -> bool
-    ensures { result ≡ waveforms.lacks_act true (lexemes rest.entry) }
+    ensures { result ≡ working.lacks_act true (lexemes rest.entry) }
 {
     let mut at_act = true;
     for token in rest.tokens {
@@ -109,7 +81,7 @@ fn acts_of(alloc: Global, rest: Source, first: u32) -> Result<Items<Act>, FormFa
 
 /// The same where each part at an act's place is an act.
 fn acts_between(alloc: Global, rest: Source, first: u32) -> Result<Items<Act>, FormFault>
-    ensures { Answers result (at_statement first (waveforms.acts_from false [] (lexemes rest.entry))) }
+    ensures { Answers result (at_statement first (working.acts_from false [] (lexemes rest.entry))) }
 {
     let mut acts = Vec::new(alloc);
     let mut slash_next = false;
@@ -136,23 +108,23 @@ fn time_at<'a>(reader: &Reader<'_, 'a>, stmt: &Stmt) -> Result<(&'a [u8], Source
 }
 
 /// Whether an event has one act for so many characters, or one for each.
-fn fits_letters(letters: usize, acts: &Items<Act>) -> bool
-    ensures { result ≡ (length acts.now == 1 || length acts.now == letters) }
+fn fits_characters(characters: usize, acts: &Items<Act>) -> bool
+    ensures { result ≡ (length acts.now == 1 || length acts.now == characters) }
 {
-    acts.len() == 1 || acts.len() == letters
+    acts.len() == 1 || acts.len() == characters
 }
 
 /// Statements that are events of a waveform of so many characters.
 #[derive(Clone, Copy)]
 struct EventForm<'k, 'a> {
     reader: Reader<'k, 'a>,
-    letters: usize,
+    characters: usize,
 }
 
 impl Form for EventForm<'_, '_> {
     type Data = EventDecl;
 
-    ghost judge = { λ form. waveforms.judge_event (setting_of form.reader) form.letters };
+    ghost judge = { λ form. waveforms.judge_event (setting_of form.reader) form.characters };
 
     fn judge_one(
         &self,
@@ -162,7 +134,7 @@ impl Form for EventForm<'_, '_> {
     ) -> Result<EventDecl, FormFault> {
         let (time, rest) = time_at(&self.reader, stmt)?;
         let acts = acts_of(alloc, rest, first_of(stmt))?;
-        if has_block(stmt) || !fits_letters(self.letters, &acts) {
+        if has_block(stmt) || !fits_characters(self.characters, &acts) {
             return Err(FormFault::Refused(FormKind::Shape, first_of(stmt)));
         }
         if before.len() >= MOST_EVENTS {
@@ -174,18 +146,18 @@ impl Form for EventForm<'_, '_> {
 }
 
 /// Whether each is a waveform character.
-fn are_characters(letters: &[u8]) -> bool
-    ensures { result ≡ list_all is_character letters.now }
+fn are_characters(characters: &[u8]) -> bool
+    ensures { result ≡ list_all is_character characters.now }
 {
-    letters.iter().all(|letter| is_character(*letter))
+    characters.iter().all(|character| is_character(*character))
 }
 
-/// Whether no letter stands twice.
-fn all_differ(letters: &[u8]) -> bool
-    ensures { result ≡ all_differ nat_eq letters.now }
+/// Whether no character stands twice.
+fn all_differ(characters: &[u8]) -> bool
+    ensures { result ≡ all_differ nat_eq characters.now }
 {
-    for (place, letter) in letters.iter().enumerate() {
-        if letters[place + 1..].contains(letter) {
+    for (place, character) in characters.iter().enumerate() {
+        if characters[place + 1..].contains(character) {
             return false;
         }
     }
@@ -193,22 +165,22 @@ fn all_differ(letters: &[u8]) -> bool
 }
 
 /// Whether these are waveform characters, at least one, and none twice.
-fn are_letters(letters: &[u8]) -> bool
-    ensures { result ≡ waveforms.are_letters letters.now }
+fn are_wave_characters(characters: &[u8]) -> bool
+    ensures { result ≡ waveforms.are_wave_characters characters.now }
 {
-    !letters.is_empty() && are_characters(letters) && all_differ(letters)
+    !characters.is_empty() && are_characters(characters) && all_differ(characters)
 }
 
 /// The waveform characters that the head of a statement with a block is.
-fn letters_at<'a>(reader: &Reader<'_, 'a>, stmt: &Stmt) -> Result<&'a [u8], FormFault>
-    ensures { AnswersBy (λ letters. letters.now) result
-        (waveforms.letters_at (setting_of reader.now) (entry_of stmt.now)) }
+fn characters_at<'a>(reader: &Reader<'_, 'a>, stmt: &Stmt) -> Result<&'a [u8], FormFault>
+    ensures { AnswersBy (λ characters. characters.now) result
+        (waveforms.characters_at (setting_of reader.now) (entry_of stmt.now)) }
 {
     if !has_block(stmt) {
         return Err(FormFault::Refused(FormKind::LeftOut, first_of(stmt)));
     }
     match only_part(head_at(reader.source, stmt)) {
-        Some(Part::Word(letters)) if are_letters(letters) => Ok(letters),
+        Some(Part::Word(characters)) if are_wave_characters(characters) => Ok(characters),
         _ => Err(FormFault::Refused(FormKind::Shape, first_of(stmt))),
     }
 }
@@ -230,14 +202,14 @@ impl Form for WaveForm<'_, '_> {
         before: &[WaveDecl],
         stmt: &Stmt,
     ) -> Result<WaveDecl, FormFault> {
-        let letters = letters_at(&self.reader, stmt)?;
+        let characters = characters_at(&self.reader, stmt)?;
         let form = EventForm {
             reader: self.reader,
-            letters: letters.len(),
+            characters: characters.len(),
         };
         let events = read_unskipped(alloc, &form, &self.reader, inner_of(stmt))?;
         Ok(WaveDecl {
-            letters: Items::from_slice(alloc, letters)?,
+            characters: Items::from_slice(alloc, characters)?,
             events: Items::from_vec(events),
         })
     }

@@ -81,8 +81,8 @@ clocked = record {
   tables = record {
     name = codes "w";
     period = 100000000;
-    waves = record { signal = 0; letter = 68; events = record { time = 0; act = act.Push push.Down } ∷ record { time = 50000000; act = act.Push push.Up } ∷ [] }
-        ∷ record { signal = 1; letter = 67; events = record { time = 0; act = act.Push push.Down } ∷ record { time = 50000000; act = act.Push push.Up } ∷ [] }
+    waves = record { signal = 0; character = 68; events = record { time = 0; act = act.Push push.Down } ∷ record { time = 50000000; act = act.Push push.Up } ∷ [] }
+        ∷ record { signal = 1; character = 67; events = record { time = 0; act = act.Push push.Down } ∷ record { time = 50000000; act = act.Push push.Up } ∷ [] }
         ∷ [];
   } ∷ [];
   rows = (68 ∷ 67 ∷ 0 ∷ []) ∷ [];

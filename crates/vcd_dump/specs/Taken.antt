@@ -15,6 +15,7 @@ use Rattle.site_meaning.specs.Records.{is_fail}
 use Rattle.cycle_run.specs.Tape.{with_calls}
 use Rattle.site_run.specs.Taped.{calls_of_try}
 use Rattle.vcd_text.specs.Dump.{Var, name_of}
+use Rattle.vcd_dump.specs.declared.recorder.TheConstants.{MOST_DRIVES}
 
 -- The drive calls of the first try of a site's first die, as the plan has it and with nothing else that cuts it short:
 -- those of the cycles that it finishes.
@@ -27,7 +28,7 @@ drives_in calls = sum_by (λ (call : ℕ × List (ℕ × Drive)). length call.1)
 
 -- the most drives of a tape that is dumped
 abbrev pub most_drives : ℕ
-most_drives = 4194304
+most_drives = MOST_DRIVES
 
 -- the name of a signal of a program
 abbrev pub signal_text : Program → ℕ → List ℕ

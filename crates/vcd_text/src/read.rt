@@ -100,7 +100,7 @@ fn read_whole(alloc: Global, bytes: &[u8]) -> Result<Dump, DumpFault>
     }
 }
 
-/// The vars and the tape of which a text is the dump.
+/// Only tests call it: the vars and the tape of which a text is the dump.
 pub fn read_dump(alloc: Global, bytes: &[u8]) -> Result<Dump, DumpFault>
     requires { length bytes.now < 2 ^ 32 - 1 }
     // What is read is sound, and the text is its dump.

@@ -8,7 +8,7 @@ use Rattle.stil_ast.specs.Data.Texts.{upwards}
 use Rattle.stil_ast.specs.Faults.ExecutiveFaults.{timed_of}
 use Rattle.stil_ast.specs.Faults.TableFaults.{Timed}
 use Rattle.stil_ast.specs.Meaning.Executive.{exec_tables}
-use Rattle.stil_ast.specs.Meaning.Tables.{Waveform, waveforms, waveform_of, wave_with, wave_of, waves_of, wave_count, characters, made_table}
+use Rattle.stil_ast.specs.Meaning.Tables.{Waveform, waveforms, waveform_of, wave_with, wave_of, waves_of, wave_count, every_character, made_table}
 use Rattle.stil_ast.specs.declared.timing.TableDecl.{TableDecl}
 use Rattle.tester_types.specs.declared.wave.Wave.{Wave}
 use Rattle.tester_types.specs.declared.wave.Table.{Table}
@@ -37,22 +37,22 @@ wave_there t s c (Some w) = refl
 
 -- the waves of a signal
 row_length : (t : Timed Ratio) (all : List Waveform) (s : ℕ)
-    → length (filter_map (λ c. wave_of t.times t.vars t.place all s c) characters)
-    ≡ count_by (λ c. is_some (waveform_of all s c)) characters
+    → length (filter_map (λ c. wave_of t.times t.vars t.place all s c) every_character)
+    ≡ count_by (λ c. is_some (waveform_of all s c)) every_character
 row_length t all s =
-    found_length (λ c. wave_of t.times t.vars t.place all s c) characters
+    found_length (λ c. wave_of t.times t.vars t.place all s c) every_character
     ∙ sum_agree (λ c. cond {A = ℕ} (is_some (wave_of t.times t.vars t.place all s c)) 1 0)
-    (λ c. cond {A = ℕ} (is_some (waveform_of all s c)) 1 0) characters (λ i h.
+    (λ c. cond {A = ℕ} (is_some (waveform_of all s c)) 1 0) every_character (λ i h.
     ap (λ (b : Bool). cond {A = ℕ} b 1 0)
-    (wave_there t s (get_or characters i 0) (waveform_of all s (get_or characters i 0))))
+    (wave_there t s (get_or every_character i 0) (waveform_of all s (get_or every_character i 0))))
 
 -- the waves of a table
 waves_length : (t : Timed Ratio) (all : List Waveform) (signals : ℕ)
     → length (waves_of t.times t.vars t.place all signals) ≡ wave_count all signals
 waves_length t all signals =
-    length-flat_map (λ s. filter_map (λ c. wave_of t.times t.vars t.place all s c) characters) (upwards 0 signals)
-    ∙ sum_agree (λ s. length (filter_map (λ c. wave_of t.times t.vars t.place all s c) characters))
-    (λ s. count_by (λ c. is_some (waveform_of all s c)) characters) (upwards 0 signals)
+    length-flat_map (λ s. filter_map (λ c. wave_of t.times t.vars t.place all s c) every_character) (upwards 0 signals)
+    ∙ sum_agree (λ s. length (filter_map (λ c. wave_of t.times t.vars t.place all s c) every_character))
+    (λ s. count_by (λ c. is_some (waveform_of all s c)) every_character) (upwards 0 signals)
     (λ i h. row_length t all (get_or (upwards 0 signals) i 0))
 
 -- the waves of all tables

@@ -32,7 +32,7 @@ use Rattle.wave_tables.proofs.TakenLemmas.{found_drop}
 abbrev pub IsHeld : Timed Ratio → List (List ReadWave) → Waveform → Type 0
 IsHeld t reads w =
     read_at reads (record { table = w.table; number = w.number })
-    ≡ Some (record { letters = w.letters; events = map (read_event t) w.events })
+    ≡ Some (record { characters = w.characters; events = map (read_event t) w.events })
 
 module _ (t : Timed Ratio) (reads : List (List ReadWave)) (k : ℕ) (rs : List ReadWave)
     (at : slice_get reads k ≡ Some rs) where
@@ -104,22 +104,22 @@ timed_same (Ok time) (Some act) = refl
 timed_same (Err fault) a = refl
 
 -- the events of a waveform for a character
-events_same : (t : Timed Ratio) (letters : List ℕ) (c : ℕ) (es : List EventDecl)
-    → filter_map (event_read letters c) (map (read_event t) es)
-    ≡ filter_map (event_of t.times t.vars t.place letters c) es
-events_same t letters c [] = refl
-events_same t letters c (e ∷ es) =
-    ap (λ (o : Option Event). cons_option o (filter_map (event_read letters c) (map (read_event t) es)))
-    (timed_same (time_at t.times t.vars t.place e.time) (act_of letters c e.acts))
-    ∙ ap (cons_option (event_of t.times t.vars t.place letters c e)) (events_same t letters c es)
+events_same : (t : Timed Ratio) (characters : List ℕ) (c : ℕ) (es : List EventDecl)
+    → filter_map (event_read characters c) (map (read_event t) es)
+    ≡ filter_map (event_of t.times t.vars t.place characters c) es
+events_same t characters c [] = refl
+events_same t characters c (e ∷ es) =
+    ap (λ (o : Option Event). cons_option o (filter_map (event_read characters c) (map (read_event t) es)))
+    (timed_same (time_at t.times t.vars t.place e.time) (act_of characters c e.acts))
+    ∙ ap (cons_option (event_of t.times t.vars t.place characters c e)) (events_same t characters c es)
 
 held_wave : (t : Timed Ratio) (reads : List (List ReadWave)) (s c : ℕ) (o : Option Waveform) → IfSome o (IsHeld t reads)
     → wave_read reads s c (source_of o) ≡ wave_with t.times t.vars t.place s c o
 held_wave t reads s c None h = refl
 held_wave t reads s c (Some w) h =
     ap (wave_made s c) h
-    ∙ ap (λ (es : List Event). Some (record { signal = s; letter = c; events = es }))
-    (events_same t w.letters c w.events)
+    ∙ ap (λ (es : List Event). Some (record { signal = s; character = c; events = es }))
+    (events_same t w.characters c w.events)
 
 -- the wave of the waveform that counts
 pub wave_is : (t : Timed Ratio) (reads : List (List ReadWave)) (table s c : ℕ) → reads ≡ map (read_waves t) t.tables

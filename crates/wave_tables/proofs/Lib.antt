@@ -1,6 +1,7 @@
 pub mod SetLemmas
 pub mod StandardFacts
 pub mod ScopeLemmas
+pub mod InLineLemmas
 pub mod SourceLemmas
 pub mod OwnLemmas
 pub mod LineageLemmas
@@ -12,8 +13,9 @@ pub mod FirstLemmas
 pub mod StandingLemmas
 pub mod HeldLemmas
 pub mod RowLemmas
+pub mod PeriodLemmas
 pub mod OrderLemmas
 pub mod TableLemmas
 pub mod BuiltLemmas
-pub mod LetterLemmas
+pub mod CharacterLemmas
 pub mod CountLemmas

@@ -17,28 +17,28 @@ order_at tables all place found same within is each =
     subst (λ (t : Table). AreInOrder t.waves) here
     (each place found (subst (λ (l : List Table). place < length l) same within))
 
-moved : (tables all : List Table) (place table signal letter : ℕ) (o : Option Wave) → tables ≡ all → place ≡ table
-    → o ≡ wave_in tables place signal letter
-    → o ≡ wave_in all table signal letter
-moved tables all place table signal letter o same number is =
-    is ∙ ap (λ (l : List Table). wave_in l place signal letter) same
-    ∙ ap (λ (n : ℕ). wave_in all n signal letter) number
+moved : (tables all : List Table) (place table signal character : ℕ) (o : Option Wave) → tables ≡ all → place ≡ table
+    → o ≡ wave_in tables place signal character
+    → o ≡ wave_in all table signal character
+moved tables all place table signal character o same number is =
+    is ∙ ap (λ (l : List Table). wave_in l place signal character) same
+    ∙ ap (λ (n : ℕ). wave_in all n signal character) number
 
 -- a wave of the table is one of the set
-pub wave_at : (tables all : List Table) (place table signal letter : ℕ) (found : Table) (o : Option Wave)
+pub wave_at : (tables all : List Table) (place table signal character : ℕ) (found : Table) (o : Option Wave)
     → tables ≡ all → place ≡ table → place < length tables
     → found ≡ get_or tables place found
-    → o ≡ find (is_wave signal letter) found.waves
-    → o ≡ wave_in all table signal letter
-wave_at tables all place table signal letter found o same number within at is =
+    → o ≡ find (is_wave signal character) found.waves
+    → o ≡ wave_in all table signal character
+wave_at tables all place table signal character found o same number within at is =
     let here = slice_get_read tables (length tables) place found refl within at in
-    moved tables all place table signal letter o same number
-    (is ∙ ap (λ (t : Option Table). find (is_wave signal letter) (waves_at t)) (sym here))
+    moved tables all place table signal character o same number
+    (is ∙ ap (λ (t : Option Table). find (is_wave signal character) (waves_at t)) (sym here))
 
 -- past the tables there is none
-pub wave_past : (tables all : List Table) (place table signal letter : ℕ) → tables ≡ all → place ≡ table
+pub wave_past : (tables all : List Table) (place table signal character : ℕ) → tables ≡ all → place ≡ table
     → length tables ≤ place
-    → None ≡ wave_in all table signal letter
-wave_past tables all place table signal letter same number past =
-    moved tables all place table signal letter None same number
-    (ap (λ (t : Option Table). find (is_wave signal letter) (waves_at t)) (sym (slice_get_past tables place past)))
+    → None ≡ wave_in all table signal character
+wave_past tables all place table signal character same number past =
+    moved tables all place table signal character None same number
+    (ap (λ (t : Option Table). find (is_wave signal character) (waves_at t)) (sym (slice_get_past tables place past)))

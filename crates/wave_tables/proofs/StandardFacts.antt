@@ -7,10 +7,10 @@ use Rattle.wave_tables.specs.Waves.{wave_in}
 
 -- a wave without events
 abbrev still : Wave
-still = record { signal = 1; letter = 65; events = [] }
+still = record { signal = 1; character = 65; events = [] }
 
 abbrev other : Wave
-other = record { signal = 2; letter = 48; events = [] }
+other = record { signal = 2; character = 48; events = [] }
 
 abbrev tables : List Table
 tables =

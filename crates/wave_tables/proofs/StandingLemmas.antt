@@ -1,8 +1,9 @@
 -- The slots of a table tell which inherited waveforms still stand, and the first of their late events is found.
-use Rattle.std.proofs.Common.{◌≡◌, ℕ, ℤ, suc, ◌+◌, ◌<◌, ◌==◌, ◌&&◌, ◌||◌, not, Bool, true, false, cond, List, [], ◌∷◌, ◌++◌, Option, Some, None, Result, Ok, Err, length, get_or, map, drop, refl, sym, ap, ◌∙◌, arith}
+use Rattle.std.proofs.Common.{◌≡◌, ℕ, ℤ, suc, ◌+◌, ◌<◌, ◌≤◌, ◌==◌, ◌&&◌, ◌||◌, not, Bool, true, false, cond, List, [], ◌∷◌, ◌++◌, Option, Some, None, Result, Ok, Err, length, get_or, map, take, drop, refl, sym, ap, ◌∙◌, arith}
 use Rattle.std.specs.List.{list_any, flat_map, All}
 use Rattle.std.specs.Prelude.{slice_get}
-use Rattle.std.proofs.lemmas.List.{length-map}
+use Rattle.std.proofs.lemmas.List.{length-map, length-append}
+use Rattle.std.proofs.Math.Seq.{take-append_seam, drop-append_seam}
 use Rattle.std.proofs.lemmas.List.Elements.{All-get_or}
 use Rattle.std.proofs.lemmas.Bool.{eq-eqb, ne_eqb}
 use Rattle.std.proofs.Math.Bool.{and-false}
@@ -22,7 +23,7 @@ use Rattle.stil_ast.specs.declared.timing.SignalWaves.{SignalWaves}
 use Rattle.expr_text.specs.Ratio.{Ratio}
 use Rattle.wave_tables.specs.declared.source.Source.{Source}
 use Rattle.wave_tables.specs.declared.times.ReadWave.{ReadWave}
-use Rattle.wave_tables.specs.Letters.{has_letters}
+use Rattle.wave_tables.specs.Characters.{has_characters}
 use Rattle.wave_tables.specs.Own.{waves_for, own_for, numbered_from}
 use Rattle.wave_tables.specs.ReadWaves.{kind_met, read_event, read_wave}
 use Rattle.wave_tables.specs.Sources.{at_slot, source_of, Maps}
@@ -67,22 +68,22 @@ any_agree p q (x ∷ xs) h =
 -- a waveform stands where its source counts
 pub stands_is : (t : Timed Ratio) (table : ℕ) (slots : List (Option Source)) (source : Source) (r : SigRef)
     (w : WaveDecl)
-    → (signals letters : List ℕ) → MapsTable t table slots → signals ≡ members t.names r → letters ≡ w.letters
-    → All (λ s. s < length t.names.signals) signals → has_letters w.letters ≡ true
-    → counts_in slots source signals letters
+    → (signals characters : List ℕ) → MapsTable t table slots → signals ≡ members t.names r → characters ≡ w.characters
+    → All (λ s. s < length t.names.signals) signals → has_characters w.characters ≡ true
+    → counts_in slots source signals characters
     ≡ stands (waveforms t.names t.tables table) (waveform_at t.names source r w)
-stands_is t table slots source r w signals letters maps listed written within lettered =
+stands_is t table slots source r w signals characters maps listed written within with_characters =
     ap (λ (l : List ℕ). counts_in slots source signals l) written
-    ∙ any_agree (λ s. counts_for slots source s w.letters) (λ s. list_any (test s) w.letters) signals (λ i h.
-    any_agree (λ c. is_source source (source_for slots (get_or signals i 0) c)) (test (get_or signals i 0)) w.letters
+    ∙ any_agree (λ s. counts_for slots source s w.characters) (λ s. list_any (test s) w.characters) signals (λ i h.
+    any_agree (λ c. is_source source (source_for slots (get_or signals i 0) c)) (test (get_or signals i 0)) w.characters
     (λ j k.
     ap (is_source source) (source_for_is (length t.names.signals) (waveforms t.names t.tables table) slots
     (get_or signals i 0)
-    (get_or w.letters j 0) maps (All-get_or (λ s. s < length t.names.signals) signals i 0 h within)
-    (item_passes is_character w.letters j 0 lettered k))
+    (get_or w.characters j 0) maps (All-get_or (λ s. s < length t.names.signals) signals i 0 h within)
+    (item_passes is_character w.characters j 0 with_characters k))
     ∙ is_source_of t.names source r w
-    (waveform_of (waveforms t.names t.tables table) (get_or signals i 0) (get_or w.letters j 0))))
-    ∙ ap (list_any (λ s. list_any (test s) w.letters)) listed
+    (waveform_of (waveforms t.names t.tables table) (get_or signals i 0) (get_or w.characters j 0))))
+    ∙ ap (list_any (λ s. list_any (test s) w.characters)) listed
   where
     test : ℕ → ℕ → Bool
     test s c = is_waveform (waveform_at t.names source r w) (waveform_of (waveforms t.names t.tables table) s c)
@@ -194,3 +195,29 @@ stand_reference t reads number list s rest split stand =
     drop_behind reads number (length s.waves) (map (read_wave t) s.waves) (flat_map each rest)
     (length-map s.waves (read_wave t)) whole in
     (whole ∙ ap (λ l. map (read_wave t) s.waves ++ l) (sym next), next)
+
+-- what was read of a reference stands first, and behind it what was read of those behind it
+pub record ReadsBehind (t : Timed Ratio) (reads : List ReadWave) (s : SignalWaves) (rest : List SignalWaves) : Type 0 where
+  pub within : length s.waves ≤ length reads
+  pub here : take (length s.waves) reads ≡ map (read_wave t) s.waves
+  pub behind : drop (length s.waves) reads ≡ flat_map (λ (s : SignalWaves). map (read_wave t) s.waves) rest
+
+pub reads_behind : (t : Timed Ratio) (reads : List ReadWave) (list : List SignalWaves) (s : SignalWaves)
+    (rest : List SignalWaves)
+    → list ≡ s ∷ rest
+    → reads ≡ flat_map (λ (s : SignalWaves). map (read_wave t) s.waves) list
+    → ReadsBehind t reads s rest
+reads_behind t reads list s rest split are =
+    let each : SignalWaves → List ReadWave = λ s. map (read_wave t) s.waves in
+    let own = map (read_wave t) s.waves in
+    let whole : reads ≡ own ++ flat_map each rest = are ∙ ap (flat_map each) split in
+    let long : length own ≡ length s.waves = length-map s.waves (read_wave t) in
+    let sum : length reads ≡ length own + length (flat_map each rest) =
+    ap length whole ∙ length-append own (flat_map each rest) in
+    record {
+      within = omega (arith, sum, long);
+      here = ap (λ (n : ℕ). take n reads) (sym long) ∙ ap (take (length own)) whole
+          ∙ take-append_seam own (flat_map each rest);
+      behind = ap (λ (n : ℕ). drop n reads) (sym long) ∙ ap (drop (length own)) whole
+          ∙ drop-append_seam own (flat_map each rest);
+    }

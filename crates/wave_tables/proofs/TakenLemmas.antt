@@ -6,7 +6,7 @@ use Rattle.std.specs.Borrow.{Bor}
 use Rattle.std.proofs.lemmas.Option.{slice_get-map, slice_get-get_or}
 use Rattle.std.proofs.Math.Seq.{drop-append_seam}
 use Rattle.std.specs.Option.{option_to_list, option_map}
-use Rattle.std.proofs.lemmas.List.{take_more, map-append}
+use Rattle.std.proofs.lemmas.List.{take_more, map-append, length-map}
 use Rattle.std.proofs.lemmas.List.Elements.{filter_map-append}
 use Rattle.std.proofs.lemmas.Bool.{and_parts}
 use Rattle.text_bytes.specs.Texts.{behind}
@@ -91,6 +91,10 @@ pub drop_behind : {X : Type 0} (xs : List X) (n k : ℕ) (front rest : List X) �
     → drop (n + k) xs ≡ rest
 drop_behind xs n k front rest long e =
     drop_by n k xs ∙ ap (drop k) e ∙ ap (λ (m : ℕ). drop m (front ++ rest)) (sym long) ∙ drop-append_seam front rest
+
+-- as many references as they point to
+pub behind_long : {X : Type 0} (bs : List (Bor X)) (xs : List X) → behind bs ≡ xs → length bs ≡ length xs
+behind_long bs xs are = sym (length-map bs (λ b. b.now)) ∙ ap length are
 
 -- what a reference at a place points to
 pub behind_at : {X : Type 0} (bs : List (Bor X)) (xs : List X) (i : ℕ) (b : Bor X) → behind bs ≡ xs → i < length bs

@@ -1,15 +1,17 @@
 -- What the code answers where there is a fault.
-use Rattle.std.specs.Prelude.{◌≡◌, ℕ, suc, ◌+◌, nat_le, ℤ, pos, int_lt, List, length, Result, Ok, Err, Option, None, Some}
+use Rattle.std.specs.Prelude.{◌≡◌, ℕ, suc, ◌+◌, nat_le, ℤ, pos, int_le, int_lt, ◌&&◌, List, [], ◌∷◌, length, map, Result, Ok, Err, Option, None, Some}
 use Rattle.text_bytes.specs.Limits.{most_waves}
 use Rattle.stil_ast.specs.Faults.TableFaults.{Timed, events_fault, line_of, signal_fault, with_period, inherited_fault, late_waveform, waves_of_first}
-use Rattle.stil_ast.specs.Meaning.Tables.{Waveform, waveforms, wave_count, period_text}
+use Rattle.stil_ast.specs.Data.Texts.{upwards}
+use Rattle.stil_ast.specs.Meaning.Tables.{Waveform, waveforms, wave_count, period_text, period_of}
 use Rattle.stil_ast.specs.declared.timing.TableDecl.{TableDecl}
 use Rattle.stil_ast.specs.Faults.SignalFaults.{kind_fault}
 use Rattle.stil_ast.specs.Meaning.Members.{reference_kind}
 use Rattle.stil_ast.specs.declared.fault.StilKind.{StilKind}
-use Rattle.stil_ast.specs.declared.fault.StilKind.TheVariants.{EventOutside, TooLarge}
+use Rattle.stil_ast.specs.declared.fault.StilKind.TheVariants.{EventOutside, EventOrder, TooLarge}
 use Rattle.stil_ast.specs.declared.timing.SignalWaves.{SignalWaves}
 use Rattle.wave_tables.specs.declared.times.ReadEvent.{ReadEvent}
+use Rattle.wave_tables.specs.declared.times.ReadWave.{ReadWave}
 use Rattle.stil_ast.specs.declared.timing.WaveDecl.{WaveDecl}
 use Rattle.expr_text.specs.Ratio.{Ratio}
 use Rattle.stil_ast.specs.Data.Places.{Place}
@@ -31,6 +33,24 @@ IsAt place fault trouble =
 -- the fault of a waveform's events
 abbrev pub wave_fault : Timed Ratio → ℤ → WaveDecl → Option StilFault
 wave_fault t period w = events_fault t period (pos 0) w.events
+
+-- a fault of this kind at this place, or what a time is judged by
+abbrev pub with_kind : Place → Result ℤ StilKind → (ℤ → Option StilFault) → Option StilFault
+with_kind place (Err kind) rest = Some (fault_at place kind)
+with_kind place (Ok time) rest = rest time
+
+-- the fault of a waveform's events by their times as they were read, behind one at `before`
+abbrev pub events_read : Place → ℤ → ℤ → List ReadEvent → Option StilFault
+events_read place period before [] = None
+events_read place period before (e ∷ events) =
+    with_kind (on_line place e.time.line) e.time.time (λ time.
+    unless (int_le (pos 0) time && int_lt time period) (fault_at (on_line place e.time.line) EventOutside)
+    (unless (int_le before time) (fault_at (on_line place e.time.line) EventOrder)
+    (events_read place period time events)))
+
+-- the same of all its events
+abbrev pub read_fault : Place → ℤ → ReadWave → Option StilFault
+read_fault place period w = events_read place period (pos 0) w.events
 
 -- the fault of a reference in Waveforms
 abbrev pub reference_fault : Timed Ratio → SignalWaves → Option StilFault
@@ -68,6 +88,14 @@ behind_period t before d period =
 -- the fault of a table behind those of the names that it inherits
 abbrev pub behind_names : Timed Ratio → ℕ → ℕ × TableDecl → Option StilFault
 behind_names t before d = with_period t d.1.line (period_text t.tables d.0) (behind_period t before d)
+
+-- the period of the table of this number
+abbrev pub period_at : Timed Ratio → ℕ → ℕ
+period_at t number = period_of t.times t.vars t.place (period_text t.tables number)
+
+-- the periods of all tables in text order
+abbrev pub periods_in : Timed Ratio → List ℕ
+periods_in t = map (period_at t) (upwards 0 (length t.tables))
 
 -- how many waves there are with those of a table, where so many stand before it
 abbrev pub with_waves : Timed Ratio → ℕ → ℕ → ℕ

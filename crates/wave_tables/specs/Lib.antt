@@ -1,7 +1,7 @@
 -- Read Scope first (what the tables are made from), then Sources (which waveform counts), Own, ReadWaves and Made
 -- (how the code holds waveforms), Lineage (tables made of others), Standing and Check (what is refused), Rows (the
 -- waves of a table), and Built last (what is answered).
-pub mod Letters
+pub mod Characters
 pub mod Scope
 pub mod Sources
 pub mod Own

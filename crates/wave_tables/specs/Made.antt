@@ -16,7 +16,7 @@ timed_read _ _ = None
 
 -- an event for a character
 abbrev pub event_read : List ℕ → ℕ → ReadEvent → Option Event
-event_read letters letter e = timed_read e.time.time (act_of letters letter e.acts)
+event_read characters character e = timed_read e.time.time (act_of characters character e.acts)
 
 -- the waveforms of a table that may be missing
 abbrev pub reads_of : Option (List ReadWave) → List ReadWave
@@ -29,11 +29,15 @@ read_at reads s = slice_get (reads_of (slice_get reads s.table)) s.number
 
 -- a waveform as a wave
 abbrev pub wave_made : ℕ → ℕ → Option ReadWave → Option Wave
-wave_made signal letter None = None
-wave_made signal letter (Some w) =
-    Some (record { signal = signal; letter = letter; events = filter_map (event_read w.letters letter) w.events })
+wave_made signal character None = None
+wave_made signal character (Some w) =
+    Some (record {
+      signal = signal;
+      character = character;
+      events = filter_map (event_read w.characters character) w.events;
+    })
 
 -- the wave of a signal and a character, where a waveform counts for them
 abbrev pub wave_read : List (List ReadWave) → ℕ → ℕ → Option Source → Option Wave
-wave_read reads signal letter None = None
-wave_read reads signal letter (Some s) = wave_made signal letter (read_at reads s)
+wave_read reads signal character None = None
+wave_read reads signal character (Some s) = wave_made signal character (read_at reads s)

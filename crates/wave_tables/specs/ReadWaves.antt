@@ -29,7 +29,7 @@ read_event t e = record { time = read_time t e.time; acts = e.acts }
 
 -- a waveform
 abbrev pub read_wave : Timed Ratio → WaveDecl → ReadWave
-read_wave t w = record { letters = w.letters; events = map (read_event t) w.events }
+read_wave t w = record { characters = w.characters; events = map (read_event t) w.events }
 
 -- a table's own waveforms
 abbrev pub read_waves : Timed Ratio → TableDecl → List ReadWave

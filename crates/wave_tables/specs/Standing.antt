@@ -16,7 +16,7 @@ use Rattle.wave_tables.specs.Sources.{at_slot, Maps}
 
 -- the source of a signal and a character, where it is a waveform character
 abbrev pub source_for : List (Option Source) → ℕ → ℕ → Option Source
-source_for slots signal letter = if is_character letter then at_slot slots signal letter else None
+source_for slots signal character = if is_character character then at_slot slots signal character else None
 
 -- whether it is that source
 abbrev pub is_source : Source → Option Source → Bool
@@ -25,11 +25,11 @@ is_source s (Some found) = found.table == s.table && found.number == s.number
 
 -- whether a source counts for one of these characters of a signal
 abbrev pub counts_for : List (Option Source) → Source → ℕ → List ℕ → Bool
-counts_for slots source signal letters = list_any (λ c. is_source source (source_for slots signal c)) letters
+counts_for slots source signal characters = list_any (λ c. is_source source (source_for slots signal c)) characters
 
 -- whether it counts for one of these signals and characters
 abbrev pub counts_in : List (Option Source) → Source → List ℕ → List ℕ → Bool
-counts_in slots source signals letters = list_any (λ s. counts_for slots source s letters) signals
+counts_in slots source signals characters = list_any (λ s. counts_for slots source s characters) signals
 
 -- the waveform that stands behind a reference
 abbrev pub waveform_at : Names → Source → SigRef → WaveDecl → Waveform
@@ -37,7 +37,7 @@ waveform_at names source reference w = record {
   table = source.table;
   number = source.number;
   signals = members names reference;
-  letters = w.letters;
+  characters = w.characters;
   events = w.events;
 }
 

@@ -13,7 +13,7 @@ ghost use Rattle.answers.specs.Answers.{Blames, Finds};
 ghost use Rattle.answers.specs.declared.short.Short.TheVariants as refusal;
 ghost use Rattle.time_expr.specs.TimeIn.{AreNames};
 ghost use Rattle.time_expr.specs.TimesOf.{times_of};
-ghost use Rattle.wave_tables.specs.Letters.{are_lettered};
+ghost use Rattle.wave_tables.specs.Characters.{are_with_characters};
 ghost use Rattle.wave_tables.specs.Scope.{timed};
 ghost use Rattle.wave_tables.specs.Built.{IsSet};
 ghost use Rattle.wave_tables.specs.Check.{IsAt};
@@ -110,7 +110,7 @@ pub(crate) fn built_for(
     texts: &TimeTexts,
     before: u32,
 ) -> Result<WaveSet, StilRefusal>
-    requires lettered { are_lettered (exec_tables blocks.now exec.now) ≡ true }
+    requires with_characters { are_with_characters (exec_tables blocks.now exec.now) ≡ true }
     requires signals { signals.now ≡ table_of (names_of blocks.now) }
     requires vars { AreNames (exec_value times_of blocks.now exec.now) vars.now }
     ensures { Finds (tables_fault (timed_of times_of blocks.now exec.now) before)
@@ -139,8 +139,8 @@ fn set_of(alloc: Global, scope: &Scope, before: u64) -> Result<WaveSet, Trouble>
     let reads = read_tables(alloc, scope, scope.tables())?;
     match check_tables(alloc, scope, &wholes, &reads, before) {
         Err(trouble) => Err(trouble),
-        Ok(()) => {
-            let tables = made_tables(alloc, scope, &wholes, &reads)?;
+        Ok(periods) => {
+            let tables = made_tables(alloc, scope, &wholes, &reads, &periods)?;
             Ok(WaveSet::from_vec(tables))
         }
     }

@@ -1,23 +1,26 @@
 //! The faults of a table, in their order.
 
-ghost use Rattle.std.specs.Prelude.{◌≡◌, ◌∷◌, ℤ, pos, List, Option, None, Some, if◌then◌else◌, IfOk, IfErr, OnOk};
+ghost use Rattle.std.specs.Prelude.{◌≡◌, ◌∷◌, ℤ, pos, List, Option, None, Some, map, flat_map, if◌then◌else◌, IfOk, IfErr, OnOk};
 ghost use Rattle.stil_ast.specs.Faults.Found.{first_in, fault_at, on_line};
-ghost use Rattle.stil_ast.specs.Faults.TableFaults.{inherit_fault, with_period, events_fault, line_of, signal_fault};
+ghost use Rattle.stil_ast.specs.Faults.TableFaults.{Timed, inherit_fault, with_period, line_of, signal_fault};
+ghost use Rattle.stil_ast.specs.Meaning.Tables.{period_of};
 ghost use Rattle.stil_ast.specs.Data.Places.{Place};
 ghost use Rattle.stil_ast.specs.declared.fault.StilFault.{StilFault};
 ghost use Rattle.stil_ast.specs.declared.fault.StilKind.TheVariants.{EventOutside};
 ghost use Rattle.stil_ast.specs.declared.name.Quoted.{Quoted};
-ghost use Rattle.stil_ast.specs.declared.timing.EventDecl.{EventDecl};
+ghost use Rattle.expr_text.specs.Ratio.{Ratio};
 ghost use Rattle.wave_tables.specs.Scope.{timed};
 ghost use Rattle.wave_tables.specs.Lineage.{AreWhole, IsPeriod, is_there};
-ghost use Rattle.wave_tables.specs.Check.{IsAt, wave_fault, reference_fault, late_read};
+ghost use Rattle.wave_tables.specs.ReadWaves.{read_wave};
+ghost use Rattle.wave_tables.specs.declared.times.ReadEvent.{ReadEvent};
+ghost use Rattle.wave_tables.specs.Check.{IsAt, events_read, read_fault, reference_fault, late_read};
 
 use crate::lineage::{Whole, table_of};
 use crate::scope::Scope;
-use crate::times::{ReadEvent, ReadTime};
+use crate::times::{ReadEvent, ReadTime, ReadWave};
 use crate::trouble::{Trouble, fault};
 use std::alloc::Global;
-use stil_ast::{EventDecl, Named, SigRef, SignalWaves, StilKind, WaveDecl};
+use stil_ast::{Named, SigRef, SignalWaves, StilKind};
 use text_bytes::LONGEST_PERIOD;
 
 /// Whether a table is there.
@@ -55,6 +58,8 @@ pub(crate) fn check_period(
     ensures fits { IfOk result (λ time. (text : Option Quoted) (rest : ℤ → Option StilFault)
         → IsPeriod (timed scope.now) text period
         → with_period (timed scope.now) line text rest ≡ rest (pos time)) }
+    ensures period { IfOk result (λ time. (t : Timed Ratio) (text : Option Quoted) → IsPeriod t text period
+        → time ≡ period_of t.times t.vars t.place text) }
     ensures fault { IfErr result (λ e. (text : Option Quoted) (rest : ℤ → Option StilFault)
         → IsPeriod (timed scope.now) text period
         → IsAt (timed scope.now).place (with_period (timed scope.now) line text rest) e) }
@@ -96,28 +101,21 @@ pub(crate) fn check_inherits(
 }
 
 /// Judges an event behind one at `before`; its time.
-fn check_event(
-    alloc: Global,
-    scope: &Scope,
-    period: u64,
-    before: u64,
-    event: &EventDecl,
-) -> Result<u64, Trouble>
-    ensures fits { IfOk result (λ time. (rest : List EventDecl)
-        → events_fault (timed scope.now) (pos period) (pos before) (event.now ∷ rest)
-        ≡ events_fault (timed scope.now) (pos period) (pos time) rest) }
-    ensures fault { IfErr result (λ e. (rest : List EventDecl)
-        → IsAt (timed scope.now).place (events_fault (timed scope.now) (pos period) (pos before) (event.now ∷ rest))
-        e) }
+fn check_event(period: u64, before: u64, event: &ReadEvent) -> Result<u64, Trouble>
+    ensures fits { IfOk result (λ time. (place : Place) (rest : List ReadEvent)
+        → events_read place (pos period) (pos before) (event.now ∷ rest)
+        ≡ events_read place (pos period) (pos time) rest) }
+    ensures fault { IfErr result (λ e. (place : Place) (rest : List ReadEvent)
+        → IsAt place (events_read place (pos period) (pos before) (event.now ∷ rest)) e) }
 {
-    let read = scope.time(alloc, &event.time)?;
-    match read.time {
-        Err(kind) => Err(fault(kind, read.line)),
+    let line = event.time.line;
+    match event.time.time {
+        Err(kind) => Err(fault(kind, line)),
         Ok(time) => {
             if time < 0 || time >= i128::from(period) {
-                Err(fault(StilKind::EventOutside, read.line))
+                Err(fault(StilKind::EventOutside, line))
             } else if time < i128::from(before) {
-                Err(fault(StilKind::EventOrder, read.line))
+                Err(fault(StilKind::EventOrder, line))
             } else {
                 Ok(time as u64)
             }
@@ -126,19 +124,14 @@ fn check_event(
 }
 
 /// Judges the events of a waveform.
-fn check_events(
-    alloc: Global,
-    scope: &Scope,
-    period: u64,
-    events: &[EventDecl],
-) -> Result<(), Trouble>
-    ensures fits { OnOk result (events_fault (timed scope.now) (pos period) (pos 0) events.now ≡ None) }
-    ensures fault { IfErr result (λ e. IsAt (timed scope.now).place
-        (events_fault (timed scope.now) (pos period) (pos 0) events.now) e) }
+fn check_events(period: u64, events: &[ReadEvent]) -> Result<(), Trouble>
+    ensures fits { OnOk result ((place : Place) → events_read place (pos period) (pos 0) events.now ≡ None) }
+    ensures fault { IfErr result (λ e. (place : Place)
+        → IsAt place (events_read place (pos period) (pos 0) events.now) e) }
 {
     let mut before = 0;
     for event in events {
-        match check_event(alloc, scope, period, before, event) {
+        match check_event(period, before, event) {
             Ok(time) => before = time,
             Err(trouble) => return Err(trouble),
         }
@@ -147,13 +140,13 @@ fn check_events(
 }
 
 /// Judges the waveforms behind a reference.
-fn check_waves(alloc: Global, scope: &Scope, period: u64, waves: &[WaveDecl]) -> Result<(), Trouble>
-    ensures fits { OnOk result (first_in (wave_fault (timed scope.now) (pos period)) waves.now ≡ None) }
-    ensures fault { IfErr result (λ e. IsAt (timed scope.now).place
-        (first_in (wave_fault (timed scope.now) (pos period)) waves.now) e) }
+fn check_waves(period: u64, waves: &[ReadWave]) -> Result<(), Trouble>
+    ensures fits { OnOk result ((place : Place) → first_in (read_fault place (pos period)) waves.now ≡ None) }
+    ensures fault { IfErr result (λ e. (place : Place)
+        → IsAt place (first_in (read_fault place (pos period)) waves.now) e) }
 {
     for wave in waves {
-        match check_events(alloc, scope, period, wave.events.as_slice()) {
+        match check_events(period, wave.events.as_slice()) {
             Ok(()) => {}
             Err(trouble) => return Err(trouble),
         }
@@ -189,13 +182,15 @@ fn check_signal(
     scope: &Scope,
     period: u64,
     signals: &SignalWaves,
+    reads: &[ReadWave],
 ) -> Result<(), Trouble>
+    requires { reads.now ≡ map (read_wave (timed scope.now)) signals.now.waves }
     ensures fits { OnOk result (signal_fault (timed scope.now) (pos period) signals.now ≡ None) }
     ensures fault { IfErr result (λ e. IsAt (timed scope.now).place
         (signal_fault (timed scope.now) (pos period) signals.now) e) }
 {
     match check_reference(alloc, scope, signals) {
-        Ok(()) => check_waves(alloc, scope, period, signals.waves.as_slice()),
+        Ok(()) => check_waves(period, reads),
         Err(trouble) => Err(trouble),
     }
 }
@@ -206,14 +201,18 @@ pub(crate) fn check_signals(
     scope: &Scope,
     period: u64,
     list: &[SignalWaves],
+    reads: &[ReadWave],
 ) -> Result<(), Trouble>
+    requires { reads.now ≡ flat_map (λ s. map (read_wave (timed scope.now)) s.waves) list.now }
     ensures fits { OnOk result (first_in (signal_fault (timed scope.now) (pos period)) list.now ≡ None) }
     ensures fault { IfErr result (λ e. IsAt (timed scope.now).place
         (first_in (signal_fault (timed scope.now) (pos period)) list.now) e) }
 {
+    let mut left = reads;
     for signals in list {
-        match check_signal(alloc, scope, period, signals) {
-            Ok(()) => {}
+        let (own, rest) = left.split_at(signals.waves.len());
+        match check_signal(alloc, scope, period, signals, own) {
+            Ok(()) => left = rest,
             Err(trouble) => return Err(trouble),
         }
     }

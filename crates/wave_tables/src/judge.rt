@@ -7,7 +7,7 @@ ghost use Rattle.wave_tables.specs.Scope.{timed};
 ghost use Rattle.wave_tables.specs.Lineage.{HasOf, AreWhole};
 ghost use Rattle.wave_tables.specs.ReadWaves.{read_waves};
 ghost use Rattle.wave_tables.specs.Standing.{MapsTable};
-ghost use Rattle.wave_tables.specs.Check.{IsAt, count_fault, behind_period, behind_names, with_waves, IsFree, IsRefusedBy};
+ghost use Rattle.wave_tables.specs.Check.{IsAt, count_fault, behind_period, behind_names, period_at, periods_in, with_waves, IsFree, IsRefusedBy};
 
 use crate::check::{check_inherits, check_period, check_signals};
 use crate::lineage::Whole;
@@ -21,6 +21,13 @@ use std::alloc::Global;
 use stil_ast::{StilKind, TableDecl};
 use tester_types::Items;
 use text_bytes::MOST_WAVES;
+
+/// The period of a table, and how many waves there are with its own.
+#[derive(Drop)]
+pub(crate) struct Judged {
+    period: u64,
+    total: u64,
+}
 
 /// The table of this number, with all that it has.
 pub(crate) fn whole_at(wholes: &[Option<Whole>], number: usize) -> Option<&Whole>
@@ -67,6 +74,7 @@ fn check_behind_period(
     before: u64,
 ) -> Result<u64, Trouble>
     requires maps { MapsTable (timed scope.now) heir.now.number heir.now.slots.now }
+    requires at { slice_get (timed scope.now).tables heir.now.number ≡ Some table.now }
     requires reads { reads.now ≡ map (read_waves (timed scope.now)) (timed scope.now).tables }
     ensures total { IfOk result (λ total. total ≡ with_waves (timed scope.now) before heir.now.number) }
     ensures fits { OnOk result (IsFree (timed scope.now) before heir.now.number
@@ -74,7 +82,8 @@ fn check_behind_period(
     ensures fault { IfErr result (IsRefusedBy (timed scope.now) before heir.now.number
         (λ base. behind_period (timed scope.now) base (heir.now.number, table.now) (pos heir.now.period))) }
 {
-    match check_signals(alloc, scope, heir.period, table.waveforms.as_slice()) {
+    let own = reads[heir.number].as_slice();
+    match check_signals(alloc, scope, heir.period, table.waveforms.as_slice(), own) {
         Err(trouble) => Err(trouble),
         Ok(()) => match check_inherited(alloc, scope, heir, reads) {
             Err(trouble) => Err(trouble),
@@ -83,7 +92,7 @@ fn check_behind_period(
     }
 }
 
-/// Judges what stands behind the names that a table inherits; how many waves there are with its own.
+/// Judges what stands behind the names that a table inherits; its period, and how many waves there are with its own.
 fn check_whole(
     alloc: Global,
     scope: &Scope,
@@ -92,10 +101,12 @@ fn check_whole(
     table: &TableDecl,
     whole: &Whole,
     before: u64,
-) -> Result<u64, Trouble>
+) -> Result<Judged, Trouble>
     requires has { HasOf (timed scope.now) (lineage (timed scope.now).tables number) whole.now }
+    requires at { slice_get (timed scope.now).tables number ≡ Some table.now }
     requires reads { reads.now ≡ map (read_waves (timed scope.now)) (timed scope.now).tables }
-    ensures total { IfOk result (λ total. total ≡ with_waves (timed scope.now) before number) }
+    ensures period { IfOk result (λ judged. judged.period ≡ period_at (timed scope.now) number) }
+    ensures total { IfOk result (λ judged. judged.total ≡ with_waves (timed scope.now) before number) }
     ensures fits { OnOk result (IsFree (timed scope.now) before number
         (λ base. behind_names (timed scope.now) base (number, table.now))) }
     ensures fault { IfErr result (IsRefusedBy (timed scope.now) before number
@@ -110,12 +121,15 @@ fn check_whole(
                 period,
                 slots,
             };
-            check_behind_period(alloc, scope, &heir, table, reads, before)
+            match check_behind_period(alloc, scope, &heir, table, reads, before) {
+                Ok(total) => Ok(Judged { period, total }),
+                Err(trouble) => Err(trouble),
+            }
         }
     }
 }
 
-/// Judges the table of this number; how many waves there are with its own.
+/// Judges the table of this number; its period, and how many waves there are with its own.
 fn check_table(
     alloc: Global,
     scope: &Scope,
@@ -124,11 +138,12 @@ fn check_table(
     number: usize,
     table: &TableDecl,
     before: u64,
-) -> Result<u64, Trouble>
+) -> Result<Judged, Trouble>
     requires wholes { AreWhole (timed scope.now) wholes.now }
     requires reads { reads.now ≡ map (read_waves (timed scope.now)) (timed scope.now).tables }
     requires at { slice_get (timed scope.now).tables number ≡ Some table.now }
-    ensures total { IfOk result (λ total. total ≡ with_waves (timed scope.now) before number) }
+    ensures period { IfOk result (λ judged. judged.period ≡ period_at (timed scope.now) number) }
+    ensures total { IfOk result (λ judged. judged.total ≡ with_waves (timed scope.now) before number) }
     ensures fits { OnOk result (IsFree (timed scope.now) before number
         (λ base. table_fault (timed scope.now) base (number, table.now))) }
     ensures fault { IfErr result (IsRefusedBy (timed scope.now) before number
@@ -143,26 +158,31 @@ fn check_table(
     }
 }
 
-/// Refuses the first fault of the tables in text order, where the executives before have so many waves.
+/// Judges the tables in text order, where the executives before have so many waves: their periods, or the first fault.
 pub(crate) fn check_tables(
     alloc: Global,
     scope: &Scope,
     wholes: &[Option<Whole>],
     reads: &[Items<ReadWave>],
     before: u64,
-) -> Result<(), Trouble>
+) -> Result<Vec<u64>, Trouble>
     requires wholes { AreWhole (timed scope.now) wholes.now }
     requires reads { reads.now ≡ map (read_waves (timed scope.now)) (timed scope.now).tables }
+    ensures periods { IfOk result (λ periods. periods.items ≡ periods_in (timed scope.now)) }
     ensures fits { OnOk result (tables_fault (timed scope.now) before ≡ None) }
     ensures fault { IfErr result (λ e. IsAt (timed scope.now).place (tables_fault (timed scope.now) before) e) }
 {
     let tables = scope.tables();
+    let mut periods = Vec::with_capacity(alloc, tables.len())?;
     let mut total = before;
     for number in 0..tables.len() {
         match check_table(alloc, scope, wholes, reads, number, tables[number], total) {
-            Ok(next) => total = next,
+            Ok(judged) => {
+                periods.push(judged.period)?;
+                total = judged.total;
+            }
             Err(trouble) => return Err(trouble),
         }
     }
-    Ok(())
+    Ok(periods)
 }

@@ -1,45 +1,22 @@
 //! Tables with their periods and waves.
 
-ghost use Rattle.std.specs.Prelude.{◌≡◌, ◌<◌, ℕ, Some, false, length, map, slice_get, Option, IfOk};
-ghost use Rattle.stil_ast.specs.Faults.TableFaults.{Timed};
-ghost use Rattle.stil_ast.specs.Meaning.Tables.{lineage, leads_into_cycle, period_of, made_table, made_tables};
-ghost use Rattle.stil_ast.specs.declared.name.Quoted.{Quoted};
-ghost use Rattle.expr_text.specs.Ratio.{Ratio};
+ghost use Rattle.std.specs.Prelude.{◌≡◌, ◌<◌, ℕ, false, length, map, IfOk};
+ghost use Rattle.stil_ast.specs.Meaning.Tables.{lineage, leads_into_cycle, made_table, made_tables};
 ghost use Rattle.wave_tables.specs.Scope.{timed};
-ghost use Rattle.wave_tables.specs.Lineage.{IsPeriod, HasOf, AreWhole};
+ghost use Rattle.wave_tables.specs.Check.{period_at, periods_in};
+ghost use Rattle.wave_tables.specs.Lineage.{HasOf, AreWhole};
 ghost use Rattle.wave_tables.specs.ReadWaves.{read_waves};
 
 use crate::judge::whole_at;
 use crate::lineage::Whole;
 use crate::rows::rows_of;
 use crate::scope::Scope;
-use crate::times::{ReadTime, ReadWave};
+use crate::times::ReadWave;
 use std::alloc::{AllocError, Global};
 use stil_ast::TableDecl;
 use tester_types::{Items, Table, Text};
-use text_bytes::LONGEST_PERIOD;
 
-/// The period of a table. It was judged before: one that is out of range is answered as want of memory.
-fn period_of(period: Option<ReadTime>) -> Result<u64, AllocError>
-    ensures { IfOk result (λ time. (t : Timed Ratio) (text : Option Quoted) → IsPeriod t text period
-        → time ≡ period_of t.times t.vars t.place text) }
-{
-    match period {
-        None => Err(AllocError),
-        Some(read) => match read.time {
-            Err(_kind) => Err(AllocError),
-            Ok(time) => {
-                if 1 <= time && time <= LONGEST_PERIOD as i128 {
-                    Ok(time as u64)
-                } else {
-                    Err(AllocError)
-                }
-            }
-        },
-    }
-}
-
-/// A table with its period and its waves.
+/// A table with its period, which was judged before, and its waves.
 fn made_table(
     alloc: Global,
     scope: &Scope,
@@ -47,16 +24,17 @@ fn made_table(
     number: usize,
     table: &TableDecl,
     whole: &Whole,
+    period: u64,
 ) -> Result<Table, AllocError>
     requires has { HasOf (timed scope.now) (lineage (timed scope.now).tables number) whole.now }
     requires reads { reads.now ≡ map (read_waves (timed scope.now)) (timed scope.now).tables }
+    requires period { period ≡ period_at (timed scope.now) number }
     ensures { IfOk result (λ made. made
         ≡ made_table (timed scope.now).times (timed scope.now).vars (timed scope.now).names
         (timed scope.now).place (timed scope.now).tables (number, table.now)) }
 {
     let signals = scope.short_count()?;
     let name = Text::from_slice(alloc, table.name.as_slice())?;
-    let period = period_of(whole.period)?;
     let waves = rows_of(alloc, reads, &whole.slots, signals)?;
     Ok(Table {
         name,
@@ -73,31 +51,35 @@ fn made_at(
     reads: &[Items<ReadWave>],
     number: usize,
     table: &TableDecl,
+    period: u64,
 ) -> Result<Table, AllocError>
     requires wholes { AreWhole (timed scope.now) wholes.now }
     requires reads { reads.now ≡ map (read_waves (timed scope.now)) (timed scope.now).tables }
     requires free { leads_into_cycle (timed scope.now).tables number ≡ false }
+    requires period { period ≡ period_at (timed scope.now) number }
     ensures { IfOk result (λ made. made
         ≡ made_table (timed scope.now).times (timed scope.now).vars (timed scope.now).names
         (timed scope.now).place (timed scope.now).tables (number, table.now)) }
 {
     match whole_at(wholes, number) {
-        Some(whole) => made_table(alloc, scope, reads, number, table, whole),
+        Some(whole) => made_table(alloc, scope, reads, number, table, whole, period),
         None => Err(AllocError),
     }
 }
 
-/// All tables, where none leads into a cycle.
+/// All tables with these periods, where none leads into a cycle.
 pub(crate) fn made_tables(
     alloc: Global,
     scope: &Scope,
     wholes: &[Option<Whole>],
     reads: &[Items<ReadWave>],
+    periods: &[u64],
 ) -> Result<Vec<Table>, AllocError>
     requires wholes { AreWhole (timed scope.now) wholes.now }
     requires reads { reads.now ≡ map (read_waves (timed scope.now)) (timed scope.now).tables }
     requires free { (k : ℕ) → k < length (timed scope.now).tables
         → leads_into_cycle (timed scope.now).tables k ≡ false }
+    requires periods { periods.now ≡ periods_in (timed scope.now) }
     ensures { IfOk result (λ made. made.items
         ≡ made_tables (timed scope.now).times (timed scope.now).vars (timed scope.now).names
         (timed scope.now).place (timed scope.now).tables) }
@@ -105,7 +87,8 @@ pub(crate) fn made_tables(
     let tables = scope.tables();
     let mut made = Vec::with_capacity(alloc, tables.len())?;
     for number in 0..tables.len() {
-        made.push(made_at(alloc, scope, wholes, reads, number, tables[number])?)?;
+        let period = periods[number];
+        made.push(made_at(alloc, scope, wholes, reads, number, tables[number], period)?)?;
     }
     Ok(made)
 }

@@ -7,7 +7,7 @@ ghost use Rattle.stil_ast.specs.Meaning.Signals.{names_of};
 ghost use Rattle.signal_groups.specs.Table.{table_of};
 ghost use Rattle.time_expr.specs.TimeIn.{AreNames};
 ghost use Rattle.time_expr.specs.TimesOf.{times_of};
-ghost use Rattle.wave_tables.specs.Letters.{are_lettered};
+ghost use Rattle.wave_tables.specs.Characters.{are_with_characters};
 
 use signal_groups::SignalTable;
 use stil_ast::{Blocks, ExecDecl, TableDecl};
@@ -25,6 +25,6 @@ pub(crate) struct Scope<'a> {
     pub(crate) texts: &'a TimeTexts<'a>,
     ghost in_order: { behind tables.items ≡ exec_tables blocks.now exec.now },
     ghost all_signals: { signals.now ≡ table_of (names_of blocks.now) },
-    ghost lettered: { are_lettered (exec_tables blocks.now exec.now) ≡ true },
+    ghost with_characters: { are_with_characters (exec_tables blocks.now exec.now) ≡ true },
     ghost all_vars: { AreNames (exec_value times_of blocks.now exec.now) vars.now },
 }

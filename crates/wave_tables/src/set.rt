@@ -36,6 +36,13 @@ impl WaveSet {
         WaveSet { tables }
     }
 
+    /// The tables in text order, to be kept elsewhere.
+    pub fn into_vec(self) -> Vec<Table>
+        ensures { result.items ≡ self }
+    {
+        self.tables
+    }
+
     /// How many tables there are.
     pub fn len(&self) -> usize
         ensures { result ≡ length self.now }
@@ -69,20 +76,20 @@ impl WaveSet {
 
     /// What a signal does in a cycle of a table in which it has this character, where the table says so. It takes steps in
     /// number like the logarithm of that of the waves.
-    pub fn wave(&self, table: u16, signal: u16, letter: u8) -> Option<&Wave>
-        ensures { option_map (λ w. w.now) result ≡ wave_in self.now table signal letter }
+    pub fn wave(&self, table: u16, signal: u16, character: u8) -> Option<&Wave>
+        ensures { option_map (λ w. w.now) result ≡ wave_in self.now table signal character }
     {
         match self.tables.get(usize::from(table)) {
-            Some(found) => wave_of(&found.waves, signal, letter),
+            Some(found) => wave_of(&found.waves, signal, character),
             None => None,
         }
     }
 }
 
 /// The wave of a signal and a character among waves in order.
-fn wave_of(waves: &WaveList, signal: u16, letter: u8) -> Option<&Wave>
+fn wave_of(waves: &WaveList, signal: u16, character: u8) -> Option<&Wave>
     requires { AreInOrder waves.now }
-    ensures { option_map (λ w. w.now) result ≡ find (is_wave signal letter) waves.now }
+    ensures { option_map (λ w. w.now) result ≡ find (is_wave signal character) waves.now }
 {
-    waves.wave(signal, letter)
+    waves.wave(signal, character)
 }

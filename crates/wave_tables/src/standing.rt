@@ -5,7 +5,7 @@ ghost use Rattle.stil_ast.specs.Meaning.Tables.{own_waveforms, waveforms};
 ghost use Rattle.stil_ast.specs.Faults.Found.{first_in};
 ghost use Rattle.stil_ast.specs.Faults.TableFaults.{stands, late_event, inherited_fault};
 ghost use Rattle.wave_tables.specs.Scope.{timed};
-ghost use Rattle.wave_tables.specs.Letters.{has_letters, waves_lettered, signals_lettered};
+ghost use Rattle.wave_tables.specs.Characters.{has_characters, waves_with_characters, signals_with_characters};
 ghost use Rattle.wave_tables.specs.Own.{own_for, numbered_from};
 ghost use Rattle.wave_tables.specs.ReadWaves.{read_wave, read_waves};
 ghost use Rattle.wave_tables.specs.Standing.{is_source, counts_for, counts_in, waveform_at, MapsTable, StandAt};
@@ -39,19 +39,19 @@ fn is_source(source: Source, found: Option<Source>) -> bool
 }
 
 /// Whether a source counts for one of these characters of a signal.
-fn counts_for(slots: &[Option<Source>], source: Source, signal: u16, letters: &[u8]) -> bool
-    ensures { result ≡ counts_for slots.now source signal letters.now }
+fn counts_for(slots: &[Option<Source>], source: Source, signal: u16, characters: &[u8]) -> bool
+    ensures { result ≡ counts_for slots.now source signal characters.now }
 {
-    letters.iter().any(|letter| is_source(source, source_for(slots, signal, *letter)))
+    characters.iter().any(|character| is_source(source, source_for(slots, signal, *character)))
 }
 
 /// Whether it counts for one of these signals and characters.
-fn counts_in(slots: &[Option<Source>], source: Source, signals: &[u16], letters: &[u8]) -> bool
-    ensures { result ≡ counts_in slots.now source signals.now letters.now }
+fn counts_in(slots: &[Option<Source>], source: Source, signals: &[u16], characters: &[u8]) -> bool
+    ensures { result ≡ counts_in slots.now source signals.now characters.now }
 {
     signals
         .iter()
-        .any(|signal| counts_for(slots, source, *signal, letters))
+        .any(|signal| counts_for(slots, source, *signal, characters))
 }
 
 /// Whether a waveform behind a reference still stands in a table.
@@ -64,7 +64,7 @@ fn is_standing(
     wave: &WaveDecl,
 ) -> Result<bool, AllocError>
     requires maps { MapsTable (timed scope.now) heir.now.number heir.now.slots.now }
-    requires letters { has_letters wave.now.letters ≡ true }
+    requires characters { has_characters wave.now.characters ≡ true }
     ensures { IfOk result (λ b. b ≡ stands (waveforms (timed scope.now).names (timed scope.now).tables heir.now.number)
         (waveform_at (timed scope.now).names source reference.now wave.now)) }
 {
@@ -73,7 +73,7 @@ fn is_standing(
         heir.slots,
         source,
         members.as_slice(),
-        wave.letters.as_slice(),
+        wave.characters.as_slice(),
     ))
 }
 
@@ -88,7 +88,7 @@ fn refuse_standing(
     late: Trouble,
 ) -> Result<(), Trouble>
     requires maps { MapsTable (timed scope.now) heir.now.number heir.now.slots.now }
-    requires letters { has_letters wave.now.letters ≡ true }
+    requires characters { has_characters wave.now.characters ≡ true }
     requires other { source.table ≡ heir.now.number → ⊥ }
     requires late { IsAt (timed scope.now).place
         (first_in (late_event (timed scope.now) (pos heir.now.period)) wave.now.events) late }
@@ -116,7 +116,7 @@ fn check_inherited_wave(
     read: &ReadWave,
 ) -> Result<(), Trouble>
     requires maps { MapsTable (timed scope.now) heir.now.number heir.now.slots.now }
-    requires letters { has_letters wave.now.letters ≡ true }
+    requires characters { has_characters wave.now.characters ≡ true }
     requires read { read.now ≡ read_wave (timed scope.now) wave.now }
     ensures fits { OnOk result (late_one (timed scope.now) (pos heir.now.period) heir.now.number
         (waveform_at (timed scope.now).names source reference.now wave.now) ≡ None) }
@@ -144,7 +144,7 @@ fn check_numbered(
     reads: &[ReadWave],
 ) -> Result<(), Trouble>
     requires maps { MapsTable (timed scope.now) heir.now.number heir.now.slots.now }
-    requires letters { has_letters wave.now.letters ≡ true }
+    requires characters { has_characters wave.now.characters ≡ true }
     requires read { slice_get reads.now source.number ≡ Some (read_wave (timed scope.now) wave.now) }
     ensures fits { OnOk result (late_one (timed scope.now) (pos heir.now.period) heir.now.number
         (waveform_at (timed scope.now).names source reference.now wave.now) ≡ None) }
@@ -169,7 +169,7 @@ fn check_reference(
     reads: &[ReadWave],
 ) -> Result<u32, Trouble>
     requires maps { MapsTable (timed scope.now) heir.now.number heir.now.slots.now }
-    requires letters { waves_lettered signals.now.waves ≡ true }
+    requires characters { waves_with_characters signals.now.waves ≡ true }
     requires reads { StandAt (timed scope.now) reads.now start signals.now.waves }
     ensures next { IfOk result (λ next. next ≡ start + length signals.now.waves) }
     ensures fits { OnOk result (late_in (timed scope.now) (pos heir.now.period) heir.now.number
@@ -200,7 +200,7 @@ fn check_table_waves(
     reads: &[ReadWave],
 ) -> Result<(), Trouble>
     requires maps { MapsTable (timed scope.now) heir.now.number heir.now.slots.now }
-    requires letters { signals_lettered table.now.waveforms ≡ true }
+    requires characters { signals_with_characters table.now.waveforms ≡ true }
     requires reads { reads.now ≡ read_waves (timed scope.now) table.now }
     ensures fits { OnOk result (late_in (timed scope.now) (pos heir.now.period) heir.now.number
         (own_waveforms (timed scope.now).names number table.now) ≡ None) }
@@ -228,7 +228,7 @@ fn check_other(
     reads: &[Items<ReadWave>],
 ) -> Result<(), Trouble>
     requires maps { MapsTable (timed scope.now) heir.now.number heir.now.slots.now }
-    requires letters { signals_lettered table.now.waveforms ≡ true }
+    requires characters { signals_with_characters table.now.waveforms ≡ true }
     requires reads { slice_get reads.now number ≡ Some (read_waves (timed scope.now) table.now) }
     ensures fits { OnOk result (late_in (timed scope.now) (pos heir.now.period) heir.now.number
         (own_waveforms (timed scope.now).names number table.now) ≡ None) }

@@ -27,7 +27,7 @@ pub(crate) struct ReadEvent {
 /// A waveform with the times of its events.
 #[derive(Drop)]
 pub(crate) struct ReadWave {
-    pub letters: Text,
+    pub characters: Text,
     pub events: Items<ReadEvent>,
 }
 
@@ -59,8 +59,8 @@ fn append_waves(
 {
     for wave in waves {
         let events = read_events(alloc, scope, wave.events.as_slice())?;
-        let letters = Text::from_slice(alloc, wave.letters.as_slice())?;
-        read.push(ReadWave { letters, events })?;
+        let characters = Text::from_slice(alloc, wave.characters.as_slice())?;
+        read.push(ReadWave { characters, events })?;
     }
     Ok(())
 }

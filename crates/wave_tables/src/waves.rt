@@ -13,30 +13,34 @@ use tester_types::{Act, Event, EventList, Items, Wave};
 use text_bytes::LONGEST_PERIOD;
 
 /// The act of an event for a character: one act is for all characters, else there is one for each.
-fn act_of(letters: &[u8], letter: u8, acts: &[Act]) -> Option<Act>
-    ensures { result ≡ act_of letters.now letter acts.now }
+fn act_of(characters: &[u8], character: u8, acts: &[Act]) -> Option<Act>
+    ensures { result ≡ act_of characters.now character acts.now }
 {
     match acts {
         [] => None,
         [act] => Some(*act),
-        [_, _, ..] => acts.get(place_of(letters, letter)).copied(),
+        [_, _, ..] => acts.get(place_of(characters, character)).copied(),
     }
 }
 
 /// The place of a character, or how many there are.
-fn place_of(letters: &[u8], letter: u8) -> usize
-    ensures { result ≡ position_or_len (λ c. c == letter) letters.now }
+fn place_of(characters: &[u8], character: u8) -> usize
+    ensures { result ≡ position_or_len (λ c. c == character) characters.now }
 {
-    letters.iter().take_while(|c| **c != letter).count()
+    characters.iter().take_while(|c| **c != character).count()
 }
 
 /// An event for a character. Its time was judged before: one that is none of a cycle is answered as want of memory.
-fn event_for(letters: &[u8], letter: u8, event: &ReadEvent) -> Result<Option<Event>, AllocError>
-    ensures { IfOk result (λ found. found ≡ event_read letters.now letter event.now) }
+fn event_for(
+    characters: &[u8],
+    character: u8,
+    event: &ReadEvent,
+) -> Result<Option<Event>, AllocError>
+    ensures { IfOk result (λ found. found ≡ event_read characters.now character event.now) }
 {
     match (
         event.time.time,
-        act_of(letters, letter, event.acts.as_slice()),
+        act_of(characters, character, event.acts.as_slice()),
     ) {
         (Ok(time), Some(act)) => {
             if 0 <= time && time <= LONGEST_PERIOD as i128 {
@@ -64,14 +68,14 @@ fn push_found(list: &mut Vec<Event>, found: Option<Event>) -> Result<(), AllocEr
 }
 
 /// The events of a waveform for one of its characters, in written order.
-fn events_for(alloc: Global, letter: u8, wave: &ReadWave) -> Result<EventList, AllocError>
-    ensures { IfOk result (λ list. list ≡ filter_map (event_read wave.now.letters letter) wave.now.events) }
+fn events_for(alloc: Global, character: u8, wave: &ReadWave) -> Result<EventList, AllocError>
+    ensures { IfOk result (λ list. list ≡ filter_map (event_read wave.now.characters character) wave.now.events) }
 {
     let mut list = Vec::with_capacity(alloc, wave.events.len())?;
     for event in wave.events.as_slice() {
         push_found(
             &mut list,
-            event_for(wave.letters.as_slice(), letter, event)?,
+            event_for(wave.characters.as_slice(), character, event)?,
         )?;
     }
     Ok(EventList::from_vec(list))
@@ -93,18 +97,18 @@ pub(crate) fn push_wave(
     waves: &mut Vec<Wave>,
     reads: &[Items<ReadWave>],
     signal: u16,
-    letter: u8,
+    character: u8,
     source: Option<Source>,
 ) -> Result<(), AllocError>
     ensures { OnOk result (waves.new.items ≡ waves.old.items
-        ++ option_to_list (wave_read reads.now signal letter source)) }
+        ++ option_to_list (wave_read reads.now signal character source)) }
 {
     if let Some(place) = source {
         if let Some(read) = read_at(reads, place) {
-            let events = events_for(alloc, letter, read)?;
+            let events = events_for(alloc, character, read)?;
             waves.push(Wave {
                 signal,
-                letter,
+                character,
                 events,
             })?;
         }

@@ -58,8 +58,20 @@ fn filled(alloc: Global, words: &str) -> Result<String, LineFault> {
     }
 }
 
+/// The line that is written where words are none of the forms of a program's commands.
+fn usage_named(name: &str) -> Option<&'static [u8]> {
+    match name {
+        "usage" => Some(stil_tool::USAGE),
+        "usage of lots" => Some(lot_parts::USAGE),
+        _ => None,
+    }
+}
+
 /// The text of this name.
 fn text_named<'a>(texts: &'a [(String, Vec<u8>)], name: &str) -> Option<&'a [u8]> {
+    if let Some(line) = usage_named(name) {
+        return Some(line);
+    }
     for text in texts {
         if text.0.as_str() == name {
             return Some(text.1.as_slice());

@@ -15,7 +15,7 @@ use Rattle.macro_expand.specs.Actions.{action_check}
 use Rattle.macro_expand.specs.Calling.{wave_check, wave_piece}
 use Rattle.macro_expand.specs.Giving.{at_count}
 use Rattle.macro_expand.specs.Recursing.{setting_in, stands, check_named, ShiftSteps, flat_named, named_in, passes_check, shift_check}
-use Rattle.macro_expand.specs.Refusing.{IsAt}
+use Rattle.macro_expand.specs.Refusing.{IsAt, Trouble}
 use Rattle.macro_expand.specs.Scopes.{scope_in, titles_in}
 use Rattle.macro_expand.specs.Standings.{callee_in}
 use Rattle.macro_expand.specs.Stepping.{StepsOr, spot_on}
@@ -32,7 +32,6 @@ use Rattle.stil_ast.specs.Meaning.Resolved.{outs_of}
 use Rattle.stil_ast.specs.Meaning.Shift.{passes}
 use Rattle.stil_ast.specs.Faults.AssignmentFaults.{fault_on}
 use Rattle.stil_ast.specs.declared.fault.StilKind.TheVariants.{ShiftForm}
-use Rattle.macro_expand.specs.declared.trouble.Trouble.{Trouble}
 use Rattle.macro_expand.specs.Passes.{pass_flat}
 use Rattle.macro_expand.proofs.PassLemmas.{passes_end, passes_go_on, passes_refused, passes_steps, passes_stop, without_steps}
 use Rattle.macro_expand.proofs.PlaceLemmas.{ruled_out}

@@ -7,7 +7,7 @@ use Rattle.stil_lex.specs.declared.token.TokenKind.TheVariants as kind
 use Rattle.stil_form.specs.declared.fault.FormKind.{FormKind}
 use Rattle.stil_form.specs.declared.fault.FormKind.TheVariants.{Shape, LeftOut, OutOfRange}
 use Rattle.stil_form.specs.Lexeme.{lexemes_of}
-use Rattle.stil_ast.specs.Meaning.Statements.{letter}
+use Rattle.stil_ast.specs.Meaning.Statements.{a_character}
 use Rattle.stil_ast.specs.declared.name.SigRef.TheVariants as ref
 use Rattle.stil_ast.specs.declared.body.Assignment.{Assignment}
 use Rattle.pat_read.specs.References.{assignment_of}
@@ -19,7 +19,7 @@ said bytes has_block tokens = assignment_of bytes tokens 1 has_block (lexemes_of
 
 -- `a[007]=1`: an index is a number
 pub indexed : said (codes "a[007]=1") false (word 0 1 ∷ mark 91 1 ∷ word 2 5 ∷ mark 93 5 ∷ mark 61 6 ∷ word 7 8 ∷ [])
-    ≡ Ok (record { reference = ref.Name (record { name = codes "a"; range = Some (record { first = 7; last = 7 }) }); items = letter 49 ∷ []; line = 1 })
+    ≡ Ok (record { reference = ref.Name (record { name = codes "a"; range = Some (record { first = 7; last = 7 }) }); items = a_character 49 ∷ []; line = 1 })
 unfolding is_digit begins_name is_printable
 indexed = refl
 

@@ -7,7 +7,7 @@ use Rattle.stil_lex.specs.declared.token.TokenKind.TheVariants as kind
 use Rattle.stil_tree.specs.Trees.{Trees, end, plain, block}
 use Rattle.stil_form.specs.declared.fault.FormFault.TheVariants.{Refused}
 use Rattle.stil_form.specs.declared.fault.FormKind.TheVariants.{LeftOut}
-use Rattle.stil_ast.specs.Meaning.Statements.{letter}
+use Rattle.stil_ast.specs.Meaning.Statements.{a_character}
 use Rattle.stil_ast.specs.declared.body.Step.TheVariants as step
 use Rattle.stil_ast.specs.declared.name.SigRef.TheVariants as ref
 use Rattle.stil_ast.specs.Data.Written.{no_more, single, looped}
@@ -41,7 +41,7 @@ statements = block 0 1 (plain 2 1 end) (block 5 2 (block 8 3 (plain 12 1 (plain 
 -- the statement at `l:` has that line; what begins with `note` is skipped at any place
 pub it_is : body_of body Pattern statements
     ≡ Ok (looped 1 2 (single 2 (step.Vector
-    (record { reference = ref.Name (record { name = codes "a"; range = None }); items = letter 49 ∷ []; line = 3 } ∷ [])) no_more)
+    (record { reference = ref.Name (record { name = codes "a"; range = None }); items = a_character 49 ∷ []; line = 3 } ∷ [])) no_more)
     (single 3 step.Stop no_more))
 unfolding is_digit begins_name is_printable
 it_is = refl

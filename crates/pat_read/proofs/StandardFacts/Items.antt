@@ -3,13 +3,13 @@ use Rattle.std.proofs.Common.{◌≡◌, [], ◌∷◌, Ok, Err, refl}
 use Rattle.std.specs.Prelude.{codes}
 use Rattle.text_bytes.specs.Bytes.{is_digit, begins_name, is_printable}
 use Rattle.stil_form.specs.declared.fault.FormKind.TheVariants.{Shape, LeftOut, OutOfRange}
-use Rattle.stil_ast.specs.Meaning.Statements.{letter, hash, percent}
+use Rattle.stil_ast.specs.Meaning.Statements.{a_character, hash, percent}
 use Rattle.pat_read.specs.Data.{data_of}
 use Rattle.pat_read.proofs.StandardFacts.Spelled.{word, mark, backslash}
 
 -- `\r3 X 1`: three times X, and 1
 pub three_and_one : data_of (codes "/r3 X 1") (backslash 0 ∷ word 1 3 ∷ word 4 5 ∷ word 6 7 ∷ [])
-    ≡ Ok (letter 88 ∷ letter 88 ∷ letter 88 ∷ letter 49 ∷ [])
+    ≡ Ok (a_character 88 ∷ a_character 88 ∷ a_character 88 ∷ a_character 49 ∷ [])
 unfolding is_digit begins_name is_printable
 three_and_one = refl
 
@@ -27,7 +27,7 @@ pub no_data : data_of [] [] ≡ Ok []
 no_data = refl
 
 pub all_items : data_of (codes "01#%/r2#") (word 0 2 ∷ mark 35 2 ∷ mark 37 3 ∷ backslash 4 ∷ word 5 7 ∷ mark 35 7 ∷ [])
-    ≡ Ok (letter 48 ∷ letter 49 ∷ hash ∷ percent ∷ hash ∷ hash ∷ [])
+    ≡ Ok (a_character 48 ∷ a_character 49 ∷ hash ∷ percent ∷ hash ∷ hash ∷ [])
 unfolding is_digit begins_name is_printable
 all_items = refl
 

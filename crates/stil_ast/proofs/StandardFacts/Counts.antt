@@ -54,7 +54,7 @@ behind_one n = record {
   tables = record {
     name = codes "w";
     period = 10 ^ 6;
-    waves = record { signal = 0; letter = 49; events = [] } ∷ [];
+    waves = record { signal = 0; character = 49; events = [] } ∷ [];
   } ∷ [];
   chains = [];
   trees = record {
@@ -65,7 +65,7 @@ behind_one n = record {
 
 -- the state in front of the Loop
 abbrev one_set : State
-one_set = record { table = Some 0; letters = Some 49 ∷ [] }
+one_set = record { table = Some 0; characters = Some 49 ∷ [] }
 
 -- its vectors are one more than the Loop's passes
 length-behind_one : (n : ℕ) → length (vectors_of 1 (behind_one n)) ≡ suc n
@@ -73,7 +73,7 @@ unfolding behind_one
 length-behind_one n =
     let passes = times n (flat_run (cycle 0 (at 10) done) (outside (start_of 1)).held) one_set in
     let vector_in : Made → Vector = λ m. m.vector in
-    let first : Made = record { vector = record { table = Some 0; letters = Some 49 ∷ []; mark = 0 }; place = at 9 } in
+    let first : Made = record { vector = record { table = Some 0; characters = Some 49 ∷ []; mark = 0 }; place = at 9 } in
     length-map (first ∷ ((passes.made ++ []) ++ [])) vector_in
     ∙ ap (λ ms. suc (length ms)) (append-nil (passes.made ++ []) ∙ append-nil passes.made)
     ∙ ap suc (length-times (flat_run (cycle 0 (at 10) done) (outside (start_of 1)).held) (λ s. refl) n one_set)

@@ -21,10 +21,10 @@ use Rattle.tester_types.specs.declared.wave.Table.{Table}
 
 -- a table with waves of signal 0 for these characters
 abbrev waved : ℕ → List ℕ → Table
-waved period letters = record {
+waved period characters = record {
   name = codes "w";
   period = period * 10 ^ 6;
-  waves = map (λ (c : ℕ). record { signal = 0; letter = c; events = [] }) letters;
+  waves = map (λ (c : ℕ). record { signal = 0; character = c; events = [] }) characters;
 }
 
 -- an executive of one pattern p, whose macros stand in the block m
@@ -86,9 +86,9 @@ too_large = refl
 -- a tree without an assignment that another one overwrites is as good
 pub overwritten : (s a b : ℕ) (rest : Flat) → IsSameFlat (character s a (character s b rest)) (character s b rest)
 overwritten s a b rest = record {
-  runs = λ base st. ap (λ (letters : List (Option ℕ)). flat_run rest base (record { table = st.table; letters = letters })) (set-set st.letters s (Some a) (Some b));
+  runs = λ base st. ap (λ (characters : List (Option ℕ)). flat_run rest base (record { table = st.table; characters = characters })) (set-set st.characters s (Some a) (Some b));
   measure = refl;
-  least = λ base st. ap (λ (letters : List (Option ℕ)). least_written rest base (record { table = st.table; letters = letters })) (set-set st.letters s (Some a) (Some b));
+  least = λ base st. ap (λ (characters : List (Option ℕ)). least_written rest base (record { table = st.table; characters = characters })) (set-set st.characters s (Some a) (Some b));
 }
 
 -- `macro m { V { a=#; } V { a=#; } }`, in which a Loop stands round the second V or not

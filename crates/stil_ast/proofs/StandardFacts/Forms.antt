@@ -83,16 +83,16 @@ abbrev event : List Act → EventDecl
 event acts = record { time = record { text = codes "0ns"; line = 7 }; acts = acts }
 
 abbrev wave : List ℕ → List EventDecl → WaveDecl
-wave letters events = record { letters = letters; events = events }
+wave characters events = record { characters = characters; events = events }
 
 -- two characters, with one act for both and one for each
-pub two_letters : is_wave_decl (wave (codes "01") (event (Push Down ∷ []) ∷ event (Push Down ∷ Push Up ∷ []) ∷ [])) ≡ true
+pub two_characters : is_wave_decl (wave (codes "01") (event (Push Down ∷ []) ∷ event (Push Down ∷ Push Up ∷ []) ∷ [])) ≡ true
 unfolding is_character
-two_letters = refl
+two_characters = refl
 
-pub letter_twice : is_wave_decl (wave (codes "010") []) ≡ false
+pub character_twice : is_wave_decl (wave (codes "010") []) ≡ false
 unfolding is_character
-letter_twice = refl
+character_twice = refl
 
 pub two_acts_for_three : is_wave_decl (wave (codes "01Z") (event (Push Down ∷ Push Up ∷ []) ∷ [])) ≡ false
 unfolding is_character

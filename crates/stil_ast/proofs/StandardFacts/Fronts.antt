@@ -9,7 +9,7 @@ use Rattle.stil_ast.proofs.StandardFacts.Texts.{nanoseconds, signal}
 use Rattle.stil_ast.proofs.StandardFacts.Lines.{refused, use_table, first_text, three_vectors}
 use Rattle.tester_types.specs.declared.signal.Direction.TheVariants.{In}
 use Rattle.stil_ast.specs.declared.signal.SignalDecl.{SignalDecl}
-use Rattle.stil_ast.specs.declared.data.VecItem.TheVariants.{Letter, Take}
+use Rattle.stil_ast.specs.declared.data.VecItem.TheVariants.{Character, Take}
 use Rattle.stil_ast.specs.declared.data.ItemRun.{ItemRun}
 use Rattle.stil_ast.specs.declared.data.VecItem.{VecItem}
 use Rattle.stil_ast.specs.declared.executive.ExecDecl.{ExecDecl}
@@ -78,11 +78,11 @@ abbrev runs : VecItem → ℕ → ItemRun
 runs item times = record { item = item; times = times }
 
 -- `\r1000000 0 #` has 1,000,001 items
-pub many_items : run_length (runs (Letter 48) 1000000 ∷ runs Take 1 ∷ []) ≡ 1000001
+pub many_items : run_length (runs (Character 48) 1000000 ∷ runs Take 1 ∷ []) ≡ 1000001
 many_items = refl
 
 -- `\r0 1 \r1 #` is a lone `#`, and `\r2 #` isn't
-pub lone_take : lone_item (runs (Letter 49) 0 ∷ runs Take 1 ∷ []) ≡ Some Take
+pub lone_take : lone_item (runs (Character 49) 0 ∷ runs Take 1 ∷ []) ≡ Some Take
 lone_take = refl
 
 pub two_takes : lone_item (runs Take 2 ∷ []) ≡ None

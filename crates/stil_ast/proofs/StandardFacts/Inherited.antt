@@ -144,16 +144,16 @@ unfolding digits
 one_chain = refl
 
 -- the faults of a chain's statements come in text order
-pub cell_is_first : chains_fault names [] [] (chain 20 (codes "c") (cells 21 (replicate 1025 97 ∷ []) ∷ ScanOut (named 22 (codes "z")) ∷ []) ∷ [])
+pub cell_is_first : chains_fault names [] (chain 20 (codes "c") (cells 21 (replicate 1025 97 ∷ []) ∷ ScanOut (named 22 (codes "z")) ∷ []) ∷ [])
     ≡ refused OutOfRange (codes "ScanStructures") [] 21
 cell_is_first = refl
 
-pub out_is_first : chains_fault names [] []
+pub out_is_first : chains_fault names []
     (chain 20 (codes "c") (ScanOut (named 21 (codes "z")) ∷ ScanIn (named 21 (codes "x")) ∷ cells 22 (replicate 1025 97 ∷ []) ∷ []) ∷ [])
     ≡ refused UnknownName (codes "ScanStructures") [] 21
 out_is_first = refl
 
 -- a chain's name twice comes before what stands in it
-pub name_twice : chains_fault names [] [] (chain 20 (codes "c") [] ∷ chain 21 (codes "c") (ScanIn (named 22 (codes "z")) ∷ []) ∷ [])
+pub name_twice : chains_fault names [] (chain 20 (codes "c") [] ∷ chain 21 (codes "c") (ScanIn (named 22 (codes "z")) ∷ []) ∷ [])
     ≡ refused Twice (codes "ScanStructures") [] 21
 name_twice = refl

@@ -58,10 +58,10 @@ pub least_single : (least (table 0 (repeat 1 one_vector done)) ≡ 1) × (least 
 least_single = (refl, refl, refl)
 
 -- vectors differ in their tables, in a character and in their marks
-pub differing : (same_vector (record { table = Some 1; letters = None ∷ Some 48 ∷ []; mark = 3 })
-    (record { table = Some 1; letters = None ∷ Some 48 ∷ []; mark = 3 }) ≡ true)
-    × (same_vector (record { table = None; letters = []; mark = 3 }) (record { table = Some 1; letters = []; mark = 3 }) ≡ false)
-    × (same_vector (record { table = None; letters = None ∷ []; mark = 3 })
-    (record { table = None; letters = Some 0 ∷ []; mark = 3 }) ≡ false)
-    × (same_vector (record { table = None; letters = []; mark = 3 }) (record { table = None; letters = []; mark = 4 }) ≡ false)
+pub differing : (same_vector (record { table = Some 1; characters = None ∷ Some 48 ∷ []; mark = 3 })
+    (record { table = Some 1; characters = None ∷ Some 48 ∷ []; mark = 3 }) ≡ true)
+    × (same_vector (record { table = None; characters = []; mark = 3 }) (record { table = Some 1; characters = []; mark = 3 }) ≡ false)
+    × (same_vector (record { table = None; characters = None ∷ []; mark = 3 })
+    (record { table = None; characters = Some 0 ∷ []; mark = 3 }) ≡ false)
+    × (same_vector (record { table = None; characters = []; mark = 3 }) (record { table = None; characters = []; mark = 4 }) ≡ false)
 differing = (refl, refl, refl, refl)

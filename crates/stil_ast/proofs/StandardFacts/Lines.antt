@@ -1,6 +1,6 @@
 -- Cycles and faults of whole texts, in few words.
 use Rattle.std.proofs.Common.{ℕ, ◌*◌, ◌^◌, List, [], ◌∷◌, Option, Some, None, map, flat_map, codes}
-use Rattle.stil_ast.specs.Meaning.Statements.{Item, letter}
+use Rattle.stil_ast.specs.Meaning.Statements.{Item, a_character}
 use Rattle.stil_ast.specs.Data.Written.{Written, no_more, single}
 use Rattle.stil_ast.specs.Meaning.Cycles.{Dated}
 use Rattle.stil_ast.specs.Meaning.Executive.{cycles}
@@ -17,9 +17,9 @@ abbrev pub all_cycles : Blocks → List Dated
 all_cycles blocks = flat_map (cycles nanoseconds blocks) blocks.executives
 
 -- the characters of a line: `-` where a signal has none
-abbrev pub shown_letter : Option ℕ → ℕ
-shown_letter None = 45
-shown_letter (Some c) = c
+abbrev pub shown_character : Option ℕ → ℕ
+shown_character None = 45
+shown_character (Some c) = c
 
 -- a cycle as it is printed: its number, its start in nanoseconds, its table and its characters
 pub record Line : Type 0 where
@@ -30,7 +30,7 @@ pub record Line : Type 0 where
 
 abbrev pub line_of : Dated → Line
 line_of d =
-    record { number = d.number; start = d.start; table = d.vector.table; text = map shown_letter d.vector.letters }
+    record { number = d.number; start = d.start; table = d.vector.table; text = map shown_character d.vector.characters }
 
 abbrev pub lines : Blocks → List Line
 lines blocks = map line_of (all_cycles blocks)
@@ -50,7 +50,7 @@ abbrev pub refused : StilKind → List ℕ → List ℕ → ℕ → Option StilF
 refused kind block name line = Some (record { kind = kind; block = block; name = name; line = line })
 
 abbrev pub items : List ℕ → List Item
-items text = map letter text
+items text = map a_character text
 
 -- `W name;` on line 9
 abbrev pub use_table : List ℕ → Written → Written

@@ -94,7 +94,7 @@ event line time = record { time = record { text = time; line = line }; acts = Pu
 abbrev two_events : List ℕ → SignalWaves
 two_events second = record {
   reference = by_name (codes "a");
-  waves = record { letters = codes "0"; events = event 6 (codes "40ns") ∷ event 7 second ∷ [] } ∷ [];
+  waves = record { characters = codes "0"; events = event 6 (codes "40ns") ∷ event 7 second ∷ [] } ∷ [];
   line = 6;
 }
 

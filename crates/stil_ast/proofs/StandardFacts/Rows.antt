@@ -11,7 +11,7 @@ use Rattle.stil_ast.proofs.StandardFacts.Texts.{signal, group, by_name, by_text,
 use Rattle.stil_ast.proofs.StandardFacts.Lines.{lines, fault, cycle, items, use_table, first_text, three_vectors}
 use Rattle.tester_types.specs.declared.signal.Direction.TheVariants.{In, Out}
 use Rattle.stil_ast.specs.declared.body.Step.TheVariants.{Vector, Condition, Macro, Call, Stop, Wave}
-use Rattle.stil_ast.specs.declared.data.VecItem.TheVariants.{Letter}
+use Rattle.stil_ast.specs.declared.data.VecItem.TheVariants.{Character}
 use Rattle.stil_ast.specs.declared.blocks.Blocks.{Blocks}
 use Rattle.stil_ast.specs.declared.blocks.BodyDef.{BodyDef}
 
@@ -26,7 +26,7 @@ unfolding is_digit
 no_fault = refl
 
 -- `\r3 X 1` is `XXX1`
-pub three_times : items_of (record { item = Letter 88; times = 3 } ∷ record { item = Letter 49; times = 1 } ∷ [])
+pub three_times : items_of (record { item = Character 88; times = 3 } ∷ record { item = Character 49; times = 1 } ∷ [])
     ≡ items (codes "XXX1")
 three_times = refl
 

@@ -1,7 +1,7 @@
 -- What statements do.
 use Rattle.std.proofs.Common.{◌≡◌, ℕ, List, [], ◌∷◌, true, false, Option, Some, refl, map, codes}
 use Rattle.stil_ast.specs.Meaning.State.{Vector, start_of}
-use Rattle.stil_ast.specs.Meaning.Statements.{Item, letter, hash, percent, Assign, Statements, finish, wave, vector, condition, loop, expand, call, shift, stop}
+use Rattle.stil_ast.specs.Meaning.Statements.{Item, a_character, hash, percent, Assign, Statements, finish, wave, vector, condition, loop, expand, call, shift, stop}
 use Rattle.stil_ast.specs.Meaning.Flat.{measure}
 use Rattle.stil_ast.specs.Meaning.Flattening.{flat_calls, flat_of}
 use Rattle.stil_ast.specs.Meaning.Running.{Setting, Made, run, calls, outside}
@@ -11,18 +11,18 @@ abbrev vectors : Setting → ℕ → Statements → List Vector
 vectors t signals statements =
     map (λ (m : Made). m.vector) (run t statements (outside (start_of signals))).made
 
--- characters as items and as letters
+-- characters as items and as characters
 abbrev items : List ℕ → List Item
-items text = map letter text
+items text = map a_character text
 
-abbrev letters : List ℕ → List (Option ℕ)
-letters text = map (λ c. Some c) text
+abbrev characters : List ℕ → List (Option ℕ)
+characters text = map (λ c. Some c) text
 
 abbrev to : ℕ → List Item → Assign
 to signal given = record { signals = signal ∷ []; items = given }
 
 abbrev in_table : ℕ → List ℕ → ℕ → Vector
-in_table table text mark = record { table = Some table; letters = letters text; mark = mark }
+in_table table text mark = record { table = Some table; characters = characters text; mark = mark }
 
 abbrev no_calls : Setting
 no_calls = record { outs = []; scan_outs = []; macros = []; procedures = [] }

@@ -37,8 +37,8 @@ event time act = record { time = record { text = time; line = 23 }; acts = act �
 abbrev clock : SignalWaves
 clock = record {
   reference = by_name (codes "CK");
-  waves = record { letters = codes "0"; events = event (codes "0ns") (Push Down) ∷ [] }
-      ∷ record { letters = codes "P"; events = event (codes "0ns") (Push Down) ∷ event (codes "45ns") (Push Up) ∷ event (codes "55ns") (Push Down) ∷ [] } ∷ [];
+  waves = record { characters = codes "0"; events = event (codes "0ns") (Push Down) ∷ [] }
+      ∷ record { characters = codes "P"; events = event (codes "0ns") (Push Down) ∷ event (codes "45ns") (Push Up) ∷ event (codes "55ns") (Push Down) ∷ [] } ∷ [];
   line = 23;
 }
 

@@ -47,7 +47,7 @@ abbrev pub driven : SigRef → SignalWaves
 driven reference = record {
   reference = reference;
   waves = record {
-    letters = codes "01";
+    characters = codes "01";
     events = record { time = record { text = codes "0ns"; line = 6 }; acts = Push Down ∷ Push Up ∷ [] } ∷ [];
   } ∷ [];
   line = 6;
@@ -58,7 +58,7 @@ abbrev pub looked_at : SigRef → SignalWaves
 looked_at reference = record {
   reference = reference;
   waves = record {
-    letters = codes "LHX";
+    characters = codes "LHX";
     events = record { time = record { text = codes "40ns"; line = 7 }; acts = Look Low ∷ Look High ∷ Look Close ∷ [] } ∷ [];
   } ∷ [];
   line = 7;

@@ -85,13 +85,13 @@ is_selector s =
 
 -- an event of a waveform of so many characters: one act for all of them, or one for each
 abbrev pub is_event : ℕ → EventDecl → Bool
-is_event letters e = is_quoted e.time && (length e.acts == 1 || length e.acts == letters)
+is_event characters e = is_quoted e.time && (length e.acts == 1 || length e.acts == characters)
 
 -- a waveform: letters and digits, none twice, and not too many events
 abbrev pub is_wave_decl : WaveDecl → Bool
 is_wave_decl w =
-    nat_le 1 (length w.letters) && list_all is_character w.letters && all_differ nat_eq w.letters
-    && nat_le (length w.events) most_events && list_all (is_event (length w.letters)) w.events
+    nat_le 1 (length w.characters) && list_all is_character w.characters && all_differ nat_eq w.characters
+    && nat_le (length w.events) most_events && list_all (is_event (length w.characters)) w.events
 
 -- what one reference in Waveforms stands before
 abbrev pub is_signal_waves : SignalWaves → Bool

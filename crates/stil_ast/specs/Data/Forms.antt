@@ -4,7 +4,7 @@ use Rattle.std.specs.List.{list_any}
 use Rattle.text_bytes.specs.Numbers.{is_within}
 use Rattle.text_bytes.specs.Bytes.{is_character}
 use Rattle.stil_ast.specs.Data.Texts.{is_name}
-use Rattle.stil_ast.specs.Meaning.Statements.{Item, letter, hash, percent}
+use Rattle.stil_ast.specs.Meaning.Statements.{Item, a_character, hash, percent}
 use Rattle.stil_ast.specs.declared.name.IndexRange.{IndexRange}
 use Rattle.stil_ast.specs.declared.name.Named.{Named}
 use Rattle.stil_ast.specs.declared.name.NameRef.{NameRef}
@@ -58,6 +58,6 @@ is_optionally_named n = is_optional_name n.name && is_line n.line
 
 -- an item of data
 abbrev pub is_item : Item → Bool
-is_item (letter c) = is_character c
+is_item (a_character c) = is_character c
 is_item hash = true
 is_item percent = true

@@ -2,14 +2,14 @@
 use Rattle.std.specs.Prelude.{ℕ, ◌==◌, ◌≤◌, not, List, [], ◌∷◌, ◌++◌, Option, None, option_map, replicate, sum_by, find, if◌then◌else◌}
 use Rattle.std.specs.List.{All}
 use Rattle.text_bytes.specs.Limits.{most_repeats}
-use Rattle.stil_ast.specs.Meaning.Statements.{Item, letter, hash, percent}
+use Rattle.stil_ast.specs.Meaning.Statements.{Item, a_character, hash, percent}
 use Rattle.stil_ast.specs.declared.data.VecItem.{VecItem}
-use Rattle.stil_ast.specs.declared.data.VecItem.TheVariants.{Letter, Take, Peek}
+use Rattle.stil_ast.specs.declared.data.VecItem.TheVariants.{Character, Take, Peek}
 use Rattle.stil_ast.specs.declared.data.ItemRun.{ItemRun}
 
 -- an item as a contract sees it
 abbrev pub item_of : VecItem → Item
-item_of (Letter c) = letter c
+item_of (Character c) = a_character c
 item_of Take = hash
 item_of Peek = percent
 

@@ -19,8 +19,8 @@ use Rattle.tester_types.specs.declared.wave.Table.{Table}
 
 -- whether a table defines a signal's character
 abbrev pub is_defined : Option Table → ℕ → ℕ → Bool
-is_defined None signal letter = false
-is_defined (Some t) signal letter = list_any (λ (w : Wave). w.signal == signal && w.letter == letter) t.waves
+is_defined None signal character = false
+is_defined (Some t) signal character = list_any (λ (w : Wave). w.signal == signal && w.character == character) t.waves
 
 -- whether a table defines a signal's character, if it has one
 abbrev pub has_wave : Option Table → ℕ → Option ℕ → Bool
@@ -30,13 +30,13 @@ has_wave table signal (Some c) = is_defined table signal c
 -- the same for the signals from this number on
 abbrev pub have_waves : Option Table → ℕ → List (Option ℕ) → Bool
 have_waves table signal [] = true
-have_waves table signal (c ∷ letters) = has_wave table signal c && have_waves table (signal + 1) letters
+have_waves table signal (c ∷ characters) = has_wave table signal c && have_waves table (signal + 1) characters
 
 -- a vector without a table, or with a character that its table doesn't define
 abbrev pub made_fault : List Table → Titles → Made → Option ℕ → Option StilFault
 made_fault tables titles m None = Some (fault_in titles m.place NoTable)
 made_fault tables titles m (Some table) =
-    unless (have_waves (slice_get tables table) 0 m.vector.letters) (fault_in titles m.place NoWave) None
+    unless (have_waves (slice_get tables table) 0 m.vector.characters) (fault_in titles m.place NoWave) None
 
 -- the fault of a vector
 abbrev pub vector_fault : List Table → Titles → Made → Option StilFault

@@ -66,7 +66,7 @@ exec_fault times blocks before e =
     or_else (exec_names_fault blocks e)
     (or_else (variables_fault times (picked blocks e))
     (or_else (tables_fault (timed_of times blocks e) (sum_by (exec_waves blocks) before))
-    (or_else (chains_fault (names_of blocks) (exec_scans blocks e) [] (chains_named blocks.scans (exec_scans blocks e)))
+    (or_else (chains_fault (names_of blocks) (exec_scans blocks e) (chains_named blocks.scans (exec_scans blocks e)))
     (checked_fault (check_patterns blocks e (played blocks e) (sum_by (exec_walked blocks) before))))))
 
 -- executives in text order, behind others

@@ -81,7 +81,7 @@ is_waveform w (Some v) = v.table == w.table && v.number == w.number
 -- whether a waveform still stands among others for some signal and character
 abbrev pub stands : List Waveform → Waveform → Bool
 stands all w =
-    list_any (λ signal. list_any (λ letter. is_waveform w (waveform_of all signal letter)) w.letters) w.signals
+    list_any (λ signal. list_any (λ character. is_waveform w (waveform_of all signal character)) w.characters) w.signals
 
 -- an inherited event that isn't below the period; one whose text has a fault is left to its own table
 abbrev pub late_at : Place → ℤ → Result ℤ StilFault → Option StilFault

@@ -1,6 +1,6 @@
 -- What is left of the arguments of a macro or a procedure (IEEE 1450-1999, clauses 21 and 24: `#` and `%`).
 use Rattle.std.specs.Prelude.{ℕ, zero, suc, pred, List, [], ◌∷◌, Option, Some, None, length, replicate, slice_index_or, slice_set}
-use Rattle.stil_ast.specs.Meaning.Statements.{Item, letter, hash, percent, Assign}
+use Rattle.stil_ast.specs.Meaning.Statements.{Item, a_character, hash, percent, Assign}
 
 -- a character of an argument: one that was given, or what the signal had before a Shift, where its data were too short
 pub data Entry : Type 0 where
@@ -47,7 +47,7 @@ next_taken args signal =
 -- every item that is a character
 abbrev pub entries_of : List Item → List Entry
 entries_of [] = []
-entries_of (letter c ∷ items) = given c ∷ entries_of items
+entries_of (a_character c ∷ items) = given c ∷ entries_of items
 entries_of (hash ∷ items) = entries_of items
 entries_of (percent ∷ items) = entries_of items
 

@@ -1,10 +1,10 @@
 -- Scan chains (IEEE 1450-1999, clause 20).
-use Rattle.std.specs.Prelude.{ℕ, ◌==◌, List, [], ◌∷◌, ◌++◌, Option, Some, None, length, flat_map, filter, is_some, nat_le, codes, unwrap_or, if◌then◌else◌}
-use Rattle.std.specs.List.{list_all, list_any}
+use Rattle.std.specs.Prelude.{ℕ, ◌==◌, not, List, [], ◌∷◌, Option, Some, None, length, take, flat_map, filter, slice_get, is_some, nat_le, codes, unwrap_or, if◌then◌else◌}
+use Rattle.std.specs.List.{list_all, list_any, filter_map, enumerate_from}
 use Rattle.text_bytes.specs.Limits.{longest_name}
 use Rattle.stil_ast.specs.Data.Places.{Place}
 use Rattle.stil_ast.specs.Data.Texts.{same, names_with, upwards}
-use Rattle.stil_ast.specs.Faults.Found.{fault_at, unless, refuse_if, or_else, first_in}
+use Rattle.stil_ast.specs.Faults.Found.{fault_at, unless, refuse_if, first_in}
 use Rattle.stil_ast.specs.Meaning.Signals.{Names}
 use Rattle.stil_ast.specs.Meaning.Members.{signal_of}
 use Rattle.stil_ast.specs.declared.name.NameRef.{NameRef}
@@ -31,29 +31,36 @@ chains_named scans name = flat_map (λ (s : ScanBlock). if same s.name name then
 abbrev pub cells_of : CellsDecl → List (List ℕ)
 cells_of c = flat_map (λ (r : NameRef). names_with r.name r.range) c.cells
 
+-- what a statement says of a chain's length
+abbrev pub length_by : ChainStmt → Option ℕ
+length_by (Length n) = Some n
+length_by stmt = None
+
+-- what a statement says of the signal at a chain's end
+abbrev pub out_by : ChainStmt → Option (List ℕ)
+out_by (Out name) = Some name.name
+out_by stmt = None
+
+-- what a statement says of a chain's cells
+abbrev pub cells_by : ChainStmt → Option (List (List ℕ))
+cells_by (Cells c) = Some (cells_of c)
+cells_by stmt = None
+
+-- the first that statements say of something
+abbrev pub first_said : {A : Type 0} → (ChainStmt → Option A) → List ChainStmt → Option A
+first_said said stmts = slice_get (filter_map said stmts) 0
+
 -- the ScanLength of a chain
 abbrev pub length_in : List ChainStmt → Option ℕ
-length_in [] = None
-length_in (Length n ∷ stmts) = Some n
-length_in (In name ∷ stmts) = length_in stmts
-length_in (Out name ∷ stmts) = length_in stmts
-length_in (Cells c ∷ stmts) = length_in stmts
+length_in stmts = first_said length_by stmts
 
 -- the name that a chain's ScanOut gives
 abbrev pub out_in : List ChainStmt → Option (List ℕ)
-out_in [] = None
-out_in (Length n ∷ stmts) = out_in stmts
-out_in (In name ∷ stmts) = out_in stmts
-out_in (Out name ∷ stmts) = Some name.name
-out_in (Cells c ∷ stmts) = out_in stmts
+out_in stmts = first_said out_by stmts
 
 -- the texts of a chain's cells
 abbrev pub cells_in : List ChainStmt → List (List ℕ)
-cells_in [] = []
-cells_in (Length n ∷ stmts) = cells_in stmts
-cells_in (In name ∷ stmts) = cells_in stmts
-cells_in (Out name ∷ stmts) = cells_in stmts
-cells_in (Cells c ∷ stmts) = cells_of c
+cells_in stmts = unwrap_or (first_said cells_by stmts) []
 
 -- the signal of a ScanOut; it is named by its text
 abbrev pub scan_out_of : Names → Option (List ℕ) → Option ℕ
@@ -71,16 +78,15 @@ chain_with d (Some out) =
       cells = cells_in d.stmts;
     } ∷ []
 
--- of two chains with one ScanOut the first counts
-abbrev pub distinct_chains : List Chain → List Chain → List Chain
-distinct_chains before [] = before
-distinct_chains before (c ∷ chains) =
-    distinct_chains (if list_any (λ b. b.scan_out == c.scan_out) before then before else before ++ c ∷ []) chains
+-- of chains with one ScanOut the first counts: behind each chain stand those that end elsewhere
+abbrev pub distinct_chains : List Chain → List Chain
+distinct_chains [] = []
+distinct_chains (c ∷ chains) = c ∷ filter (λ d. not (c.scan_out == d.scan_out)) (distinct_chains chains)
 
 -- the chains of declarations
 abbrev pub chains_of : Names → List ChainDecl → List Chain
 chains_of names chains =
-    distinct_chains [] (flat_map (λ (d : ChainDecl). chain_with d (scan_out_of names (out_in d.stmts))) chains)
+    distinct_chains (flat_map (λ (d : ChainDecl). chain_with d (scan_out_of names (out_in d.stmts))) chains)
 
 -- the signals at which chains end, in declared order
 abbrev pub scan_outs : Names → List Chain → List ℕ
@@ -108,8 +114,8 @@ chain_fault names block before d =
     refuse_if (list_any (λ b. same b.name d.name) before) (fault_at (scan_place block d.line) Twice)
     (first_in (chain_stmt_fault names block) d.stmts)
 
--- the first fault of chains in text order, behind those before
-abbrev pub chains_fault : Names → List ℕ → List ChainDecl → List ChainDecl → Option StilFault
-chains_fault names block before [] = None
-chains_fault names block before (d ∷ chains) =
-    or_else (chain_fault names block before d) (chains_fault names block (before ++ d ∷ []) chains)
+-- the first fault of chains in text order, each behind those before it
+abbrev pub chains_fault : Names → List ℕ → List ChainDecl → Option StilFault
+chains_fault names block chains =
+    first_in (λ (placed : ℕ × ChainDecl). chain_fault names block (take placed.0 chains) placed.1)
+    (enumerate_from 0 chains)

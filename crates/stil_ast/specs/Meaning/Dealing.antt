@@ -2,7 +2,7 @@
 use Rattle.std.specs.Prelude.{ℕ, Bool, true, false, List, [], ◌∷◌, ◌++◌, ◌==◌, Option, Some, None, map, slice_index_or, slice_set, if◌then◌else◌}
 use Rattle.std.specs.List.{list_any}
 use Rattle.stil_ast.specs.Meaning.State.{State}
-use Rattle.stil_ast.specs.Meaning.Statements.{Item, letter, hash, percent, Assign}
+use Rattle.stil_ast.specs.Meaning.Statements.{Item, a_character, hash, percent, Assign}
 use Rattle.stil_ast.specs.Meaning.Arguments.{Entry, given, padding, Argument, argument_of, next_entry, next_taken}
 
 -- a signal gets a character
@@ -30,7 +30,7 @@ gift_of signal (Some entry) = record { signal = signal; entry = entry } ∷ []
 
 -- a character stands for itself; `#` takes the signal's next one; `%` looks at it
 abbrev pub deal_item : Item → ℕ → List Argument → Dealt
-deal_item (letter c) signal args = record { gifts = gift_of signal (Some (given c)); args = args }
+deal_item (a_character c) signal args = record { gifts = gift_of signal (Some (given c)); args = args }
 deal_item hash signal args =
     record { gifts = gift_of signal (next_entry args signal); args = next_taken args signal }
 deal_item percent signal args = record { gifts = gift_of signal (next_entry args signal); args = args }
@@ -38,7 +38,7 @@ deal_item percent signal args = record { gifts = gift_of signal (next_entry args
 -- data of one `#` or `%` alone stand for every signal of the reference
 abbrev pub spread : List ℕ → List Item → List Item
 spread signals [] = []
-spread signals (letter c ∷ items) = letter c ∷ items
+spread signals (a_character c ∷ items) = a_character c ∷ items
 spread signals (hash ∷ []) = map (λ _. hash) signals
 spread signals (hash ∷ item ∷ items) = hash ∷ item ∷ items
 spread signals (percent ∷ []) = map (λ _. percent) signals
@@ -57,24 +57,24 @@ deal [] args = record { gifts = []; args = args }
 deal (a ∷ rest) args = then_deal (deal_pairs a.signals (spread a.signals a.items) args) (deal rest)
 
 -- the character for which an entry stands
-abbrev pub letter_of : State → ℕ → Entry → Option ℕ
-letter_of held signal (given c) = Some c
-letter_of held signal padding = slice_index_or held.letters signal None
+abbrev pub character_of : State → ℕ → Entry → Option ℕ
+character_of held signal (given c) = Some c
+character_of held signal padding = slice_index_or held.characters signal None
 
 -- a state in which a signal has this character
-abbrev pub with_letter : ℕ → Option ℕ → State → State
-with_letter signal c s = record { table = s.table; letters = slice_set s.letters signal c }
+abbrev pub with_character : ℕ → Option ℕ → State → State
+with_character signal c s = record { table = s.table; characters = slice_set s.characters signal c }
 
 -- the state once the signals have what they were given; a later gift to the same signal wins
 abbrev pub received : State → List Gift → State → State
 received held [] s = s
-received held (g ∷ gifts) s = received held gifts (with_letter g.signal (letter_of held g.signal g.entry) s)
+received held (g ∷ gifts) s = received held gifts (with_character g.signal (character_of held g.signal g.entry) s)
 
 -- the signals that get a `#`
 abbrev pub hashed : List ℕ → List Item → List ℕ
 hashed [] items = []
 hashed (signal ∷ signals) [] = []
-hashed (signal ∷ signals) (letter c ∷ items) = hashed signals items
+hashed (signal ∷ signals) (a_character c ∷ items) = hashed signals items
 hashed (signal ∷ signals) (hash ∷ items) = signal ∷ hashed signals items
 hashed (signal ∷ signals) (percent ∷ items) = hashed signals items
 
@@ -95,12 +95,12 @@ mark_of (out ∷ outs) taking args =
 
 -- whether an item is `#`
 abbrev pub is_hash : Item → Bool
-is_hash (letter c) = false
+is_hash (a_character c) = false
 is_hash hash = true
 is_hash percent = false
 
 -- whether an item is a character
 abbrev pub is_character : Item → Bool
-is_character (letter c) = true
+is_character (a_character c) = true
 is_character hash = false
 is_character percent = false

@@ -69,7 +69,7 @@ least_in (t ∷ trees) s = least_written t.flat (outside s).held s + least_in tr
 
 -- a row of bytes: the character of each signal, 0 for none
 abbrev pub row_of : Vector → List ℕ
-row_of v = map (λ (c : Option ℕ). unwrap_or c 0) v.letters
+row_of v = map (λ (c : Option ℕ). unwrap_or c 0) v.characters
 
 -- rows, each once, behind those that are there
 abbrev pub distinct_rows : List (List ℕ) → List (List ℕ) → List (List ℕ)

@@ -2,7 +2,7 @@
 use Rattle.std.specs.Prelude.{ℕ, ◌+◌, ◌*◌, Bool, true, false, [], ◌∷◌, Some, None, slice_index_or}
 use Rattle.stil_ast.specs.Meaning.State.{State}
 use Rattle.stil_ast.specs.Data.Places.{Origin}
-use Rattle.stil_ast.specs.Meaning.Dealing.{with_letter}
+use Rattle.stil_ast.specs.Meaning.Dealing.{with_character}
 use Rattle.stil_ast.specs.Meaning.Running.{Ran, still, behind, then_run, times}
 
 -- steps in order, each with those behind it
@@ -28,12 +28,12 @@ saved false s r = r
 -- what a flat tree does, where the innermost save round it began with the state `base`
 abbrev pub flat_run : Flat → State → State → Ran State
 flat_run done base s = still s
-flat_run (table t rest) base s = flat_run rest base (record { table = Some t; letters = s.letters })
-flat_run (character signal c rest) base s = flat_run rest base (with_letter signal (Some c) s)
+flat_run (table t rest) base s = flat_run rest base (record { table = Some t; characters = s.characters })
+flat_run (character signal c rest) base s = flat_run rest base (with_character signal (Some c) s)
 flat_run (back signal rest) base s =
-    flat_run rest base (with_letter signal (slice_index_or base.letters signal None) s)
+    flat_run rest base (with_character signal (slice_index_or base.characters signal None) s)
 flat_run (cycle mark spot rest) base s =
-    behind (record { vector = record { table = s.table; letters = s.letters; mark = mark }; place = spot } ∷ [])
+    behind (record { vector = record { table = s.table; characters = s.characters; mark = mark }; place = spot } ∷ [])
     (flat_run rest base s)
 flat_run (repeat count body rest) base s =
     then_run (times count (flat_run body base) s) (flat_run rest base)

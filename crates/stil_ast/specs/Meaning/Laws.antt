@@ -86,12 +86,13 @@ shift_of signal = shift (vector (record { signals = signal ∷ []; items = hash 
 
 -- the characters that a signal has in vectors
 abbrev pub shown_at : ℕ → List Made → List (Option ℕ)
-shown_at signal made = map (λ (m : Made). slice_index_or m.vector.letters signal None) made
+shown_at signal made = map (λ (m : Made). slice_index_or m.vector.characters signal None) made
 
 -- a Shift shifts each character of its data once, in order
 abbrev pub ShiftIsInOrder : Type 0
 ShiftIsInOrder = (t : Setting) (signal : ℕ) (characters : List ℕ) (h : Here) →
-    signal < length h.state.letters → signal < length h.args → (argument_of h.args signal).left ≡ map given characters →
+    signal < length h.state.characters → signal < length h.args →
+    (argument_of h.args signal).left ≡ map given characters →
     shown_at signal (run t (shift_of signal) h).made ≡ map (λ c. Some c) characters
 
 -- a body of W, V and C alone, as a Shift may hold it
@@ -134,18 +135,18 @@ leaves signal (stop rest) = true
 -- each vector shows this character
 abbrev pub EachShows : ℕ → Option ℕ → List Made → Type 0
 EachShows signal c [] = Unit {0}
-EachShows signal c (m ∷ made) = (slice_index_or m.vector.letters signal None ≡ c) × EachShows signal c made
+EachShows signal c (m ∷ made) = (slice_index_or m.vector.characters signal None ≡ c) × EachShows signal c made
 
 -- a run in which a signal keeps its character, in each vector and behind it
 pub record Keeps (signal : ℕ) (c : Option ℕ) (r : Ran Here) : Type 0 where
   pub vectors : EachShows signal c r.made
-  pub state : slice_index_or r.here.state.letters signal None ≡ c
+  pub state : slice_index_or r.here.state.characters signal None ≡ c
 
 -- a signal that nothing assigns keeps its character
 abbrev pub SignalKeepsCharacter : Type 0
 SignalKeepsCharacter =
     (t : Setting) (signal : ℕ) (statements : Statements) (h : Here) → leaves signal statements ≡ true →
-    Keeps signal (slice_index_or h.state.letters signal None) (run t statements h)
+    Keeps signal (slice_index_or h.state.characters signal None) (run t statements h)
 
 -- cycle k + 1 starts where cycle k ends
 abbrev pub CyclesFollow : Type 0

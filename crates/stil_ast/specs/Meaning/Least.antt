@@ -2,7 +2,7 @@
 use Rattle.std.specs.Prelude.{ℕ, zero, suc, ◌+◌, ◌==◌, ◌&&◌, Bool, true, false, List, [], ◌∷◌, Option, Some, None, map, slice_index_or, if◌then◌else◌}
 use Rattle.std.specs.Cmp.Lexicographic.{pointwise}
 use Rattle.stil_ast.specs.Meaning.State.{State, Vector}
-use Rattle.stil_ast.specs.Meaning.Dealing.{with_letter}
+use Rattle.stil_ast.specs.Meaning.Dealing.{with_character}
 use Rattle.stil_ast.specs.Meaning.Running.{Made, Ran, times}
 use Rattle.stil_ast.specs.Meaning.Flat.{Flat, done, table, character, back, cycle, repeat, save, saved, flat_run}
 
@@ -18,7 +18,7 @@ same_option _ _ = false
 
 -- whether two vectors are equal: their tables, the characters of each signal, their marks
 abbrev pub same_vector : Vector → Vector → Bool
-same_vector v w = same_option v.table w.table && pointwise same_option v.letters w.letters && (v.mark == w.mark)
+same_vector v w = same_option v.table w.table && pointwise same_option v.characters w.characters && (v.mark == w.mark)
 
 -- a Loop of several passes, of which the first two make these vectors and take so many instructions: none where none is
 -- made; its Loop, its End and one pass where they are equal; else the first pass apart, which stands before the others
@@ -40,10 +40,10 @@ least_loop (suc (suc n)) least run s =
 -- parts before it leave. What sets the table or a character takes none.
 abbrev pub least_written : Flat → State → State → ℕ
 least_written done base s = 0
-least_written (table t rest) base s = least_written rest base (record { table = Some t; letters = s.letters })
-least_written (character signal c rest) base s = least_written rest base (with_letter signal (Some c) s)
+least_written (table t rest) base s = least_written rest base (record { table = Some t; characters = s.characters })
+least_written (character signal c rest) base s = least_written rest base (with_character signal (Some c) s)
 least_written (back signal rest) base s =
-    least_written rest base (with_letter signal (slice_index_or base.letters signal None) s)
+    least_written rest base (with_character signal (slice_index_or base.characters signal None) s)
 least_written (cycle mark spot rest) base s = 1 + least_written rest base s
 least_written (repeat count body rest) base s =
     least_loop count (least_written body base) (flat_run body base) s

@@ -67,7 +67,7 @@ pass_at p f h = back_at p (f h)
 abbrev pub at_table : ℕ → Here → Here
 at_table table h =
     record {
-      state = record { table = Some table; letters = h.state.letters };
+      state = record { table = Some table; characters = h.state.characters };
       held = h.held;
       args = h.args;
       place = h.place;
@@ -88,7 +88,7 @@ make t assigns h = record {
   made = record {
     vector = record {
       table = h.state.table;
-      letters = h.state.letters;
+      characters = h.state.characters;
       mark = mark_of t.scan_outs (takers assigns) h.args;
     };
     place = h.place;
@@ -159,7 +159,7 @@ run t statements h = run_list t (calls t deepest_calls) statements h
 abbrev pub outside : State → Here
 outside s = record {
   state = s;
-  held = record { table = None; letters = [] };
+  held = record { table = None; characters = [] };
   args = [];
   place = record { body = of_pattern; line = 0 };
 }

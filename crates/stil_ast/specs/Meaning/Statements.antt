@@ -4,7 +4,7 @@ use Rattle.stil_ast.specs.Data.Places.{Origin}
 
 -- an item of data: a waveform character, `#` or `%`
 pub data Item : Type 0 where
-  letter : ℕ → Item
+  a_character : ℕ → Item
   hash : Item
   percent : Item
 

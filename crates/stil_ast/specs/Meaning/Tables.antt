@@ -34,7 +34,7 @@ pub record Waveform : Type 0 where
   pub table : ℕ
   pub number : ℕ
   pub signals : List ℕ
-  pub letters : List ℕ
+  pub characters : List ℕ
   pub events : List EventDecl
 
 -- a table's own waveforms in text order, not numbered yet
@@ -44,14 +44,14 @@ unnumbered names table t =
       table = table;
       number = 0;
       signals = members names s.reference;
-      letters = w.letters;
+      characters = w.characters;
       events = w.events;
     }) s.waves) t.waveforms
 
 -- a waveform with its number
 abbrev pub numbered : ℕ × Waveform → Waveform
 numbered p =
-    record { table = p.1.table; number = p.0; signals = p.1.signals; letters = p.1.letters; events = p.1.events }
+    record { table = p.1.table; number = p.0; signals = p.1.signals; characters = p.1.characters; events = p.1.events }
 
 -- a table's own waveforms in text order
 abbrev pub own_waveforms : Names → ℕ → TableDecl → List Waveform
@@ -97,18 +97,18 @@ waveforms names tables table =
 
 -- whether a waveform is for this signal and character
 abbrev pub defines : ℕ → ℕ → Waveform → Bool
-defines signal letter w = list_any (λ s. s == signal) w.signals && list_any (λ c. c == letter) w.letters
+defines signal character w = list_any (λ s. s == signal) w.signals && list_any (λ c. c == character) w.characters
 
 -- the waveform of a signal and a character: the last one counts
 abbrev pub waveform_of : List Waveform → ℕ → ℕ → Option Waveform
-waveform_of all signal letter = find (defines signal letter) (reverse all)
+waveform_of all signal character = find (defines signal character) (reverse all)
 
 -- the act of an event for a character: one act is for all characters, else there is one for each
 abbrev pub act_of : List ℕ → ℕ → List Act → Option Act
-act_of letters letter [] = None
-act_of letters letter (act ∷ []) = Some act
-act_of letters letter (act ∷ more ∷ acts) =
-    slice_get (act ∷ more ∷ acts) (position_or_len (λ c. c == letter) letters)
+act_of characters character [] = None
+act_of characters character (act ∷ []) = Some act
+act_of characters character (act ∷ more ∷ acts) =
+    slice_get (act ∷ more ∷ acts) (position_or_len (λ c. c == character) characters)
 
 -- an event with its time, where its text has one
 abbrev pub timed_act : Result ℤ StilFault → Option Act → Option Event
@@ -118,12 +118,12 @@ timed_act _ _ = None
 -- an event for a character
 abbrev pub event_of : {V : Type 0} → Times V → (List ℕ → Result V Met) → Place → List ℕ → ℕ → EventDecl
     → Option Event
-event_of times vars p letters letter e =
-    timed_act (time_at times vars p e.time) (act_of letters letter e.acts)
+event_of times vars p characters character e =
+    timed_act (time_at times vars p e.time) (act_of characters character e.acts)
 
 -- the events of a waveform for one of its characters, in written order
 abbrev pub events_of : {V : Type 0} → Times V → (List ℕ → Result V Met) → Place → ℕ → Waveform → List Event
-events_of times vars p letter w = filter_map (event_of times vars p w.letters letter) w.events
+events_of times vars p character w = filter_map (event_of times vars p w.characters character) w.events
 
 -- the last one that is there
 abbrev pub later : Option Quoted → Option Quoted → Option Quoted
@@ -145,27 +145,28 @@ abbrev pub period_text : List TableDecl → ℕ → Option Quoted
 period_text tables table = last_of (map (λ (k : ℕ). own_period (slice_get tables k)) (lineage tables table))
 
 -- waveform characters, letters and digits, in the order of their codes
-abbrev pub characters : List ℕ
-characters = upwards 48 10 ++ (upwards 65 26 ++ upwards 97 26)
+abbrev pub every_character : List ℕ
+every_character = upwards 48 10 ++ (upwards 65 26 ++ upwards 97 26)
 
 -- a waveform as a wave
 abbrev pub wave_with : {V : Type 0} → Times V → (List ℕ → Result V Met) → Place → ℕ → ℕ
     → Option Waveform → Option Wave
-wave_with times vars p signal letter None = None
-wave_with times vars p signal letter (Some w) =
-    Some (record { signal = signal; letter = letter; events = events_of times vars p letter w })
+wave_with times vars p signal character None = None
+wave_with times vars p signal character (Some w) =
+    Some (record { signal = signal; character = character; events = events_of times vars p character w })
 
 -- what a signal does in a cycle in which it has this character
 abbrev pub wave_of : {V : Type 0} → Times V → (List ℕ → Result V Met) → Place → List Waveform → ℕ → ℕ
     → Option Wave
-wave_of times vars p all signal letter =
-    wave_with times vars p signal letter (waveform_of all signal letter)
+wave_of times vars p all signal character =
+    wave_with times vars p signal character (waveform_of all signal character)
 
 -- all waves of a table, by signal and then by character
 abbrev pub waves_of : {V : Type 0} → Times V → (List ℕ → Result V Met) → Place → List Waveform → ℕ
     → List Wave
 waves_of times vars p all signals =
-    flat_map (λ signal. filter_map (λ letter. wave_of times vars p all signal letter) characters) (upwards 0 signals)
+    flat_map (λ signal. filter_map (λ character. wave_of times vars p all signal character) every_character)
+    (upwards 0 signals)
 
 -- a time, or 0 where its text has none
 abbrev pub time_or_zero : Result ℤ StilFault → ℕ
@@ -194,4 +195,5 @@ made_tables times vars names p tables = map (made_table times vars names p table
 -- how many signals and characters a table has a waveform for
 abbrev pub wave_count : List Waveform → ℕ → ℕ
 wave_count all signals =
-    sum_by (λ signal. count_by (λ letter. is_some (waveform_of all signal letter)) characters) (upwards 0 signals)
+    sum_by (λ signal. count_by (λ character. is_some (waveform_of all signal character)) every_character)
+    (upwards 0 signals)

@@ -11,7 +11,7 @@ use Rattle.block_forms.proofs.StandardFacts.Lines.{on}
 use Rattle.stil_ast.specs.declared.variable.Choice.{Choice}
 use Rattle.stil_ast.specs.declared.variable.Choice.TheVariants.{Min, Typ, Max, Meas}
 use Rattle.stil_ast.specs.declared.variable.Selection.{Selection}
-use Rattle.timing_blocks.specs.Selectors.{selection_step, selector_block}
+use Rattle.timing_blocks.specs.Selectors.{judge_selection, selector_block}
 
 -- a selection
 abbrev select : List ℕ → Choice → Selection
@@ -58,61 +58,61 @@ ways = record {
 }
 
 -- `a Mid;`
-pub other_choice : selection_step ways (select (codes "a") Min ∷ []) (record { first = 0; count = 2; body = None })
+pub other_choice : judge_selection ways (select (codes "a") Min ∷ []) (record { first = 0; count = 2; body = None })
     ≡ Err (Refused Shape 0)
 unfolding is_digit begins_name is_printable
 other_choice = refl
 
 -- `a;`
-pub no_choice : selection_step ways (select (codes "a") Min ∷ []) (record { first = 3; count = 1; body = None })
+pub no_choice : judge_selection ways (select (codes "a") Min ∷ []) (record { first = 3; count = 1; body = None })
     ≡ Err (Refused Shape 3)
 unfolding is_digit begins_name is_printable
 no_choice = refl
 
 -- `a Min { }`
-pub with_a_block : selection_step ways (select (codes "a") Min ∷ []) (record { first = 5; count = 2; body = Some end })
+pub with_a_block : judge_selection ways (select (codes "a") Min ∷ []) (record { first = 5; count = 2; body = Some end })
     ≡ Err (Refused Shape 5)
 unfolding is_digit begins_name is_printable
 with_a_block = refl
 
 -- `a Min x;`
-pub more_behind : selection_step ways (select (codes "a") Min ∷ []) (record { first = 9; count = 3; body = None })
+pub more_behind : judge_selection ways (select (codes "a") Min ∷ []) (record { first = 9; count = 3; body = None })
     ≡ Err (Refused Shape 9)
 unfolding is_digit begins_name is_printable
 more_behind = refl
 
 -- `a "Min";`: a keyword is a word
-pub keyword_quoted : selection_step ways (select (codes "a") Min ∷ []) (record { first = 13; count = 2; body = None })
+pub keyword_quoted : judge_selection ways (select (codes "a") Min ∷ []) (record { first = 13; count = 2; body = None })
     ≡ Err (Refused Shape 13)
 unfolding is_digit begins_name is_printable
 keyword_quoted = refl
 
 -- `1 Min;`
-pub number : selection_step ways (select (codes "a") Min ∷ []) (record { first = 16; count = 2; body = None })
+pub number : judge_selection ways (select (codes "a") Min ∷ []) (record { first = 16; count = 2; body = None })
     ≡ Err (Refused Shape 16)
 unfolding is_digit begins_name is_printable
 number = refl
 
 -- `"" Min;`
-pub empty_name : selection_step ways (select (codes "a") Min ∷ []) (record { first = 19; count = 2; body = None })
+pub empty_name : judge_selection ways (select (codes "a") Min ∷ []) (record { first = 19; count = 2; body = None })
     ≡ Err (Refused Shape 19)
 unfolding is_digit begins_name is_printable
 empty_name = refl
 
 -- `"a" Max;`: one name, in quotes or without
-pub twice : selection_step ways (select (codes "a") Min ∷ []) (record { first = 22; count = 2; body = None })
+pub twice : judge_selection ways (select (codes "a") Min ∷ []) (record { first = 22; count = 2; body = None })
     ≡ Err (Refused Twice 22)
 unfolding is_digit begins_name is_printable
 twice = refl
 
 -- `b Max;`
-pub another : selection_step ways (select (codes "a") Min ∷ []) (record { first = 25; count = 2; body = None })
-    ≡ Ok (select (codes "a") Min ∷ select (codes "b") Max ∷ [])
+pub another : judge_selection ways (select (codes "a") Min ∷ []) (record { first = 25; count = 2; body = None })
+    ≡ Ok (select (codes "b") Max)
 unfolding is_digit begins_name is_printable
 another = refl
 
 -- `"a" Max x;`
-pub form_before_twice : selection_step ways (select (codes "a") Min ∷ [])
+pub form_before_twice : judge_selection ways (select (codes "a") Min ∷ [])
     (record { first = 28; count = 3; body = None })
     ≡ Err (Refused Shape 28)
 unfolding is_digit begins_name is_printable

@@ -1,5 +1,5 @@
 -- What known Timing blocks and their statements say, and each way in which they are refused.
-use Rattle.std.proofs.Common.{◌≡◌, ℕ, ◌+◌, [], ◌∷◌, Some, None, Ok, Err, refl, replicate}
+use Rattle.std.proofs.Common.{◌≡◌, List, ℕ, ◌+◌, [], ◌∷◌, Some, None, Ok, Err, refl, replicate}
 use Rattle.std.specs.Prelude.{codes}
 use Rattle.text_bytes.specs.Bytes.{is_digit, begins_name, is_printable, is_character}
 use Rattle.tester_types.specs.declared.wave.Act.TheVariants as act
@@ -14,7 +14,7 @@ use Rattle.stil_form.specs.Setting.{Setting}
 use Rattle.stil_ast.specs.declared.name.SigRef.TheVariants as ref
 use Rattle.stil_ast.specs.declared.timing.TableDecl.{TableDecl}
 use Rattle.timing_blocks.specs.Waveforms.{event_at}
-use Rattle.timing_blocks.specs.Timings.{table_step, empty_table, judge_table, timing_block}
+use Rattle.timing_blocks.specs.Timings.{TableLine, period, judge_line, table_in, judge_table, timing_block}
 use Rattle.block_forms.proofs.StandardFacts.Signs.{word, name, text, mark}
 
 -- tokens on a line
@@ -67,7 +67,7 @@ table = record {
         reference = ref.Name (record { name = codes "a"; range = Some (record { first = 3; last = 0 }) });
         waves =
             record {
-              letters = codes "01";
+              characters = codes "01";
               events =
                   event_at (codes "0ns") 5 (act.Push push.Down ∷ act.Push push.Up ∷ []) ∷
                   event_at (codes "5ns") 6 (act.Look look.Close ∷ []) ∷ [];
@@ -76,7 +76,7 @@ table = record {
       } ∷
       record {
         reference = ref.Group (record { text = codes "b+c"; line = 6 });
-        waves = record { letters = codes "Z"; events = [] } ∷ [];
+        waves = record { characters = codes "Z"; events = [] } ∷ [];
         line = 6;
       } ∷ [];
   line = 2;
@@ -131,12 +131,12 @@ tables = record {
 
 -- `WaveformTable t { }`
 pub empty : judge_table tables [] (codes "u") [] (record { first = 16; count = 2; body = Some end })
-    ≡ Ok (empty_table (codes "t") 1)
+    ≡ Ok (table_in (codes "t") 1 [])
 unfolding is_digit begins_name is_printable is_character
 empty = refl
 
 -- the same behind a table of that name
-pub table_twice : judge_table tables [] (codes "u") (empty_table (codes "t") 1 ∷ []) (record { first = 16; count = 2; body = Some end })
+pub table_twice : judge_table tables [] (codes "u") (table_in (codes "t") 1 [] ∷ []) (record { first = 16; count = 2; body = Some end })
     ≡ Err (Refused Twice 16)
 unfolding is_digit begins_name is_printable is_character
 table_twice = refl
@@ -171,13 +171,9 @@ pub no_keyword : judge_table tables [] (codes "u") [] (record { first = 14; coun
 unfolding is_digit begins_name is_printable is_character
 no_keyword = refl
 
--- a table of which nothing was read
-abbrev none_yet : TableDecl
-none_yet = empty_table (codes "t") 1
-
--- a table that has a period
-abbrev with_one : TableDecl
-with_one = record none_yet { period = Some (record { text = codes "y"; line = 1 }) }
+-- a period
+abbrev one_period : List TableLine
+one_period = period (record { text = codes "y"; line = 1 }) ∷ []
 
 -- statements of a waveform table
 abbrev lines : Setting
@@ -193,79 +189,79 @@ lines = record {
 }
 
 -- `Period x;`
-pub period_word : table_step lines none_yet (record { first = 0; count = 2; body = None })
+pub period_word : judge_line lines [] (record { first = 0; count = 2; body = None })
     ≡ Err (Refused Shape 0)
 unfolding is_digit begins_name is_printable is_character
 period_word = refl
 
 -- `Period 'x' { }`
-pub period_with_block : table_step lines none_yet (record { first = 3; count = 2; body = Some end })
+pub period_with_block : judge_line lines [] (record { first = 3; count = 2; body = Some end })
     ≡ Err (Refused Shape 3)
 unfolding is_digit begins_name is_printable is_character
 period_with_block = refl
 
 -- `Period;`
-pub no_period : table_step lines none_yet (record { first = 7; count = 1; body = None })
+pub no_period : judge_line lines [] (record { first = 7; count = 1; body = None })
     ≡ Err (Refused Shape 7)
 unfolding is_digit begins_name is_printable is_character
 no_period = refl
 
 -- `InheritWaveformTable;`
-pub inherits_nothing : table_step lines none_yet (record { first = 12; count = 1; body = None })
+pub inherits_nothing : judge_line lines [] (record { first = 12; count = 1; body = None })
     ≡ Err (Refused Shape 12)
 unfolding is_digit begins_name is_printable is_character
 inherits_nothing = refl
 
 -- `InheritWaveformTable "";`
-pub inherits_unnamed : table_step lines none_yet (record { first = 14; count = 2; body = None })
+pub inherits_unnamed : judge_line lines [] (record { first = 14; count = 2; body = None })
     ≡ Err (Refused Shape 14)
 unfolding is_digit begins_name is_printable is_character
 inherits_unnamed = refl
 
 -- `InheritWaveformTable t { }`
-pub inherits_with_block : table_step lines none_yet (record { first = 17; count = 2; body = Some end })
+pub inherits_with_block : judge_line lines [] (record { first = 17; count = 2; body = Some end })
     ≡ Err (Refused Shape 17)
 unfolding is_digit begins_name is_printable is_character
 inherits_with_block = refl
 
 -- `Waveforms;`
-pub waveforms_ended : table_step lines none_yet (record { first = 21; count = 1; body = None })
+pub waveforms_ended : judge_line lines [] (record { first = 21; count = 1; body = None })
     ≡ Err (Refused Shape 21)
 unfolding is_digit begins_name is_printable is_character
 waveforms_ended = refl
 
 -- `Waveforms a { }`
-pub waveforms_named : table_step lines none_yet (record { first = 23; count = 2; body = Some end })
+pub waveforms_named : judge_line lines [] (record { first = 23; count = 2; body = Some end })
     ≡ Err (Refused Shape 23)
 unfolding is_digit begins_name is_printable is_character
 waveforms_named = refl
 
 -- `Wave 'x';`
-pub other_word : table_step lines none_yet (record { first = 27; count = 2; body = None })
+pub other_word : judge_line lines [] (record { first = 27; count = 2; body = None })
     ≡ Err (Refused LeftOut 27)
 unfolding is_digit begins_name is_printable is_character
 other_word = refl
 
 -- `"Period" 'x';`
-pub keyword_in_quotes : table_step lines none_yet (record { first = 30; count = 2; body = None })
+pub keyword_in_quotes : judge_line lines [] (record { first = 30; count = 2; body = None })
     ≡ Err (Refused LeftOut 30)
 unfolding is_digit begins_name is_printable is_character
 keyword_in_quotes = refl
 
 -- `{ }`
-pub no_word : table_step lines none_yet (record { first = 33; count = 0; body = Some end })
+pub no_word : judge_line lines [] (record { first = 33; count = 0; body = Some end })
     ≡ Err (Refused LeftOut 33)
 unfolding is_digit begins_name is_printable is_character
 no_word = refl
 
--- `Period 'x';` in a table that has a period
-pub period_twice : table_step lines with_one (record { first = 9; count = 2; body = None })
+-- `Period 'x';` behind a period
+pub period_twice : judge_line lines one_period (record { first = 9; count = 2; body = None })
     ≡ Err (Refused Twice 9)
 unfolding is_digit begins_name is_printable is_character
 period_twice = refl
 
 -- `Period x;` there
-pub form_before_twice : table_step lines with_one (record { first = 0; count = 2; body = None })
+pub form_before_twice : judge_line lines one_period (record { first = 0; count = 2; body = None })
     ≡ Err (Refused Shape 0)
 unfolding is_digit begins_name is_printable is_character
 form_before_twice = refl

@@ -1,5 +1,5 @@
 -- What known statements of Waveforms say, and each way in which they are refused.
-use Rattle.std.proofs.Common.{◌≡◌, List, [], ◌∷◌, Some, None, Ok, Err, refl, replicate}
+use Rattle.std.proofs.Common.{◌≡◌, ℕ, List, [], ◌∷◌, Some, None, Ok, Err, refl, replicate}
 use Rattle.std.specs.Prelude.{codes}
 use Rattle.text_bytes.specs.Bytes.{is_digit, begins_name, is_printable, is_character}
 use Rattle.tester_types.specs.declared.wave.Act.TheVariants as act
@@ -9,10 +9,12 @@ use Rattle.stil_tree.specs.Trees.{end}
 use Rattle.stil_form.specs.declared.fault.FormFault.TheVariants.{Refused}
 use Rattle.stil_form.specs.declared.fault.FormKind.TheVariants.{Shape, LeftOut, OutOfRange}
 use Rattle.stil_form.specs.Setting.{Setting}
+use Rattle.stil_form.specs.declared.part.SignKind.TheVariants.{Slash}
 use Rattle.stil_form.specs.Lexeme as lexeme
+use Rattle.stil_form.specs.Lexeme.{Lexeme}
 use Rattle.stil_ast.specs.declared.timing.EventDecl.{EventDecl}
 use Rattle.stil_ast.specs.declared.name.SigRef.TheVariants as ref
-use Rattle.timing_blocks.specs.Waveforms.{act_of, event_at, judge_event, judge_wave, judge_signal}
+use Rattle.timing_blocks.specs.Waveforms.{act_of, acts_of, event_at, judge_event, judge_wave, judge_signal}
 use Rattle.block_forms.proofs.StandardFacts.Signs.{word, name, text, mark}
 
 -- events of a waveform
@@ -118,6 +120,50 @@ pub form_before_count : judge_event events 2 sixteen (record { first = 30; count
 unfolding is_digit begins_name is_printable is_character
 form_before_count = refl
 
+-- a word, and the sign `/`
+abbrev act_word : List ℕ → Lexeme
+act_word bytes = lexeme.word bytes
+
+abbrev slash : Lexeme
+slash = lexeme.sign Slash
+
+-- `D`
+pub one_act : acts_of (act_word (codes "D") ∷ []) ≡ Ok (act.Push push.Down ∷ [])
+one_act = refl
+
+-- `D/U/Z`
+pub acts_in_order : acts_of (act_word (codes "D") ∷ slash ∷ act_word (codes "U") ∷ slash ∷ act_word (codes "Z") ∷ [])
+    ≡ Ok (act.Push push.Down ∷ act.Push push.Up ∷ act.Push push.Off ∷ [])
+acts_in_order = refl
+
+-- nothing
+pub nothing_is_said : acts_of [] ≡ Err Shape
+nothing_is_said = refl
+
+-- `D/`
+pub slash_last : acts_of (act_word (codes "D") ∷ slash ∷ []) ≡ Err Shape
+slash_last = refl
+
+-- `D U`
+pub no_slash_between : acts_of (act_word (codes "D") ∷ act_word (codes "U") ∷ []) ≡ Err Shape
+no_slash_between = refl
+
+-- `/D`
+pub slash_in_front : acts_of (slash ∷ act_word (codes "D") ∷ []) ≡ Err LeftOut
+slash_in_front = refl
+
+-- `D//U`
+pub two_slashes : acts_of (act_word (codes "D") ∷ slash ∷ slash ∷ act_word (codes "U") ∷ []) ≡ Err LeftOut
+two_slashes = refl
+
+-- `Q`
+pub other_character : acts_of (act_word (codes "Q") ∷ []) ≡ Err LeftOut
+other_character = refl
+
+-- `D U/Q`: that a place lacks its act is said first
+pub place_before_shape : acts_of (act_word (codes "D") ∷ act_word (codes "U") ∷ slash ∷ act_word (codes "Q") ∷ []) ≡ Err LeftOut
+place_before_shape = refl
+
 -- each act, by its letter and by its long name
 pub letter_D : act_of (lexeme.word (codes "D")) ≡ Some (act.Push push.Down)
 letter_D = refl
@@ -213,10 +259,10 @@ waves = record {
 }
 
 -- `01aZ { }`
-pub letters : judge_wave waves [] (record { first = 0; count = 1; body = Some end })
-    ≡ Ok (record { letters = codes "01aZ"; events = [] })
+pub characters : judge_wave waves [] (record { first = 0; count = 1; body = Some end })
+    ≡ Ok (record { characters = codes "01aZ"; events = [] })
 unfolding is_digit begins_name is_printable is_character
-letters = refl
+characters = refl
 
 -- `0_ { }`
 pub low_line : judge_wave waves [] (record { first = 3; count = 1; body = Some end })
@@ -225,16 +271,16 @@ unfolding is_digit begins_name is_printable is_character
 low_line = refl
 
 -- `00 { }`
-pub letter_twice : judge_wave waves [] (record { first = 6; count = 1; body = Some end })
+pub character_twice : judge_wave waves [] (record { first = 6; count = 1; body = Some end })
     ≡ Err (Refused Shape 6)
 unfolding is_digit begins_name is_printable is_character
-letter_twice = refl
+character_twice = refl
 
 -- `"01" { }`
-pub quoted_letters : judge_wave waves [] (record { first = 9; count = 1; body = Some end })
+pub quoted_characters : judge_wave waves [] (record { first = 9; count = 1; body = Some end })
     ≡ Err (Refused Shape 9)
 unfolding is_digit begins_name is_printable is_character
-quoted_letters = refl
+quoted_characters = refl
 
 -- `0 1 { }`
 pub two_words : judge_wave waves [] (record { first = 12; count = 2; body = Some end })
@@ -243,10 +289,10 @@ unfolding is_digit begins_name is_printable is_character
 two_words = refl
 
 -- `01;`
-pub letters_without_block : judge_wave waves [] (record { first = 16; count = 1; body = None })
+pub characters_without_block : judge_wave waves [] (record { first = 16; count = 1; body = None })
     ≡ Err (Refused LeftOut 16)
 unfolding is_digit begins_name is_printable is_character
-letters_without_block = refl
+characters_without_block = refl
 
 -- `0_;`
 pub any_without_block : judge_wave waves [] (record { first = 18; count = 1; body = None })

@@ -1,6 +1,6 @@
 use Rattle.std.proofs.Common.{subst}
 use Rattle.cycle_comp.specs.Written.{IsFaulty, IsFirstFault}
-use Rattle.cycle_comp.specs.declared.fault.WriteError.{WriteError}
+use Rattle.cycle_comp.specs.Writing.{WriteError}
 use Rattle.cycle_comp.proofs.refusing.write_refusal.Goals as goal
 
 pub returns-in-Ok : goal.returns-in-Ok

@@ -9,5 +9,5 @@ pub returns-in-Some : goal.returns-in-Some
 returns-in-Some c =
     let tables = c.args.tables.now in
     c.is_some.ensures
-    ∙ (wave-defined (λ (w : Bor Wave). w.now) tables c.args.table c.args.signal c.in-Some.letter c.wave.result c.wave.ensures
-    ∙ ap (λ (letter : Option ℕ). has_wave (slice_get tables c.args.table) c.args.signal letter) (sym c.in-Some.is))
+    ∙ (wave-defined (λ (w : Bor Wave). w.now) tables c.args.table c.args.signal c.in-Some.character c.wave.result c.wave.ensures
+    ∙ ap (λ (character : Option ℕ). has_wave (slice_get tables c.args.table) c.args.signal character) (sym c.in-Some.is))

@@ -1,7 +1,7 @@
 use Rattle.std.proofs.Common.{rules, ◌≡◌, ℕ, ◌+◌, ◌*◌, List, vec_len, Option, refl, sym, ap, subst, ◌∙◌, arith}
 use Rattle.std.proofs.lemmas.Result.{on_ok_weaker}
 use Rattle.std.proofs.lemmas.Bool.{eqb-true}
-use Rattle.stil_ast.specs.Meaning.Dealing.{with_letter}
+use Rattle.stil_ast.specs.Meaning.Dealing.{with_character}
 use Rattle.stil_ast.specs.Meaning.Running.{times}
 use Rattle.stil_ast.specs.Meaning.Flat.{done, flat_run, measure}
 use Rattle.packed_code.specs.declared.instr.Instr.{Instr}
@@ -238,7 +238,7 @@ write_item-returns-in-Table-clause-done t c =
 pub write_item-returns-in-Character-clause-done : goal.write_item-returns-in-Character-clause-done
 write_item-returns-in-Character-clause-done t c =
     walked-item_set c.args.source.now.tables.now c.args.source.now.first c.args.item
-    (Character c.in-Character.signal c.in-Character.letter) c.args.code.now.items c.args.rows.now c.args.base.now.told
+    (Character c.in-Character.signal c.in-Character.character) c.args.code.now.items c.args.rows.now c.args.base.now.told
     c.args.state.now.told _ _ c.in-Character.is refl c.set.ensures.told
 
 pub write_item-returns-in-Back-clause-done : goal.write_item-returns-in-Back-clause-done
@@ -246,7 +246,7 @@ write_item-returns-in-Back-clause-done t c =
     walked-item_set c.args.source.now.tables.now c.args.source.now.first c.args.item (Back c.in-Back.signal)
     c.args.code.now.items c.args.rows.now c.args.base.now.told c.args.state.now.told _ _ c.in-Back.is refl
     (c.set-in-Back.ensures.told
-    ∙ ap (λ (letter : Option ℕ). with_letter c.in-Back.signal letter c.args.state.now.told) c.letter.ensures)
+    ∙ ap (λ (character : Option ℕ). with_character c.in-Back.signal character c.args.state.now.told) c.character.ensures)
 
 pub write_item-returns-in-Repeat-clause-exact : goal.write_item-returns-in-Repeat-clause-exact
 write_item-returns-in-Repeat-clause-exact t c =

@@ -2,7 +2,7 @@ use Rattle.std.proofs.Common.{◌<◌, ◌≡◌, length, get_or, refl, arith}
 use Rattle.std.proofs.lemmas.List.{get_or_read}
 use Rattle.tester_types.specs.declared.level.Level.TheVariants.{Zero}
 use Rattle.bench_net.specs.Wiring.{driver_at}
-use Rattle.die_sim.specs.Gates.{level_at}
+use Rattle.bench_net.specs.Gates.{level_at}
 use Rattle.die_sim.specs.Moment.{captured}
 use Rattle.die_sim.proofs.MomentLemmas.{flip_flop_within, CapturedTo-more}
 use Rattle.std.proofs.Common.{ap, ◌∙◌}

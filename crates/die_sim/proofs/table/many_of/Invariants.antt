@@ -1,5 +1,5 @@
 use Rattle.std.proofs.Common.{◌≡◌, take}
-use Rattle.die_sim.specs.Gates.{zeros, ones}
+use Rattle.bench_net.specs.Gates.{zeros, ones}
 use Rattle.die_sim.specs.Table.{gives, base_of}
 use Rattle.die_sim.proofs.table.many_of.Given as goal
 

@@ -10,7 +10,7 @@ use Rattle.flat_stil.proofs.tables.put_wave.Goals as goal
 pub returns : goal.returns
 returns c =
     three_pieces c.args.sheet.now c.put_front.new.sheet c.put_events.new.sheet c.put_line.new.self
-    (wave_front (name_of c.args.code.now c.args.wave.now.signal) c.args.wave.now.letter ++ codes "{ ") (flat_map event_item c.args.wave.now.events) (codes "} }")
-    (c.put_front.ensures ∙ ap (λ (n : List ℕ). wrote c.args.sheet.now (wave_front n c.args.wave.now.letter ++ codes "{ ")) c.name_at.ensures)
+    (wave_front (name_of c.args.code.now c.args.wave.now.signal) c.args.wave.now.character ++ codes "{ ") (flat_map event_item c.args.wave.now.events) (codes "} }")
+    (c.put_front.ensures ∙ ap (λ (n : List ℕ). wrote c.args.sheet.now (wave_front n c.args.wave.now.character ++ codes "{ ")) c.name_at.ensures)
     (c.put_events.ensures ∙ ap (λ (es : List Event). wrote c.put_front.new.sheet (flat_map event_item es)) c.as_slice.ensures)
     c.put_line.ensures

@@ -1,4 +1,5 @@
 use Rattle.std.proofs.Common.{ℕ, ◌<◌, ◌≤◌, List, Option, length, refl, sym, ap, subst, ◌∙◌, arith}
+use Rattle.text_bytes.specs.Limits.{most_plan_sites}
 use Rattle.tester_types.specs.Outside.{Files}
 use Rattle.tool_inputs.specs.declared.refusal.Refusal.TheVariants.{NoMemory}
 use Rattle.plan_parts.proofs.RankLemmas.{few_sites}
@@ -36,7 +37,7 @@ returns-in-Err-load_parts-clause-answers g c =
 
 pub read_logs-requires-clause-few_sites : goal.read_logs-requires-clause-few_sites
 read_logs-requires-clause-few_sites g c =
-    subst (λ (l : List ℕ). length l ≤ 64) (sym c.in-Ok-of.ensures) (few_sites c.in-Ok.rows c.in-Ok.ensures.rows)
+    subst (λ (l : List ℕ). length l ≤ most_plan_sites) (sym c.in-Ok-of.ensures) (few_sites c.in-Ok.rows c.in-Ok.ensures.rows)
 
 pub read_logs-requires-clause-each : goal.read_logs-requires-clause-each
 read_logs-requires-clause-each g c =

@@ -1,9 +1,8 @@
 use Rattle.std.proofs.Common.{◌∙◌, sym, refl, subst}
 use Rattle.stil_ast.specs.Data.Assignments.{assignment_said}
 use Rattle.stil_ast.specs.Faults.AssignmentFaults.{check_argument}
-use Rattle.macro_expand.specs.declared.trouble.Trouble.{Trouble}
 use Rattle.macro_expand.specs.Giving.{at_count}
-use Rattle.macro_expand.specs.Refusing.{IsAt}
+use Rattle.macro_expand.specs.Refusing.{IsAt, Trouble}
 use Rattle.macro_expand.specs.Scopes.{scope_in}
 use Rattle.macro_expand.specs.Standings.{standing_in}
 use Rattle.macro_expand.proofs.GiveLemmas.{argument_form, argument_short, argument_given}

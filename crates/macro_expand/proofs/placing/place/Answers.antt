@@ -1,8 +1,7 @@
 use Rattle.std.proofs.Common.{map, ap, ◌∙◌, sym, subst}
-use Rattle.macro_expand.specs.declared.trouble.Trouble.{Trouble}
 use Rattle.macro_expand.specs.Pairs.{taker_of}
 use Rattle.macro_expand.specs.Placing.{assign_of, placed}
-use Rattle.macro_expand.specs.Refusing.{IsAt}
+use Rattle.macro_expand.specs.Refusing.{IsAt, Trouble}
 use Rattle.macro_expand.specs.Standings.{standing_in}
 use Rattle.macro_expand.specs.Walks.{walked}
 use Rattle.macro_expand.proofs.PlaceLemmas.{misplaced_at, width_at, data_at, places}

@@ -4,7 +4,7 @@ use Rattle.std.proofs.lemmas.List.{length-set}
 use Rattle.page_code.specs.Fields.{Fails, items_at}
 use Rattle.page_code.specs.Reading.{change_from, change_at}
 use Rattle.page_code.proofs.ItemsLemmas.{goes_on, is_done, changed_stops}
-use Rattle.packed_code.proofs.ChangesLemmas.{less_none, least_push, with_more}
+use Rattle.page_code.proofs.ChangesLemmas.{less_none, least_push, with_more}
 use Rattle.page_code.proofs.read_rows.changed.Goals as goal
 
 pub loop-init : goal.loop-init
@@ -26,7 +26,7 @@ returns-in_err-signal-clause-read c =
 pub loop-preserved : goal.loop-preserved
 loop-preserved c =
     let made = c.loop.invariant.made in
-    let item : ℕ × ℕ = (c.in_ok-signal.signal, c.in_ok-signal.letter) in
+    let item : ℕ × ℕ = (c.in_ok-signal.signal, c.in_ok-signal.character) in
     let one = change_at c.args.signals c.args.last.now in
     let read = subst (λ (n : ℕ). change_from n c.args.signals c.args.last.now c.loop.rest.now ≡ Ok (item, c.in_ok-signal.after.now))
     made.3 c.in_ok-signal.ensures.read in
@@ -35,10 +35,10 @@ loop-preserved c =
         made.0 ++ item ∷ [],
         goes_on one made.0 c.args.count c.loop.counter c.loop.rest.now item c.in_ok-signal.after.now
             (items_at one c.args.count [] c.args.bytes.now) c.loop-test.true read made.1,
-        ap (λ xs. set xs c.in_ok-signal.signal c.in_ok-signal.letter) made.2 ∙ sym (with_more c.args.last.now made.0 item),
+        ap (λ xs. set xs c.in_ok-signal.signal c.in_ok-signal.character) made.2 ∙ sym (with_more c.args.last.now made.0 item),
         omega (arith, least_push made.0 item),
       );
-      size = length-set c.loop.row.items c.in_ok-signal.signal c.in_ok-signal.letter ∙ c.loop.invariant.size;
+      size = length-set c.loop.row.items c.in_ok-signal.signal c.in_ok-signal.character ∙ c.loop.invariant.size;
     }
 
 pub returns-clause-read : goal.returns-clause-read

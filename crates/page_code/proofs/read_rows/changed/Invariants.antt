@@ -1,5 +1,5 @@
 use Rattle.std.proofs.Common.{◌≡◌, ◌-◌, ℕ, List, [], length}
-use Rattle.packed_code.specs.Changes.{with_changes, least_behind}
+use Rattle.page_code.specs.Changes.{with_changes, least_behind}
 use Rattle.page_code.specs.Fields.{items_at}
 use Rattle.page_code.specs.Reading.{change_at}
 use Rattle.page_code.proofs.read_rows.changed.Given as goal

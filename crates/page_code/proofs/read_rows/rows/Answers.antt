@@ -3,7 +3,7 @@ use Rattle.std.proofs.lemmas.Result.{err_from_is_err_and}
 use Rattle.page_code.specs.Fields.{items_at}
 use Rattle.page_code.specs.Reading.{row_at}
 use Rattle.page_code.proofs.ItemsLemmas.{goes_on, stops, is_done}
-use Rattle.packed_code.proofs.ChangesLemmas.{last_row_push}
+use Rattle.page_code.proofs.ChangesLemmas.{last_row_push}
 use Rattle.page_code.proofs.read_rows.rows.Goals as goal
 
 pub returns-in_err-after : goal.returns-in_err-after

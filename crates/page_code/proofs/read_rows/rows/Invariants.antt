@@ -1,5 +1,5 @@
 use Rattle.std.proofs.Common.{◌≡◌, ◌-◌, ◌<◌, [], length}
-use Rattle.packed_code.specs.Changes.{last_row}
+use Rattle.page_code.specs.Changes.{last_row}
 use Rattle.page_code.specs.Fields.{items_at}
 use Rattle.page_code.specs.Reading.{row_at}
 use Rattle.page_code.proofs.read_rows.rows.Given as goal

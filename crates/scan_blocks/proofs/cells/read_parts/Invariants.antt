@@ -1,7 +1,7 @@
 use Rattle.std.proofs.Common.{◌≡◌, drop}
 use Rattle.answers.specs.Reading.{stepping}
 use Rattle.stil_form.specs.Lexeme.{lexemes_of, lexemes}
-use Rattle.scan_blocks.specs.Cells.{cells_step, cells_start}
+use Rattle.scan_blocks.specs.Working.{cells_step, cells_start}
 use Rattle.scan_blocks.proofs.cells.read_parts.Given as goal
 
 -- what was read, and the rest, are the whole

@@ -1,6 +1,8 @@
-use Rattle.std.proofs.Common.{◌≡◌, ◌≤◌, List, length, sym, subst, arith}
+use Rattle.std.proofs.Common.{◌≡◌, ◌⊎◌, ◌≤◌, List, length, sym, subst, arith}
 use Rattle.stil_lex.specs.declared.token.Token.{Token}
 use Rattle.stil_lex.specs.Tokens.{Reads}
+use Rattle.stil_lex.specs.Faults.{IsFaultBehind}
+use Rattle.stil_lex.specs.declared.fault.LexFault.TheVariants.{NoMemory}
 use Rattle.text_bytes.specs.Limits.{most_bytes}
 use Rattle.stil_program.proofs.TokenLemmas.{few_tokens}
 use Rattle.stil_program.proofs.FrontAnswers.{tokens_answer}
@@ -17,3 +19,8 @@ read_tokens-requires-clause-few c =
 
 pub returns-in-Err : goal.returns-in-Err
 returns-in-Err c = tokens_answer c.args.bytes.now c.tokens_refused.result c.tokens_refused.ensures
+
+pub tokens_refused-requires-clause-is : goal.tokens_refused-requires-clause-is
+tokens_refused-requires-clause-is c =
+    subst (λ (ts : List Token). (c.in-Err.stop.fault ≡ NoMemory) ⊎ IsFaultBehind c.args.bytes.now ts c.in-Err.stop.fault)
+    (sym c.as_slice-in-Err.ensures) c.in-Err.ensures.fault

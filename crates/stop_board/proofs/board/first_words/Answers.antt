@@ -1,6 +1,7 @@
 use Rattle.std.proofs.Common.{arith, zero, suc, ap, ◌≡◌, ◌<◌, ◌+◌, ◌∙◌, sym, length, take, ℕ, List, ◌++◌, ◌∷◌, [], length-set, add-one}
 use Rattle.std.proofs.lemmas.List.{take_more_set, take_all}
 use Rattle.std.specs.Slots.{slots_items}
+use Rattle.text_bytes.specs.Limits.{most_sites}
 use mathlib.Core.Option.{some, some-injective, some-ne-none}
 use lib.ListN.{get_elem?}
 use Rattle.stop_board.proofs.board.first_words.Goals as goal
@@ -20,7 +21,7 @@ loop-site-preserved c =
     let site = c.loop-site.site in
     let here : site < length words = omega arith in
     record {
-      sixteen = length-set words site c.word.result ∙ inv.sixteen;
+      each_site = length-set words site c.word.result ∙ inv.each_site;
       same = take_more_set words site c.word.result here ∙ ap (λ front. front ++ c.word.result ∷ []) inv.same
           ∙ sym (take-suc-there (slots_items c.args.closed.now.words) site c.word.result c.word.ensures);
     }
@@ -28,6 +29,6 @@ loop-site-preserved c =
 pub returns : goal.returns
 returns c =
     let inv = c.loop-site.invariant in
-    let all : c.loop-site.site ≡ 16 = omega arith in
-    sym (take_all 16 c.loop-site.words (omega arith)) ∙ ap (λ k. take k c.loop-site.words) (sym all) ∙ inv.same
+    let all : c.loop-site.site ≡ most_sites = omega arith in
+    sym (take_all most_sites c.loop-site.words (omega arith)) ∙ ap (λ k. take k c.loop-site.words) (sym all) ∙ inv.same
     ∙ ap (λ k. take k (slots_items c.args.closed.now.words)) all

@@ -9,7 +9,7 @@ abbrev pub invariant-loop-place : goal.invariant-loop-place
 invariant-loop-place l = record {
   within : l.place ≤ length l.waves;
   none : (j : ℕ) (d : Wave) → l.place ≤ j → j < length l.waves
-      → is_wave l.signal l.letter (slice_index_or l.waves j d) ≡ false;
+      → is_wave l.signal l.character (slice_index_or l.waves j d) ≡ false;
 }
 
 abbrev pub decreases-loop-place : goal.decreases-loop-place

@@ -1,6 +1,6 @@
 use Rattle.std.proofs.Common.{◌≡◌, drop, false, []}
 use Rattle.stil_form.specs.Lexeme.{lexemes, lexemes_of}
-use Rattle.timing_blocks.specs.Waveforms.{acts_from}
+use Rattle.timing_blocks.specs.Working.{acts_from}
 use Rattle.timing_blocks.proofs.waveforms.acts_between.Given as goal
 
 -- what was read, and the rest, are the whole

@@ -4,4 +4,4 @@ use Rattle.timing_blocks.proofs.waveforms.all_differ.Given as goal
 
 -- those before stand once
 abbrev pub invariant-loop-place : goal.invariant-loop-place
-invariant-loop-place l = all_differ nat_eq (drop l.place l.letters) ≡ all_differ nat_eq l.letters
+invariant-loop-place l = all_differ nat_eq (drop l.place l.characters) ≡ all_differ nat_eq l.characters

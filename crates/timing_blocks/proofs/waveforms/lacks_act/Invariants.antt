@@ -1,6 +1,6 @@
 use Rattle.std.proofs.Common.{◌≡◌, drop, true}
 use Rattle.stil_form.specs.Lexeme.{lexemes, lexemes_of}
-use Rattle.timing_blocks.specs.Waveforms.{lacks_act}
+use Rattle.timing_blocks.specs.Working.{lacks_act}
 use Rattle.timing_blocks.proofs.waveforms.lacks_act.Given as goal
 
 -- those that are still to be looked at decide

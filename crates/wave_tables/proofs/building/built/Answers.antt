@@ -1,12 +1,12 @@
 use Rattle.std.proofs.Common.{length, ap, arith}
 use Rattle.stil_ast.specs.Data.Texts.{name_or_none}
-use Rattle.wave_tables.proofs.LetterLemmas.{named_lettered}
+use Rattle.wave_tables.proofs.CharacterLemmas.{named_with_characters}
 use Rattle.wave_tables.proofs.BuiltLemmas.{built_at}
 use Rattle.wave_tables.proofs.building.built.Goals as goal
 
-pub built_for-requires-clause-lettered : goal.built_for-requires-clause-lettered
-built_for-requires-clause-lettered c =
-    named_lettered c.args.blocks.now.timings (name_or_none c.index-as_slice-exec.result.timing)
+pub built_for-requires-clause-with_characters : goal.built_for-requires-clause-with_characters
+built_for-requires-clause-with_characters c =
+    named_with_characters c.args.blocks.now.timings (name_or_none c.index-as_slice-exec.result.timing)
     c.requires.text.each_timing
 
 pub returns : goal.returns

@@ -11,7 +11,7 @@ invariant_of-scope c = record {
   in_order = c.in_ok-tables.ensures ∙ ap (λ l. tables_named l c.timing_name.result.now) c.as_slice.ensures
       ∙ ap (tables_named c.args.blocks.now.timings) c.timing_name.ensures;
   all_signals = c.requires.signals;
-  lettered = c.requires.lettered;
+  with_characters = c.requires.with_characters;
   all_vars = c.requires.vars;
 }
 

@@ -1,11 +1,26 @@
-use Rattle.std.proofs.Common.{pos}
+use Rattle.std.proofs.Common.{◌≡◌, Some, pos, ap, ◌∙◌}
+use Rattle.std.specs.Prelude.{slice_get}
+use Rattle.std.specs.Option.{option_map}
+use Rattle.std.proofs.lemmas.Option.{slice_get-map, get_or_from_slice_get}
 use Rattle.stil_ast.specs.Faults.Found.{first_in}
 use Rattle.stil_ast.specs.Faults.TableFaults.{signal_fault, inherited_fault}
 use Rattle.stil_ast.proofs.FoundLemmas.{none_both}
 use Rattle.wave_tables.specs.Scope.{timed}
+use Rattle.wave_tables.specs.ReadWaves.{read_waves}
 use Rattle.wave_tables.specs.Check.{Trouble, count_fault, behind_period, IsFree, IsRefusedBy}
 use Rattle.wave_tables.proofs.FirstLemmas.{ok_then, err_then, at_second}
 use Rattle.wave_tables.proofs.judge.check_behind_period.Goals as goal
+
+pub check_signals-requires : goal.check_signals-requires
+check_signals-requires c =
+    let t = timed c.args.scope.now in
+    let number = c.args.heir.now.number in
+    let there : slice_get c.args.reads.now number ≡ Some (read_waves t c.args.table.now) =
+    ap (λ l. slice_get l number) c.requires.reads ∙ slice_get-map (read_waves t) t.tables number
+    ∙ ap (option_map (read_waves t)) c.requires.at in
+    rw c.as_slice.ensures
+    (c.as_slice-own.ensures ∙ c.index-reads-heir.is
+    ∙ get_or_from_slice_get c.args.reads.now number (read_waves t c.args.table.now) c.index-reads-heir.result there)
 
 pub returns-in-Ok-check_inherited-clause-fits : goal.returns-in-Ok-check_inherited-clause-fits
 returns-in-Ok-check_inherited-clause-fits c =

@@ -1,14 +1,16 @@
-use Rattle.std.proofs.Common.{◌+◌, ℕ, length, drop, Option, sym, ap, ◌∙◌, subst, arith}
+use Rattle.std.proofs.Common.{◌+◌, ◌++◌, ◌∷◌, [], ℕ, List, length, drop, map, Option, sym, ap, ◌∙◌, subst, arith}
 use Rattle.std.specs.List.{enumerate_from}
+use Rattle.stil_ast.specs.Data.Texts.{upwards}
 use Rattle.stil_ast.specs.Faults.Found.{or_else, first_in}
 use Rattle.stil_ast.specs.Faults.TableFaults.{table_fault}
 use Rattle.stil_ast.specs.Meaning.Tables.{waveforms, wave_count}
 use Rattle.stil_ast.specs.declared.fault.StilFault.{StilFault}
 use Rattle.wave_tables.specs.Scope.{timed}
-use Rattle.wave_tables.specs.Check.{IsAt}
+use Rattle.wave_tables.specs.Check.{IsAt, period_at}
 use Rattle.wave_tables.proofs.FirstLemmas.{at_first, first_numbered}
 use Rattle.wave_tables.proofs.TakenLemmas.{behind_at}
 use Rattle.wave_tables.proofs.TableLemmas.{waves_more}
+use Rattle.wave_tables.proofs.PeriodLemmas.{periods_more}
 use Rattle.wave_tables.proofs.judge.check_tables.Goals as goal
 
 pub returns-in-Err-clause-fault : goal.returns-in-Err-clause-fault
@@ -26,7 +28,12 @@ loop-number-preserved c =
     let t = timed c.args.scope.now in
     let at = behind_at c.tables-tables.result.now t.tables c.loop-number.number c.index-tables-number.result
     c.tables-tables.ensures (omega arith) c.index-tables-number.is in
+    let before = map (period_at t) (upwards 0 c.loop-number.number) in
     record {
+      periods = c.in_ok-push-in-Ok.ensures.items
+          ∙ ap (λ (l : List ℕ). l ++ c.in-Ok.judged.period ∷ []) c.loop-number.invariant.periods
+          ∙ ap (λ (p : ℕ). before ++ p ∷ []) c.in-Ok.ensures.period
+          ∙ sym (periods_more t c.loop-number.number);
       total =
           let own : ℕ = wave_count (waveforms t.names t.tables c.loop-number.number) (length t.names.signals) in
           omega (

@@ -4,4 +4,4 @@ use Rattle.wave_tables.proofs.set.wave_of.Goals as goal
 
 pub returns : goal.returns
 returns c =
-    c.wave.ensures ∙ find-reverse_rising c.args.signal c.args.letter c.args.waves.now c.requires.rising
+    c.wave.ensures ∙ find-reverse_rising c.args.signal c.args.character c.args.waves.now c.requires.rising

@@ -8,20 +8,20 @@ use Rattle.stil_ast.specs.Faults.Found.{or_else, first_in}
 use Rattle.stil_ast.specs.declared.fault.StilFault.{StilFault}
 use Rattle.stil_ast.specs.declared.timing.TableDecl.{TableDecl}
 use Rattle.wave_tables.specs.Scope.{timed}
-use Rattle.wave_tables.specs.Letters.{signals_lettered}
+use Rattle.wave_tables.specs.Characters.{signals_with_characters}
 use Rattle.wave_tables.specs.ReadWaves.{read_waves}
 use Rattle.wave_tables.specs.Check.{IsAt, late_in}
 use Rattle.wave_tables.proofs.FirstLemmas.{at_first, first_numbered}
 use Rattle.wave_tables.proofs.TakenLemmas.{behind_at, found_passes}
 use Rattle.wave_tables.proofs.standing.check_inherited.Goals as goal
 
-pub check_other-requires-clause-letters : goal.check_other-requires-clause-letters
-check_other-requires-clause-letters c =
+pub check_other-requires-clause-characters : goal.check_other-requires-clause-characters
+check_other-requires-clause-characters c =
     let at = behind_at c.tables-tables.result.now (timed c.args.scope.now).tables c.loop-number.number
     c.index-tables-number.result
     c.tables-tables.ensures (omega arith) c.index-tables-number.is in
-    found_passes (λ (t : TableDecl). signals_lettered t.waveforms) (timed c.args.scope.now).tables c.loop-number.number
-    c.index-tables-number.result.now c.args.scope.now.lettered at
+    found_passes (λ (t : TableDecl). signals_with_characters t.waveforms) (timed c.args.scope.now).tables c.loop-number.number
+    c.index-tables-number.result.now c.args.scope.now.with_characters at
 
 pub check_other-requires-clause-reads : goal.check_other-requires-clause-reads
 check_other-requires-clause-reads c =

@@ -11,4 +11,4 @@ returns c =
     c.args.reference.now
     c.args.wave.now c.as_slice.result.now c.as_slice-2.result.now c.requires.maps
     (c.as_slice.ensures ∙ c.in_ok-members.ensures.signals)
-    c.as_slice-2.ensures within c.requires.letters
+    c.as_slice-2.ensures within c.requires.characters

@@ -5,4 +5,4 @@ use Rattle.wave_tables.proofs.waves.events_for.Given as goal
 
 abbrev pub invariant-loop-event : goal.invariant-loop-event
 invariant-loop-event l = l.list.items
-    ≡ filter_map (event_read l.wave.letters l.letter) (take l.event-index l.event-items)
+    ≡ filter_map (event_read l.wave.characters l.character) (take l.event-index l.event-items)

@@ -10,8 +10,8 @@ pub returns-in-Some : goal.returns-in-Some
 returns-in-Some c =
     let s = c.args.self.now in
     let tables = c.args.tables.now in
-    let letters = s.told.letters in
+    let characters = s.told.characters in
     let latest : s.latest ≡ Some c.in-Some.latest = ap (λ (k : Known). k.latest) (sym c.self.view_is) ∙ c.in-Some.is in
     c.changed_have_waves.ensures
-    ∙ subst (λ (t : ℕ). list_all (has_wave_at tables t letters) s.changed ≡ have_waves (slice_get tables t) 0 letters)
+    ∙ subst (λ (t : ℕ). list_all (has_wave_at tables t characters) s.changed ≡ have_waves (slice_get tables t) 0 characters)
     c.if-latest-table.true (changed_judged tables s c.in-Some.latest latest c.requires)

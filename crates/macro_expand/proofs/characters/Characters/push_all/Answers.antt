@@ -4,7 +4,7 @@ use Rattle.std.proofs.lemmas.List.{take_more}
 use Rattle.stil_ast.specs.Data.Items.{item_of, items_of}
 use Rattle.stil_ast.specs.Meaning.Arguments.{Entry, entries_of}
 use Rattle.stil_ast.specs.declared.data.ItemRun.{ItemRun}
-use Rattle.stil_ast.specs.declared.data.VecItem.TheVariants.{Letter}
+use Rattle.stil_ast.specs.declared.data.VecItem.TheVariants.{Character}
 use Rattle.macro_expand.proofs.EntryLemmas.{entries-more}
 use Rattle.macro_expand.proofs.characters.Characters.push_all.Goals as goal
 
@@ -12,7 +12,7 @@ pub loop-run-preserved : goal.loop-run-preserved
 loop-run-preserved c =
     let runs = c.args.runs.now in
     let i = c.loop-run.run-index in
-    let first : ItemRun = record { item = Letter 0; times = 0 } in
+    let first : ItemRun = record { item = Character 0; times = 0 } in
     let run = get_or runs i first in
     let those = entries_of (replicate run.times (item_of run.item)) in
     c.in_ok-push_run.ensures.added

@@ -4,14 +4,14 @@ use Rattle.std.specs.Result.{OnOk}
 use Rattle.stil_ast.specs.Data.Items.{item_of}
 use Rattle.stil_ast.specs.Meaning.Arguments.{Entry, entries_of}
 use Rattle.stil_ast.specs.declared.data.VecItem.{VecItem}
-use Rattle.macro_expand.proofs.EntryLemmas.{entries_of-letters, entries_of-hashes, entries_of-percents}
+use Rattle.macro_expand.proofs.EntryLemmas.{entries_of-characters, entries_of-hashes, entries_of-percents}
 use Rattle.macro_expand.proofs.characters.Characters.push_run.Goals as goal
 
-pub returns-in-Letter-clause-added : goal.returns-in-Letter-clause-added
-returns-in-Letter-clause-added c =
+pub returns-in-Character-clause-added : goal.returns-in-Character-clause-added
+returns-in-Character-clause-added c =
     subst (λ (es : List Entry). OnOk c.push.result (c.push.new.self ≡ c.args.self.now ++ es))
-    (sym (ap (λ (item : VecItem). entries_of (replicate c.args.run.times (item_of item))) c.in-Letter.is
-    ∙ entries_of-letters c.args.run.times c.in-Letter.character))
+    (sym (ap (λ (item : VecItem). entries_of (replicate c.args.run.times (item_of item))) c.in-Character.is
+    ∙ entries_of-characters c.args.run.times c.in-Character.character))
     c.push.ensures.added
 
 pub returns-in-Take-clause-added : goal.returns-in-Take-clause-added

@@ -1,7 +1,7 @@
 use Rattle.std.proofs.Common.{◌≡◌, ◌∙◌, ◌&&◌, ℕ, List, true, [], eqb, ap, sym}
 use Rattle.std.specs.List.{list_any}
 use Rattle.std.proofs.lemmas.Option.{get_or_from_slice_get}
-use Rattle.packed_code.specs.Conditions.{has_waves, waves_of, letters_of}
+use Rattle.packed_code.specs.Conditions.{has_waves, waves_of, characters_of}
 use Rattle.page_code.proofs.AcceptedLemmas.{fits_among, one_more_fits}
 use Rattle.page_code.proofs.accepted.Accepted.has_waves_for.Goals as goal
 
@@ -13,12 +13,12 @@ returns-then-contains-clause-fits c =
 pub returns-clause-accepted : goal.returns-clause-accepted
 returns-clause-accepted c =
     let tables = c.args.tables.now in
-    let letters : letters_of c.args.rows.now c.args.row ≡ c.row-letters.result.now =
-    get_or_from_slice_get c.args.rows.now c.args.row c.row-letters.result.now [] c.row-letters.ensures.found in
-    let fits : true ≡ has_waves (waves_of tables c.args.table) 0 (letters_of c.args.rows.now c.args.row) =
+    let characters : characters_of c.args.rows.now c.args.row ≡ c.row-characters.result.now =
+    get_or_from_slice_get c.args.rows.now c.args.row c.row-characters.result.now [] c.row-characters.ensures.found in
+    let fits : true ≡ has_waves (waves_of tables c.args.table) 0 (characters_of c.args.rows.now c.args.row) =
     sym c.if-not-has_each.false ∙ c.has_each.ensures tables c.turn_to.ensures.index
-    ∙ ap (λ (t : ℕ). has_waves (waves_of tables t) 0 c.row-letters.result.now) c.in_ok-turn_to.ensures.table
-    ∙ ap (λ (ls : List ℕ). has_waves (waves_of tables c.args.table) 0 ls) (sym letters) in
+    ∙ ap (λ (t : ℕ). has_waves (waves_of tables t) 0 c.row-characters.result.now) c.in_ok-turn_to.ensures.table
+    ∙ ap (λ (ls : List ℕ). has_waves (waves_of tables c.args.table) 0 ls) (sym characters) in
     record {
       pairs = one_more_fits tables c.args.rows.now c.args.self.now.pairs.keys c.insert.new.self.keys c.args.table c.args.row
           (list_any (λ (pair : ℕ × ℕ). eqb c.args.table pair.0 && eqb c.args.row pair.1) c.args.self.now.pairs.keys)

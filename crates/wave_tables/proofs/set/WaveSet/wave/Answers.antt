@@ -11,10 +11,10 @@ wave_of-requires c =
 pub returns-in-Some : goal.returns-in-Some
 returns-in-Some c =
     let at = c.in-Some.ensures.lookup in
-    wave_at c.deref.result.now c.args.self.now c.from.result c.args.table c.args.signal c.args.letter c.in-Some.found.now _
+    wave_at c.deref.result.now c.args.self.now c.from.result c.args.table c.args.signal c.args.character c.in-Some.found.now _
     (c.deref.ensures.value ∙ c.self.view_is) c.from.ensures at.3.0 at.1 c.wave_of.ensures
 
 pub returns-in-None : goal.returns-in-None
 returns-in-None c =
-    wave_past c.deref.result.now c.args.self.now c.from.result c.args.table c.args.signal c.args.letter
+    wave_past c.deref.result.now c.args.self.now c.from.result c.args.table c.args.signal c.args.character
     (c.deref.ensures.value ∙ c.self.view_is) c.from.ensures c.in-None.ensures.lookup.3

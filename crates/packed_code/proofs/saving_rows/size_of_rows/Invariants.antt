@@ -1,6 +1,0 @@
-use Rattle.std.proofs.Common.{◌≡◌, ◌^◌, ◌-◌, [], take, length, min}
-use Rattle.packed_code.specs.Spelling.{behind, row}
-use Rattle.packed_code.proofs.saving_rows.size_of_rows.Given as goal
-
-abbrev pub invariant-loop-number : goal.invariant-loop-number
-invariant-loop-number l = l.size ≡ min (length (behind (row l.version) [] (take l.number l.rows))) (2 ^ 64 - 1)
