@@ -1,6 +1,6 @@
 -- A text has one netlist or one refusal, and never both.
 use Rattle.std.proofs.Common.{◌≡◌, ℕ, ◌<◌, true, List, [], length, get_or, Option, Some, None, Result, Ok, Err, refl, sym, ap, ◌∙◌, subst, arith, inl, inr}
-use Rattle.std.specs.Prelude.{◌⊎◌, IfOk, IfErr, MatchResult}
+use Rattle.std.specs.Prelude.{◌⊎◌, MatchResult}
 use Rattle.std.proofs.lemmas.Bool.{cases_order, both_ways}
 use Rattle.std.specs.List.{list_any}
 use Rattle.std.specs.Str.{bytes_eq}
@@ -10,7 +10,7 @@ use Rattle.bench_net.specs.Wiring.{IsReached}
 use Rattle.bench_net.specs.Circuit.{Circuit, Net, number}
 use Rattle.bench_net.specs.Line.{Form, nothing, input, output, gate}
 use Rattle.bench_net.specs.Net.{Reads, named, names, net_of, IsDriven, IsNet}
-use Rattle.bench_net.specs.Fault.{IsReachedLine, IsLoopLine, IsFirstLoop, IsRefusal, IsFault}
+use Rattle.bench_net.specs.Fault.{Answers, IsReachedLine, IsLoopLine, IsFirstLoop, IsRefusal, IsFault}
 use Rattle.bench_net.proofs.NamesLemmas.{numbers_within, number-within}
 use Rattle.bench_net.proofs.TextLemmas.{one_reading, no_bad_line, one_bad_line}
 
@@ -165,21 +165,19 @@ one_fault bytes (Missing m) g h k = one_refusal h.0 (Missing m) g h.2 (of_lines 
 one_fault bytes (Loop m) g h k = one_refusal h.0 (Loop m) g h.2 (of_lines bytes g h.0 h.1 k)
 
 -- an answer for a text that names a net list
-pub only_net : (bytes : List ℕ) (r : Result Circuit NetFault) → IfOk r (λ n. IsNet bytes n.net)
-    → IfErr r (λ e. (e ≡ NoMemory) ⊎ IsFault bytes e) → (net : Net) → IsNet bytes net
-    → MatchResult r (λ n. n.net ≡ net) (λ e. e ≡ NoMemory)
-only_net bytes (Ok n) found fault net h = one_net bytes n.net net found h
-only_net bytes (Err e) found fault net h = elim fault [
+pub only_net : (bytes : List ℕ) (r : Result Circuit NetFault) → Answers (λ n. IsNet bytes n.net) (IsFault bytes) r
+    → (net : Net) → IsNet bytes net → MatchResult r (λ n. n.net ≡ net) (λ e. e ≡ NoMemory)
+only_net bytes (Ok n) found net h = one_net bytes n.net net found h
+only_net bytes (Err e) fault net h = elim fault [
   | inl m ↦ m
   | inr f ↦ absurd (no_fault_where_net bytes net e h f)
 ]
 
 -- an answer for a text that has a fault
-pub only_refused : (bytes : List ℕ) (r : Result Circuit NetFault) → IfOk r (λ n. IsNet bytes n.net)
-    → IfErr r (λ e. (e ≡ NoMemory) ⊎ IsFault bytes e) → (f : NetFault) → IsFault bytes f
-    → MatchResult r (λ _. ⊥) (λ e. (e ≡ NoMemory) ⊎ (e ≡ f))
-only_refused bytes (Ok n) found fault f h = no_fault_where_net bytes n.net f found h
-only_refused bytes (Err e) found fault f h = elim fault [
+pub only_refused : (bytes : List ℕ) (r : Result Circuit NetFault) → Answers (λ n. IsNet bytes n.net) (IsFault bytes) r
+    → (f : NetFault) → IsFault bytes f → MatchResult r (λ _. ⊥) (λ e. (e ≡ NoMemory) ⊎ (e ≡ f))
+only_refused bytes (Ok n) found f h = no_fault_where_net bytes n.net f found h
+only_refused bytes (Err e) fault f h = elim fault [
   | inl m ↦ inl m
   | inr g ↦ inr (one_fault bytes e f g h)
 ]

@@ -1,5 +1,5 @@
 -- The first refusal of a bench text, in the order Line, OutOfRange, Arity, Twice, Missing, Loop.
-use Rattle.std.specs.Prelude.{◌≡◌, ℕ, ◌<◌, ◌≤◌, ◌+◌, List, [], length, Some, None, slice_index_or}
+use Rattle.std.specs.Prelude.{◌≡◌, ◌⊎◌, ℕ, ◌<◌, ◌≤◌, ◌+◌, List, [], length, Some, None, Result, Ok, Err, slice_index_or}
 use Rattle.std.specs.Str.Lines.{lines}
 use Rattle.text_bytes.specs.Limits.{most_nets}
 use Rattle.bench_net.specs.declared.fault.NetFault.{NetFault}
@@ -8,6 +8,11 @@ use Rattle.bench_net.specs.Wiring.{IsReached, IsUnreached}
 use Rattle.bench_net.specs.Circuit.{number}
 use Rattle.bench_net.specs.Line.{Form, nothing, input, output, gate, Says}
 use Rattle.bench_net.specs.Net.{Reads, names, net_of, arity_fault, twice_fault, missing_fault, IsDriven}
+
+-- what a pass answers: a value that is wanted, or else a fault that is told so, or want of memory
+abbrev pub Answers : {A : Type 0} → (A → Type 0) → (NetFault → Type 0) → Result A NetFault → Type 0
+Answers Wanted Told (Ok x) = Wanted x
+Answers Wanted Told (Err fault) = (fault ≡ NoMemory) ⊎ Told fault
 
 -- the line of this number, counted from 1, says nothing that a line can say, and each line before
 -- it does

@@ -70,6 +70,11 @@ pub record IsTwice (count : ℕ) (all : List (List ℕ)) (lines : List Numbered)
   pub fault_is : fault ≡ Twice (slice_index_or all net [])
   pub twice : first_twice (replicate count false) (map driven_net lines) ≡ Some net
 
+-- the lines give none of so many nets a second driver, and these are the marks of those that have one
+pub record AreMarked (count : ℕ) (lines : List Numbered) (marks : List Bool) : Type 0 where
+  pub once : first_twice (replicate count false) (map driven_net lines) ≡ None
+  pub marks_are : marks ≡ fold with_mark (replicate count false) (map driven_net lines)
+
 -- the drivers with the one that a line gives
 abbrev pub with_driver : List Driver → Numbered → List Driver
 with_driver drivers Nothing = drivers

@@ -1,11 +1,11 @@
 //! The netlist that a text names.
-ghost use Rattle.std.specs.Prelude.{◌≡◌, ℕ, ◌<◌, ◌≤◌, ◌≢◌, ◌↔◌, ◌⊎◌, [], length, IsTrue, IfSome, IfNone, IfOk, IfErr, OnOk, MatchResult, Some, None, true, slice_get, slice_index_or, map, All};
+ghost use Rattle.std.specs.Prelude.{◌≡◌, ℕ, ◌<◌, ◌≤◌, ◌≢◌, ◌↔◌, ◌⊎◌, [], length, IsTrue, IfSome, IfNone, IfOk, IfErr, MatchResult, Some, None, slice_get, slice_index_or, map, All};
 ghost use Rattle.text_bytes.specs.Texts.{key_texts};
 ghost use Rattle.text_bytes.specs.Limits.{most_bytes, most_nets};
 ghost use Rattle.bench_net.specs.Wiring.{driver_at};
 ghost use Rattle.bench_net.specs.Circuit.{Circuit, Net, IsWhole};
 ghost use Rattle.bench_net.specs.Net.{names, net_of, IsDriven, IsNet};
-ghost use Rattle.bench_net.specs.Fault.{IsFault, IsRefusal};
+ghost use Rattle.bench_net.specs.Fault.{Answers, IsFault, IsRefusal};
 ghost use Rattle.bench_net.specs.Numbers.{HasPins, IsNetOf, numbered};
 ghost use Rattle.bench_net.specs.Views.{form_of};
 ghost use Rattle.bench_net.specs.declared.gate.Driver.{Driver};
@@ -136,8 +136,7 @@ impl Netlist {
 /// The netlist of a text.
 fn read_text(alloc: Global, bytes: &[u8]) -> Result<Netlist, NetFault>
     requires { length bytes.now ≤ most_bytes }
-    ensures found { IfOk result (λ n. IsNet bytes.now n.net) }
-    ensures fault { IfErr result (λ e. (e ≡ NoMemory) ⊎ IsFault bytes.now e) }
+    ensures { Answers (λ n. IsNet bytes.now n.net) (IsFault bytes.now) result }
 {
     let lines = read_lines(alloc, bytes)?;
     netlist_of(alloc, lines.as_slice())
@@ -146,8 +145,7 @@ fn read_text(alloc: Global, bytes: &[u8]) -> Result<Netlist, NetFault>
 /// The netlist of lines.
 fn netlist_of(alloc: Global, lines: &[Line<'_>]) -> Result<Netlist, NetFault>
     requires { All HasPins (map form_of lines.now) }
-    ensures found { IfOk result (λ n. IsNetOf (map form_of lines.now) n.net) }
-    ensures fault { IfErr result (λ e. (e ≡ NoMemory) ⊎ IsRefusal (map form_of lines.now) e) }
+    ensures { Answers (λ n. IsNetOf (map form_of lines.now) n.net) (IsRefusal (map form_of lines.now)) result }
 {
     let (names, numbered) = numbered_lines(alloc, lines)?;
     checked(alloc, &names, lines, numbered.as_slice())?;
@@ -168,8 +166,7 @@ fn ordered(
     requires pins { All HasPins (map form_of lines.now) }
     requires drivers { drivers.items ≡ (net_of (map form_of lines.now)).drivers }
     requires outputs { outputs.items ≡ (net_of (map form_of lines.now)).outputs }
-    ensures found { IfOk result (λ n. IsNetOf (map form_of lines.now) n.net) }
-    ensures fault { IfErr result (λ e. (e ≡ NoMemory) ⊎ IsRefusal (map form_of lines.now) e) }
+    ensures { Answers (λ n. IsNetOf (map form_of lines.now) n.net) (IsRefusal (map form_of lines.now)) result }
 {
     let readers = readers(alloc, drivers.as_slice())?;
     let (order, left) = sorted(alloc, drivers.as_slice(), readers.as_slice())?;
@@ -195,8 +192,7 @@ fn checked(
     requires names { key_texts all.now.keys ≡ names (map form_of lines.now) }
     requires lines { length (names (map form_of lines.now)) ≤ most_nets
         → said.now ≡ map (numbered (names (map form_of lines.now))) (map form_of lines.now) }
-    ensures found { OnOk result (IsDriven (map form_of lines.now)) }
-    ensures fault { IfErr result (λ e. (e ≡ NoMemory) ⊎ IsRefusal (map form_of lines.now) e) }
+    ensures { Answers (λ _. IsDriven (map form_of lines.now)) (IsRefusal (map form_of lines.now)) result }
 {
     if all.len() > MOST_NETS {
         return Err(NetFault::OutOfRange);

@@ -1,9 +1,9 @@
 //! What the lines say of each net, by the nets' numbers.
-ghost use Rattle.std.specs.Prelude.{◌≡◌, ℕ, ◌⊎◌, None, Some, true, false, if◌then◌else◌, length, map, fold, replicate, slice_index_or, slice_set, [], IfOk, IfErr};
+ghost use Rattle.std.specs.Prelude.{◌≡◌, None, Some, true, false, if◌then◌else◌, length, map, fold, replicate, slice_index_or, slice_set, [], IfOk};
 ghost use Rattle.text_bytes.specs.Texts.{key_texts};
-ghost use Rattle.bench_net.specs.Numbers.{driven_net, shown_net, with_mark, twice_at, first_twice, IsTwice, with_driver, placed};
+ghost use Rattle.bench_net.specs.Fault.{Answers};
+ghost use Rattle.bench_net.specs.Numbers.{driven_net, shown_net, with_mark, twice_at, IsTwice, AreMarked, with_driver, placed};
 ghost use Rattle.bench_net.specs.declared.gate.Driver.TheVariants.{Input};
-ghost use Rattle.bench_net.specs.declared.fault.NetFault.TheVariants.{NoMemory};
 
 use crate::fault::{NetFault, NetName};
 use crate::gate::Driver;
@@ -74,12 +74,8 @@ pub(crate) fn driven_nets(
     names: &IndexSet<Vec<u8>>,
     lines: &[Numbered],
 ) -> Result<Vec<bool>, NetFault>
-    ensures once { IfOk result (λ _. first_twice (replicate (length names.now.keys) false)
-        (map driven_net lines.now) ≡ None) }
-    ensures found { IfOk result (λ driven. driven.items
-        ≡ fold with_mark (replicate (length names.now.keys) false) (map driven_net lines.now)) }
-    ensures fault { IfErr result (λ e. (e ≡ NoMemory) ⊎ IsTwice (length names.now.keys)
-        (key_texts names.now.keys) lines.now e) }
+    ensures { Answers (λ driven. AreMarked (length names.now.keys) lines.now driven.items)
+        (IsTwice (length names.now.keys) (key_texts names.now.keys) lines.now) result }
 {
     let mut driven = vec![in alloc; false; names.len()]?;
     let mut rest = lines;

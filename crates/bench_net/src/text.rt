@@ -1,12 +1,11 @@
 //! A text as the lines that it is.
-ghost use Rattle.std.specs.Prelude.{◌≡◌, ◌==◌, ℕ, ◌<◌, ◌≤◌, ◌∷◌, ◌⊎◌, map, length, take, drop, IfOk, IfErr};
+ghost use Rattle.std.specs.Prelude.{◌≡◌, ◌==◌, ◌<◌, ◌≤◌, ◌∷◌, map, length};
 ghost use Rattle.std.specs.List.{position};
 ghost use Rattle.std.specs.Str.Lines.{lines, strip_carriage_return};
 ghost use Rattle.text_bytes.specs.Limits.{most_bytes};
 ghost use Rattle.bench_net.specs.Net.{Reads};
-ghost use Rattle.bench_net.specs.Fault.{IsFault};
+ghost use Rattle.bench_net.specs.Fault.{Answers, IsFault};
 ghost use Rattle.bench_net.specs.Views.{form_of};
-ghost use Rattle.bench_net.specs.declared.fault.NetFault.TheVariants.{NoMemory};
 
 use crate::fault::NetFault;
 use crate::line::{Line, read_line};
@@ -44,8 +43,7 @@ fn first_line(text: &[u8]) -> (&[u8], &[u8])
 /// What each line of a text says, or the first line that has no form of a line.
 pub(crate) fn read_lines(alloc: Global, bytes: &[u8]) -> Result<Vec<Line<'_>>, NetFault>
     requires { length bytes.now ≤ most_bytes }
-    ensures found { IfOk result (λ read. Reads bytes.now (map form_of read.items)) }
-    ensures fault { IfErr result (λ e. (e ≡ NoMemory) ⊎ IsFault bytes.now e) }
+    ensures { Answers (λ read. Reads bytes.now (map form_of read.items)) (IsFault bytes.now) result }
 {
     let mut read = Vec::new(alloc);
     let mut rest = bytes;

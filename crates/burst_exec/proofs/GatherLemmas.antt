@@ -1,6 +1,6 @@
 -- Executives one after another.
 use Rattle.std.proofs.Common.{◌≡◌, ℕ, ◌+◌, ◌-◌, ◌^◌, ◌≤◌, List, [], ◌∷◌, ◌++◌, Option, Some, None, refl, sym, ap, ◌∙◌, subst, map, length, take, drop, arith, inl, inr, ◌⊎◌}
-use Rattle.std.specs.Prelude.{Result, Ok, Err, IfOk, IfErr, slice_get, sum_by, min}
+use Rattle.std.specs.Prelude.{Result, Ok, Err, IfErr, MatchResult, slice_get, sum_by, min}
 use Rattle.std.proofs.Math.Nat.{min-eq_left}
 use Rattle.std.proofs.Math.Seq.{take-length, drop-length}
 use Rattle.text_bytes.specs.Limits.{most_waves}
@@ -178,16 +178,15 @@ module _ (blocks : Blocks) (e : ExecDecl) (before : Progress) where
   pub taken_found : (begin now : Progress) (stage : Stage) (d : Draft) (decl : ExecDecl) (r : Result Executive StilRefusal)
       → decl ≡ e → (staged_fault blocks before.waves e ≡ None) × IsStageOf blocks before.waves e stage
       → HasRun blocks e (order_of blocks e) begin now d → begin.waves ≡ stage.waves → begin.walked ≡ before.walked
-      → IfOk r (λ x. x ≡ record {
+      → MatchResult r (λ x. x ≡ record {
         name = decl.name;
         line = decl.line;
         tables = stage.tables;
         chains = stage.chains;
         trees = drafted d;
-      })
-      → IfErr r (λ r. r ≡ refusal.NoMemory)
+      }) (λ r. r ≡ refusal.NoMemory)
       → Finds (whole_fault blocks before.waves before.walked e) (IsTaken blocks e before now) r
-  taken_found begin now stage d decl (Ok x) same staged run waves walked kept memory =
+  taken_found begin now stage d decl (Ok x) same staged run waves walked kept =
       let played = subst (λ (k : ℕ). ArePlayed blocks e (order_of blocks e) k (drafted d) now.walked) walked run.played in (
         whole_none blocks e before.waves before.walked now.walked (drafted d) staged.0 played,
         record {
@@ -202,7 +201,7 @@ module _ (blocks : Blocks) (e : ExecDecl) (before : Progress) where
           chains_are = ap (λ (y : Executive). y.chains) kept ∙ staged.1.chains_are;
         },
       )
-  taken_found begin now stage d decl (Err r) same staged run waves walked kept memory = λ f told.
+  taken_found begin now stage d decl (Err r) same staged run waves walked memory = λ f told.
       let short : r ≡ refusal.NoMemory = memory in cc
 
 -- the fault of all is that of the fifth pass

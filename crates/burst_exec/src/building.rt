@@ -240,14 +240,13 @@ fn held<'a>(
     draft: Draft<'a>,
 ) -> Result<Exec<'a>, StilRefusal>
     requires { AreEven draft.titles.items draft.flats.items }
-    ensures kept { IfOk result (λ x. x ≡ record {
+    ensures { MatchResult result (λ x. x ≡ record {
       name = decl.now.name;
       line = decl.now.line;
       tables = stage.entry.tables;
       chains = stage.entry.chains;
       trees = trees_in draft.entry.titles.items draft.entry.flats.items;
-    }) }
-    ensures memory { IfErr result (λ r. r ≡ refusal.NoMemory) }
+    }) (λ r. r ≡ refusal.NoMemory) }
 {
     Ok(Exec {
         name: Items::from_slice(alloc, decl.name.as_slice())?,

@@ -71,7 +71,7 @@ names_of code = map (λ signal. signal.name) code.signals
 
 -- an act of a signal, by its name, a sign, and a character
 abbrev pub act_words : List ℕ → List ℕ → List ℕ → List ℕ
-act_words name sign character = codes " " ++ printed_name name ++ sign ++ character
+act_words name sign letter = codes " " ++ printed_name name ++ sign ++ letter
 
 -- a drive
 abbrev pub push_words : List (List ℕ) → ℕ × Push → List ℕ

@@ -78,9 +78,9 @@ fn put_act<'a, K: Sink>(
     sink: &mut K,
     name: &'a [u8],
     sign: &'a [u8],
-    character: &'a [u8],
+    letter: &'a [u8],
 ) -> Result<(), SinkFault>
-    ensures puts { Puts (K.told sink.old) (act_words name.now sign.now character.now) result (K.told sink.new) }
+    ensures puts { Puts (K.told sink.old) (act_words name.now sign.now letter.now) result (K.told sink.new) }
     ensures count { K.faults sink.old ≤ K.faults sink.new }
     ensures cause { OnErr result (HasRisen (K.faults sink.old) (K.faults sink.new)) }
 {
@@ -88,7 +88,7 @@ fn put_act<'a, K: Sink>(
         Piece::Text(b" "),
         Piece::Name(name),
         Piece::Text(sign),
-        Piece::Text(character),
+        Piece::Text(letter),
     ];
     put_each(sink, &words)
 }

@@ -37,6 +37,7 @@ pub mod WaveFound
 pub mod PutLemmas
 pub mod ListLemmas
 pub mod ExactLemmas
+pub mod AnswerLemmas
 pub mod TreeStepLemmas
 pub mod LeastLemmas
 pub mod OneVector

@@ -11,8 +11,7 @@ use Rattle.stil_ast.proofs.RunLemmas.{then_run-assoc}
 use Rattle.stil_ast.proofs.FlatSteps.{flat_run-joined}
 use Rattle.flat_tree.proofs.FlatLemmas.{measure-joined}
 use Rattle.packed_code.specs.declared.instr.Instr.{Instr}
-use Rattle.cycle_comp.specs.Writing.{Walked, IsStopped, flats_run, flats_measure, AreStopped, IsOfTree, Trouble, WriteError}
-use Rattle.answers.specs.declared.short.Short.TheVariants.{NoMemory, Fault}
+use Rattle.cycle_comp.specs.Writing.{Walked, IsStopped, flats_run, flats_measure, Trouble}
 use Rattle.cycle_comp.proofs.FaultLemmas.{stopped-behind, stopped-before}
 use Rattle.cycle_comp.proofs.WalkedLemmas.{walked-then, walked-as, walked-alone}
 
@@ -85,24 +84,3 @@ walked-tree tables first flats i f outer s old mid new before rows after now nex
   where
     get_or_done : (flats : List Flat) (i : ℕ) (f : Flat) → f ≡ get_or flats i f → i < length flats → f ≡ get_or flats i done
     get_or_done flats i f e within = e ∙ get_or_default flats i f done within
-
--- trees stop at a tree
-pub stopped-tree : (tables : List Table) (first : ℕ) (flats : List Flat) (i : ℕ) (f : Flat) (outer s : State) (size : ℕ)
-    (old mid : List Instr) (before rows : List (List ℕ)) (now : State) (t : Trouble) (e : WriteError)
-    → f ≡ get_or flats i f → i < length flats → outer ≡ (outside now).held
-    → Walked tables first (flats_run (take i flats) s) size old mid before rows now
-    → IsStopped tables (flat_run f outer now).made t → IsOfTree i t e → AreStopped tables flats s e
-stopped-tree tables first flats i f outer s size old mid before rows now NoMemory e at within held p stop of =
-    subst (λ (x : WriteError). AreStopped tables flats s x) (sym of) tt
-stopped-tree tables first flats i f outer s size old mid before rows now (Fault k) e at within held p stop of =
-    let g = at ∙ get_or_default flats i f done within in
-    let r = flats_run (take i flats) s in
-    subst (λ (x : WriteError). AreStopped tables flats s x) (sym of)
-    (record {
-      there = within;
-      fine = p.wrote.fine;
-      first =
-          subst (λ (here : State). IsStopped tables (flat_run (get_or flats i done) (outside here).held here).made (Fault k)) p.here_is
-          (subst (λ (x : Flat). IsStopped tables (flat_run x (outside now).held now).made (Fault k)) g
-          (subst (λ (b : State). IsStopped tables (flat_run f b now).made (Fault k)) held stop));
-    })

@@ -135,6 +135,9 @@ walked-item_set tables first item x code rows base s next here is runs e =
 pub moves-none : (s : Known) → Moves s s
 moves-none s = record { rises = omega arith; stays = λ same full. refl }
 
+pub moves-same : (a b : Known) → b.moves ≡ a.moves → b.told ≡ a.told → Moves a b
+moves-same a b as_often same = record { rises = omega (arith, as_often); stays = λ often full. same }
+
 pub moves-then : (a b c : Known) → Moves a b → Moves b c → Moves a c
 moves-then a b c p q = record {
   rises = omega (arith, p.rises, q.rises);

@@ -1,18 +1,20 @@
 -- The instructions that the code writes, as a function of the tree and of what each vector's entry is; no public clause
 -- cites it.
-use Rattle.std.specs.Prelude.{◌≡◌, ℕ, zero, suc, ◌+◌, ◌==◌, ◌&&◌, nat_lt, Bool, true, false, List, [], ◌∷◌, ◌++◌, min, Some, None, slice_index_or, unwrap_or, if◌then◌else◌}
+use Rattle.std.specs.Prelude.{◌≡◌, ℕ, zero, suc, ◌+◌, ◌==◌, ◌&&◌, nat_lt, Bool, true, false, List, [], ◌∷◌, ◌++◌, min, Some, None, slice_index_or, unwrap_or, if◌then◌else◌, Result, MatchResult}
 use Rattle.std.specs.Cmp.Lexicographic.{pointwise}
+use Rattle.tester_types.specs.declared.wave.Table.{Table}
 use Rattle.stil_ast.specs.Data.Texts.{same}
 use Rattle.stil_ast.specs.Meaning.State.{State, Vector}
 use Rattle.stil_ast.specs.Meaning.Dealing.{with_character}
 use Rattle.stil_ast.specs.Meaning.Running.{Ran, times, outside}
-use Rattle.stil_ast.specs.Meaning.Flat.{Flat, done, table, character, back, cycle, repeat, save, saved, flat_run}
+use Rattle.stil_ast.specs.Meaning.Flat.{Flat, done, table, character, back, cycle, repeat, save, saved, flat_run, measure}
 use Rattle.stil_ast.specs.Meaning.ExecutiveData.{row_of}
 use Rattle.packed_code.specs.declared.instr.Entry.{Entry}
 use Rattle.packed_code.specs.declared.instr.Instr.{Instr}
 use Rattle.packed_code.specs.declared.instr.Instr.TheVariants.{Run, Loop, End, Done}
+use Rattle.cycle_comp.specs.Known.{Known, IsKnown, Moves}
 use Rattle.cycle_comp.specs.Written.{HasEachOnce}
-use Rattle.cycle_comp.specs.Writing.{looped}
+use Rattle.cycle_comp.specs.Writing.{looped, Trouble, Walked, IsStopped}
 
 -- ---- entries
 
@@ -126,3 +128,24 @@ pub record GoesOn (rows all : List (List ℕ)) : Type 0 where
 abbrev pub IsExact : ℕ → ((Vector → Entry) → List Instr → List Instr) → List Instr → List Instr → List (List ℕ) → Type 0
 IsExact first write old new rows =
     (all : List (List ℕ)) → GoesOn rows all → new ≡ write (entry_in first all) old
+
+-- ---- what a pass answers
+
+-- A run was written, from one state on to another one: its vectors behind instructions and rows, by such a function of
+-- their entries; and what the state behind it knows is so.
+pub record WroteAll (tables : List Table) (first : ℕ) (r : Ran State) (size : ℕ)
+    (write : (Vector → Entry) → List Instr → List Instr) (old new : Known) (before after : List Instr)
+    (rows more : List (List ℕ)) : Type 0 where
+  pub walked : Walked tables first r size before after rows more new.told
+  pub known : IsKnown tables more new
+  pub moves : Moves old new
+  pub exact : IsExact first write before after more
+
+-- what a pass answers that writes a tree: it was written, or else its first vector that can't run, or want of memory
+abbrev pub Writes : List Table → ℕ → Flat → State → Known → Known → List Instr → List Instr → List (List ℕ)
+    → List (List ℕ) → Result Unit Trouble → Type 0
+Writes tables first tree base old new before after rows more result =
+    MatchResult result
+    (λ _. WroteAll tables first (flat_run tree base old.told) (measure tree)
+    (λ entry code. written entry tree base old.told code) old new before after rows more)
+    (IsStopped tables (flat_run tree base old.told).made)

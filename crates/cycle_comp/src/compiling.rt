@@ -51,8 +51,7 @@ fn exec_instrs(
 
 /// Refuses rows with too many characters.
 fn check_rows(alloc: Global, signals: u16, exec: &Exec, rows: &RowList) -> Result<(), StilRefusal>
-    ensures fault { Finds (rows_fault signals rows.now exec.now) (λ _. Unit {0}) result }
-    ensures count { OnOk result (length rows.now < 2 ^ 32) }
+    ensures { Finds (rows_fault signals rows.now exec.now) (λ _. length rows.now < 2 ^ 32) result }
 {
     if u32::try_from(rows.len()).is_err() {
         return Err(StilRefusal::NoMemory);

@@ -1,6 +1,6 @@
 //! The instructions of an executive.
 
-ghost use Rattle.std.specs.Prelude.{◌≡◌, [], None, Some, IfErr, IfOk, List, MatchResult, OnOk};
+ghost use Rattle.std.specs.Prelude.{◌≡◌, None, Some, IfErr, IfOk, List, MatchResult};
 ghost use Rattle.stil_ast.specs.Meaning.State.{start_of};
 ghost use Rattle.stil_ast.specs.Meaning.ExecutiveData.{Tree};
 ghost use Rattle.stil_ast.specs.Faults.CodeFaults.{trees_fault};
@@ -82,13 +82,12 @@ fn write_trees(
     code: &mut Vec<Instr>,
     rows: &mut RowList,
 ) -> Result<(), WriteError>
-    ensures done { OnOk result (Wrote source.now.tables.now source.now.first
-        (flats_run trees.now (start_of signals)).made (flats_measure trees.now)
-        code.old.items code.new.items rows.old rows.new) }
-    ensures exact { OnOk result (IsExact source.now.first
-        (λ entry code. flats_written entry trees.now (start_of signals) code)
-        code.old.items code.new.items rows.new) }
-    ensures stopped { IfErr result (AreStopped source.now.tables.now trees.now (start_of signals)) }
+    ensures { MatchResult result
+        (λ _. Wrote source.now.tables.now source.now.first (flats_run trees.now (start_of signals)).made
+        (flats_measure trees.now) code.old.items code.new.items rows.old rows.new
+        × IsExact source.now.first (λ entry code. flats_written entry trees.now (start_of signals) code)
+        code.old.items code.new.items rows.new)
+        (AreStopped source.now.tables.now trees.now (start_of signals)) }
 {
     let outside = State::start(source.alloc, 0)?;
     let mut state = State::start(source.alloc, signals)?;

@@ -1,12 +1,9 @@
 //! What a flat tree runs, as instructions.
 
-ghost use Rattle.std.specs.Prelude.{◌≡◌, ◌∷◌, [], ◌*◌, ◌+◌, IfErr, OnOk};
-ghost use Rattle.stil_ast.specs.Meaning.Running.{times};
-ghost use Rattle.stil_ast.specs.Meaning.Flat.{done, flat_run, measure, repeat, save};
+ghost use Rattle.stil_ast.specs.Meaning.Flat.{done, cycle, repeat, save};
 ghost use Rattle.flat_tree.specs.Items.{item_front};
-ghost use Rattle.cycle_comp.specs.Known.{IsKnown, Moves};
-ghost use Rattle.cycle_comp.specs.Writing.{Walked, Wrote, IsStopped, made_at};
-ghost use Rattle.cycle_comp.specs.Passes.{IsExact, vector_at, with_entry, with_passes, written};
+ghost use Rattle.cycle_comp.specs.Known.{IsKnown};
+ghost use Rattle.cycle_comp.specs.Passes.{Writes};
 
 use crate::output::{put_cycle, put_loop, put_passes};
 use crate::state::State;
@@ -35,15 +32,8 @@ fn write_vector(
     rows: &mut RowList,
 ) -> Result<(), Trouble>
     requires known { IsKnown source.now.tables.now rows.old state.old }
-    ensures done { OnOk result (Wrote source.now.tables.now source.now.first (made_at state.old.told mark place ∷ []) 1
-        code.old.items code.new.items rows.old rows.new) }
-    ensures here { OnOk result (state.new.told ≡ state.old.told) }
-    ensures known { OnOk result (IsKnown source.now.tables.now rows.new state.new) }
-    ensures moves { OnOk result (Moves state.old state.new) }
-    ensures exact { OnOk result (IsExact source.now.first
-        (λ entry code. with_entry (entry (vector_at state.old.told mark)) code)
-        code.old.items code.new.items rows.new) }
-    ensures stopped { IfErr result (IsStopped source.now.tables.now (made_at state.old.told mark place ∷ [])) }
+    ensures { Writes source.now.tables.now source.now.first (cycle mark place done) state.old.told state.old state.new
+        code.old.items code.new.items rows.old rows.new result }
 {
     let Some(table) = state.table() else {
         return Err(Trouble::Fault(PlaceFault {
@@ -82,16 +72,8 @@ pub(crate) fn write_list(
     rows: &mut RowList,
 ) -> Result<(), Trouble>
     requires known { IsKnown source.now.tables.now rows.old state.old }
-    ensures done { OnOk result (Walked source.now.tables.now source.now.first
-        (flat_run list.now base.now.told state.old.told) (measure list.now)
-        code.old.items code.new.items rows.old rows.new state.new.told) }
-    ensures known { OnOk result (IsKnown source.now.tables.now rows.new state.new) }
-    ensures moves { OnOk result (Moves state.old state.new) }
-    ensures exact { OnOk result (IsExact source.now.first
-        (λ entry code. written entry list.now base.now.told state.old.told code)
-        code.old.items code.new.items rows.new) }
-    ensures stopped { IfErr result (IsStopped source.now.tables.now
-        (flat_run list.now base.now.told state.old.told).made) }
+    ensures { Writes source.now.tables.now source.now.first list.now base.now.told state.old state.new
+        code.old.items code.new.items rows.old rows.new result }
 {
     for item in list.steps() {
         match write_item(source, item, base, state, code, rows) {
@@ -113,16 +95,8 @@ fn write_item(
     rows: &mut RowList,
 ) -> Result<(), Trouble>
     requires known { IsKnown source.now.tables.now rows.old state.old }
-    ensures done { OnOk result (Walked source.now.tables.now source.now.first
-        (flat_run (item_front item.entry done) base.now.told state.old.told) (measure (item_front item.entry done))
-        code.old.items code.new.items rows.old rows.new state.new.told) }
-    ensures known { OnOk result (IsKnown source.now.tables.now rows.new state.new) }
-    ensures moves { OnOk result (Moves state.old state.new) }
-    ensures exact { OnOk result (IsExact source.now.first
-        (λ entry code. written entry (item_front item.entry done) base.now.told state.old.told code)
-        code.old.items code.new.items rows.new) }
-    ensures stopped { IfErr result (IsStopped source.now.tables.now
-        (flat_run (item_front item.entry done) base.now.told state.old.told).made) }
+    ensures { Writes source.now.tables.now source.now.first (item_front item.entry done) base.now.told
+        state.old state.new code.old.items code.new.items rows.old rows.new result }
 {
     match item {
         FlatItem::Table(table) => {
@@ -156,17 +130,8 @@ fn write_loop(
     rows: &mut RowList,
 ) -> Result<(), Trouble>
     requires known { IsKnown source.now.tables.now rows.old state.old }
-    ensures done { OnOk result (Walked source.now.tables.now source.now.first
-        (times count (flat_run body.now base.now.told) state.old.told) (2 * measure body.now + 2)
-        code.old.items code.new.items rows.old rows.new state.new.told) }
-    ensures known { OnOk result (IsKnown source.now.tables.now rows.new state.new) }
-    ensures moves { OnOk result (Moves state.old state.new) }
-    ensures exact { OnOk result (IsExact source.now.first
-        (λ entry code. with_passes count (written entry body.now base.now.told) (flat_run body.now base.now.told)
-        state.old.told code)
-        code.old.items code.new.items rows.new) }
-    ensures stopped { IfErr result (IsStopped source.now.tables.now
-        (times count (flat_run body.now base.now.told) state.old.told).made) }
+    ensures { Writes source.now.tables.now source.now.first (repeat count body.now done) base.now.told
+        state.old state.new code.old.items code.new.items rows.old rows.new result }
 {
     if count == 0 {
         return Ok(());
@@ -207,16 +172,8 @@ fn write_save(
     rows: &mut RowList,
 ) -> Result<(), Trouble>
     requires known { IsKnown source.now.tables.now rows.old state.old }
-    ensures done { OnOk result (Walked source.now.tables.now source.now.first
-        (flat_run (save putting body.now done) state.old.told state.old.told) (measure body.now)
-        code.old.items code.new.items rows.old rows.new state.new.told) }
-    ensures known { OnOk result (IsKnown source.now.tables.now rows.new state.new) }
-    ensures moves { OnOk result (Moves state.old state.new) }
-    ensures exact { OnOk result (IsExact source.now.first
-        (λ entry code. written entry body.now state.old.told state.old.told code)
-        code.old.items code.new.items rows.new) }
-    ensures stopped { IfErr result (IsStopped source.now.tables.now
-        (flat_run body.now state.old.told state.old.told).made) }
+    ensures { Writes source.now.tables.now source.now.first (save putting body.now done) state.old.told
+        state.old state.new code.old.items code.new.items rows.old rows.new result }
 {
     let held = state.copy()?;
     match write_list(source, body, &held, state, code, rows) {

@@ -1,5 +1,5 @@
 -- What the parts of the code keep and compute. No public clause cites it.
-use Rattle.std.specs.Prelude.{◌≡◌, ℕ, ◌^◌, ◌<◌, true, List, [], ◌∷◌, ◌++◌, All, length, Option, Some, None, ℤ, slice_get, slice_index_or, ◌⊎◌}
+use Rattle.std.specs.Prelude.{◌≡◌, ℕ, ◌^◌, ◌<◌, true, List, [], ◌∷◌, ◌++◌, All, length, Option, Some, None, ℤ, slice_get, slice_index_or, ◌⊎◌, Result, Ok, Err}
 use Rattle.std.specs.List.{AllByRecursion}
 use Rattle.tester_types.specs.Outside.{HasRisen}
 use Rattle.tester_types.specs.declared.level.Drive.{Drive}
@@ -137,6 +137,13 @@ StopsCycle stand exec going cycle old new (stop.Contact instant) = LosesContact 
 abbrev pub HasCause : ℕ → ℕ → Stop → Type 0
 HasCause old new stop.NoMemory = Unit {0}
 HasCause old new (stop.Contact instant) = HasRisen old new
+
+-- what making moments of the open cycle answers: they were gone through, and more may follow, or else the cycle stopped
+-- among them, which has its cause
+abbrev pub MakesMoments : Device → Whose → List Moment → Point → Point → Result Unit Stop → Type 0
+MakesMoments device whose moments old new (Ok done) = GoesThrough device whose moments old new × IsReady device new
+MakesMoments device whose moments old new (Err why) =
+    Stops device whose moments old new why × HasCause old.told.count new.told.count why
 
 -- ---- drives and looks of a moment
 

@@ -1,12 +1,12 @@
 //! The moments of a cycle, one after another.
 
-ghost use Rattle.std.specs.Prelude.{◌≡◌, ◌≤◌, ◌<◌, ◌^◌, [], ◌∷◌, map, length, All, OnOk, IfErr};
+ghost use Rattle.std.specs.Prelude.{◌≡◌, ◌≤◌, ◌<◌, ◌^◌, [], ◌∷◌, map, length, All};
 ghost use Rattle.text_bytes.specs.Limits.{most_signals};
 ghost use Rattle.bench_net.specs.Circuit.{IsWhole};
 ghost use Rattle.edge_gen.specs.Moments.{later};
 ghost use Rattle.die_sim.specs.Die.{device_of};
 ghost use Rattle.cycle_run.specs.Cycle.{point_at};
-ghost use Rattle.cycle_run.specs.Step.{IsScheduled, FitsBench, IsReady, whose_at, GoesThrough, Stops, HasCause};
+ghost use Rattle.cycle_run.specs.Step.{IsScheduled, FitsBench, IsReady, whose_at, MakesMoments};
 
 use crate::bench::Bench;
 use crate::drives::{collect, remember};
@@ -32,19 +32,12 @@ fn make_moment<K: Socket>(
     requires room { FitsBench (length image.now.binds) bench.old.last.items bench.old.levels.items }
     requires ready { IsReady (device_of image.now)
         (point_at bench.old.checker bench.old.last.items (K.told socket.old)) }
-    ensures goes { OnOk result (GoesThrough (device_of image.now) (whose_at place) (later place.start moment.now ∷ [])
+    ensures makes { MakesMoments (device_of image.now) (whose_at place) (later place.start moment.now ∷ [])
         (point_at bench.old.checker bench.old.last.items (K.told socket.old))
-        (point_at bench.new.checker bench.new.last.items (K.told socket.new))) }
-    ensures ready { OnOk result (IsReady (device_of image.now)
-        (point_at bench.new.checker bench.new.last.items (K.told socket.new))) }
-    ensures stops { IfErr result (λ stop. Stops (device_of image.now) (whose_at place)
-        (later place.start moment.now ∷ [])
-        (point_at bench.old.checker bench.old.last.items (K.told socket.old))
-        (point_at bench.new.checker bench.new.last.items (K.told socket.new)) stop) }
+        (point_at bench.new.checker bench.new.last.items (K.told socket.new)) result }
     ensures room { FitsBench (length image.now.binds) bench.new.last.items bench.new.levels.items }
     ensures loaded { (K.told socket.new).loaded ≡ (K.told socket.old).loaded }
     ensures count { (K.told socket.old).count ≤ (K.told socket.new).count }
-    ensures cause { IfErr result (λ stop. HasCause (K.told socket.old).count (K.told socket.new).count stop) }
 {
     let at = place.start + moment.at;
     let looks = moment.looks.as_slice();
@@ -89,20 +82,12 @@ pub(crate) fn make_moments<K: Socket>(
     requires room { FitsBench (length image.now.binds) bench.old.last.items bench.old.levels.items }
     requires ready { IsReady (device_of image.now)
         (point_at bench.old.checker bench.old.last.items (K.told socket.old)) }
-    ensures goes { OnOk result (GoesThrough (device_of image.now) (whose_at place)
-        (map (later place.start) moments.now)
+    ensures makes { MakesMoments (device_of image.now) (whose_at place) (map (later place.start) moments.now)
         (point_at bench.old.checker bench.old.last.items (K.told socket.old))
-        (point_at bench.new.checker bench.new.last.items (K.told socket.new))) }
-    ensures ready { OnOk result (IsReady (device_of image.now)
-        (point_at bench.new.checker bench.new.last.items (K.told socket.new))) }
-    ensures stops { IfErr result (λ stop. Stops (device_of image.now) (whose_at place)
-        (map (later place.start) moments.now)
-        (point_at bench.old.checker bench.old.last.items (K.told socket.old))
-        (point_at bench.new.checker bench.new.last.items (K.told socket.new)) stop) }
+        (point_at bench.new.checker bench.new.last.items (K.told socket.new)) result }
     ensures room { FitsBench (length image.now.binds) bench.new.last.items bench.new.levels.items }
     ensures loaded { (K.told socket.new).loaded ≡ (K.told socket.old).loaded }
     ensures count { (K.told socket.old).count ≤ (K.told socket.new).count }
-    ensures cause { IfErr result (λ stop. HasCause (K.told socket.old).count (K.told socket.new).count stop) }
 {
     for moment in moments {
         make_moment(socket, bench, image, place, moment)?;

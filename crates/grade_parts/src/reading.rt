@@ -1,9 +1,9 @@
 //! The text of a part of a grade, read line by line.
 
-ghost use Rattle.std.specs.Prelude.{◌≡◌, ◌==◌, ◌++◌, ◌∷◌, [], ℕ, List, true, cond, not, MatchOption, IfOk, IfErr, IfSome, codes, decimal};
+ghost use Rattle.std.specs.Prelude.{◌≡◌, ◌==◌, ◌++◌, [], true, cond, not, MatchOption, decimal, MatchResult};
 ghost use Rattle.part_lines.specs.Lines.{is_one_line};
 ghost use Rattle.part_lines.specs.LineFault.{IsLineFault};
-ghost use Rattle.grade_parts.specs.Log.{GradeLog as Said, ends_none, IsLog, IsLogOf, IsLogWith};
+ghost use Rattle.grade_parts.specs.Log.{ends_none, IsLog, IsLogOf, IsLogWith};
 ghost use Rattle.grade_parts.specs.Held.{is_good};
 ghost use Rattle.grade_parts.specs.Step.{IsFirst, HasLine, LacksLine, AreFront, IsBehind, counts_text};
 
@@ -24,8 +24,7 @@ struct Front {
 
 /// Reads the text of a part.
 pub(crate) fn read_text(text: &[u8]) -> Result<GradeLog<'_>, u64>
-    ensures found { IfOk result (λ log. IsLog text.now log) }
-    ensures fault { IfErr result (λ n. IsLineFault IsLogOf text.now n) }
+    ensures { MatchResult result (IsLog text.now) (IsLineFault IsLogOf text.now) }
 {
     match front_line(text, b"good ") {
         Some(good) => read_rest(text, good),
@@ -36,9 +35,8 @@ pub(crate) fn read_text(text: &[u8]) -> Result<GradeLog<'_>, u64>
 /// Reads the text of a part whose good die has this line.
 pub(crate) fn read_text_with<'a>(text: &'a [u8], good: &[u8]) -> Result<GradeLog<'a>, u64>
     requires { is_good good.now ≡ true }
-    ensures found { IfOk result (λ log. IsLog text.now log) }
-    ensures same { IfOk result (λ log. log.good ≡ good.now) }
-    ensures fault { IfErr result (λ n. IsLineFault (IsLogWith good.now) text.now n) }
+    ensures { MatchResult result (λ log. IsLog text.now log × (log.good ≡ good.now))
+        (IsLineFault (IsLogWith good.now) text.now) }
 {
     match front_line(text, b"good ") {
         Some(line) if line == good => read_rest(text, line),
@@ -50,10 +48,8 @@ pub(crate) fn read_text_with<'a>(text: &'a [u8], good: &[u8]) -> Result<GradeLog
 fn read_rest<'a>(text: &'a [u8], good: &'a [u8]) -> Result<GradeLog<'a>, u64>
     requires good { is_good good.now ≡ true }
     requires front { IsFirst text.now good.now }
-    ensures found { IfOk result (λ log. IsLog text.now log) }
-    ensures same { IfOk result (λ log. log.good ≡ good.now) }
-    ensures fault { IfErr result (λ n. IsLineFault IsLogOf text.now n) }
-    ensures fault_with { IfErr result (λ n. IsLineFault (IsLogWith good.now) text.now n) }
+    ensures { MatchResult result (λ log. IsLog text.now log × (log.good ≡ good.now))
+        (λ n. IsLineFault IsLogOf text.now n × IsLineFault (IsLogWith good.now) text.now n) }
 {
     let rest = &text[good.len() + 1..];
     let front = fault_front(rest);

@@ -1,5 +1,5 @@
 -- What a reader of statements sees of a text's tokens, where no word is skipped.
-use Rattle.std.proofs.Common.{◌≡◌, ℕ, ◌+◌, Bool, false, List, [], ◌∷◌, length, take, drop, Result, Ok, Err, refl, sym, ap, ◌∙◌, arith, cond}
+use Rattle.std.proofs.Common.{◌≡◌, ℕ, ◌+◌, Bool, false, List, [], ◌∷◌, length, take, drop, Result, Ok, refl, sym, ap, ◌∙◌, arith, cond}
 use Rattle.std.specs.Prelude.{not}
 use Rattle.std.proofs.lemmas.List.{take-map, drop-map, drop-drop}
 use Rattle.stil_lex.specs.Pieces.{Piece, gap, token}
@@ -15,12 +15,6 @@ use Rattle.line_texts.specs.Lexemes.{lexemes_in}
 pub stepping-more : {S E F : Type 0} (step : S → E → Result S F) (s t : S) (e : E) (es : List E) → step s e ≡ Ok t
     → stepping step s (e ∷ es) ≡ stepping step t es
 stepping-more step s t e es h = ap (λ r. and_then r (λ next. stepping step next es)) h
-
--- a last step that changes nothing
-pub and_then-assoc : {X Y F : Type 0} (r : Result X F) (next : X → Result Y F)
-    → and_then (and_then r (λ x. Ok x)) next ≡ and_then r next
-and_then-assoc (Ok x) next = refl
-and_then-assoc (Err e) next = refl
 
 -- a head at a place behind one from which on the lexemes are known
 pub head_behind : {X : Type 0} (all rest : List X) (at k n f : ℕ) → drop at all ≡ rest → f ≡ at + k

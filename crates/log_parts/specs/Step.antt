@@ -1,11 +1,11 @@
 -- What may stand behind the lines that were read. No public clause cites it.
-use Rattle.std.specs.Prelude.{◌≡◌, ℕ, ◌+◌, ◌≤◌, true, List, [], ◌∷◌, ◌++◌, map, codes, decimal}
+use Rattle.std.specs.Prelude.{◌≡◌, ℕ, ◌+◌, ◌≤◌, true, List, [], ◌∷◌, ◌++◌, map, codes, decimal, Result, MatchResult}
 use Rattle.std.specs.List.{flat_map, AllByRecursion, range_with_len}
 use Rattle.plan_rows.specs.Limits.{last_bin}
 use Rattle.datalog.specs.DatalogText.{site_line, bin_line, total_line, dies_in, totals_text}
-use Rattle.part_lines.specs.Lines.{ended, is_one_line}
+use Rattle.part_lines.specs.Lines.{ended, is_one_line, lines_in}
 use Rattle.part_lines.specs.LineFault.{IsLineFault}
-use Rattle.part_lines.specs.Reading.{Reading, HasRead}
+use Rattle.part_lines.specs.Reading.{Reading, HasRead, IsNext}
 use Rattle.part_lines.specs.declared.fault.LineFault.{LineFault}
 use Rattle.part_lines.specs.declared.fault.LineFault.TheVariants.{NoMemory, Line}
 use Rattle.log_parts.specs.Log.{DieLog, IsDieLog, is_body_line, dies_text, sites_text, bins_of, AreDieLogs, AreLogs, IsLogOf}
@@ -99,6 +99,14 @@ pub record SitesAreRead (names : List (List (List ℕ))) (before now : Reading) 
   pub read : HasRead before now (sites_text 0 names logs)
   pub bins : news ≡ olds ++ bins_of logs
   pub texts_are : texts ≡ site_texts names logs
+
+-- ---- what a reader answers
+
+-- the line of these words was read, or else it isn't the next one, which is the fault
+abbrev pub ReadsLine : Reading → Reading → List ℕ → Result Unit LineFault → Type 0
+ReadsLine before now words result =
+    MatchResult result (λ _. HasRead before now (ended words))
+    (λ e. (e ≡ Line (lines_in before.front + 1)) × (IsNext before.rest words → ⊥))
 
 -- want of memory, or the fault of the text
 abbrev pub IsFaultOf : List (List (List ℕ)) → List ℕ → LineFault → Type 0

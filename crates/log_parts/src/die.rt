@@ -1,15 +1,15 @@
 //! The lines of a die.
 
-ghost use Rattle.std.specs.Prelude.{◌≡◌, ◌≤◌, ◌+◌, ◌∷◌, ◌++◌, [], ℕ, List, Vec, IfOk, IfErr, IsTrue, true, false, length, codes};
+ghost use Rattle.std.specs.Prelude.{◌≡◌, ◌≤◌, ◌+◌, ◌∷◌, ◌++◌, [], ℕ, List, Vec, IsTrue, true, false, codes, MatchResult};
 ghost use Rattle.std.specs.List.{flat_map};
-ghost use Rattle.datalog.specs.DatalogText.{bin_line, die_line};
+ghost use Rattle.datalog.specs.DatalogText.{bin_line};
 ghost use Rattle.tester_types.specs.Printing.{printed_name};
 ghost use Rattle.part_lines.specs.Lines.{ended, is_one_line, lines_in};
 ghost use Rattle.part_lines.specs.Reading.{HasRead, IsNext, FaultFrom};
 ghost use Rattle.part_lines.specs.declared.fault.LineFault.TheVariants as fault;
 ghost use Rattle.log_parts.specs.Log.{DieLog, IsDieLog, is_body_line, die_text};
 ghost use Rattle.log_parts.specs.Slices.{lent};
-ghost use Rattle.log_parts.specs.Step.{AreBody, AreOneLine, AreRead, IsRest, bin_words};
+ghost use Rattle.log_parts.specs.Step.{AreBody, AreOneLine, AreRead, IsRest, ReadsLine, bin_words};
 
 use crate::words::{is_body, told_bin};
 use part_lines::{LineFault, Lines};
@@ -22,8 +22,8 @@ pub(crate) fn read_dies(
     bins: &mut Vec<u8>,
 ) -> Result<(), LineFault>
     requires { AreOneLine (lent names.now) }
-    ensures found { IfOk result (λ _. AreRead (lent names.now) lines.old lines.new bins.old.items bins.new.items) }
-    ensures fault { IfErr result (λ e. (number : ℕ) (later : List (List (List ℕ))) (before : List ℕ)
+    ensures { MatchResult result (λ _. AreRead (lent names.now) lines.old lines.new bins.old.items bins.new.items)
+        (λ e. (number : ℕ) (later : List (List (List ℕ))) (before : List ℕ)
         → FaultFrom (IsRest (lent names.now) number later before) lines.old e) }
 {
     for name in names {
@@ -35,10 +35,11 @@ pub(crate) fn read_dies(
 /// Reads a die, and adds its bin.
 fn read_die(lines: &mut Lines, name: &[u8], bins: &mut Vec<u8>) -> Result<(), LineFault>
     requires { is_one_line name.now ≡ true }
-    ensures found { IfOk result (λ _. (log : DieLog) × IsDieLog log
-        × HasRead lines.old lines.new (die_text name.now log) × (bins.new.items ≡ bins.old.items ++ log.bin ∷ [])) }
-    ensures fault { IfErr result (λ e. (names : List (List ℕ)) (number : ℕ) (later : List (List (List ℕ)))
-        (before : List ℕ) → FaultFrom (IsRest (name.now ∷ names) number later before) lines.old e) }
+    ensures { MatchResult result
+        (λ _. (log : DieLog) × IsDieLog log × HasRead lines.old lines.new (die_text name.now log)
+        × (bins.new.items ≡ bins.old.items ++ log.bin ∷ []))
+        (λ e. (names : List (List ℕ)) (number : ℕ) (later : List (List (List ℕ))) (before : List ℕ)
+        → FaultFrom (IsRest (name.now ∷ names) number later before) lines.old e) }
 {
     expect_die(lines, name)?;
     read_body(lines);
@@ -49,9 +50,7 @@ fn read_die(lines: &mut Lines, name: &[u8], bins: &mut Vec<u8>) -> Result<(), Li
 
 /// Reads the line of a die's name.
 fn expect_die(lines: &mut Lines, name: &[u8]) -> Result<(), LineFault>
-    ensures found { IfOk result (λ _. HasRead lines.old lines.new (die_line name.now)) }
-    ensures fault { IfErr result (λ e. (e ≡ fault.Line (lines_in lines.old.front + 1))
-        × (IsNext lines.old.rest (codes "die " ++ printed_name name.now) → ⊥)) }
+    ensures { ReadsLine lines.old lines.new (codes "die " ++ printed_name name.now) result }
 {
     lines.expect(&[Piece::Text(b"die "), Piece::Name(name)])
 }
@@ -83,8 +82,8 @@ fn read_body_line(lines: &mut Lines) -> bool
 
 /// Reads the line of a bin.
 fn read_bin(lines: &mut Lines) -> Result<u8, LineFault>
-    ensures found { IfOk result (λ bin. (1 ≤ bin) × (bin ≤ 99) × HasRead lines.old lines.new (bin_line bin)) }
-    ensures fault { IfErr result (λ e. (e ≡ fault.Line (lines_in lines.old.front + 1))
+    ensures { MatchResult result (λ bin. (1 ≤ bin) × (bin ≤ 99) × HasRead lines.old lines.new (bin_line bin))
+        (λ e. (e ≡ fault.Line (lines_in lines.old.front + 1))
         × ((bin : ℕ) → 1 ≤ bin → bin ≤ 99 → IsNext lines.old.rest (bin_words bin) → ⊥)) }
 {
     let Some(line) = lines.peek() else {

@@ -1,6 +1,6 @@
 //! The totals, and the end of the text.
 
-ghost use Rattle.std.specs.Prelude.{◌≡◌, ◌++◌, [], ℕ, List, IfOk, IfErr};
+ghost use Rattle.std.specs.Prelude.{◌≡◌, ◌++◌, [], ℕ, List, MatchResult};
 ghost use Rattle.datalog.specs.DatalogText.{dies_in, total_line, totals_text};
 ghost use Rattle.part_lines.specs.Reading.{HasRead, FaultFrom};
 ghost use Rattle.log_parts.specs.Step.{IsText};
@@ -10,8 +10,8 @@ use tester_types::Piece;
 
 /// Reads the totals of these bins.
 pub(crate) fn read_totals(lines: &mut Lines, bins: &[u8]) -> Result<(), LineFault>
-    ensures found { IfOk result (λ _. HasRead lines.old lines.new (totals_text bins.now)) }
-    ensures fault { IfErr result (λ e. FaultFrom (IsText (totals_text bins.now)) lines.old e) }
+    ensures { MatchResult result (λ _. HasRead lines.old lines.new (totals_text bins.now))
+        (FaultFrom (IsText (totals_text bins.now)) lines.old) }
 {
     for bin in 1..100 {
         read_total(lines, bin, count_of(bin, bins))?;
@@ -21,8 +21,8 @@ pub(crate) fn read_totals(lines: &mut Lines, bins: &[u8]) -> Result<(), LineFaul
 
 /// Reads the total of a bin, which stands there if it has a die.
 fn read_total(lines: &mut Lines, bin: u8, dies: usize) -> Result<(), LineFault>
-    ensures found { IfOk result (λ _. HasRead lines.old lines.new (total_line bin dies)) }
-    ensures fault { IfErr result (λ e. (back : List ℕ) → FaultFrom (IsText (total_line bin dies ++ back)) lines.old e) }
+    ensures { MatchResult result (λ _. HasRead lines.old lines.new (total_line bin dies))
+        (λ e. (back : List ℕ) → FaultFrom (IsText (total_line bin dies ++ back)) lines.old e) }
 {
     if dies == 0 {
         return Ok(());
@@ -45,8 +45,7 @@ pub(crate) fn count_of(bin: u8, bins: &[u8]) -> usize
 
 /// Reads the end of the text.
 pub(crate) fn read_end(lines: &Lines) -> Result<(), LineFault>
-    ensures found { IfOk result (λ _. lines.now.rest ≡ []) }
-    ensures fault { IfErr result (λ e. FaultFrom (IsText []) lines.now e) }
+    ensures { MatchResult result (λ _. lines.now.rest ≡ []) (FaultFrom (IsText []) lines.now) }
 {
     if lines.left().is_empty() {
         Ok(())

@@ -1,9 +1,8 @@
 //! What is kept of the datalog of a part.
 
-ghost use Rattle.std.specs.Prelude.{◌≡◌, ◌⊎◌, ◌+◌, ◌∷◌, ◌++◌, [], ℕ, List, Vec, IfOk, IfErr, MatchResult, slice_index_or};
+ghost use Rattle.std.specs.Prelude.{◌≡◌, ◌⊎◌, [], ℕ, Vec, IfOk, IfErr, MatchResult, slice_index_or};
 ghost use Rattle.datalog.specs.DatalogText.{dies_in};
 ghost use Rattle.part_lines.specs.LineFault.{IsLineFault};
-ghost use Rattle.text_bytes.specs.Texts.{AreLines};
 ghost use Rattle.part_lines.specs.declared.fault.LineFault.TheVariants as fault;
 ghost use Rattle.log_parts.specs.Log.{IsLogOf};
 ghost use Rattle.log_parts.specs.Slices.{IsSliced, lent_sites};
@@ -73,8 +72,8 @@ fn read_part<'a>(
     text: &'a [u8],
 ) -> Result<PartLog<'a>, LineFault>
     requires { AreOneLineEach (lent_sites names.now) }
-    ensures found { IfOk result (λ log. IsSliced (lent_sites names.now) text.now log) }
-    ensures fault { IfErr result (λ e. IsFaultOf (lent_sites names.now) text.now e) }
+    ensures { MatchResult result (IsSliced (lent_sites names.now) text.now)
+        (IsFaultOf (lent_sites names.now) text.now) }
 {
     let mut lines = Lines::new(text);
     let mut bins = Vec::new(alloc);

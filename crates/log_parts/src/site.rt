@@ -1,13 +1,10 @@
 //! The lines of the sites.
 
-ghost use Rattle.std.specs.Prelude.{◌≡◌, ◌+◌, ◌∷◌, ◌++◌, [], ℕ, List, Vec, IfOk, IfErr, length};
-ghost use Rattle.datalog.specs.DatalogText.{site_line};
-ghost use Rattle.part_lines.specs.Lines.{lines_in};
-ghost use Rattle.part_lines.specs.Reading.{HasRead, IsNext, FaultFrom};
-ghost use Rattle.part_lines.specs.declared.fault.LineFault.TheVariants as fault;
-ghost use Rattle.log_parts.specs.Log.{DieLog};
+ghost use Rattle.std.specs.Prelude.{◌∷◌, [], ℕ, List, Vec, MatchResult};
+ghost use Rattle.part_lines.specs.Reading.{FaultFrom};
 ghost use Rattle.log_parts.specs.Slices.{lent, lent_sites};
 ghost use Rattle.log_parts.specs.Step.{AreOneLine, AreOneLineEach, IsRest, SiteIsRead, SitesAreRead, site_words};
+ghost use Rattle.log_parts.specs.Step.{ReadsLine};
 
 use crate::die::read_dies;
 use part_lines::{LineFault, Lines};
@@ -22,10 +19,9 @@ pub(crate) fn read_sites<'a>(
     bins: &mut Vec<u8>,
 ) -> Result<Vec<&'a [u8]>, LineFault>
     requires { AreOneLineEach (lent_sites names.now) }
-    ensures found { IfOk result (λ texts.
-        SitesAreRead (lent_sites names.now) lines.old lines.new bins.old.items bins.new.items (lent texts.items)) }
-    ensures fault { IfErr result (λ e. (before : List ℕ)
-        → FaultFrom (IsRest [] 0 (lent_sites names.now) before) lines.old e) }
+    ensures { MatchResult result (λ texts.
+        SitesAreRead (lent_sites names.now) lines.old lines.new bins.old.items bins.new.items (lent texts.items))
+        (λ e. (before : List ℕ) → FaultFrom (IsRest [] 0 (lent_sites names.now) before) lines.old e) }
 {
     let mut texts = Vec::new(alloc);
     for (number, site) in names.iter().enumerate() {
@@ -43,9 +39,9 @@ fn read_site<'a>(
     bins: &mut Vec<u8>,
 ) -> Result<&'a [u8], LineFault>
     requires { AreOneLine (lent names.now) }
-    ensures found { IfOk result (λ text.
-        SiteIsRead number (lent names.now) lines.old lines.new bins.old.items bins.new.items text.now) }
-    ensures fault { IfErr result (λ e. (later : List (List (List ℕ))) (before : List ℕ)
+    ensures { MatchResult result (λ text.
+        SiteIsRead number (lent names.now) lines.old lines.new bins.old.items bins.new.items text.now)
+        (λ e. (later : List (List (List ℕ))) (before : List ℕ)
         → FaultFrom (IsRest [] number (lent names.now ∷ later) before) lines.old e) }
 {
     expect_site(lines, number)?;
@@ -58,9 +54,7 @@ fn read_site<'a>(
 
 /// Reads the line of a site.
 fn expect_site(lines: &mut Lines, number: usize) -> Result<(), LineFault>
-    ensures found { IfOk result (λ _. HasRead lines.old lines.new (site_line number)) }
-    ensures fault { IfErr result (λ e. (e ≡ fault.Line (lines_in lines.old.front + 1))
-        × (IsNext lines.old.rest (site_words number) → ⊥)) }
+    ensures { ReadsLine lines.old lines.new (site_words number) result }
 {
     lines.expect(&[Piece::Text(b"site "), Piece::Number(number as u128)])
 }

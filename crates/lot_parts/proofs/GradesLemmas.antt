@@ -1,6 +1,6 @@
 -- The texts of the parts of a grade, read one after another, and the answer where they are merged.
 use Rattle.std.proofs.Common.{◌≡◌, ℕ, ◌+◌, ◌<◌, ◌≤◌, List, [], ◌∷◌, ◌++◌, length, drop, get_or, Option, Result, Ok, Err, refl, sym, ap, ◌∙◌, subst, append_assoc, arith, inl, inr, length-append, String, string_bytes}
-use Rattle.std.specs.Prelude.{IfOk, IfErr}
+use Rattle.std.specs.Prelude.{IfOk, IfErr, MatchResult}
 use Rattle.std.specs.declared.alloc.Global.{Global}
 use Rattle.std.proofs.lemmas.List.{append-nil, drop_all, get_or-map}
 use Rattle.text_bytes.proofs.ListLemmas.{all_append, split_more}
@@ -25,37 +25,25 @@ use Rattle.lot_parts.specs.Grades.MergeWants.{are_merged, is_refused}
 -- ---- one text
 
 -- the first text
-pub first_found : (logs : List GradeLog) (text : List ℕ) (r : Result GradeLog LineFault) → length logs ≡ 0 → IfOk r (IsLog text)
-    → IfOk r (λ log. IsLog text log × Agree (logs ++ log ∷ []))
-first_found [] text (Ok log) none found = (found, tt)
-first_found [] text (Err e) none found = tt
-first_found (l ∷ logs) text r none found = absurd (omega (arith, none))
-
-pub first_fault : (logs : List GradeLog) (text : List ℕ) (r : Result GradeLog LineFault) → length logs ≡ 0
+pub first_read : (logs : List GradeLog) (text : List ℕ) (r : Result GradeLog LineFault) → length logs ≡ 0 → IfOk r (IsLog text)
     → IfErr r (λ e. (n : ℕ) × (e ≡ fault.Line n) × IsLineFault IsLogOf text n)
-    → IfErr r (λ e. (n : ℕ) × (e ≡ fault.Line n) × IsFaultBehind logs text n)
-first_fault [] text r none why = why
-first_fault (l ∷ logs) text r none why = absurd (omega (arith, none))
+    → MatchResult r (λ log. IsLog text log × Agree (logs ++ log ∷ [])) (λ e. (n : ℕ) × (e ≡ fault.Line n) × IsFaultBehind logs text n)
+first_read [] text (Ok log) none found why = (found, tt)
+first_read [] text (Err e) none found why = why
+first_read (l ∷ logs) text r none found why = absurd (omega (arith, none))
 
 -- a later one
-pub later_found : (logs : List GradeLog) (first : GradeLog) (text good : List ℕ) (r : Result GradeLog LineFault) → 0 < length logs
+pub later_read : (logs : List GradeLog) (first : GradeLog) (text good : List ℕ) (r : Result GradeLog LineFault) → 0 < length logs
     → first ≡ get_or logs 0 first → good ≡ first.good → Agree logs → IfOk r (IsLog text) → IfOk r (λ log. log.good ≡ good)
-    → IfOk r (λ log. IsLog text log × Agree (logs ++ log ∷ []))
-later_found [] first text good r some is good_is agree found same = absurd (omega (arith, some))
-later_found (l ∷ logs) first text good (Ok log) some is good_is agree found same = (
+    → IfErr r (λ e. (n : ℕ) × (e ≡ fault.Line n) × IsLineFault (IsLogWith good) text n)
+    → MatchResult r (λ log. IsLog text log × Agree (logs ++ log ∷ [])) (λ e. (n : ℕ) × (e ≡ fault.Line n) × IsFaultBehind logs text n)
+later_read [] first text good r some is good_is agree found same why = absurd (omega (arith, some))
+later_read (l ∷ logs) first text good (Ok log) some is good_is agree found same why = (
   found,
   all_append (λ (x : GradeLog). x.good ≡ l.good) logs (log ∷ []) agree
       (same ∙ good_is ∙ ap (λ (x : GradeLog). x.good) is, tt),
 )
-later_found (l ∷ logs) first text good (Err e) some is good_is agree found same = tt
-
-pub later_fault : (logs : List GradeLog) (first : GradeLog) (text good : List ℕ) (r : Result GradeLog LineFault) → 0 < length logs
-    → first ≡ get_or logs 0 first → good ≡ first.good
-    → IfErr r (λ e. (n : ℕ) × (e ≡ fault.Line n) × IsLineFault (IsLogWith good) text n)
-    → IfErr r (λ e. (n : ℕ) × (e ≡ fault.Line n) × IsFaultBehind logs text n)
-later_fault [] first text good r some is good_is why = absurd (omega (arith, some))
-later_fault (l ∷ logs) first text good (Ok log) some is good_is why = tt
-later_fault (l ∷ logs) first text good (Err e) some is good_is why =
+later_read (l ∷ logs) first text good (Err e) some is good_is agree found same why =
     (why.0, why.1, subst (λ (line : List ℕ). IsLineFault (IsLogWith line) text why.0) (good_is ∙ ap (λ (x : GradeLog). x.good) is) why.2)
 
 -- ---- one after another

@@ -1,9 +1,10 @@
 -- The datalogs of the parts of a plan, read one after another, and the answer where they are merged.
 use Rattle.std.proofs.Common.{◌≡◌, ℕ, zero, suc, ◌+◌, ◌<◌, ◌≤◌, List, [], ◌∷◌, ◌++◌, length, drop, get_or, Option, refl, sym, ap, ◌∙◌, subst, append_assoc, arith, inl, inr, length-append}
-use Rattle.std.specs.Prelude.{slice_index_or, IfOk, IfErr, Result, Vec}
+use Rattle.std.specs.Prelude.{slice_index_or, IfOk, IfErr, MatchResult, Result, Vec}
 use Rattle.std.specs.Borrow.{Bor}
 use Rattle.std.specs.declared.alloc.Global.{Global}
 use Rattle.std.proofs.lemmas.List.{append-nil, drop_all}
+use Rattle.std.proofs.lemmas.Result.{MatchResult-from_both}
 use Rattle.text_bytes.proofs.ListLemmas.{split_more}
 use Rattle.tester_types.specs.Outside.{Files, HasRisen, gained, GainsFront}
 use Rattle.plan_rows.specs.declared.row.Row.{Row}
@@ -78,19 +79,14 @@ pub one_line_so : (rows : List Row) (parts part : ℕ) (seen names : List (Vec (
     → lent_sites names ≡ names_in parts part rows → AreOneLineEach (names_in parts part rows) → AreOneLineEach (lent_sites seen)
 one_line_so rows parts part seen names is same are = subst AreOneLineEach (sym (lent_so rows parts part seen names is same)) are
 
--- what is read by them
-pub sliced_so : (rows : List Row) (parts part : ℕ) (seen names : List (Vec (Bor (List ℕ)) Global)) (text : List ℕ)
+-- what is read by them, or the fault
+pub read_so : (rows : List Row) (parts part : ℕ) (seen names : List (Vec (Bor (List ℕ)) Global)) (text : List ℕ)
     (r : Result SlicedLog LineFault) → seen ≡ names → lent_sites names ≡ names_in parts part rows
-    → IfOk r (IsSliced (lent_sites seen) text) → IfOk r (IsSliced (names_in parts part rows) text)
-sliced_so rows parts part seen names text r is same found =
-    subst (λ (n : List (List (List ℕ))). IfOk r (IsSliced n text)) (lent_so rows parts part seen names is same) found
-
--- and the fault
-pub fault_so : (rows : List Row) (parts part : ℕ) (seen names : List (Vec (Bor (List ℕ)) Global)) (text : List ℕ)
-    (r : Result SlicedLog LineFault) → seen ≡ names → lent_sites names ≡ names_in parts part rows
-    → IfErr r (IsFaultOf (lent_sites seen) text) → IfErr r (IsFaultOf (names_in parts part rows) text)
-fault_so rows parts part seen names text r is same why =
-    subst (λ (n : List (List (List ℕ))). IfErr r (IsFaultOf n text)) (lent_so rows parts part seen names is same) why
+    → IfOk r (IsSliced (lent_sites seen) text) → IfErr r (IsFaultOf (lent_sites seen) text)
+    → MatchResult r (IsSliced (names_in parts part rows) text) (IsFaultOf (names_in parts part rows) text)
+read_so rows parts part seen names text r is same found why =
+    subst (λ (n : List (List (List ℕ))). MatchResult r (IsSliced n text) (IsFaultOf n text)) (lent_so rows parts part seen names is same)
+    (MatchResult-from_both r (IsSliced (lent_sites seen) text) (IsFaultOf (lent_sites seen) text) found why)
 
 -- ---- one after another
 

@@ -1,8 +1,8 @@
 //! `merge-grade`: the grade, of the texts of its parts.
 
-ghost use Rattle.std.specs.Prelude.{◌≡◌, ◌≤◌, ◌<◌, ◌⊎◌, ◌++◌, ◌∷◌, [], ℕ, List, IfOk, IfErr, length};
+ghost use Rattle.std.specs.Prelude.{◌≡◌, ◌≤◌, ◌<◌, ◌++◌, ◌∷◌, [], ℕ, length, MatchResult};
 ghost use Rattle.part_lines.specs.declared.fault.LineFault.TheVariants as fault;
-ghost use Rattle.grade_parts.specs.Log.{GradeLog as Said, IsLog};
+ghost use Rattle.grade_parts.specs.Log.{IsLog};
 ghost use Rattle.lot_parts.specs.Words.{words_seen};
 ghost use Rattle.lot_parts.specs.Files.{texts_seen};
 ghost use Rattle.lot_parts.specs.Endings.{AnswersAs};
@@ -20,8 +20,8 @@ use tool_inputs::{Refusal, Status};
 /// Reads the text of a grade behind these, which must say of the good die what the first of them says.
 fn read_log<'a>(text: &'a [u8], logs: &[GradeLog<'a>]) -> Result<GradeLog<'a>, LineFault>
     requires { Agree logs.now }
-    ensures found { IfOk result (λ log. IsLog text.now log × Agree (logs.now ++ log ∷ [])) }
-    ensures fault { IfErr result (λ e. (n : ℕ) × (e ≡ fault.Line n) × IsFaultBehind logs.now text.now n) }
+    ensures { MatchResult result (λ log. IsLog text.now log × Agree (logs.now ++ log ∷ []))
+        (λ e. (n : ℕ) × (e ≡ fault.Line n) × IsFaultBehind logs.now text.now n) }
 {
     match logs.first() {
         None => GradeLog::read(text),
@@ -36,8 +36,8 @@ fn read_logs<'a>(
     texts: &'a [Vec<u8>],
 ) -> Result<Vec<GradeLog<'a>>, PartRefusal>
     requires { length files.now ≡ length texts.now }
-    ensures found { IfOk result (λ logs. AreLogTexts (texts_seen texts.now) logs.items × Agree logs.items) }
-    ensures refused { IfErr result (IsTextRefused (words_seen files.now) (texts_seen texts.now)) }
+    ensures { MatchResult result (λ logs. AreLogTexts (texts_seen texts.now) logs.items × Agree logs.items)
+        (IsTextRefused (words_seen files.now) (texts_seen texts.now)) }
 {
     let mut logs = Vec::new(alloc);
     for (at, text) in texts.iter().enumerate() {

@@ -1,6 +1,6 @@
 //! The files of a run: a plan, and the texts of parts.
 
-ghost use Rattle.std.specs.Prelude.{◌≡◌, ◌≤◌, ◌++◌, ◌∷◌, [], IfOk, IfErr, OnOk};
+ghost use Rattle.std.specs.Prelude.{◌≡◌, ◌≤◌, ◌++◌, ◌∷◌, [], OnOk, MatchResult};
 ghost use Rattle.plan_rows.specs.Rows.{AreKept};
 ghost use Rattle.tool_inputs.specs.Inputs.{IsPlanFile, IsPlanRefused};
 ghost use Rattle.lot_parts.specs.Words.{words_seen};
@@ -20,10 +20,8 @@ pub(crate) fn read_plan<F: Shelf>(
     plan: &str,
     shelf: &mut F,
 ) -> Result<PlanRows, Refusal>
-    ensures found { IfOk result (IsPlanFile (F.told shelf.old) plan.now) }
-    ensures rows { IfOk result (λ rows. AreKept rows) }
-    ensures refused { IfErr result (IsPlanRefused (F.told shelf.old) (F.faults shelf.old) (F.faults shelf.new)
-        plan.now) }
+    ensures reads { MatchResult result (λ rows. IsPlanFile (F.told shelf.old) plan.now rows × AreKept rows)
+        (IsPlanRefused (F.told shelf.old) (F.faults shelf.old) (F.faults shelf.new) plan.now) }
     ensures kept { F.told shelf.new ≡ F.told shelf.old }
     ensures counts { F.faults shelf.old ≤ F.faults shelf.new }
 {
@@ -43,8 +41,8 @@ pub(crate) fn load_part<F: Shelf>(
     file: &str,
     shelf: &mut F,
 ) -> Result<Vec<u8>, Refusal>
-    ensures found { IfOk result (λ bytes. IsPartFile (F.told shelf.old) file.now bytes.items) }
-    ensures unread { IfErr result (IsUnloaded (F.told shelf.old) (F.faults shelf.old) (F.faults shelf.new) file.now) }
+    ensures reads { MatchResult result (λ bytes. IsPartFile (F.told shelf.old) file.now bytes.items)
+        (IsUnloaded (F.told shelf.old) (F.faults shelf.old) (F.faults shelf.new) file.now) }
     ensures kept { F.told shelf.new ≡ F.told shelf.old }
     ensures counts { F.faults shelf.old ≤ F.faults shelf.new }
 {
@@ -66,10 +64,9 @@ pub(crate) fn load_parts<F: Shelf>(
     files: &[String],
     shelf: &mut F,
 ) -> Result<Vec<Vec<u8>>, Refusal>
-    ensures found { IfOk result (λ texts. ArePartFiles (F.told shelf.old) (words_seen files.now)
-        (texts_seen texts.items)) }
-    ensures unread { IfErr result (AreUnloaded (F.told shelf.old) (F.faults shelf.old) (F.faults shelf.new)
-        (words_seen files.now)) }
+    ensures reads { MatchResult result
+        (λ texts. ArePartFiles (F.told shelf.old) (words_seen files.now) (texts_seen texts.items))
+        (AreUnloaded (F.told shelf.old) (F.faults shelf.old) (F.faults shelf.new) (words_seen files.now)) }
     ensures kept { F.told shelf.new ≡ F.told shelf.old }
     ensures counts { F.faults shelf.old ≤ F.faults shelf.new }
 {
@@ -90,9 +87,9 @@ fn add_part<F: Shelf>(
     shelf: &mut F,
     texts: &mut Vec<Vec<u8>>,
 ) -> Result<(), Refusal>
-    ensures found { OnOk result (AddsText (F.told shelf.old) file.now
-        (texts_seen texts.old.items) (texts_seen texts.new.items)) }
-    ensures unread { IfErr result (IsUnloaded (F.told shelf.old) (F.faults shelf.old) (F.faults shelf.new) file.now) }
+    ensures reads { MatchResult result (λ _. AddsText (F.told shelf.old) file.now
+        (texts_seen texts.old.items) (texts_seen texts.new.items))
+        (IsUnloaded (F.told shelf.old) (F.faults shelf.old) (F.faults shelf.new) file.now) }
     ensures kept { F.told shelf.new ≡ F.told shelf.old }
     ensures counts { F.faults shelf.old ≤ F.faults shelf.new }
 {

@@ -1,6 +1,6 @@
 //! `merge`: the datalog of a plan, of those of its parts.
 
-ghost use Rattle.std.specs.Prelude.{◌≡◌, ◌≤◌, ◌<◌, ℕ, List, IfOk, IfErr, length};
+ghost use Rattle.std.specs.Prelude.{◌≡◌, ◌≤◌, ◌<◌, ℕ, List, length, MatchResult};
 ghost use Rattle.text_bytes.specs.Limits.{most_plan_sites};
 ghost use Rattle.plan_rows.specs.Plan.{IsPlan};
 ghost use Rattle.plan_parts.specs.Cut.{sites_with_dies};
@@ -37,8 +37,8 @@ fn read_log<'a>(
     requires sites { sites.now ≡ sites_with_dies rows.now }
     requires few { length sites.now ≤ most_plan_sites }
     requires part { of.part < of.parts }
-    ensures found { IfOk result (λ log. IsSliced (names_in of.parts of.part rows.now) text.now log) }
-    ensures fault { IfErr result (λ e. IsFaultOf (names_in of.parts of.part rows.now) text.now e) }
+    ensures { MatchResult result (IsSliced (names_in of.parts of.part rows.now) text.now)
+        (IsFaultOf (names_in of.parts of.part rows.now) text.now) }
 {
     let names = match names_in(alloc, rows, sites, of) {
         Ok(names) => names,
@@ -60,8 +60,8 @@ fn read_logs<'a>(
     requires few_sites { length sites.now ≤ most_plan_sites }
     requires few { length files.now ≤ most_parts }
     requires each { length files.now ≡ length texts.now }
-    ensures found { IfOk result (λ logs. AreSliced rows.now (length files.now) 0 (texts_seen texts.now) logs.items) }
-    ensures refused { IfErr result (IsTextRefused rows.now (words_seen files.now) (texts_seen texts.now)) }
+    ensures { MatchResult result (λ logs. AreSliced rows.now (length files.now) 0 (texts_seen texts.now) logs.items)
+        (IsTextRefused rows.now (words_seen files.now) (texts_seen texts.now)) }
 {
     let mut logs = Vec::new(alloc);
     for (at, text) in texts.iter().enumerate() {

@@ -1,17 +1,17 @@
 //! A plan bound to a program and netlists, or the first refusal.
-ghost use Rattle.std.specs.Prelude.{◌≡◌, ◌⊎◌, ◌<◌, ◌≤◌, ◌^◌, ℕ, List, None, Some, map, length, All, IfOk, IfErr, OnOk};
+ghost use Rattle.std.specs.Prelude.{◌≡◌, ◌<◌, ◌≤◌, ◌^◌, ℕ, List, None, Some, map, length, IfOk};
 ghost use Rattle.std.specs.List.{list_any};
 ghost use Rattle.std.specs.Option.{option_map};
 ghost use Rattle.std.specs.Str.{bytes_eq};
 ghost use Rattle.bench_net.specs.Views.{texts};
 ghost use Rattle.std.specs.Arc.{arc_value};
 ghost use Rattle.text_bytes.specs.Limits.{most_signals};
-ghost use Rattle.bench_net.specs.Circuit.{IsWhole};
 ghost use Rattle.plan_rows.specs.declared.fault.PlanFault.TheVariants as refused;
 ghost use Rattle.plan_rows.specs.Rows.{AreKept, sites_of, files_of};
 ghost use Rattle.lot_plan.specs.Needs.{clock_of, needs_of};
 ghost use Rattle.lot_plan.specs.Groups.{AreGroups};
-ghost use Rattle.lot_plan.specs.Refusal.{is_signal, refused_row, first_unbound, AreBindings, refusal, IsBound};
+ghost use Rattle.plan_rows.specs.Plan.{Answers};
+ghost use Rattle.lot_plan.specs.Refusal.{is_signal, refused_row, first_unbound, AreBindings, refusal};
 ghost use Rattle.lot_plan.specs.Stored.{IsMade};
 
 use crate::bindings::bindings_of;
@@ -62,10 +62,10 @@ fn check_rows(
     requires groups { AreGroups rows.now groups.now }
     requires signals { signals.now ≡ code.now.signals }
     requires few_signals { length signals.now ≤ most_signals }
-    ensures accepted { OnOk result
-        (refused_row (record { rows = rows.now; program = code.now; circuits = map arc_value nets.now }) ≡ None) }
-    ensures fault { IfErr result (λ e. (e ≡ refused.NoMemory)
-        ⊎ (refused_row (record { rows = rows.now; program = code.now; circuits = map arc_value nets.now }) ≡ Some e)) }
+    ensures { Answers
+        (λ _. refused_row (record { rows = rows.now; program = code.now; circuits = map arc_value nets.now }) ≡ None)
+        (λ e. refused_row (record { rows = rows.now; program = code.now; circuits = map arc_value nets.now }) ≡ Some e)
+        result }
 {
     let names = names_of(alloc, signals)?;
     match refusal::rows_refusal(&names, signals, code, groups, nets, rows) {
@@ -90,11 +90,12 @@ fn bind_signals(
     nets: &[Arc<Netlist>],
 ) -> Result<Vec<Arc<Binding>>, PlanFault>
     requires { length signals.now ≤ most_signals }
-    ensures found { IfOk result (λ bindings. AreBindings (map arc_value nets.now) (needs_of rows.now signals.now)
-        (clock_of rows.now signals.now) (map arc_value bindings.items)) }
-    ensures fault { IfErr result (λ e. (e ≡ refused.NoMemory)
-        ⊎ (option_map refused.Unbound (first_unbound (needs_of rows.now signals.now) (map arc_value nets.now))
-        ≡ Some e)) }
+    ensures { Answers
+        (λ bindings. AreBindings (map arc_value nets.now) (needs_of rows.now signals.now)
+        (clock_of rows.now signals.now) (map arc_value bindings.items))
+        (λ e. option_map refused.Unbound (first_unbound (needs_of rows.now signals.now) (map arc_value nets.now))
+        ≡ Some e)
+        result }
 {
     let pins = pins_of(alloc, rows, signals)?;
     bindings_of(alloc, nets, &pins, clock_number(rows, signals))
@@ -115,11 +116,11 @@ pub(crate) fn made_of(
     requires signals { signals.now ≡ code.now.signals }
     requires few_signals { length signals.now ≤ most_signals }
     requires files { length nets.now ≡ length (files_of rows.now) }
-    ensures found { IfOk result
+    ensures { Answers
         (λ made. IsMade (record { rows = rows.now; program = code.now; circuits = map arc_value nets.now })
-        (map arc_value made.bindings) made.dies) }
-    ensures fault { IfErr result (λ e. (e ≡ refused.NoMemory)
-        ⊎ (refusal (record { rows = rows.now; program = code.now; circuits = map arc_value nets.now }) ≡ Some e)) }
+        (map arc_value made.bindings) made.dies)
+        (λ e. refusal (record { rows = rows.now; program = code.now; circuits = map arc_value nets.now }) ≡ Some e)
+        result }
 {
     let groups = groups_by_sites(alloc, rows, sites)?;
     check_rows(alloc, rows, signals, code, &groups, nets)?;

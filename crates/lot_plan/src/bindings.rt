@@ -1,11 +1,12 @@
 //! The signals of a program, bound to the nets of netlists.
-ghost use Rattle.std.specs.Prelude.{◌≡◌, ◌⊎◌, ◌||◌, ◌<◌, ◌≤◌, ℕ, false, None, Some, map, length, replicate, slice_index_or, IfOk, IfErr, OnOk, Ok, [], ◌∷◌, ◌++◌};
-ghost use Rattle.std.specs.Option.{option_copied, option_map};
+ghost use Rattle.std.specs.Prelude.{◌≡◌, ◌<◌, false, None, Some, map, length, replicate, slice_index_or, IfOk, OnOk, Ok, [], ◌∷◌, ◌++◌};
+ghost use Rattle.std.specs.Option.{option_map};
 ghost use Rattle.std.specs.Arc.{arc_value};
-ghost use Rattle.bench_net.specs.Circuit.{Circuit, number, IsWhole};
+ghost use Rattle.bench_net.specs.Circuit.{number, IsWhole};
 ghost use Rattle.die_sim.specs.declared.image.Bind.{Bind};
 ghost use Rattle.plan_rows.specs.declared.fault.PlanFault.TheVariants as refused;
-ghost use Rattle.lot_plan.specs.Binds.{is_input, is_output, drives, as_input, as_output, bind_as, bind_to, binds_of, list_of, unbound_in, IsMarkable, Marks};
+ghost use Rattle.lot_plan.specs.Binds.{is_input, is_output, as_input, as_output, bind_as, bind_to, binds_of, unbound_in, IsMarkable, Marks};
+ghost use Rattle.plan_rows.specs.Plan.{Answers};
 ghost use Rattle.lot_plan.specs.Refusal.{first_unbound, AreBindings};
 ghost use Rattle.lot_plan.specs.Views.{needed_by};
 
@@ -98,8 +99,7 @@ fn bind_to(net: &Netlist, driven: &[bool], pin: &Pin<'_>) -> Option<Bind>
 
 /// The bind, or else the refusal of the signal of this name.
 fn bind_or(alloc: Global, bind: Option<Bind>, name: &[u8]) -> Result<Bind, PlanFault>
-    ensures found { IfOk result (λ b. bind ≡ Some b) }
-    ensures fault { IfErr result (λ e. (e ≡ refused.NoMemory) ⊎ ((bind ≡ None) × (e ≡ refused.Unbound name.now))) }
+    ensures { Answers (λ b. bind ≡ Some b) (λ e. (bind ≡ None) × (e ≡ refused.Unbound name.now)) result }
 {
     match bind {
         Some(bind) => Ok(bind),
@@ -127,13 +127,13 @@ fn next_bind(
     requires whole { IsWhole net.now }
     requires nets { length driven.old.items ≡ length net.now.net.names }
     ensures count { length driven.new.items ≡ length driven.old.items }
-    ensures found { IfOk result
+    ensures bind { Answers
         (λ b. (bind_to net.now (λ n. slice_index_or driven.old.items n false) (needed_by pin.now).role
         (needed_by pin.now).net ≡ Some b)
-        × Marks driven.old.items driven.new.items b) }
-    ensures fault { IfErr result (λ e. (e ≡ refused.NoMemory)
-        ⊎ ((bind_to net.now (λ n. slice_index_or driven.old.items n false) (needed_by pin.now).role
-        (needed_by pin.now).net ≡ None) × (e ≡ refused.Unbound pin.now.name.now))) }
+        × Marks driven.old.items driven.new.items b)
+        (λ e. (bind_to net.now (λ n. slice_index_or driven.old.items n false) (needed_by pin.now).role
+        (needed_by pin.now).net ≡ None) × (e ≡ refused.Unbound pin.now.name.now))
+        result }
 {
     let bind = bind_or(alloc, bind_to(net, driven, pin), pin.name)?;
     mark(driven, bind);
@@ -159,13 +159,12 @@ fn add_bind(binds: &mut Vec<Bind>, bind: Bind) -> Result<(), NoMemory>
     Ok(())
 }
 
-/// How the signals are bound to a netlist, or the refusal of the first that has no net.
+/// How the signals are bound to a netlist, which is whole, or the refusal of the first that has no net.
 fn binds_of(alloc: Global, net: &Netlist, pins: &[Pin<'_>]) -> Result<BindList, PlanFault>
-    ensures found { IfOk result (λ binds. binds_of net.now (map needed_by pins.now) ≡ Ok binds) }
-    ensures whole { OnOk result (IsWhole net.now) }
-    ensures fault { IfErr result
-        (λ e. (e ≡ refused.NoMemory)
-        ⊎ (option_map refused.Unbound (unbound_in (binds_of net.now (map needed_by pins.now))) ≡ Some e)) }
+    ensures { Answers
+        (λ binds. (binds_of net.now (map needed_by pins.now) ≡ Ok binds) × IsWhole net.now)
+        (λ e. option_map refused.Unbound (unbound_in (binds_of net.now (map needed_by pins.now))) ≡ Some e)
+        result }
 {
     let mut driven = no_marks(alloc, net.nets())?;
     let mut binds = Vec::new(alloc);
@@ -198,11 +197,10 @@ pub(crate) fn bindings_of(
     pins: &[Pin<'_>],
     clock: Option<u16>,
 ) -> Result<Vec<Arc<Binding>>, PlanFault>
-    ensures found { IfOk result (λ bindings. AreBindings (map arc_value nets.now) (map needed_by pins.now) clock
-        (map arc_value bindings.items)) }
-    ensures fault { IfErr result
-        (λ e. (e ≡ refused.NoMemory)
-        ⊎ (option_map refused.Unbound (first_unbound (map needed_by pins.now) (map arc_value nets.now)) ≡ Some e)) }
+    ensures { Answers
+        (λ bindings. AreBindings (map arc_value nets.now) (map needed_by pins.now) clock (map arc_value bindings.items))
+        (λ e. option_map refused.Unbound (first_unbound (map needed_by pins.now) (map arc_value nets.now)) ≡ Some e)
+        result }
 {
     let mut bindings = Vec::new(alloc);
     for net in nets {

@@ -1,17 +1,17 @@
 -- A statement in front of those behind it, and what each kind does or is refused for.
-use Rattle.std.proofs.Common.{◌≡◌, ℕ, ◌+◌, true, false, Option, refl, ap, sym, ◌∙◌, ◌-◌, subst, nat_lt}
-use Rattle.std.specs.Prelude.{Result, Ok, Err, OnOk, IfErr}
+use Rattle.std.proofs.Common.{◌≡◌, ℕ, true, false, Option, refl, ap, sym, ◌∙◌, ◌-◌, subst, nat_lt}
+use Rattle.std.specs.Prelude.{Result, Ok, Err}
 use Rattle.text_bytes.specs.Limits.{deepest_calls, deepest_loops}
 use Rattle.stil_ast.specs.Data.Bodies.{written_front}
 use Rattle.stil_ast.specs.Data.Places.{of_pattern}
 use Rattle.stil_ast.specs.Data.Written.{Written, single}
 use Rattle.stil_ast.specs.Meaning.Flat.{Flat, done, repeat}
 use Rattle.stil_ast.specs.Meaning.Flattening.{joined, Spot, Piece, then_piece, flat_list, flat_calls}
-use Rattle.stil_ast.specs.Meaning.Resolved.{Scope, origin, resolved}
+use Rattle.stil_ast.specs.Meaning.Resolved.{origin, resolved}
 use Rattle.stil_ast.specs.Meaning.Signals.{Names}
 use Rattle.stil_ast.specs.Meaning.Statements.{Statements}
-use Rattle.stil_ast.specs.Faults.AssignmentFaults.{Walked, Checked, fine, then_check, Standing, may_walk}
-use Rattle.stil_ast.specs.Faults.PatternFaults.{inside_loop, counted, check_list, check_calls}
+use Rattle.stil_ast.specs.Faults.AssignmentFaults.{Walked, Checked, fine, then_check, Standing}
+use Rattle.stil_ast.specs.Faults.PatternFaults.{inside_loop, check_list, check_calls}
 use Rattle.stil_ast.specs.declared.body.PatAction.{PatAction}
 use Rattle.stil_ast.specs.declared.body.PatAction.TheVariants.{Step as plain_step, Loop, Shift}
 use Rattle.stil_ast.specs.declared.body.Step.TheVariants.{Wave, Vector, Condition, Macro, Call, BreakPoint, IddqTestPoint, Stop}
@@ -22,8 +22,7 @@ use Rattle.macro_expand.specs.Actions.{is_stop, loop_check, statement_check, loo
 use Rattle.macro_expand.specs.Recursing.{setting_in, stands, check_named, flat_named, named_in, list_check, ListSteps}
 use Rattle.macro_expand.specs.Refusing.{IsAt, Trouble}
 use Rattle.macro_expand.specs.Scopes.{titles_in, scope_in}
-use Rattle.macro_expand.specs.Standings.{standing_in}
-use Rattle.macro_expand.specs.Stepping.{Steps, spot_on}
+use Rattle.macro_expand.specs.Stepping.{Steps, CountsOne, spot_on}
 use Rattle.macro_expand.specs.Walking.{flat_at, IsWalking}
 use Rattle.macro_expand.specs.Walks.{walked, then_kept}
 use Rattle.macro_expand.specs.declared.scope.PatternScope.{PatternScope}
@@ -90,25 +89,21 @@ module _ (names : Names) (scope : PatternScope) (s : HeldStanding) where
 
   stopped : {A : Type 0} (all : Written) (start now after : Walk) (line : ℕ) (rest : Written) (r : Result A Trouble)
       → Walking all start (single line Stop rest) now
-      → OnOk r (may_walk (now.count + 1) ≡ true) → OnOk r (after ≡ record now { count = now.count + 1 })
-      → IfErr r (λ e. (sc : Scope) (step : Walked → Checked) → IsAt sc.titles (counted sc (standing_in sc s) line step (walked now)) e)
-      → ListSteps names scope s all start after r
-  stopped all start now after line rest (Ok nothing) before few is fault =
+      → CountsOne s line now after r → ListSteps names scope s all start after r
+  stopped all start now after line rest (Ok nothing) before counts =
       walking_stops (scope_in names scope) (setting_in names scope) (check_named names scope s) (flat_named names scope s)
-      (stands names scope s) all start line rest now after few is before
-  stopped all start now after line rest (Err trouble) before few is fault =
+      (stands names scope s) all start line rest now after counts.0 counts.1 before
+  stopped all start now after line rest (Err trouble) before fault =
       walking_stop_refused (scope_in names scope) (setting_in names scope) (check_named names scope s) (flat_named names scope s)
       (stands names scope s) all start (titles_in scope.titles) line rest now trouble before (fault (scope_in names scope) fine)
 
   -- a Stop ends the walk
   pub stopped_or : {A : Type 0} (all : Written) (start now after : Walk) (line : ℕ) (action : PatAction) (rest : Written) (r : Result A Trouble)
       → is_stop action ≡ true → Walking all start (written_front line action rest) now
-      → OnOk r (may_walk (now.count + 1) ≡ true) → OnOk r (after ≡ record now { count = now.count + 1 })
-      → IfErr r (λ e. (sc : Scope) (step : Walked → Checked) → IsAt sc.titles (counted sc (standing_in sc s) line step (walked now)) e)
-      → ListSteps names scope s all start after r
-  stopped_or all start now after line action rest r stop before few is fault =
+      → CountsOne s line now after r → ListSteps names scope s all start after r
+  stopped_or all start now after line action rest r stop before counts =
       stopped all start now after line rest r
-      (subst (λ (a : PatAction). Walking all start (written_front line a rest) now) (stop_is action stop) before) few is fault
+      (subst (λ (a : PatAction). Walking all start (written_front line a rest) now) (stop_is action stop) before) counts
 
   -- a statement that was walked, and those behind it are left
   pub walked_one : (all : Written) (start now after : Walk) (line : ℕ) (action : PatAction) (rest : Written) → is_stop action ≡ false

@@ -1,18 +1,21 @@
 -- What a step of a walk does: it is checked without a fault and writes its piece of the flat tree, or has the fault.
-use Rattle.std.specs.Prelude.{◌≡◌, ◌++◌, ℕ, List, Result, Ok, Err}
+use Rattle.std.specs.Prelude.{◌≡◌, ◌+◌, ◌++◌, true, ℕ, List, Result, Ok, Err}
 use Rattle.stil_ast.specs.Data.Places.{Titles}
 use Rattle.stil_ast.specs.Meaning.Statements.{Assign}
 use Rattle.stil_ast.specs.Meaning.Dealing.{deal, takers}
 use Rattle.stil_ast.specs.Meaning.Flat.{Flat}
 use Rattle.stil_ast.specs.Meaning.Flattening.{joined, gifts_front, Spot, Piece}
 use Rattle.stil_ast.specs.Meaning.Resolved.{Scope, resolved_assigns, origin}
-use Rattle.stil_ast.specs.Faults.AssignmentFaults.{Walked, Checked, fine, Standing, check_assigns}
+use Rattle.stil_ast.specs.Faults.AssignmentFaults.{Walked, Checked, fine, Standing, check_assigns, may_walk}
+use Rattle.stil_ast.specs.Faults.PatternFaults.{counted}
 use Rattle.stil_ast.specs.declared.body.Assignment.{Assignment}
 use Rattle.flat_tree.specs.Origins.{body_of}
 use Rattle.flat_tree.specs.declared.place.BodyKind.{BodyKind}
+use Rattle.macro_expand.specs.declared.standing.Standing.{Standing as HeldStanding}
 use Rattle.macro_expand.specs.declared.walk.Walk.{Walk}
 use Rattle.macro_expand.specs.Placing.{Writes}
 use Rattle.macro_expand.specs.Refusing.{IsAt, Trouble}
+use Rattle.macro_expand.specs.Standings.{standing_in}
 use Rattle.macro_expand.specs.Walks.{walked, then_kept, Puts}
 
 -- assignments are written, or refused
@@ -45,3 +48,10 @@ StepsOr titles check piece before after (Err trouble) = IsAt titles (check (walk
 -- a place in a body, with what is left of the arguments
 abbrev pub spot_on : BodyKind → ℕ → Walk → Spot
 spot_on body line w = record { args = w.args; place = origin (body_of body) line }
+
+-- one statement more is counted, or there are too many, whatever step it would make
+abbrev pub CountsOne : {A : Type 0} → HeldStanding → ℕ → Walk → Walk → Result A Trouble → Type 0
+CountsOne s line before after (Ok done) =
+    (may_walk (before.count + 1) ≡ true) × (after ≡ record before { count = before.count + 1 })
+CountsOne s line before after (Err trouble) = (sc : Scope) (step : Walked → Checked)
+    → IsAt sc.titles (counted sc (standing_in sc s) line step (walked before)) trouble

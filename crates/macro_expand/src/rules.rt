@@ -1,16 +1,13 @@
 //! The rules on statements that stand before what they do.
 
-ghost use Rattle.std.specs.Prelude.{◌≡◌, ◌+◌, ◌++◌, [], true, map, IfErr, OnOk};
+ghost use Rattle.std.specs.Prelude.{◌≡◌, ◌++◌, [], map, OnOk};
 ghost use Rattle.std.specs.List.{list_any};
 ghost use Rattle.stil_ast.specs.Data.Items.{item_of};
-ghost use Rattle.stil_ast.specs.Meaning.Resolved.{Scope};
-ghost use Rattle.stil_ast.specs.Faults.AssignmentFaults.{Walked, Checked, may_walk};
-ghost use Rattle.stil_ast.specs.Faults.PatternFaults.{counted, same_kind};
+ghost use Rattle.stil_ast.specs.Faults.PatternFaults.{same_kind};
 ghost use Rattle.flat_tree.specs.Origins.{body_of};
 ghost use Rattle.macro_expand.specs.Pairs.{taker_of, hash_front, hashed_in};
-ghost use Rattle.macro_expand.specs.Refusing.{IsAt};
-ghost use Rattle.macro_expand.specs.Standings.{is_one, standing_in};
-ghost use Rattle.macro_expand.specs.Walks.{walked};
+ghost use Rattle.macro_expand.specs.Standings.{is_one};
+ghost use Rattle.macro_expand.specs.Stepping.{CountsOne};
 
 use crate::assigning::may_walk;
 use crate::pairing::Pair;
@@ -24,10 +21,7 @@ use stil_ast::{StilKind, VecItem};
 /// One statement more is walked.
 #[tactic(auto, using(crate::proofs::PlaceLemmas::ruled_out))]
 pub(crate) fn count_one(s: &Standing, line: u32, walk: &mut Walk) -> Result<(), Trouble>
-    ensures few { OnOk result (may_walk (walk.old.count + 1) ≡ true) }
-    ensures counted { OnOk result (walk.new ≡ record walk.old { count = walk.old.count + 1 }) }
-    ensures fault { IfErr result (λ e. (sc : Scope) (step : Walked → Checked)
-        → IsAt sc.titles (counted sc (standing_in sc s.now) line step (walked walk.old)) e) }
+    ensures { CountsOne s.now line walk.old walk.new result }
 {
     if !may_walk(walk.count, 1) {
         return Err(s.trouble(StilKind::TooLarge, line));

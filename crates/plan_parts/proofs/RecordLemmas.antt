@@ -1,6 +1,6 @@
 -- How one record is written.
-use Rattle.std.proofs.Common.{◌≡◌, ℕ, zero, suc, ◌/◌, ◌%◌, ◌<◌, Bool, true, false, cond, ◌==◌, List, [], ◌∷◌, length, Option, Some, None, Result, Ok, Err, refl, sym, ap, ◌∙◌, arith, append-nil}
-use Rattle.std.specs.Prelude.{OnOk, IfOk, IfErr, MatchResult, decimal}
+use Rattle.std.proofs.Common.{◌≡◌, ℕ, zero, suc, ◌/◌, ◌%◌, ◌<◌, Bool, true, false, cond, ◌==◌, List, [], ◌∷◌, length, Option, Some, None, refl, sym, ap, ◌∙◌, arith, append-nil}
+use Rattle.std.specs.Prelude.{decimal}
 use Rattle.std.specs.Io.KnownBytes.{append_known}
 use Rattle.csv.specs.Writing.{text_written, writer_pending, writer_under}
 use Rattle.csv.specs.declared.writer.Writer.{Writer}
@@ -36,21 +36,6 @@ six_with (l ∷ g ∷ h ∷ []) number k n b c d e six is s0 s2 s3 s4 s5 = absur
 six_with (l ∷ g ∷ h ∷ i ∷ []) number k n b c d e six is s0 s2 s3 s4 s5 = absurd (omega arith)
 six_with (l ∷ g ∷ h ∷ i ∷ j ∷ []) number k n b c d e six is s0 s2 s3 s4 s5 = absurd (omega arith)
 six_with (l ∷ g ∷ h ∷ i ∷ j ∷ m ∷ x ∷ xs) number k n b c d e six is s0 s2 s3 s4 s5 = absurd (omega arith)
-
--- what follows where a call went well
-pub on_ok_then : {E : Type 0} {P Q : Type 0} (r : Result (Unit {0}) E) → OnOk r P → (P → Q) → OnOk r Q
-on_ok_then (Ok x) h f = f h
-on_ok_then (Err e) h f = h
-
--- the same of a value
-pub if_ok_then : {T E : Type 0} (r : Result T E) (P Q : T → Type 0) → IfOk r P → ((x : T) → P x → Q x) → IfOk r Q
-if_ok_then (Ok x) P Q h f = f x h
-if_ok_then (Err e) P Q h f = h
-
--- what is so either way
-pub either_way : {T E : Type 0} (r : Result T E) (P Q : T → Type 0) (R : E → Type 0) → IfOk r P → IfErr r R → ((x : T) → P x → Q x) → MatchResult r Q R
-either_way (Ok x) P Q R h e f = f x h
-either_way (Err y) P Q R h e f = e
 
 -- a writer that wrote nothing
 pub fresh_text : {W : Type 0} (w : Writer W) (contents : W → Option (List ℕ)) (v : W) → writer_under w ≡ v → writer_pending w ≡ []

@@ -1,14 +1,13 @@
 //! How one record of a part is written.
 
-ghost use Rattle.std.specs.Prelude.{◌≡◌, ◌<◌, ◌++◌, ℕ, List, Some, OnOk, IfOk, IfErr, length, map};
+ghost use Rattle.std.specs.Prelude.{◌≡◌, ◌<◌, ◌++◌, ℕ, List, Some, length, map};
 ghost use Rattle.csv.specs.Records.{field_at, fields_of};
 ghost use Rattle.csv.specs.Writing.{default_writer, row_text};
-ghost use Rattle.plan_rows.specs.Rows.{one, site_in};
+ghost use Rattle.plan_rows.specs.Rows.{one};
 ghost use Rattle.plan_rows.specs.declared.row.Row.{Row};
-ghost use Rattle.plan_rows.specs.declared.fault.PlanFault.TheVariants.{NoMemory};
 ghost use Rattle.plan_parts.specs.Cut.{sites_with_dies};
 ghost use Rattle.plan_parts.specs.PartText.{record_in, records_text, with_site};
-ghost use Rattle.plan_parts.specs.Inside.{IsWriting};
+ghost use Rattle.plan_parts.specs.Inside.{IsWriting, Makes};
 
 use crate::sites::Sites;
 use csv::{ByteRecord, Writer};
@@ -28,9 +27,8 @@ fn field_of(fields: &ByteRecord, place: usize) -> &[u8]
 
 /// Writes a record as it is.
 fn put_same(out: &mut Writer<Vec<u8>>, fields: &ByteRecord) -> Result<(), PlanFault>
-    ensures more { OnOk result ((before : List ℕ) → IsWriting out.old (λ v. Some v.items) before
-        → IsWriting out.new (λ v. Some v.items) (before ++ row_text default_writer (fields_of fields.now))) }
-    ensures fault { IfErr result (λ e. e ≡ NoMemory) }
+    ensures { Makes (λ _. (before : List ℕ) → IsWriting out.old (λ v. Some v.items) before
+        → IsWriting out.new (λ v. Some v.items) (before ++ row_text default_writer (fields_of fields.now))) result }
 {
     match out.write_byte_record(fields) {
         Ok(()) => Ok(()),
@@ -40,9 +38,9 @@ fn put_same(out: &mut Writer<Vec<u8>>, fields: &ByteRecord) -> Result<(), PlanFa
 
 /// Writes a record of these fields.
 fn put_fields(out: &mut Writer<Vec<u8>>, fields: &[&[u8]]) -> Result<(), PlanFault>
-    ensures more { OnOk result ((before : List ℕ) → IsWriting out.old (λ v. Some v.items) before
-        → IsWriting out.new (λ v. Some v.items) (before ++ row_text default_writer (map (λ f. f.now) fields.now))) }
-    ensures fault { IfErr result (λ e. e ≡ NoMemory) }
+    ensures { Makes (λ _. (before : List ℕ) → IsWriting out.old (λ v. Some v.items) before
+        → IsWriting out.new (λ v. Some v.items)
+        (before ++ row_text default_writer (map (λ f. f.now) fields.now))) result }
 {
     match out.write_fields(fields) {
         Ok(()) => Ok(()),
@@ -53,10 +51,9 @@ fn put_fields(out: &mut Writer<Vec<u8>>, fields: &[&[u8]]) -> Result<(), PlanFau
 /// Writes a record with a number in the place of its site.
 fn put_moved(out: &mut Writer<Vec<u8>>, fields: &ByteRecord, number: usize) -> Result<(), PlanFault>
     requires { length (fields_of fields.now) ≡ 6 }
-    ensures more { OnOk result ((before : List ℕ) → IsWriting out.old (λ v. Some v.items) before
+    ensures { Makes (λ _. (before : List ℕ) → IsWriting out.old (λ v. Some v.items) before
         → IsWriting out.new (λ v. Some v.items)
-        (before ++ row_text default_writer (with_site (fields_of fields.now) number))) }
-    ensures fault { IfErr result (λ e. e ≡ NoMemory) }
+        (before ++ row_text default_writer (with_site (fields_of fields.now) number))) result }
 {
     let mut buffer = Buffer::new();
     let site = buffer.format(number).as_bytes();
@@ -79,11 +76,10 @@ pub(crate) fn put_record(
 ) -> Result<(), PlanFault>
     requires some { 0 < parts }
     requires six { length (fields_of fields.now) ≡ 6 }
-    ensures more { OnOk result ((rows : List Row) (before : List ℕ) → sites.now ≡ sites_with_dies rows
+    ensures { Makes (λ _. (rows : List Row) (before : List ℕ) → sites.now ≡ sites_with_dies rows
         → IsWriting out.old (λ v. Some v.items) before
         → IsWriting out.new (λ v. Some v.items)
-        (before ++ records_text (one (record_in parts part rows row.now (fields_of fields.now))))) }
-    ensures fault { IfErr result (λ e. e ≡ NoMemory) }
+        (before ++ records_text (one (record_in parts part rows row.now (fields_of fields.now))))) result }
 {
     match row.site() {
         None => put_same(out, fields),
@@ -96,9 +92,8 @@ pub(crate) fn put_record(
 
 /// The text that was written.
 pub(crate) fn finished(out: Writer<Vec<u8>>) -> Result<Vec<u8>, PlanFault>
-    ensures text { IfOk result (λ text. (before : List ℕ) → IsWriting out (λ v. Some v.items) before
-        → text.items ≡ before) }
-    ensures fault { IfErr result (λ e. e ≡ NoMemory) }
+    ensures { Makes (λ text. (before : List ℕ) → IsWriting out (λ v. Some v.items) before
+        → text.items ≡ before) result }
 {
     match out.into_inner() {
         Ok(text) => Ok(text),

@@ -1,12 +1,13 @@
 //! The plan of a part.
 
-ghost use Rattle.std.specs.Prelude.{◌≡◌, ◌<◌, ◌≤◌, ◌⊎◌, ℕ, List, IfOk, IfErr, MatchResult, length};
+ghost use Rattle.std.specs.Prelude.{◌≡◌, ◌<◌, ◌≤◌, ◌⊎◌, List, IfOk, IfErr, MatchResult, length};
 ghost use Rattle.text_bytes.specs.Limits.{most_bytes};
 ghost use Rattle.plan_rows.specs.Plan.{IsFault, IsPlan};
 ghost use Rattle.plan_rows.specs.declared.row.Row.{Row};
 ghost use Rattle.plan_rows.specs.declared.fault.PlanFault.{PlanFault};
 ghost use Rattle.plan_rows.specs.declared.fault.PlanFault.TheVariants.{NoMemory};
 ghost use Rattle.plan_parts.specs.Cut.{sites_with_dies};
+ghost use Rattle.plan_parts.specs.Inside.{Makes};
 ghost use Rattle.plan_parts.specs.PartText.{IsPartText};
 
 use crate::record::{finished, put_record};
@@ -27,8 +28,7 @@ fn part_records(
     requires plan { IsPlan bytes.now rows.now }
     requires sites { sites.now ≡ sites_with_dies rows.now }
     requires some { 0 < parts }
-    ensures found { IfOk result (λ text. IsPartText parts part bytes.now rows.now text.items) }
-    ensures fault { IfErr result (λ e. e ≡ NoMemory) }
+    ensures { Makes (λ text. IsPartText parts part bytes.now rows.now text.items) result }
 {
     let reader = ReaderBuilder::new()
         .has_headers(false)

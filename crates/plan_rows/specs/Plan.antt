@@ -1,12 +1,12 @@
 -- The plan that a text is, and the fault of a text that is none.
-use Rattle.std.specs.Prelude.{◌≡◌, ◌⊎◌, ℕ, List, [], Ok, Err}
+use Rattle.std.specs.Prelude.{◌≡◌, ◌⊎◌, ℕ, List, [], Result, Ok, Err}
 use Rattle.csv.specs.Reading.{AreRecords, default_config, strip_bom}
 use Rattle.csv.specs.declared.parser.State.TheVariants as st
 use Rattle.answers.specs.Reading.{IsFirst}
 use Rattle.plan_rows.specs.Judging.{judge, plan_of}
 use Rattle.plan_rows.specs.declared.row.Row.{Row}
 use Rattle.plan_rows.specs.declared.fault.PlanFault.{PlanFault}
-use Rattle.plan_rows.specs.declared.fault.PlanFault.TheVariants.{Shape}
+use Rattle.plan_rows.specs.declared.fault.PlanFault.TheVariants.{NoMemory, Shape}
 
 -- the records of a text, as comma-separated values without a heading are read
 abbrev pub HasRecords : List ℕ → List (List (List ℕ)) → Type 0
@@ -27,3 +27,8 @@ pub record IsFault (bytes : List ℕ) (fault : PlanFault) : Type 0 where
 -- the fault of records: that of the first that is refused, behind the rows of those before it, or that there is none
 abbrev pub IsFaultOf : List (List (List ℕ)) → PlanFault → Type 0
 IsFaultOf records fault = ((records ≡ []) × (fault ≡ Shape 1)) ⊎ IsFirst judge [] records fault
+
+-- what a pass answers: a value that is wanted, or else a fault that is told so, or want of memory
+abbrev pub Answers : {A : Type 0} → (A → Type 0) → (PlanFault → Type 0) → Result A PlanFault → Type 0
+Answers Wanted Told (Ok x) = Wanted x
+Answers Wanted Told (Err fault) = (fault ≡ NoMemory) ⊎ Told fault

@@ -1,13 +1,13 @@
 //! The rows so far, and how a record behind them is judged.
 
-ghost use Rattle.std.specs.Prelude.{◌≡◌, ◌==◌, ◌<◌, ◌≤◌, ◌⊎◌, ◌∷◌, ◌++◌, ◌-◌, ◌^◌, [], Ok, Err, length, OnOk, IfOk, IfErr};
+ghost use Rattle.std.specs.Prelude.{◌≡◌, ◌==◌, ◌<◌, ◌≤◌, ◌∷◌, ◌++◌, ◌-◌, ◌^◌, [], Ok, Err, length, OnOk, IfOk};
 ghost use Rattle.csv.specs.Records.{fields_of};
 ghost use Rattle.plan_rows.specs.Limits.{last_site};
 ghost use Rattle.plan_rows.specs.Judging.{row_of, number_at, placed, row_at, judge};
 ghost use Rattle.plan_rows.specs.Forms.{a_die, a_stop, a_skew, written_of};
 ghost use Rattle.plan_rows.specs.Views.{written_seen, placed_seen, fault_seen};
+ghost use Rattle.plan_rows.specs.Plan.{Answers};
 ghost use Rattle.plan_rows.specs.Inside.{IsAnswer, IsBook, IsNext, Reads, key_of};
-ghost use Rattle.plan_rows.specs.declared.fault.PlanFault.TheVariants.{NoMemory};
 
 use crate::fault::PlanFault;
 use crate::kinds::{
@@ -235,9 +235,8 @@ impl Book {
     pub(crate) fn read(&mut self, alloc: Global, fields: &ByteRecord) -> Result<(), PlanFault>
         requires book { IsBook self.old }
         requires few { length self.old.rows.items < 2 ^ 32 - 1 }
-        ensures ok { OnOk result (Reads self.old self.new (fields_of fields.now)) }
-        ensures fault { IfErr result
-            (λ e. (e ≡ NoMemory) ⊎ (judge self.old.rows.items (fields_of fields.now) ≡ Err e)) }
+        ensures { Answers (λ _. Reads self.old self.new (fields_of fields.now))
+            (λ e. judge self.old.rows.items (fields_of fields.now) ≡ Err e) result }
     {
         let place = self.len() as u32 + 1;
         let row = self.row_at(alloc, place, fields)?;

@@ -2,8 +2,8 @@
 
 ghost use Rattle.std.specs.Prelude.{◌≡◌, ◌≤◌, ◌+◌, ◌⊎◌, List, Ok, length, IfOk, IfErr, MatchResult};
 ghost use Rattle.text_bytes.specs.Limits.{most_bytes};
-ghost use Rattle.plan_rows.specs.Inside.{IsBook, IsWhole};
-ghost use Rattle.plan_rows.specs.Plan.{IsPlan, IsFault};
+ghost use Rattle.plan_rows.specs.Inside.{IsWhole};
+ghost use Rattle.plan_rows.specs.Plan.{Answers, IsPlan, IsFault};
 ghost use Rattle.plan_rows.specs.Rows.{AreKept};
 ghost use Rattle.plan_rows.specs.declared.row.Row.{Row};
 ghost use Rattle.plan_rows.specs.declared.fault.PlanFault.{PlanFault};
@@ -37,9 +37,9 @@ pub fn read_rows(alloc: Global, bytes: &[u8]) -> Result<PlanRows, PlanFault>
 /// The rows of a text that has a record.
 fn plan(alloc: Global, bytes: &[u8]) -> Result<Vec<Row>, PlanFault>
     requires { length bytes.now ≤ most_bytes }
-    ensures found { IfOk result (λ rows. IsPlan bytes.now rows.items) }
-    ensures few { IfOk result (λ rows. length rows.items ≤ length bytes.now + 1) }
-    ensures fault { IfErr result (λ e. (e ≡ NoMemory) ⊎ IsFault bytes.now e) }
+    ensures { Answers
+        (λ rows. IsPlan bytes.now rows.items × (length rows.items ≤ length bytes.now + 1))
+        (IsFault bytes.now) result }
 {
     let book = read_records(alloc, bytes)?;
     if book.is_empty() {
@@ -51,9 +51,9 @@ fn plan(alloc: Global, bytes: &[u8]) -> Result<Vec<Row>, PlanFault>
 /// The rows of all records of a text.
 fn read_records(alloc: Global, bytes: &[u8]) -> Result<Book, PlanFault>
     requires { length bytes.now ≤ most_bytes }
-    ensures whole { IfOk result (λ book. IsWhole bytes.now book.rows.items) }
-    ensures few { IfOk result (λ book. length book.rows.items ≤ length bytes.now + 1) }
-    ensures fault { IfErr result (λ e. (e ≡ NoMemory) ⊎ IsFault bytes.now e) }
+    ensures { Answers
+        (λ book. IsWhole bytes.now book.rows.items × (length book.rows.items ≤ length bytes.now + 1))
+        (IsFault bytes.now) result }
 {
     let reader = ReaderBuilder::new()
         .has_headers(false)

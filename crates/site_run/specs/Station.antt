@@ -1,5 +1,5 @@
 -- A try at a station: what it runs on, where it stands between two cycles, and what cycles that are made there change.
-use Rattle.std.specs.Prelude.{◌≡◌, ℕ, ◌+◌, ◌*◌, ◌≤◌, List, take, drop, length}
+use Rattle.std.specs.Prelude.{◌≡◌, ℕ, ◌+◌, ◌*◌, ◌≤◌, List, take, drop, length, Result, Ok, Err}
 use Rattle.tester_types.specs.declared.cycle.Cycle.{Cycle}
 use Rattle.packed_code.specs.Program.{Program}
 use Rattle.packed_code.specs.Conditions.{IsProgram}
@@ -11,7 +11,7 @@ use Rattle.site_meaning.specs.Playing.{Stand}
 use Rattle.cycle_run.specs.declared.stop.Stop.{Stop}
 use Rattle.cycle_run.specs.Cycle.{Point, point_at, stand_of, IsBetween}
 use Rattle.cycle_run.specs.Batch.{Between, between_at, PlaysCycles, StopsAmong}
-use Rattle.cycle_run.specs.Step.{FitCode, FitsBench, HoldsSchedules}
+use Rattle.cycle_run.specs.Step.{FitCode, FitsBench, HoldsSchedules, HasCause}
 use Rattle.site_run.specs.declared.batch.Underway.{Underway}
 use Rattle.site_run.specs.declared.station.Setup.{Setup}
 use Rattle.site_run.specs.declared.station.Station.{Station}
@@ -88,3 +88,9 @@ abbrev pub StopsMaking : Setup → ℕ → Told → Told → Underway → Underw
 StopsMaking setup cycles told told' old new stop =
     StopsAmong (stand_in setup) old.exec (take cycles (coming_in setup old)) (between_of told old)
     (between_of told' new) stop
+
+-- what making so many cycles answers: they are made, or else they stop in one of them, which has its cause
+abbrev pub MakesCycles : Setup → ℕ → Told → Told → Underway → Underway → Result Unit Stop → Type 0
+MakesCycles setup cycles told told' old new (Ok done) = Makes setup cycles told told' old new
+MakesCycles setup cycles told told' old new (Err why) =
+    StopsMaking setup cycles told told' old new why × HasCause told.count told'.count why

@@ -1,10 +1,9 @@
 //! Cycles of an executive, one after another.
 
-ghost use Rattle.std.specs.Prelude.{◌≡◌, ◌+◌, ◌*◌, ◌≤◌, ◌<◌, ◌^◌, ◌∷◌, length, IfOk, OnOk, IfErr};
+ghost use Rattle.std.specs.Prelude.{◌≡◌, ◌+◌, ◌*◌, ◌≤◌, ◌<◌, ◌^◌, ◌∷◌, length, IfOk};
 ghost use Rattle.packed_code.specs.Walk.{IsOf};
 ghost use Rattle.pattern_mem.specs.Cursor.{cycles_to_come, IsCursorOf};
-ghost use Rattle.cycle_run.specs.Step.{HasCause};
-ghost use Rattle.site_run.specs.Station.{IsSetUp, Serves, Keeps, coming_in, CanGoOn, Makes, StopsMaking};
+ghost use Rattle.site_run.specs.Station.{IsSetUp, Serves, Keeps, coming_in, CanGoOn, MakesCycles};
 
 use crate::station::{Setup, Station};
 use cycle_run::{Bench, Place, Stop, make_cycle};
@@ -63,12 +62,8 @@ pub(crate) fn make_cycles<R: Wait, K: Socket>(
     requires some { cycles ≤ length (coming_in setup.now way.old) }
     requires early { way.old.time + 1000000000000 * cycles < 2 ^ 127 }
     requires few { way.old.number + cycles < 2 ^ 64 }
-    ensures makes { OnOk result (Makes setup.now cycles (K.told station.old.socket.now) (K.told station.new.socket.now)
-        way.old way.new) }
-    ensures stops { IfErr result (λ stop. StopsMaking setup.now cycles
-        (K.told station.old.socket.now) (K.told station.new.socket.now) way.old way.new stop) }
-    ensures cause { IfErr result (λ stop. HasCause
-        (K.told station.old.socket.now).count (K.told station.new.socket.now).count stop) }
+    ensures makes { MakesCycles setup.now cycles (K.told station.old.socket.now) (K.told station.new.socket.now)
+        way.old way.new result }
     ensures serves { Serves setup.now station.new }
     ensures keeps { Keeps K.told station.old station.new }
 {

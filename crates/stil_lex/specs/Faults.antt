@@ -1,10 +1,10 @@
 -- The fault of a text without tokens: the refusal with the smallest place.
-use Rattle.std.specs.Prelude.{◌≡◌, ◌⊎◌, ℕ, ◌+◌, ◌≤◌, Bool, true, false, ◌==◌, ◌||◌, List, [], ◌∷◌, ◌++◌, length}
+use Rattle.std.specs.Prelude.{◌≡◌, ◌⊎◌, ℕ, ◌+◌, ◌≤◌, Bool, true, false, ◌==◌, ◌||◌, List, [], ◌∷◌, ◌++◌, length, Result, Ok, Err}
 use Rattle.std.specs.List.{list_any}
 use Rattle.stil_lex.specs.Bytes.{double_quote, single_quote, slash, star, close_brace, may_be_quoted, has_pair}
 use Rattle.text_bytes.specs.Bytes.{is_blank, is_printing}
 use Rattle.stil_lex.specs.Pieces.{Piece, ann, OpensAnnotation}
-use Rattle.stil_lex.specs.Tokens.{spelled, ArePieces, tokens_of}
+use Rattle.stil_lex.specs.Tokens.{spelled, ArePieces, tokens_of, Reads}
 use Rattle.stil_lex.specs.declared.token.Token.{Token}
 use Rattle.stil_lex.specs.declared.fault.LexFault.{LexFault}
 use Rattle.stil_lex.specs.declared.fault.LexFault.TheVariants.{NoMemory, BadByte, OpenQuote, OpenComment}
@@ -87,3 +87,8 @@ pub record IsFault (bytes : List ℕ) (fault : LexFault) : Type 0 where
 -- the same, and these are the tokens of the pieces before it
 abbrev pub IsFaultBehind : List ℕ → List Token → LexFault → Type 0
 IsFaultBehind bytes read fault = (is : IsFault bytes fault) × (read ≡ tokens_of [] is.here.pieces)
+
+-- these are the tokens of a text, or those before its fault, or there was no memory
+abbrev pub ReadsOnto : List ℕ → List Token → Result Unit LexFault → Type 0
+ReadsOnto bytes read (Ok done) = Reads bytes read
+ReadsOnto bytes read (Err fault) = (fault ≡ NoMemory) ⊎ IsFaultBehind bytes read fault

@@ -3,7 +3,7 @@
 ghost use Rattle.std.specs.Prelude.{◌≡◌, ◌≤◌, ◌⊎◌, ◌++◌, [], List, length, IfOk, IfErr, OnOk, MatchResult};
 ghost use Rattle.text_bytes.specs.Limits.{most_bytes};
 ghost use Rattle.stil_lex.specs.Tokens.{Reads};
-ghost use Rattle.stil_lex.specs.Faults.{IsFault, IsFaultBehind};
+ghost use Rattle.stil_lex.specs.Faults.{IsFault, IsFaultBehind, ReadsOnto};
 ghost use Rattle.stil_lex.specs.Step.{kept, feeds_of};
 ghost use Rattle.stil_lex.specs.declared.token.Token.{Token};
 ghost use Rattle.stil_lex.specs.declared.fault.LexFault.{LexFault};
@@ -58,8 +58,7 @@ fn feeds_of(kind: Option<TokenKind>, piece: &[u8]) -> usize
 fn read_onto(bytes: &[u8], tokens: &mut Vec<Token>) -> Result<(), LexFault>
     requires short { length bytes.now ≤ most_bytes }
     requires none { tokens.old.items ≡ [] }
-    ensures found { OnOk result (Reads bytes.now tokens.new.items) }
-    ensures fault { IfErr result (λ e. (e ≡ NoMemory) ⊎ IsFaultBehind bytes.now tokens.new.items e) }
+    ensures { ReadsOnto bytes.now tokens.new.items result }
 {
     let mut at = 0usize;
     let mut line = 1u32;

@@ -26,16 +26,16 @@ module _ {A : Type 0} (bytes : List ℕ) (Wanted : A → Type 0) where
 -- the code of blocks without a fault, with lines
 pub with_lines : (blocks : Blocks) (r : Result CompiledText StilRefusal) (code : Program) (execs : List ExecDecl)
     → first_fault blocks ≡ None → IsBlocksCode blocks code → execs ≡ blocks.executives
-    → IfOk r (λ c. (c.code ≡ code) × (c.lines.items ≡ map (λ (e : ExecDecl). e.line) execs))
-    → IfErr r (λ e. e ≡ refusal.NoMemory) → Finds (first_fault blocks) (IsCompiledOf blocks) r
-with_lines blocks (Ok c) code execs none is same found short = (
+    → MatchResult r (λ c. (c.code ≡ code) × (c.lines.items ≡ map (λ (e : ExecDecl). e.line) execs))
+    (λ e. e ≡ refusal.NoMemory) → Finds (first_fault blocks) (IsCompiledOf blocks) r
+with_lines blocks (Ok c) code execs none is same found = (
   none,
   record {
     compiled = subst (λ (p : Program). IsBlocksCode blocks p) (sym found.0) is;
     lines_are = found.1 ∙ ap (λ (es : List ExecDecl). map (λ (e : ExecDecl). e.line) es) same;
   },
 )
-with_lines blocks (Err r) code execs none is same found short = λ f at. let memory : r ≡ refusal.NoMemory = short in cc
+with_lines blocks (Err r) code execs none is same short = λ f at. let memory : r ≡ refusal.NoMemory = short in cc
 
 -- what is answered of a text's blocks is answered of the text
 pub by_blocks : (bytes : List ℕ) (blocks : Blocks) (r : Result CompiledText StilRefusal) → IsFront bytes (read_as blocks)

@@ -32,9 +32,9 @@ fn lines_of(alloc: Global, execs: &[ExecDecl]) -> Result<Vec<u32>, AllocError>
 
 /// A code with the lines of executives.
 fn with_lines(alloc: Global, execs: &[ExecDecl], code: Code) -> Result<CompiledText, StilRefusal>
-    ensures found { IfOk result (λ c. (c.code ≡ code)
-        × (c.lines.items ≡ map (λ (e : ExecDecl). e.line) execs.now)) }
-    ensures short { IfErr result (λ e. e ≡ refusal.NoMemory) }
+    ensures { MatchResult result
+        (λ c. (c.code ≡ code) × (c.lines.items ≡ map (λ (e : ExecDecl). e.line) execs.now))
+        (λ e. e ≡ refusal.NoMemory) }
 {
     match lines_of(alloc, execs) {
         Ok(lines) => Ok(CompiledText { code, lines }),

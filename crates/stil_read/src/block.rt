@@ -1,6 +1,6 @@
 //! Blocks by their keywords, each behind those of its kind.
 
-ghost use Rattle.std.specs.Prelude.{◌≡◌, ◌∷◌, ◌++◌, [], IfErr, OnOk};
+ghost use Rattle.std.specs.Prelude.{◌≡◌, ◌∷◌, ◌++◌, [], OnOk, MatchResult};
 ghost use Rattle.stil_tree.specs.Trees.{entry_of};
 ghost use Rattle.stil_form.specs.declared.fault.FormFault.TheVariants.{NoMemory};
 ghost use Rattle.stil_form.specs.Reading.{AnswersBy};
@@ -24,8 +24,7 @@ use timing_blocks::{read_selector_block, read_spec_block, read_timing_block};
 
 /// Adds one more.
 fn add<T: Drop>(list: &mut Vec<T>, one: T) -> Result<(), FormFault>
-    ensures added { OnOk result (list.new.items ≡ list.old.items ++ one ∷ []) }
-    ensures want { IfErr result (λ e. e ≡ NoMemory) }
+    ensures { MatchResult result (λ _. list.new.items ≡ list.old.items ++ one ∷ []) (λ e. e ≡ NoMemory) }
 {
     list.push(one)?;
     Ok(())
@@ -33,8 +32,7 @@ fn add<T: Drop>(list: &mut Vec<T>, one: T) -> Result<(), FormFault>
 
 /// Adds those of another list.
 fn add_all<T: Drop>(list: &mut Vec<T>, more: Vec<T>) -> Result<(), FormFault>
-    ensures added { OnOk result (list.new.items ≡ list.old.items ++ more.items) }
-    ensures want { IfErr result (λ e. e ≡ NoMemory) }
+    ensures { MatchResult result (λ _. list.new.items ≡ list.old.items ++ more.items) (λ e. e ≡ NoMemory) }
 {
     let mut more = more;
     list.append(&mut more)?;
@@ -43,8 +41,7 @@ fn add_all<T: Drop>(list: &mut Vec<T>, more: Vec<T>) -> Result<(), FormFault>
 
 /// Adds a name without a title.
 fn add_name<'a>(alloc: Global, names: &mut Declared<'a>, called: &'a [u8]) -> Result<(), FormFault>
-    ensures added { OnOk result (names.new ≡ names.old ++ ([], called.now) ∷ []) }
-    ensures want { IfErr result (λ e. e ≡ NoMemory) }
+    ensures { MatchResult result (λ _. names.new ≡ names.old ++ ([], called.now) ∷ []) (λ e. e ≡ NoMemory) }
 {
     names.add(alloc, b"", called)?;
     Ok(())

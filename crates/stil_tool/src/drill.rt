@@ -1,8 +1,7 @@
 //! `drill`: a lot of which the program makes all texts itself.
 
-ghost use Rattle.std.specs.Prelude.{◌≡◌, ◌≤◌, ◌∷◌, [], IfOk, IfErr, OnErr, length, map};
+ghost use Rattle.std.specs.Prelude.{◌≡◌, ◌≤◌, ◌∷◌, [], IfOk, OnErr, length, map, MatchResult};
 ghost use Rattle.std.specs.Arc.{arc_value};
-ghost use Rattle.text_bytes.specs.Limits.{most_bytes};
 ghost use Rattle.tester_types.specs.Outside.{HasRisen, Puts};
 ghost use Rattle.tester_types.specs.Records.{records_of};
 ghost use Rattle.bench_net.specs.Circuit.{IsWhole};
@@ -39,8 +38,7 @@ const FILE: &[u8] = b"drill.bench";
 
 /// The code of the text.
 fn code(alloc: Global, number: u8) -> Result<Code, Refusal>
-    ensures found { IfOk result (IsProgramOf (stil_text number)) }
-    ensures refused { IfErr result (IsTextRefused number) }
+    ensures { MatchResult result (IsProgramOf (stil_text number)) (IsTextRefused number) }
 {
     let Ok(text) = stil_text(alloc, number) else {
         return Err(Refusal::NoMemory);
@@ -54,8 +52,7 @@ fn code(alloc: Global, number: u8) -> Result<Code, Refusal>
 
 /// The plan.
 fn plan(alloc: Global, number: u8) -> Result<Plan, Refusal>
-    ensures found { IfOk result (IsPlan (plan_text number)) }
-    ensures refused { IfErr result (IsTextRefused number) }
+    ensures { MatchResult result (IsPlan (plan_text number)) (IsTextRefused number) }
 {
     let Ok(text) = plan_text(alloc, number) else {
         return Err(Refusal::NoMemory);
@@ -68,8 +65,7 @@ fn plan(alloc: Global, number: u8) -> Result<Plan, Refusal>
 
 /// The netlist of each die.
 fn net(alloc: Global, number: u8) -> Result<Netlist, Refusal>
-    ensures found { IfOk result (λ net. IsNet (net_text number) net.net × IsWhole net) }
-    ensures refused { IfErr result (IsTextRefused number) }
+    ensures { MatchResult result (λ net. IsNet (net_text number) net.net × IsWhole net) (IsTextRefused number) }
 {
     let Ok(name) = Vec::from_slice(alloc, FILE) else {
         return Err(Refusal::NoMemory);
@@ -94,8 +90,7 @@ fn shared(alloc: Global, net: Netlist) -> Result<Vec<Arc<Netlist>>, AllocError>
 
 /// Reads the three texts, and binds the plan. A plan of other than one file would be answered as want of memory.
 fn prepare(alloc: Global, number: u8) -> Result<ReadyLot, Refusal>
-    ensures ready { IfOk result (λ lot. IsDrillReady number lot.code lot.plan) }
-    ensures refused { IfErr result (IsTextRefused number) }
+    ensures { MatchResult result (λ lot. IsDrillReady number lot.code lot.plan) (IsTextRefused number) }
 {
     let code = match code(alloc, number) {
         Ok(code) => code,

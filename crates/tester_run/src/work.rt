@@ -1,6 +1,6 @@
 //! The work of one site, from its first touchdown to its last.
 
-ghost use Rattle.std.specs.Prelude.{◌≡◌, ◌<◌, ◌≤◌, true, false, [], ◌++◌, OnOk, None, IfSome, length, nat_le, slice_index};
+ghost use Rattle.std.specs.Prelude.{◌≡◌, ◌<◌, ◌≤◌, true, false, ◌++◌, OnOk, None, IfSome, length, nat_le, slice_index};
 ghost use Rattle.std.specs.Option.{option_to_list};
 ghost use Rattle.plan_rows.specs.Rows.{sites_of, dies_at};
 ghost use Rattle.site_meaning.specs.Part.{IsPart, part_of};
@@ -8,7 +8,7 @@ ghost use Rattle.floor_core.specs.Book.{planned};
 ghost use Rattle.lot_book.specs.Shares.{new_share};
 ghost use Rattle.site_run.specs.Site.{seat_of, IsSiteOf};
 ghost use Rattle.tester_run.specs.Work.{IsWork};
-ghost use Rattle.tester_run.specs.Turn.{IsNext, IsReady, IsTurn};
+ghost use Rattle.tester_run.specs.Turn.{IsReady, IsTurn};
 
 use die_sim::{Socket, SocketBox};
 use lot_book::{Book, SiteShare};
@@ -21,9 +21,9 @@ use std::thread::Threads;
 use stop_board::{Board, SiteSeat};
 use tester_types::Gate;
 
-/// Only tests call it: does the whole work of a share's site. In turn it passes the gate, polls the seat, runs a batch, and files the record
-/// of a touchdown that has ended, until the site is done. At its end no die is loaded and the seat finishes, after a fault
-/// too. It may wait at the gate, and for the turns of the memory and the book.
+/// Only tests call it: does the whole work of a share's site. In turn it passes the gate, polls the seat, runs a batch, and
+/// files the record of a touchdown that has ended, until the site is done. At its end no die is loaded and the seat finishes,
+/// after a fault too. It may wait at the gate, and for the turns of the memory and the book.
 pub fn site_work<R: Threads + Wait + Sync, G: Gate>(
     rt: &R,
     alloc: Global,

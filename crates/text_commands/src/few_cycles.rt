@@ -1,6 +1,6 @@
 //! Texts with few enough cycles to be printed one by one.
 
-ghost use Rattle.std.specs.Prelude.{◌≡◌, ◌<◌, ◌≤◌, ℕ, IfOk, IfErr, IfSome, IfNone, length};
+ghost use Rattle.std.specs.Prelude.{◌≡◌, ◌<◌, ◌≤◌, ℕ, IfOk, IfSome, IfNone, MatchResult, length};
 ghost use Rattle.text_bytes.specs.Limits.{most_listed, most_bytes};
 ghost use Rattle.stil_ast.specs.Faults.Found.{fault_at};
 ghost use Rattle.stil_ast.specs.Faults.BurstFaults.{exec_place};
@@ -64,8 +64,7 @@ fn refusal_at(alloc: Global, text: &CompiledText, exec: u16) -> StilRefusal
 /// The code of a text with at most 65,536 cycles, or why the text is refused.
 pub(crate) fn listed_code(alloc: Global, bytes: &[u8]) -> Result<Code, StilRefusal>
     requires { length bytes.now ≤ most_bytes }
-    ensures found { IfOk result (IsListedCode bytes.now) }
-    ensures refused { IfErr result (IsListRefused bytes.now) }
+    ensures { MatchResult result (IsListedCode bytes.now) (IsListRefused bytes.now) }
 {
     let text = match compiled(alloc, bytes) {
         Ok(text) => text,

@@ -1,5 +1,5 @@
 -- How the code finds the values of variables. No public clause cites this file.
-use Rattle.std.specs.Prelude.{◌≡◌, ℕ, suc, ◌+◌, ◌≤◌, Bool, true, false, not, ◌&&◌, List, Option, Some, None, option_map, is_none, is_some, Result, Ok, Err, length, find, count_by, nat_lt}
+use Rattle.std.specs.Prelude.{◌≡◌, ℕ, suc, ◌+◌, ◌≤◌, Bool, true, false, not, ◌&&◌, List, Option, Some, None, option_map, is_none, is_some, IsSome, Result, Ok, Err, length, find, count_by, nat_lt}
 use Rattle.std.specs.Borrow.{Bor}
 use Rattle.std.specs.Option.{option_copied}
 use Rattle.std.specs.Str.{bytes_eq}
@@ -179,6 +179,18 @@ Chooses vs result = Finds (variables_fault times_of vs) (AreNames (value_of time
 abbrev pub KeepsValues : List (List ℕ × Ratio) → List (List ℕ × Ratio) → Type 0
 KeepsValues before now =
     (name : List ℕ) (r : Ratio) → value_of_name name before ≡ Some r → value_of_name name now ≡ Some r
+
+-- a name has a value among those known now, and what was known before stays
+pub record IsSettled (vs : List Variable) (before now : List (List ℕ × Ratio)) (name : List ℕ) : Type 0 where
+  pub known : AreKnown vs now
+  pub kept : KeepsValues before now
+  pub value : IsSome (value_of_name name now)
+
+-- a name that is met at a place is settled, or the value of the variable of that name has a fault, which this is
+abbrev pub Settles : List Variable → List (List ℕ × Ratio) → List (List ℕ × Ratio) → Place → List ℕ
+    → Result Unit StilRefusal → Type 0
+Settles vs before now p name (Ok done) = IsSettled vs before now name
+Settles vs before now p name (Err e) = Blames (value_fault p (value_of times_of vs name)) e
 
 -- the fault of a variable's value
 abbrev pub own_fault : List Variable → Variable → Option StilFault

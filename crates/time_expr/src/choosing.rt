@@ -1,9 +1,8 @@
 //! The values of the variables of an executive (IEEE 1450-1999, clauses 16 and 19).
 
-ghost use Rattle.std.specs.Prelude.{◌≡◌, ◌⊎◌, ◌<◌, length, slice_get, Some, None, IsSome, IfOk, IfErr, OnOk, MatchResult};
-ghost use Rattle.answers.specs.Answers.{Blames};
+ghost use Rattle.std.specs.Prelude.{◌≡◌, ◌⊎◌, ◌<◌, length, slice_get, Some, None, IfOk, IfErr, MatchResult};
 ghost use Rattle.stil_ast.specs.Meaning.Executive.{exec_value};
-ghost use Rattle.stil_ast.specs.Meaning.Variables.{picked, value_of, value_fault, variables_fault};
+ghost use Rattle.stil_ast.specs.Meaning.Variables.{picked, variables_fault};
 ghost use Rattle.stil_ast.specs.declared.executive.ExecDecl.{ExecDecl};
 ghost use Rattle.stil_ast.specs.declared.fault.StilFault.{StilFault};
 ghost use Rattle.answers.specs.declared.short.Short.TheVariants as refusal;
@@ -11,7 +10,7 @@ ghost use Rattle.time_expr.specs.TimesOf.{times_of};
 ghost use Rattle.time_expr.specs.TimeIn.{AreNames};
 ghost use Rattle.expr_text.specs.Vars.{value_of_name};
 ghost use Rattle.time_expr.specs.Picked.{place_of, variables_of};
-ghost use Rattle.time_expr.specs.Choosing.{AreKnown, KeepsValues, IsWalked, AreValues, Chooses};
+ghost use Rattle.time_expr.specs.Choosing.{AreKnown, IsWalked, Settles, AreValues, Chooses};
 
 use crate::order::ordered_values;
 use crate::picked::{Picked, Spot, picked_of};
@@ -49,11 +48,7 @@ fn settle<'a>(
     spot: Spot<'a>,
 ) -> Result<(), StilRefusal>
     requires { AreKnown variables.now vars.old }
-    ensures known { OnOk result (AreKnown variables.now vars.new) }
-    ensures kept { OnOk result (KeepsValues vars.old vars.new) }
-    ensures value { OnOk result (IsSome (value_of_name name.now vars.new)) }
-    ensures fault { IfErr result
-        (Blames (value_fault (place_of spot.entry) (value_of times_of variables.now name.now))) }
+    ensures { Settles variables.now vars.old vars.new (place_of spot.entry) name.now result }
 {
     while vars.get(name).is_none() {
         let (variable, value) = next_value(alloc, variables, vars, name, spot)?;

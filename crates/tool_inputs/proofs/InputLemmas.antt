@@ -1,5 +1,5 @@
 -- Why a lot is refused stays so over a whole call, and what a run wants is wanted of the lot.
-use Rattle.std.proofs.Common.{◌≡◌, ℕ, ◌-◌, ◌^◌, ◌<◌, ◌≤◌, Bool, true, ltb, List, Option, Some, None, Result, Ok, Err, refl, sym, ap, ◌∙◌, subst, arith, inl, inr, false, ◌⊎◌}
+use Rattle.std.proofs.Common.{◌≡◌, ℕ, ◌-◌, ◌^◌, ◌<◌, ◌≤◌, Bool, true, ltb, List, Option, Some, None, Err, refl, sym, ap, ◌∙◌, subst, arith, inl, inr, false, ◌⊎◌}
 use Rattle.std.proofs.lemmas.Bool.{cases_Bool, ltb-true, ltb-false}
 use Rattle.tester_types.specs.Outside.{HasRisen, Files}
 use Rattle.packed_code.specs.Program.{Program}
@@ -17,7 +17,6 @@ use Rattle.stil_program.specs.Program.{IsTextFault, IsProgramOf, IsRefusal}
 use Rattle.stil_ast.specs.declared.fault.StilFault.{StilFault}
 use Rattle.stil_ast.specs.Data.Refusal.{StilRefusal}
 use Rattle.answers.specs.declared.short.Short.TheVariants as stil
-use Rattle.std.specs.Prelude.{IfOk, IfErr}
 use Rattle.lot_plan.specs.Bound.{Bound}
 use Rattle.tool_inputs.specs.declared.status.Status.{Status}
 use Rattle.tool_inputs.specs.declared.refusal.Refusal.{Refusal}
@@ -115,16 +114,6 @@ pub plan_refused : (told : Option Files) (before now : ℕ) (name bytes seen : L
 plan_refused told before now name bytes seen e file same (inl none) = plan_memory (ap (λ f. status_of (refused.Plan f)) none)
 plan_refused told before now name bytes seen e file same (inr is) =
     plan_faulty bytes file e (subst (λ bs. IsPlanFault bs e) same is) refl
-
--- what refuses in one way refuses in a wider one
-pub err_weaker : {A : Type 0} (P Q : Refusal → Type 0) (o : Result A Refusal) → ((r : Refusal) → P r → Q r) → IfErr o P → IfErr o Q
-err_weaker P Q (Ok a) wider is = tt
-err_weaker P Q (Err r) wider is = wider r is
-
--- a program is that of what it was read from
-pub ok_weaker : {E : Type 0} (P Q : Program → Type 0) (o : Result Program E) → ((code : Program) → P code → Q code) → IfOk o P → IfOk o Q
-ok_weaker P Q (Ok code) wider is = wider code is
-ok_weaker P Q (Err e) wider is = tt
 
 -- the fault of a refusal, where it has one
 abbrev fault_or : StilFault → StilRefusal → StilFault

@@ -1,6 +1,6 @@
 //! The files of a lot: the program, the plan, and the netlists that the plan names.
 
-ghost use Rattle.std.specs.Prelude.{◌≡◌, ◌≤◌, ◌++◌, ◌∷◌, [], true, IfOk, IfErr, OnOk, length, map};
+ghost use Rattle.std.specs.Prelude.{◌≡◌, ◌≤◌, ◌++◌, ◌∷◌, [], true, IfOk, IfErr, OnOk, length, map, MatchResult};
 ghost use Rattle.std.specs.Arc.{arc_value};
 ghost use Rattle.std.specs.List.{list_all};
 ghost use Rattle.text_bytes.specs.Limits.{most_bytes};
@@ -51,8 +51,7 @@ pub fn load<F: Shelf>(alloc: Global, file: &str, shelf: &mut F) -> Result<Vec<u8
 /// The code of a text, or why it has none.
 fn text_code(alloc: Global, bytes: &[u8]) -> Result<Code, Refusal>
     requires few { length bytes.now ≤ most_bytes }
-    ensures found { IfOk result (IsProgramOf bytes.now) }
-    ensures refused { IfErr result (IsTextRefusal bytes.now) }
+    ensures { MatchResult result (IsProgramOf bytes.now) (IsTextRefusal bytes.now) }
 {
     match program(alloc, bytes) {
         Ok(code) => Ok(code),
@@ -63,8 +62,7 @@ fn text_code(alloc: Global, bytes: &[u8]) -> Result<Code, Refusal>
 
 /// The code of a saved program, or why the bytes are none.
 fn saved_code(alloc: Global, bytes: &[u8]) -> Result<Code, Refusal>
-    ensures found { IfOk result (λ code. Saved code bytes.now) }
-    ensures refused { IfErr result (IsSavedRefusal bytes.now) }
+    ensures { MatchResult result (λ code. Saved code bytes.now) (IsSavedRefusal bytes.now) }
 {
     match load_code(alloc, bytes) {
         Ok(code) => Ok(code),
@@ -78,9 +76,8 @@ pub(crate) fn read_program<F: Shelf>(
     file: &str,
     shelf: &mut F,
 ) -> Result<Code, Refusal>
-    ensures found { IfOk result (IsProgramFile (F.told shelf.old) file.now) }
-    ensures refused { IfErr result (λ r. IsProgramRefused
-        (F.told shelf.old) (F.faults shelf.old) (F.faults shelf.new) file.now r) }
+    ensures reads { MatchResult result (IsProgramFile (F.told shelf.old) file.now)
+        (IsProgramRefused (F.told shelf.old) (F.faults shelf.old) (F.faults shelf.new) file.now) }
     ensures kept { F.told shelf.new ≡ F.told shelf.old }
     ensures counts { F.faults shelf.old ≤ F.faults shelf.new }
 {
@@ -105,9 +102,8 @@ fn is_saved(bytes: &[u8]) -> bool
 
 /// Reads the plan.
 pub(crate) fn read_plan<F: Shelf>(alloc: Global, file: &str, shelf: &mut F) -> Result<Plan, Refusal>
-    ensures found { IfOk result (λ plan. IsPlanFile (F.told shelf.old) file.now plan) }
-    ensures refused { IfErr result (λ r. IsPlanRefused
-        (F.told shelf.old) (F.faults shelf.old) (F.faults shelf.new) file.now r) }
+    ensures reads { MatchResult result (IsPlanFile (F.told shelf.old) file.now)
+        (IsPlanRefused (F.told shelf.old) (F.faults shelf.old) (F.faults shelf.new) file.now) }
     ensures kept { F.told shelf.new ≡ F.told shelf.old }
     ensures counts { F.faults shelf.old ≤ F.faults shelf.new }
 {
@@ -123,9 +119,8 @@ pub(crate) fn read_plan<F: Shelf>(alloc: Global, file: &str, shelf: &mut F) -> R
 
 /// Reads a netlist.
 fn read_net<F: Shelf>(alloc: Global, file: &str, shelf: &mut F) -> Result<Netlist, Refusal>
-    ensures found { IfOk result (λ net. IsNetFile (F.told shelf.old) file.now net) }
-    ensures refused { IfErr result (λ r. IsNetRefused
-        (F.told shelf.old) (F.faults shelf.old) (F.faults shelf.new) file.now r) }
+    ensures reads { MatchResult result (IsNetFile (F.told shelf.old) file.now)
+        (IsNetRefused (F.told shelf.old) (F.faults shelf.old) (F.faults shelf.new) file.now) }
     ensures kept { F.told shelf.new ≡ F.told shelf.old }
     ensures counts { F.faults shelf.old ≤ F.faults shelf.new }
 {
@@ -169,10 +164,9 @@ fn add_net<F: Shelf>(
     nets: &mut Vec<Arc<Netlist>>,
 ) -> Result<(), Refusal>
     requires { list_all is_printing file.now ≡ true }
-    ensures found { OnOk result (AddsNet (F.told shelf.old) file.now
-        (map arc_value nets.old.items) (map arc_value nets.new.items)) }
-    ensures refused { IfErr result (IsNetRefused
-        (F.told shelf.old) (F.faults shelf.old) (F.faults shelf.new) file.now) }
+    ensures reads { MatchResult result (λ _. AddsNet (F.told shelf.old) file.now
+        (map arc_value nets.old.items) (map arc_value nets.new.items))
+        (IsNetRefused (F.told shelf.old) (F.faults shelf.old) (F.faults shelf.new) file.now) }
     ensures kept { F.told shelf.new ≡ F.told shelf.old }
     ensures counts { F.faults shelf.old ≤ F.faults shelf.new }
 {
@@ -192,10 +186,9 @@ pub(crate) fn read_nets<F: Shelf>(
     plan: &Plan,
     shelf: &mut F,
 ) -> Result<Vec<Arc<Netlist>>, Refusal>
-    ensures found { IfOk result (λ nets. AreNetFiles (F.told shelf.old) (files_of plan.now)
-        (map arc_value nets.items)) }
-    ensures refused { IfErr result (AreNetsRefused
-        (F.told shelf.old) (F.faults shelf.old) (F.faults shelf.new) (files_of plan.now)) }
+    ensures reads { MatchResult result
+        (λ nets. AreNetFiles (F.told shelf.old) (files_of plan.now) (map arc_value nets.items))
+        (AreNetsRefused (F.told shelf.old) (F.faults shelf.old) (F.faults shelf.new) (files_of plan.now)) }
     ensures kept { F.told shelf.new ≡ F.told shelf.old }
     ensures counts { F.faults shelf.old ≤ F.faults shelf.new }
 {

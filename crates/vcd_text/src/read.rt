@@ -1,12 +1,12 @@
 //! A dump, read from its text.
 
-ghost use Rattle.std.specs.Prelude.{◌≡◌, ◌^◌, ◌-◌, ◌+◌, ◌<◌, ◌≤◌, ◌⊎◌, ◌==◌, ℕ, List, IfOk, IfErr, MatchResult, length, drop, take};
+ghost use Rattle.std.specs.Prelude.{◌≡◌, ◌^◌, ◌-◌, ◌+◌, ◌<◌, ◌⊎◌, ◌==◌, ℕ, List, IfOk, IfErr, MatchResult, length};
 ghost use Rattle.std.specs.List.{position};
 ghost use Rattle.die_sim.specs.Socket.{Calls};
 ghost use Rattle.vcd_text.specs.Dump.{Var, dump_of};
 ghost use Rattle.vcd_text.specs.Sound.{IsSound};
 ghost use Rattle.vcd_text.specs.Refusal.{IsFault, IsFaultOf};
-ghost use Rattle.vcd_text.specs.Read.{IsLineEnd, IsReadUp};
+ghost use Rattle.vcd_text.specs.Read.{IsLineEnd, IsReadUp, Reads};
 ghost use Rattle.vcd_text.specs.Standing.{begun};
 ghost use Rattle.vcd_text.specs.declared.read.DumpFault.TheVariants as fault;
 
@@ -66,8 +66,7 @@ fn line_end(text: &[u8]) -> usize
 fn read_lines<'a>(bytes: &'a [u8], reader: &mut Reader) -> Result<(u32, &'a [u8]), DumpFault>
     requires few { length bytes.now < 2 ^ 32 - 1 }
     requires new { reader.old ≡ begun }
-    ensures read { IfOk result (λ left. IsReadUp bytes.now left.1.now left.0 reader.new) }
-    ensures fault { IfErr result (λ e. IsFaultOf bytes.now e) }
+    ensures { Reads bytes.now (λ left. IsReadUp bytes.now left.1.now left.0 reader.new) result }
 {
     let mut rest = bytes;
     let mut lines = 0u32;
@@ -86,8 +85,7 @@ fn read_lines<'a>(bytes: &'a [u8], reader: &mut Reader) -> Result<(u32, &'a [u8]
 /// Reads a whole text.
 fn read_whole(alloc: Global, bytes: &[u8]) -> Result<Dump, DumpFault>
     requires { length bytes.now < 2 ^ 32 - 1 }
-    ensures found { IfOk result (λ d. IsSound d.vars d.tape.calls × (bytes.now ≡ dump_of d.vars d.tape.calls)) }
-    ensures fault { IfErr result (λ e. IsFaultOf bytes.now e) }
+    ensures { Reads bytes.now (λ d. IsSound d.vars d.tape.calls × (bytes.now ≡ dump_of d.vars d.tape.calls)) result }
 {
     let mut reader = Reader::new(alloc)?;
     let (lines, rest) = read_lines(bytes, &mut reader)?;

@@ -1,34 +1,33 @@
 -- The first fault of items that are judged one after another.
-use Rattle.std.proofs.Common.{◌≡◌, ℕ, suc, ◌+◌, ◌<◌, ◌≤◌, List, Option, Some, None, length, get_or, drop, sym, ap, ◌∙◌, arith}
+use Rattle.std.proofs.Common.{◌≡◌, ℕ, suc, ◌+◌, ◌<◌, ◌≤◌, List, Option, Some, None, length, get_or, drop, sym, ap, subst, ◌∙◌, arith}
 use Rattle.std.specs.List.{enumerate_from}
 use Rattle.std.specs.Prelude.{slice_get}
 use Rattle.wave_tables.proofs.TakenLemmas.{drop_found}
 use Rattle.std.proofs.Math.Seq.{drop-cons}
 use Rattle.std.proofs.lemmas.List.{drop_all}
-use Rattle.std.specs.Prelude.{Result, Ok, Err, OnOk, IfErr}
+use Rattle.std.specs.Prelude.{Result, Ok, Err}
 use Rattle.stil_ast.specs.Data.Places.{Place}
 use Rattle.stil_ast.specs.Faults.Found.{or_else, first_in}
 use Rattle.stil_ast.specs.declared.fault.StilFault.{StilFault}
-use Rattle.wave_tables.specs.Check.{Trouble, IsAt}
-
--- what follows from an answer's fact
-pub ok_then : {A B : Type 0} (r : Result A B) {P Q : Type 0} → (P → Q) → OnOk r P → OnOk r Q
-ok_then (Ok a) f h = f h
-ok_then (Err b) f h = tt
-
--- the same of a refusal
-pub err_then : {A B : Type 0} (r : Result A B) {P Q : B → Type 0} → ((b : B) → P b → Q b) → IfErr r P → IfErr r Q
-err_then (Ok a) f h = tt
-err_then (Err b) f h = f b h
+use Rattle.stil_ast.specs.Faults.TableFaults.{Timed}
+use Rattle.expr_text.specs.Ratio.{Ratio}
+use Rattle.wave_tables.specs.Check.{Trouble, IsAt, JudgesAt}
 
 -- the fault of the first of two
 pub at_first : (place : Place) (a b : Option StilFault) (e : Trouble) → IsAt place a e → IsAt place (or_else a b) e
 at_first place a b e h = λ at same. ap (λ (o : Option StilFault). or_else o b) (h at same)
 
--- the fault of the second, where the first has none
-pub at_second : (place : Place) (a b : Option StilFault) (e : Trouble) → a ≡ None → IsAt place b e
-    → IsAt place (or_else a b) e
-at_second place a b e none h = rw none h
+-- that of the second, where the first has none
+pub none_first : (a b : Option StilFault) → a ≡ None → or_else a b ≡ b
+none_first a b none = ap (λ (o : Option StilFault). or_else o b) none
+
+-- a pass that answers the same fault, however many of the waves are of the executives before
+pub judges_same : {A : Type 0} (t : Timed Ratio) (before number : ℕ) (inner outer : ℕ → Option StilFault)
+    (Wanted : A → Type 0) (r : Result A Trouble) → ((base : ℕ) → outer base ≡ inner base)
+    → JudgesAt t before number inner Wanted r → JudgesAt t before number outer Wanted r
+judges_same t before number inner outer Wanted (Ok x) same h = ((λ base at. same base ∙ h.0 base at), h.1)
+judges_same t before number inner outer Wanted (Err e) same h = λ base at.
+    subst (λ (o : Option StilFault). IsAt t.place o e) (sym (same base)) (h base at)
 
 -- none of those before has a fault: the first is that of those from here on
 pub first_step : {X : Type 0} (f : X → Option StilFault) (xs : List X) (i : ℕ) (x : X) → i < length xs

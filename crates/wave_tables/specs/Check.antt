@@ -20,6 +20,8 @@ use Rattle.stil_ast.specs.declared.fault.StilFault.{StilFault}
 use Rattle.answers.specs.declared.short.Short.{Short}
 use Rattle.answers.specs.declared.short.Short.TheVariants.{Fault}
 use Rattle.wave_tables.specs.declared.trouble.LineFault.{LineFault}
+use Rattle.wave_tables.specs.declared.judge.Judged.{Judged}
+use Rattle.stil_ast.specs.declared.name.Quoted.{Quoted}
 
 -- want of memory, or a fault at a line
 abbrev pub Trouble : Type 0
@@ -29,6 +31,22 @@ Trouble = Short LineFault
 abbrev pub IsAt : Place → Option StilFault → Trouble → Type 0
 IsAt place fault trouble =
     (at : LineFault) → trouble ≡ Fault at → fault ≡ Some (fault_at (on_line place at.line) at.kind)
+
+-- a check passes where Timing blocks at this place have no fault, and else answers the first one, or want of memory
+abbrev pub PassesAt : Place → Option StilFault → Result Unit Trouble → Type 0
+PassesAt place fault (Ok done) = fault ≡ None
+PassesAt place fault (Err trouble) = IsAt place fault trouble
+
+-- the same of a pass that gives a value
+abbrev pub FindsAt : {A : Type 0} → Place → Option StilFault → (A → Type 0) → Result A Trouble → Type 0
+FindsAt place fault Wanted (Ok x) = (fault ≡ None) × Wanted x
+FindsAt place fault Wanted (Err trouble) = IsAt place fault trouble
+
+-- a check goes on: the fault is that of the rest, judged by the value that it gives; else it answers the first fault,
+-- or want of memory
+abbrev pub GoesOnAt : {A : Type 0} → Place → Option StilFault → (A → Option StilFault) → Result A Trouble → Type 0
+GoesOnAt place fault rest (Ok x) = fault ≡ rest x
+GoesOnAt place fault rest (Err trouble) = IsAt place fault trouble
 
 -- the fault of a waveform's events
 abbrev pub wave_fault : Timed Ratio → ℤ → WaveDecl → Option StilFault
@@ -101,12 +119,21 @@ periods_in t = map (period_at t) (upwards 0 (length t.tables))
 abbrev pub with_waves : Timed Ratio → ℕ → ℕ → ℕ
 with_waves t before number = before + wave_count (waveforms t.names t.tables number) (length t.names.signals)
 
--- there is no fault, however many of the waves before a table are of the executives before
-abbrev pub IsFree : Timed Ratio → ℕ → ℕ → (ℕ → Option StilFault) → Type 0
-IsFree t before number fault =
-    (base : ℕ) → before ≡ base + waves_of_first t.names t.tables number → fault base ≡ None
+-- a pass that finds a value, or the first fault, however many of the waves before a table are of the executives before
+abbrev pub JudgesAt : {A : Type 0} → Timed Ratio → ℕ → ℕ → (ℕ → Option StilFault) → (A → Type 0)
+    → Result A Trouble → Type 0
+JudgesAt t before number fault Wanted (Ok x) =
+    ((base : ℕ) → before ≡ base + waves_of_first t.names t.tables number → fault base ≡ None) × Wanted x
+JudgesAt t before number fault Wanted (Err trouble) =
+    (base : ℕ) → before ≡ base + waves_of_first t.names t.tables number → IsAt t.place (fault base) trouble
 
--- the fault is that which is answered, however many they are
-abbrev pub IsRefusedBy : Timed Ratio → ℕ → ℕ → (ℕ → Option StilFault) → Trouble → Type 0
-IsRefusedBy t before number fault e =
-    (base : ℕ) → before ≡ base + waves_of_first t.names t.tables number → IsAt t.place (fault base) e
+-- the period of a text is found, and the fault is that of the rest, judged by it; else the fault is that of the period
+abbrev pub GivesPeriod : Timed Ratio → ℕ → Option Quoted → (ℤ → Option StilFault) → Result ℕ Trouble → Type 0
+GivesPeriod t line text rest (Ok time) =
+    (with_period t line text rest ≡ rest (pos time)) × (time ≡ period_of t.times t.vars t.place text)
+GivesPeriod t line text rest (Err trouble) = IsAt t.place (with_period t line text rest) trouble
+
+-- a table's period, and how many waves there are with its own
+pub record IsJudged (t : Timed Ratio) (before number : ℕ) (judged : Judged) : Type 0 where
+  pub period : judged.period ≡ period_at t number
+  pub total : judged.total ≡ with_waves t before number

@@ -15,8 +15,8 @@ ghost use Rattle.time_expr.specs.TimeIn.{AreNames};
 ghost use Rattle.time_expr.specs.TimesOf.{times_of};
 ghost use Rattle.wave_tables.specs.Characters.{are_with_characters};
 ghost use Rattle.wave_tables.specs.Scope.{timed};
-ghost use Rattle.wave_tables.specs.Built.{IsSet};
-ghost use Rattle.wave_tables.specs.Check.{IsAt};
+ghost use Rattle.wave_tables.specs.Built.{tables_in};
+ghost use Rattle.wave_tables.specs.Check.{IsAt, FindsAt};
 
 use crate::asked::{tables_named, timing_name};
 use crate::judge::check_tables;
@@ -133,7 +133,8 @@ pub(crate) fn built_for(
 
 /// The tables of a scope, or their first fault.
 fn set_of(alloc: Global, scope: &Scope, before: u64) -> Result<WaveSet, Trouble>
-    ensures { IsSet (timed scope.now) before result }
+    ensures { FindsAt (timed scope.now).place (tables_fault (timed scope.now) before)
+        (λ set. set ≡ tables_in (timed scope.now)) result }
 {
     let wholes = wholes_of(alloc, scope)?;
     let reads = read_tables(alloc, scope, scope.tables())?;

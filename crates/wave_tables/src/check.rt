@@ -1,9 +1,8 @@
 //! The faults of a table, in their order.
 
-ghost use Rattle.std.specs.Prelude.{◌≡◌, ◌∷◌, ℤ, pos, List, Option, None, Some, map, flat_map, if◌then◌else◌, IfOk, IfErr, OnOk};
+ghost use Rattle.std.specs.Prelude.{◌≡◌, ◌∷◌, ℤ, pos, List, Option, None, Some, map, flat_map, if◌then◌else◌};
 ghost use Rattle.stil_ast.specs.Faults.Found.{first_in, fault_at, on_line};
-ghost use Rattle.stil_ast.specs.Faults.TableFaults.{Timed, inherit_fault, with_period, line_of, signal_fault};
-ghost use Rattle.stil_ast.specs.Meaning.Tables.{period_of};
+ghost use Rattle.stil_ast.specs.Faults.TableFaults.{Timed, inherit_fault, line_of, signal_fault};
 ghost use Rattle.stil_ast.specs.Data.Places.{Place};
 ghost use Rattle.stil_ast.specs.declared.fault.StilFault.{StilFault};
 ghost use Rattle.stil_ast.specs.declared.fault.StilKind.TheVariants.{EventOutside};
@@ -13,7 +12,7 @@ ghost use Rattle.wave_tables.specs.Scope.{timed};
 ghost use Rattle.wave_tables.specs.Lineage.{AreWhole, IsPeriod, is_there};
 ghost use Rattle.wave_tables.specs.ReadWaves.{read_wave};
 ghost use Rattle.wave_tables.specs.declared.times.ReadEvent.{ReadEvent};
-ghost use Rattle.wave_tables.specs.Check.{IsAt, events_read, read_fault, reference_fault, late_read};
+ghost use Rattle.wave_tables.specs.Check.{PassesAt, GoesOnAt, GivesPeriod, events_read, read_fault, reference_fault, late_read};
 
 use crate::lineage::{Whole, table_of};
 use crate::scope::Scope;
@@ -33,9 +32,8 @@ fn is_there(wholes: &[Option<Whole>], table: usize) -> bool
 /// Refuses the name of an unknown table, and of one that leads into a cycle.
 fn check_inherit(scope: &Scope, wholes: &[Option<Whole>], named: &Named) -> Result<(), Trouble>
     requires { AreWhole (timed scope.now) wholes.now }
-    ensures known { OnOk result (inherit_fault (timed scope.now).place (timed scope.now).tables named.now ≡ None) }
-    ensures fault { IfErr result (λ e. IsAt (timed scope.now).place
-        (inherit_fault (timed scope.now).place (timed scope.now).tables named.now) e) }
+    ensures { PassesAt (timed scope.now).place
+        (inherit_fault (timed scope.now).place (timed scope.now).tables named.now) result }
 {
     match table_of(scope.tables(), named.name.as_slice()) {
         None => Err(fault(StilKind::UnknownName, named.line)),
@@ -50,19 +48,9 @@ fn check_inherit(scope: &Scope, wholes: &[Option<Whole>], named: &Named) -> Resu
 }
 
 /// The period of a table, which is to be there, a whole number from 1 to 10^12.
-pub(crate) fn check_period(
-    scope: &Scope,
-    period: Option<ReadTime>,
-    line: u32,
-) -> Result<u64, Trouble>
-    ensures fits { IfOk result (λ time. (text : Option Quoted) (rest : ℤ → Option StilFault)
-        → IsPeriod (timed scope.now) text period
-        → with_period (timed scope.now) line text rest ≡ rest (pos time)) }
-    ensures period { IfOk result (λ time. (t : Timed Ratio) (text : Option Quoted) → IsPeriod t text period
-        → time ≡ period_of t.times t.vars t.place text) }
-    ensures fault { IfErr result (λ e. (text : Option Quoted) (rest : ℤ → Option StilFault)
-        → IsPeriod (timed scope.now) text period
-        → IsAt (timed scope.now).place (with_period (timed scope.now) line text rest) e) }
+pub(crate) fn check_period(period: Option<ReadTime>, line: u32) -> Result<u64, Trouble>
+    ensures { (t : Timed Ratio) (text : Option Quoted) (rest : ℤ → Option StilFault) → IsPeriod t text period
+        → GivesPeriod t line text rest result }
 {
     match period {
         None => Err(fault(StilKind::NoPeriod, line)),
@@ -86,10 +74,8 @@ pub(crate) fn check_inherits(
     inherits: &[Named],
 ) -> Result<(), Trouble>
     requires { AreWhole (timed scope.now) wholes.now }
-    ensures known { OnOk result (first_in (inherit_fault (timed scope.now).place (timed scope.now).tables) inherits.now
-        ≡ None) }
-    ensures fault { IfErr result (λ e. IsAt (timed scope.now).place
-        (first_in (inherit_fault (timed scope.now).place (timed scope.now).tables) inherits.now) e) }
+    ensures { PassesAt (timed scope.now).place
+        (first_in (inherit_fault (timed scope.now).place (timed scope.now).tables) inherits.now) result }
 {
     for named in inherits {
         match check_inherit(scope, wholes, named) {
@@ -102,11 +88,9 @@ pub(crate) fn check_inherits(
 
 /// Judges an event behind one at `before`; its time.
 fn check_event(period: u64, before: u64, event: &ReadEvent) -> Result<u64, Trouble>
-    ensures fits { IfOk result (λ time. (place : Place) (rest : List ReadEvent)
-        → events_read place (pos period) (pos before) (event.now ∷ rest)
-        ≡ events_read place (pos period) (pos time) rest) }
-    ensures fault { IfErr result (λ e. (place : Place) (rest : List ReadEvent)
-        → IsAt place (events_read place (pos period) (pos before) (event.now ∷ rest)) e) }
+    ensures { (place : Place) (rest : List ReadEvent)
+        → GoesOnAt place (events_read place (pos period) (pos before) (event.now ∷ rest))
+        (λ time. events_read place (pos period) (pos time) rest) result }
 {
     let line = event.time.line;
     match event.time.time {
@@ -125,9 +109,7 @@ fn check_event(period: u64, before: u64, event: &ReadEvent) -> Result<u64, Troub
 
 /// Judges the events of a waveform.
 fn check_events(period: u64, events: &[ReadEvent]) -> Result<(), Trouble>
-    ensures fits { OnOk result ((place : Place) → events_read place (pos period) (pos 0) events.now ≡ None) }
-    ensures fault { IfErr result (λ e. (place : Place)
-        → IsAt place (events_read place (pos period) (pos 0) events.now) e) }
+    ensures { (place : Place) → PassesAt place (events_read place (pos period) (pos 0) events.now) result }
 {
     let mut before = 0;
     for event in events {
@@ -141,9 +123,7 @@ fn check_events(period: u64, events: &[ReadEvent]) -> Result<(), Trouble>
 
 /// Judges the waveforms behind a reference.
 fn check_waves(period: u64, waves: &[ReadWave]) -> Result<(), Trouble>
-    ensures fits { OnOk result ((place : Place) → first_in (read_fault place (pos period)) waves.now ≡ None) }
-    ensures fault { IfErr result (λ e. (place : Place)
-        → IsAt place (first_in (read_fault place (pos period)) waves.now) e) }
+    ensures { (place : Place) → PassesAt place (first_in (read_fault place (pos period)) waves.now) result }
 {
     for wave in waves {
         match check_events(period, wave.events.as_slice()) {
@@ -166,8 +146,7 @@ fn line_of(signals: &SignalWaves) -> u32
 
 /// Judges a reference in Waveforms.
 fn check_reference(alloc: Global, scope: &Scope, signals: &SignalWaves) -> Result<(), Trouble>
-    ensures known { OnOk result (reference_fault (timed scope.now) signals.now ≡ None) }
-    ensures fault { IfErr result (λ e. IsAt (timed scope.now).place (reference_fault (timed scope.now) signals.now) e) }
+    ensures { PassesAt (timed scope.now).place (reference_fault (timed scope.now) signals.now) result }
 {
     match scope.kind(alloc, &signals.reference) {
         Ok(None) => Ok(()),
@@ -185,9 +164,7 @@ fn check_signal(
     reads: &[ReadWave],
 ) -> Result<(), Trouble>
     requires { reads.now ≡ map (read_wave (timed scope.now)) signals.now.waves }
-    ensures fits { OnOk result (signal_fault (timed scope.now) (pos period) signals.now ≡ None) }
-    ensures fault { IfErr result (λ e. IsAt (timed scope.now).place
-        (signal_fault (timed scope.now) (pos period) signals.now) e) }
+    ensures { PassesAt (timed scope.now).place (signal_fault (timed scope.now) (pos period) signals.now) result }
 {
     match check_reference(alloc, scope, signals) {
         Ok(()) => check_waves(period, reads),
@@ -204,9 +181,8 @@ pub(crate) fn check_signals(
     reads: &[ReadWave],
 ) -> Result<(), Trouble>
     requires { reads.now ≡ flat_map (λ s. map (read_wave (timed scope.now)) s.waves) list.now }
-    ensures fits { OnOk result (first_in (signal_fault (timed scope.now) (pos period)) list.now ≡ None) }
-    ensures fault { IfErr result (λ e. IsAt (timed scope.now).place
-        (first_in (signal_fault (timed scope.now) (pos period)) list.now) e) }
+    ensures { PassesAt (timed scope.now).place
+        (first_in (signal_fault (timed scope.now) (pos period)) list.now) result }
 {
     let mut left = reads;
     for signals in list {
@@ -222,9 +198,7 @@ pub(crate) fn check_signals(
 /// Refuses the first event of an inherited waveform that isn't below the period. A time with a fault is left to its own
 /// table.
 pub(crate) fn check_late(period: u64, events: &[ReadEvent]) -> Result<(), Trouble>
-    ensures early { OnOk result ((place : Place) → first_in (late_read place (pos period)) events.now ≡ None) }
-    ensures late { IfErr result (λ e. (place : Place)
-        → IsAt place (first_in (late_read place (pos period)) events.now) e) }
+    ensures { (place : Place) → PassesAt place (first_in (late_read place (pos period)) events.now) result }
 {
     for event in events {
         if is_late(period, event) {

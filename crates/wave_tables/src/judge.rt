@@ -1,13 +1,13 @@
 //! The first fault of tables.
 
-ghost use Rattle.std.specs.Prelude.{◌≡◌, Some, None, pos, map, slice_get, slice_index_or, IfOk, IfErr, IfSome, OnOk};
+ghost use Rattle.std.specs.Prelude.{◌≡◌, Some, None, pos, map, slice_get, slice_index_or, IfSome};
 ghost use Rattle.stil_ast.specs.Meaning.Tables.{lineage};
 ghost use Rattle.stil_ast.specs.Faults.TableFaults.{table_fault, tables_fault};
 ghost use Rattle.wave_tables.specs.Scope.{timed};
 ghost use Rattle.wave_tables.specs.Lineage.{HasOf, AreWhole};
 ghost use Rattle.wave_tables.specs.ReadWaves.{read_waves};
 ghost use Rattle.wave_tables.specs.Standing.{MapsTable};
-ghost use Rattle.wave_tables.specs.Check.{IsAt, count_fault, behind_period, behind_names, period_at, periods_in, with_waves, IsFree, IsRefusedBy};
+ghost use Rattle.wave_tables.specs.Check.{FindsAt, JudgesAt, IsJudged, count_fault, behind_period, behind_names, periods_in, with_waves};
 
 use crate::check::{check_inherits, check_period, check_signals};
 use crate::lineage::Whole;
@@ -48,11 +48,9 @@ fn check_count(
     before: u64,
 ) -> Result<u64, Trouble>
     requires maps { MapsTable (timed scope.now) number slots.now }
-    ensures total { IfOk result (λ total. total ≡ with_waves (timed scope.now) before number) }
-    ensures fits { OnOk result (IsFree (timed scope.now) before number
-        (λ base. count_fault (timed scope.now) base (number, table.now))) }
-    ensures fault { IfErr result (IsRefusedBy (timed scope.now) before number
-        (λ base. count_fault (timed scope.now) base (number, table.now))) }
+    ensures { JudgesAt (timed scope.now) before number
+        (λ base. count_fault (timed scope.now) base (number, table.now))
+        (λ total. total ≡ with_waves (timed scope.now) before number) result }
 {
     let signals = scope.short_count()?;
     let count = slot_count(slots, signals)?;
@@ -76,11 +74,9 @@ fn check_behind_period(
     requires maps { MapsTable (timed scope.now) heir.now.number heir.now.slots.now }
     requires at { slice_get (timed scope.now).tables heir.now.number ≡ Some table.now }
     requires reads { reads.now ≡ map (read_waves (timed scope.now)) (timed scope.now).tables }
-    ensures total { IfOk result (λ total. total ≡ with_waves (timed scope.now) before heir.now.number) }
-    ensures fits { OnOk result (IsFree (timed scope.now) before heir.now.number
-        (λ base. behind_period (timed scope.now) base (heir.now.number, table.now) (pos heir.now.period))) }
-    ensures fault { IfErr result (IsRefusedBy (timed scope.now) before heir.now.number
-        (λ base. behind_period (timed scope.now) base (heir.now.number, table.now) (pos heir.now.period))) }
+    ensures { JudgesAt (timed scope.now) before heir.now.number
+        (λ base. behind_period (timed scope.now) base (heir.now.number, table.now) (pos heir.now.period))
+        (λ total. total ≡ with_waves (timed scope.now) before heir.now.number) result }
 {
     let own = reads[heir.number].as_slice();
     match check_signals(alloc, scope, heir.period, table.waveforms.as_slice(), own) {
@@ -105,14 +101,11 @@ fn check_whole(
     requires has { HasOf (timed scope.now) (lineage (timed scope.now).tables number) whole.now }
     requires at { slice_get (timed scope.now).tables number ≡ Some table.now }
     requires reads { reads.now ≡ map (read_waves (timed scope.now)) (timed scope.now).tables }
-    ensures period { IfOk result (λ judged. judged.period ≡ period_at (timed scope.now) number) }
-    ensures total { IfOk result (λ judged. judged.total ≡ with_waves (timed scope.now) before number) }
-    ensures fits { OnOk result (IsFree (timed scope.now) before number
-        (λ base. behind_names (timed scope.now) base (number, table.now))) }
-    ensures fault { IfErr result (IsRefusedBy (timed scope.now) before number
-        (λ base. behind_names (timed scope.now) base (number, table.now))) }
+    ensures { JudgesAt (timed scope.now) before number
+        (λ base. behind_names (timed scope.now) base (number, table.now))
+        (λ judged. IsJudged (timed scope.now) before number judged) result }
 {
-    match check_period(scope, whole.period, table.line) {
+    match check_period(whole.period, table.line) {
         Err(trouble) => Err(trouble),
         Ok(period) => {
             let slots = whole.slots.as_slice();
@@ -142,12 +135,9 @@ fn check_table(
     requires wholes { AreWhole (timed scope.now) wholes.now }
     requires reads { reads.now ≡ map (read_waves (timed scope.now)) (timed scope.now).tables }
     requires at { slice_get (timed scope.now).tables number ≡ Some table.now }
-    ensures period { IfOk result (λ judged. judged.period ≡ period_at (timed scope.now) number) }
-    ensures total { IfOk result (λ judged. judged.total ≡ with_waves (timed scope.now) before number) }
-    ensures fits { OnOk result (IsFree (timed scope.now) before number
-        (λ base. table_fault (timed scope.now) base (number, table.now))) }
-    ensures fault { IfErr result (IsRefusedBy (timed scope.now) before number
-        (λ base. table_fault (timed scope.now) base (number, table.now))) }
+    ensures { JudgesAt (timed scope.now) before number
+        (λ base. table_fault (timed scope.now) base (number, table.now))
+        (λ judged. IsJudged (timed scope.now) before number judged) result }
 {
     match check_inherits(scope, wholes, table.inherits.as_slice()) {
         Err(trouble) => Err(trouble),
@@ -168,9 +158,8 @@ pub(crate) fn check_tables(
 ) -> Result<Vec<u64>, Trouble>
     requires wholes { AreWhole (timed scope.now) wholes.now }
     requires reads { reads.now ≡ map (read_waves (timed scope.now)) (timed scope.now).tables }
-    ensures periods { IfOk result (λ periods. periods.items ≡ periods_in (timed scope.now)) }
-    ensures fits { OnOk result (tables_fault (timed scope.now) before ≡ None) }
-    ensures fault { IfErr result (λ e. IsAt (timed scope.now).place (tables_fault (timed scope.now) before) e) }
+    ensures { FindsAt (timed scope.now).place (tables_fault (timed scope.now) before)
+        (λ periods. periods.items ≡ periods_in (timed scope.now)) result }
 {
     let tables = scope.tables();
     let mut periods = Vec::with_capacity(alloc, tables.len())?;

@@ -1,6 +1,6 @@
 //! Whether what a table inherits fits its period.
 
-ghost use Rattle.std.specs.Prelude.{◌≡◌, ◌+◌, Some, None, true, pos, length, map, slice_get, IfOk, IfErr, OnOk};
+ghost use Rattle.std.specs.Prelude.{◌≡◌, ◌+◌, Some, true, pos, length, map, slice_get, IfOk};
 ghost use Rattle.stil_ast.specs.Meaning.Tables.{own_waveforms, waveforms};
 ghost use Rattle.stil_ast.specs.Faults.Found.{first_in};
 ghost use Rattle.stil_ast.specs.Faults.TableFaults.{stands, late_event, inherited_fault};
@@ -9,7 +9,7 @@ ghost use Rattle.wave_tables.specs.Characters.{has_characters, waves_with_charac
 ghost use Rattle.wave_tables.specs.Own.{own_for, numbered_from};
 ghost use Rattle.wave_tables.specs.ReadWaves.{read_wave, read_waves};
 ghost use Rattle.wave_tables.specs.Standing.{is_source, counts_for, counts_in, waveform_at, MapsTable, StandAt};
-ghost use Rattle.wave_tables.specs.Check.{IsAt, late_one, late_in};
+ghost use Rattle.wave_tables.specs.Check.{IsAt, PassesAt, FindsAt, late_one, late_in};
 
 use crate::check::check_late;
 use crate::scope::Scope;
@@ -92,11 +92,9 @@ fn refuse_standing(
     requires other { source.table ≡ heir.now.number → ⊥ }
     requires late { IsAt (timed scope.now).place
         (first_in (late_event (timed scope.now) (pos heir.now.period)) wave.now.events) late }
-    ensures fits { OnOk result (late_one (timed scope.now) (pos heir.now.period) heir.now.number
-        (waveform_at (timed scope.now).names source reference.now wave.now) ≡ None) }
-    ensures fault { IfErr result (λ e. IsAt (timed scope.now).place
+    ensures { PassesAt (timed scope.now).place
         (late_one (timed scope.now) (pos heir.now.period) heir.now.number
-        (waveform_at (timed scope.now).names source reference.now wave.now)) e) }
+        (waveform_at (timed scope.now).names source reference.now wave.now)) result }
 {
     match is_standing(alloc, scope, heir, source, reference, wave) {
         Ok(true) => Err(late),
@@ -118,11 +116,9 @@ fn check_inherited_wave(
     requires maps { MapsTable (timed scope.now) heir.now.number heir.now.slots.now }
     requires characters { has_characters wave.now.characters ≡ true }
     requires read { read.now ≡ read_wave (timed scope.now) wave.now }
-    ensures fits { OnOk result (late_one (timed scope.now) (pos heir.now.period) heir.now.number
-        (waveform_at (timed scope.now).names source reference.now wave.now) ≡ None) }
-    ensures fault { IfErr result (λ e. IsAt (timed scope.now).place
+    ensures { PassesAt (timed scope.now).place
         (late_one (timed scope.now) (pos heir.now.period) heir.now.number
-        (waveform_at (timed scope.now).names source reference.now wave.now)) e) }
+        (waveform_at (timed scope.now).names source reference.now wave.now)) result }
 {
     if usize::from(source.table) == heir.number {
         return Ok(());
@@ -146,11 +142,9 @@ fn check_numbered(
     requires maps { MapsTable (timed scope.now) heir.now.number heir.now.slots.now }
     requires characters { has_characters wave.now.characters ≡ true }
     requires read { slice_get reads.now source.number ≡ Some (read_wave (timed scope.now) wave.now) }
-    ensures fits { OnOk result (late_one (timed scope.now) (pos heir.now.period) heir.now.number
-        (waveform_at (timed scope.now).names source reference.now wave.now) ≡ None) }
-    ensures fault { IfErr result (λ e. IsAt (timed scope.now).place
+    ensures { PassesAt (timed scope.now).place
         (late_one (timed scope.now) (pos heir.now.period) heir.now.number
-        (waveform_at (timed scope.now).names source reference.now wave.now)) e) }
+        (waveform_at (timed scope.now).names source reference.now wave.now)) result }
 {
     match reads.get(source.number as usize) {
         Some(read) => check_inherited_wave(alloc, scope, heir, source, reference, wave, read),
@@ -171,12 +165,10 @@ fn check_reference(
     requires maps { MapsTable (timed scope.now) heir.now.number heir.now.slots.now }
     requires characters { waves_with_characters signals.now.waves ≡ true }
     requires reads { StandAt (timed scope.now) reads.now start signals.now.waves }
-    ensures next { IfOk result (λ next. next ≡ start + length signals.now.waves) }
-    ensures fits { OnOk result (late_in (timed scope.now) (pos heir.now.period) heir.now.number
-        (numbered_from start (own_for (timed scope.now).names table signals.now)) ≡ None) }
-    ensures fault { IfErr result (λ e. IsAt (timed scope.now).place
+    ensures { FindsAt (timed scope.now).place
         (late_in (timed scope.now) (pos heir.now.period) heir.now.number
-        (numbered_from start (own_for (timed scope.now).names table signals.now))) e) }
+        (numbered_from start (own_for (timed scope.now).names table signals.now)))
+        (λ next. next ≡ start + length signals.now.waves) result }
 {
     let mut number = start;
     for wave in signals.waves.as_slice() {
@@ -202,11 +194,9 @@ fn check_table_waves(
     requires maps { MapsTable (timed scope.now) heir.now.number heir.now.slots.now }
     requires characters { signals_with_characters table.now.waveforms ≡ true }
     requires reads { reads.now ≡ read_waves (timed scope.now) table.now }
-    ensures fits { OnOk result (late_in (timed scope.now) (pos heir.now.period) heir.now.number
-        (own_waveforms (timed scope.now).names number table.now) ≡ None) }
-    ensures fault { IfErr result (λ e. IsAt (timed scope.now).place
+    ensures { PassesAt (timed scope.now).place
         (late_in (timed scope.now) (pos heir.now.period) heir.now.number
-        (own_waveforms (timed scope.now).names number table.now)) e) }
+        (own_waveforms (timed scope.now).names number table.now)) result }
 {
     let mut next = 0;
     for signals in table.waveforms.as_slice() {
@@ -230,11 +220,9 @@ fn check_other(
     requires maps { MapsTable (timed scope.now) heir.now.number heir.now.slots.now }
     requires characters { signals_with_characters table.now.waveforms ≡ true }
     requires reads { slice_get reads.now number ≡ Some (read_waves (timed scope.now) table.now) }
-    ensures fits { OnOk result (late_in (timed scope.now) (pos heir.now.period) heir.now.number
-        (own_waveforms (timed scope.now).names number table.now) ≡ None) }
-    ensures fault { IfErr result (λ e. IsAt (timed scope.now).place
+    ensures { PassesAt (timed scope.now).place
         (late_in (timed scope.now) (pos heir.now.period) heir.now.number
-        (own_waveforms (timed scope.now).names number table.now)) e) }
+        (own_waveforms (timed scope.now).names number table.now)) result }
 {
     let short = u16::try_from(number).map_err(|_| Trouble::NoMemory)?;
     match reads.get(number) {
@@ -252,9 +240,8 @@ pub(crate) fn check_inherited(
 ) -> Result<(), Trouble>
     requires maps { MapsTable (timed scope.now) heir.now.number heir.now.slots.now }
     requires reads { reads.now ≡ map (read_waves (timed scope.now)) (timed scope.now).tables }
-    ensures fits { OnOk result (inherited_fault (timed scope.now) (pos heir.now.period) heir.now.number ≡ None) }
-    ensures fault { IfErr result (λ e. IsAt (timed scope.now).place
-        (inherited_fault (timed scope.now) (pos heir.now.period) heir.now.number) e) }
+    ensures { PassesAt (timed scope.now).place
+        (inherited_fault (timed scope.now) (pos heir.now.period) heir.now.number) result }
 {
     let tables = scope.tables();
     for number in 0..tables.len() {

@@ -150,7 +150,7 @@ walking::walk_list-returns-then-is_stop t c = λ names named.
     (written_of (drop (c.loop-stmt.stmt-index + 1) items)) c.count_one.result (sym c.is_stop.ensures ∙ c.if-is_stop.true)
     (subst (λ (xs : List PatStmt). Walking names scope s c.args.body.now c.args.walk.now (written_of xs) c.loop-stmt.walk) left
     (c.loop-stmt.invariant names named))
-    c.count_one.ensures.few c.count_one.ensures.counted c.count_one.ensures.fault
+    c.count_one.ensures
 
 pub walking::walk_list-returns-in-Err : goal.walking::walk_list-returns-in-Err
 walking::walk_list-returns-in-Err t c = λ names named.
@@ -180,7 +180,7 @@ walking::walk_list-loop-stmt-preserved t c = λ names named.
 
 pub walking::walk_statement-returns-in-Err : goal.walking::walk_statement-returns-in-Err
 walking::walk_statement-returns-in-Err t c = λ names named.
-    c.in-Err.ensures.fault (scope_in names c.args.scope.now)
+    c.in-Err.ensures (scope_in names c.args.scope.now)
     (action_check names c.args.scope.now c.args.s.now c.args.stmt.now.line c.args.stmt.now.action)
 
 pub walking::walk_step-returns-in-Wave : goal.walking::walk_step-returns-in-Wave

@@ -8,8 +8,8 @@ use Rattle.bench_net.specs.Views.{form_of}
 use Rattle.bench_net.proofs.NumberLemmas.{AreLines-small, twice-refused, none-lacks, missing-placed, once-placed}
 use Rattle.bench_net.proofs.netlist.checked.Goals as goal
 
-pub returns-in_err-driven-clause-fault : goal.returns-in_err-driven-clause-fault
-returns-in_err-driven-clause-fault c =
+pub returns-in_err-driven : goal.returns-in_err-driven
+returns-in_err-driven c =
     let keys = c.args.all.now.keys in
     let forms = map form_of c.args.lines.now in
     let lines =
@@ -17,7 +17,7 @@ returns-in_err-driven-clause-fault c =
     (omega (arith, c.len.ensures.len, c.if-len-gt-MOST_NETS.false)) c.requires.lines in
     let p = err_from_is_err_and c.from_residual-in_err-driven.result c.from_residual-in_err-driven.ensures.1 in
     rw (p.1, p.2)
-    (twice-refused forms (length keys) c.args.said.now (key_texts keys) _ lines c.requires.names (sym c.in_default.ensures) c.in_err-driven.ensures.fault)
+    (twice-refused forms (length keys) c.args.said.now (key_texts keys) _ lines c.requires.names (sym c.in_default.ensures) c.in_err-driven.ensures)
 
 pub missing-requires : goal.missing-requires
 missing-requires c =
@@ -29,10 +29,10 @@ missing-requires c =
     (omega (arith, c.len.ensures.len, c.if-len-gt-MOST_NETS.false)) c.requires.lines in
     subst (λ (all : List (List ℕ)). list_all (λ (b : Bool). b) marks ≡ true → find (lacks all marks) (flat_map used forms) ≡ None)
     (sym c.requires.names)
-    (none-lacks forms (length keys) c.args.said.now marks lines (c.as_slice.ensures.value ∙ c.in_ok-driven.ensures.found))
+    (none-lacks forms (length keys) c.args.said.now marks lines (c.as_slice.ensures.value ∙ c.in_ok-driven.ensures.marks_are))
 
-pub returns-in-Some-missing-clause-fault : goal.returns-in-Some-missing-clause-fault
-returns-in-Some-missing-clause-fault c =
+pub returns-in-Some-missing : goal.returns-in-Some-missing
+returns-in-Some-missing c =
     let keys = c.args.all.now.keys in
     let forms = map form_of c.args.lines.now in
     let marks = c.as_slice.result.now in
@@ -43,13 +43,13 @@ returns-in-Some-missing-clause-fault c =
       lines.small,
       sym c.in_default.ensures,
       once-placed forms (length keys) c.args.said.now lines c.in_ok-driven.ensures.once,
-      sym (missing-placed forms (length keys) c.args.said.now marks lines (c.as_slice.ensures.value ∙ c.in_ok-driven.ensures.found))
+      sym (missing-placed forms (length keys) c.args.said.now marks lines (c.as_slice.ensures.value ∙ c.in_ok-driven.ensures.marks_are))
           ∙ ap (λ (all : List (List ℕ)). find (lacks all marks) (flat_map used forms)) (sym c.requires.names)
           ∙ sym c.in-Some-missing.ensures ∙ ap (λ n. Some n) (sym c.in_ok-from_slice-2.ensures),
     )
 
-pub returns-clause-found : goal.returns-clause-found
-returns-clause-found c =
+pub returns : goal.returns
+returns c =
     let keys = c.args.all.now.keys in
     let forms = map form_of c.args.lines.now in
     let marks = c.as_slice.result.now in
@@ -60,7 +60,7 @@ returns-clause-found c =
       in_range = lines.small;
       arity = sym c.in_default.ensures;
       once = once-placed forms (length keys) c.args.said.now lines c.in_ok-driven.ensures.once;
-      all = sym (missing-placed forms (length keys) c.args.said.now marks lines (c.as_slice.ensures.value ∙ c.in_ok-driven.ensures.found))
+      all = sym (missing-placed forms (length keys) c.args.said.now marks lines (c.as_slice.ensures.value ∙ c.in_ok-driven.ensures.marks_are))
           ∙ ap (λ (all : List (List ℕ)). find (lacks all marks) (flat_map used forms)) (sym c.requires.names)
           ∙ sym c.in_default-missing.ensures;
     }

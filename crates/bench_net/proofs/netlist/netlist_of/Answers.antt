@@ -8,7 +8,7 @@ use Rattle.bench_net.proofs.netlist.netlist_of.Goals.{In_ok-drivers}
 -- what the lines say by numbers
 lines_are : (c : In_ok-drivers) → AreLines (map form_of c.args.lines.now) c.len.result c.in_ok-names.numbered.items
 lines_are c =
-    let small = c.in_ok-checked.ensures.found.in_range in
+    let small = c.in_ok-checked.ensures.in_range in
     record {
       nets = c.len.ensures.len ∙ sym (length-map c.in_ok-names.names.keys (λ k. k.items)) ∙ ap length c.in_ok-names.ensures.names;
       small = small;

@@ -42,8 +42,8 @@ invariant_of-result c =
     (sym (same_net forms _ _ _ c.requires.names c.requires.drivers c.requires.outputs))
     (IsWhole-net_of forms _ _ _ table readers none)
 
-pub returns-in-None-clause-found : goal.returns-in-None-clause-found
-returns-in-None-clause-found c =
+pub returns-in-None : goal.returns-in-None
+returns-in-None c =
     let forms = map form_of c.args.lines.now in
     let table =
     IsTable-sorted forms _ _ _ c.requires.pins c.requires.driven_once
@@ -56,8 +56,8 @@ returns-in-None-clause-found c =
     (sym (same_net forms _ _ _ c.requires.names c.requires.drivers c.requires.outputs))
     (IsNetOf-net_of forms _ _ table none)
 
-pub returns-in_ok-from_slice-in-Some-clause-fault : goal.returns-in_ok-from_slice-in-Some-clause-fault
-returns-in_ok-from_slice-in-Some-clause-fault c =
+pub returns-in_ok-from_slice-in-Some : goal.returns-in_ok-from_slice-in-Some
+returns-in_ok-from_slice-in-Some c =
     let forms = map form_of c.args.lines.now in
     let table =
     IsTable-sorted forms _ _ _ c.requires.pins c.requires.driven_once

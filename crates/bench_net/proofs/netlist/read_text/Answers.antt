@@ -10,4 +10,4 @@ pub netlist_of-requires : goal.netlist_of-requires
 netlist_of-requires c =
     subst (λ (fs : List Form). All HasPins fs) (sym (ap (map form_of) c.as_slice.ensures.value))
     (HasPins-Reads c.args.bytes.now
-    (map form_of c.in_ok-lines.lines.items) c.in_ok-lines.ensures.found)
+    (map form_of c.in_ok-lines.lines.items) c.in_ok-lines.ensures)

@@ -5,8 +5,8 @@ use Rattle.bench_net.specs.Views.{form_of}
 use Rattle.bench_net.proofs.TextLemmas.{Reading-goes_on, Reading-stops}
 use Rattle.bench_net.proofs.text.read_lines.Goals as goal
 
-pub returns-in-None-clause-fault : goal.returns-in-None-clause-fault
-returns-in-None-clause-fault c =
+pub returns-in-None : goal.returns-in-None
+returns-in-None c =
     let silent = rw c.in-None.is at c.in_ok-form.ensures in
     let count : length (map form_of c.loop-rest.read.items) + 1
     ≡ c.len.result + 1 = omega

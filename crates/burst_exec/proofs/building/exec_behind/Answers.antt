@@ -43,4 +43,4 @@ returns-in-Ok-trees_of-clause-taken c = λ e at.
     ∙ ap (λ (all : List ExecDecl). get_or all c.args.exec decl) (c.as_slice.ensures ∙ ap (λ (b : Blocks). b.executives) c.blocks-blocks.ensures)
     ∙ get_or_from_slice_get names.executives c.args.exec e decl at in
     taken_found names e old begin c.trees_of.new.progress c.in-Ok.stage c.in-Ok-trees_of.draft decl c.held.result same stage run.1 refl refl
-    c.held.ensures.kept c.held.ensures.memory
+    c.held.ensures

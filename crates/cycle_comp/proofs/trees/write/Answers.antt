@@ -10,17 +10,17 @@ use Rattle.cycle_comp.proofs.trees.write.Goals as goal
 
 pub returns-in-Err-clause-fault : goal.returns-in-Err-clause-fault
 returns-in-Err-clause-fault c = λ named same.
-    stopped_faulty c.args.tables.now c.args.signals named c.args.trees.now c.in-Err.error same c.in-Err.ensures.stopped
+    stopped_faulty c.args.tables.now c.args.signals named c.args.trees.now c.in-Err.error same c.in-Err.ensures
 
 pub returns-in-Err-clause-only : goal.returns-in-Err-clause-only
 returns-in-Err-clause-only c = λ named same none.
     faulty_memory c.args.tables.now c.args.signals named c.in-Err.error none
-    (stopped_faulty c.args.tables.now c.args.signals named c.args.trees.now c.in-Err.error same c.in-Err.ensures.stopped)
+    (stopped_faulty c.args.tables.now c.args.signals named c.args.trees.now c.in-Err.error same c.in-Err.ensures)
 
 pub returns-in-Err-clause-refused : goal.returns-in-Err-clause-refused
 returns-in-Err-clause-refused c = λ named f same first.
     faulty_refusal c.args.tables.now c.args.signals named f c.in-Err.error first
-    (stopped_faulty c.args.tables.now c.args.signals named c.args.trees.now c.in-Err.error same c.in-Err.ensures.stopped)
+    (stopped_faulty c.args.tables.now c.args.signals named c.args.trees.now c.in-Err.error same c.in-Err.ensures)
 
 pub returns-clause-found : goal.returns-clause-found
 returns-clause-found c = λ named same.
@@ -28,10 +28,10 @@ returns-clause-found c = λ named same.
     let s = start_of c.args.signals in
     let begun = subst (λ (none : List Instr). Wrote c.args.tables.now c.args.first (flats_run c.args.trees.now s).made
     (flats_measure c.args.trees.now) none code c.args.rows.now c.write_trees.new.rows)
-    c.new-code.ensures.items c.in-Ok.ensures.done in
+    c.new-code.ensures.items c.in-Ok.ensures.0 in
     let exact = subst (λ (none : List Instr). IsExact c.args.first
     (λ entry old. flats_written entry c.args.trees.now s old) none code c.write_trees.new.rows)
-    c.new-code.ensures.items c.in-Ok.ensures.exact in
+    c.new-code.ensures.items c.in-Ok.ensures.1 in
     let all = wrote_trees c.args.tables.now c.args.first c.args.signals named c.args.trees.now code c.args.rows.now
     c.write_trees.new.rows same begun exact in (
       all.0,

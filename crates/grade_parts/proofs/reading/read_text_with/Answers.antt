@@ -12,8 +12,8 @@ differ a b is no_one same =
     false_true : false ≡ true → ⊥
     false_true e = cc
 
-pub returns-in_default-clause-fault : goal.returns-in_default-clause-fault
-returns-in_default-clause-fault c =
+pub returns-in_default : goal.returns-in_default
+returns-in_default c =
     let good = c.args.good.now in
     let text = c.args.text.now in
     elim c.in_default.branch [

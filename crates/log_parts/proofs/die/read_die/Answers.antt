@@ -2,24 +2,24 @@ use Rattle.std.proofs.lemmas.Result.{err_from_is_err_and}
 use Rattle.log_parts.proofs.ReadDieLemmas.{die_stops, bin_stops, die_read}
 use Rattle.log_parts.proofs.die.read_die.Goals as goal
 
-pub returns-in_err-expect_die-clause-fault : goal.returns-in_err-expect_die-clause-fault
-returns-in_err-expect_die-clause-fault c =
+pub returns-in_err-expect_die : goal.returns-in_err-expect_die
+returns-in_err-expect_die c =
     let p = err_from_is_err_and c.from_residual.result c.from_residual.ensures.1 in
     rw (p.1, p.2)
-    (die_stops c.args.name.now c.args.lines.now c.in_err-expect_die.field-0.0 c.requires c.in_err-expect_die.ensures.fault.0
-    c.in_err-expect_die.ensures.fault.1)
+    (die_stops c.args.name.now c.args.lines.now c.in_err-expect_die.field-0.0 c.requires c.in_err-expect_die.ensures.0
+    c.in_err-expect_die.ensures.1)
 
-pub returns-in_err-bin-clause-fault : goal.returns-in_err-bin-clause-fault
-returns-in_err-bin-clause-fault c =
+pub returns-in_err-bin : goal.returns-in_err-bin
+returns-in_err-bin c =
     let p = err_from_is_err_and c.from_residual-in_err-bin.result c.from_residual-in_err-bin.ensures.1 in
     let b = c.read_body.ensures in
     rw (p.1, p.2)
     (bin_stops c.args.name.now c.args.lines.now c.expect_die.new.lines c.read_body.new.lines b.0 c.in_err-bin.field-0.0 b.1
-    c.in_ok-expect_die.ensures.found b.2 b.3 c.in_err-bin.ensures.fault.0 c.in_err-bin.ensures.fault.1)
+    c.in_ok-expect_die.ensures b.2 b.3 c.in_err-bin.ensures.0 c.in_err-bin.ensures.1)
 
-pub returns-clause-found : goal.returns-clause-found
-returns-clause-found c =
+pub returns : goal.returns
+returns c =
     let b = c.read_body.ensures in
-    let n = c.in_ok-bin.ensures.found in
+    let n = c.in_ok-bin.ensures in
     die_read c.args.name.now c.args.lines.now c.expect_die.new.lines c.read_body.new.lines c.read_bin.new.lines b.0 c.in_ok-bin.bin
-    c.args.bins.now.items c.push.new.self.items b.1 n.0 n.1 c.in_ok-expect_die.ensures.found b.2 n.2 c.in_ok-push.ensures.items
+    c.args.bins.now.items c.push.new.self.items b.1 n.0 n.1 c.in_ok-expect_die.ensures b.2 n.2 c.in_ok-push.ensures.items

@@ -22,19 +22,19 @@ loop-number-preserved c =
     let site = c.index-names-number in
     let i = c.loop-number.number in
     let found = subst (λ (names : List (Bor (List ℕ))). SiteIsRead i (lent names) c.loop-number.lines c.read_site.new.lines c.loop-number.bins.items c.read_site.new.bins.items c.in_ok-text.text.now)
-    (c.as_slice.ensures.value ∙ ap (λ (v : Vec (Bor (List ℕ)) Global). v.items) site.is) c.in_ok-text.ensures.found in
+    (c.as_slice.ensures.value ∙ ap (λ (v : Vec (Bor (List ℕ)) Global). v.items) site.is) c.in_ok-text.ensures in
     subst (λ (texts : List (List ℕ)). SitesAreRead (lent_sites (take (i + 1) c.args.names.now)) c.args.lines.now c.read_site.new.lines c.args.bins.now.items c.read_site.new.bins.items texts)
     (sym (ap lent c.in_ok-push.ensures.items ∙ lent_more c.loop-number.texts.items c.in_ok-text.text))
     (sites_more c.args.names.now i site.result c.args.lines.now c.loop-number.lines c.read_site.new.lines c.args.bins.now.items c.loop-number.bins.items
     c.read_site.new.bins.items (lent c.loop-number.texts.items) c.in_ok-text.text.now c.loop-number-test.true c.loop-number.invariant found)
 
-pub returns-in_err-text-clause-fault : goal.returns-in_err-text-clause-fault
-returns-in_err-text-clause-fault c =
+pub returns-in_err-text : goal.returns-in_err-text
+returns-in_err-text c =
     let p = err_from_is_err_and c.from_residual.result c.from_residual.ensures.1 in
     let site = c.index-names-number in
     let i = c.loop-number.number in
     let stops = subst (λ (names : List (Bor (List ℕ))). (later : List (List (List ℕ))) (before : List ℕ) → FaultFrom (IsRest [] i (lent names ∷ later) before) c.loop-number.lines c.in_err-text.field-0.0)
-    (c.as_slice.ensures.value ∙ ap (λ (v : Vec (Bor (List ℕ)) Global). v.items) site.is) c.in_err-text.ensures.fault in
+    (c.as_slice.ensures.value ∙ ap (λ (v : Vec (Bor (List ℕ)) Global). v.items) site.is) c.in_err-text.ensures in
     rw (p.1, p.2)
     (sites_stop c.args.names.now i site.result c.args.lines.now c.loop-number.lines c.args.bins.now.items c.loop-number.bins.items
     (lent c.loop-number.texts.items) c.in_err-text.field-0.0 c.loop-number-test.true c.loop-number.invariant stops)

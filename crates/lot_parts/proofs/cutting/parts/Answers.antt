@@ -9,7 +9,7 @@ pub returns-in-Err-clause-answers : goal.returns-in-Err-clause-answers
 returns-in-Err-clause-answers g c = record {
   status = status_of c.in-Err.refusal;
   text = line_of c.in-Err.refusal;
-  wanted = is_refused (record { refused = c.in-Err.refusal; cause = c.in-Err.ensures.refused; answer = refl; line = refl });
+  wanted = is_refused (record { refused = c.in-Err.refusal; cause = c.in-Err.ensures.reads; answer = refl; line = refl });
   ends = c.put_refusal.ensures.ends;
 }
 
@@ -17,7 +17,7 @@ pub returns-in-Ok-put_each-clause-answers : goal.returns-in-Ok-put_each-clause-a
 returns-in-Ok-put_each-clause-answers g c = record {
   status = Done;
   text = number_line c.from.result;
-  wanted = are_needed refl c.in-Ok.rows c.in-Ok.ensures.found c.parts_needed.result c.parts_needed.ensures (ap number_line c.from.ensures);
+  wanted = are_needed refl c.in-Ok.rows c.in-Ok.ensures.reads.0 c.parts_needed.result c.parts_needed.ensures (ap number_line c.from.ensures);
   ends = inl (refl, c.in-Ok-put_each.ensures.puts);
 }
 
@@ -25,6 +25,6 @@ pub returns-clause-answers : goal.returns-clause-answers
 returns-clause-answers g c = record {
   status = Done;
   text = number_line c.from.result;
-  wanted = are_needed refl c.in-Ok.rows c.in-Ok.ensures.found c.parts_needed.result c.parts_needed.ensures (ap number_line c.from.ensures);
+  wanted = are_needed refl c.in-Ok.rows c.in-Ok.ensures.reads.0 c.parts_needed.result c.parts_needed.ensures (ap number_line c.from.ensures);
   ends = inr (refl, c.in-Err-put_each.ensures.puts, c.in-Err-put_each.ensures.cause);
 }

@@ -5,8 +5,8 @@ use Rattle.lot_parts.proofs.LoadLemmas.{text_at, texts_long}
 use Rattle.lot_parts.proofs.GradesLemmas.{file_at, next_read, next_refused, behind_same, agree_same}
 use Rattle.lot_parts.proofs.grades.read_logs.Goals as goal
 
-pub returns-in-Err-clause-refused : goal.returns-in-Err-clause-refused
-returns-in-Err-clause-refused c =
+pub returns-in-Err : goal.returns-in-Err
+returns-in-Err c =
     next_refused (words_seen c.args.files.now) (texts_seen c.args.texts.now) c.loop-at.at c.loop-at.logs.items c.as_str.result.now
     c.as_slice.result.now c.in-Err.fault c.part_refusal.result
     (omega (arith, c.loop-at-test.true, texts_long c.args.texts.now))
@@ -15,7 +15,7 @@ returns-in-Err-clause-refused c =
     (file_at c.args.files.now c.loop-at.at c.index-files-at.result c.as_str.result.now (omega (arith, c.loop-at-test.true, c.requires))
     c.index-files-at.is c.as_str.ensures.value)
     c.loop-at.invariant.read c.loop-at.invariant.agree
-    (behind_same c.as_slice-in-loop-at.result.now c.loop-at.logs.items _ _ c.as_slice-in-loop-at.ensures.value c.in-Err.ensures.fault)
+    (behind_same c.as_slice-in-loop-at.result.now c.loop-at.logs.items _ _ c.as_slice-in-loop-at.ensures.value c.in-Err.ensures)
     c.part_refusal.ensures
 
 pub loop-at-preserved : goal.loop-at-preserved
@@ -24,7 +24,7 @@ loop-at-preserved c = record {
       c.in-Ok.log (omega (arith, c.loop-at-test.true, texts_long c.args.texts.now))
       (text_at c.args.texts.now c.loop-at.at c.index-texts-at.result c.as_slice.result.now (omega (arith, c.loop-at-test.true))
       c.index-texts-at.is c.as_slice.ensures.value)
-      c.loop-at.invariant.read c.in-Ok.ensures.found.0 c.in-Ok-push.ensures.items;
+      c.loop-at.invariant.read c.in-Ok.ensures.0 c.in-Ok-push.ensures.items;
   agree = agree_same c.as_slice-in-loop-at.result.now c.loop-at.logs.items c.push.new.self.items c.in-Ok.log
-      c.as_slice-in-loop-at.ensures.value c.in-Ok-push.ensures.items c.in-Ok.ensures.found.1;
+      c.as_slice-in-loop-at.ensures.value c.in-Ok-push.ensures.items c.in-Ok.ensures.1;
 }

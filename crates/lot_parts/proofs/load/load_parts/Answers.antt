@@ -5,8 +5,8 @@ use Rattle.lot_parts.specs.Files.{texts_seen}
 use Rattle.lot_parts.proofs.LoadLemmas.{word_at, next_loaded, all_loaded, next_unloaded}
 use Rattle.lot_parts.proofs.load.load_parts.Goals as goal
 
-pub returns-in-Err-clause-unread : goal.returns-in-Err-clause-unread
-returns-in-Err-clause-unread g c =
+pub returns-in-Err-clause-reads : goal.returns-in-Err-clause-reads
+returns-in-Err-clause-reads g c =
     let told = g.F.Shelf.told in
     let faults = g.F.Shelf.faults in
     let files = words_seen c.args.files.now in
@@ -17,7 +17,7 @@ returns-in-Err-clause-unread g c =
     c.in-Err.refusal within
     (word_at c.args.files.now c.loop-file.file-index c.file-item.result c.as_str.result.now (omega (arith, c.loop-file-test.true))
     c.file-item.is c.as_str.ensures.value)
-    c.loop-file.invariant.kept c.loop-file.invariant.counts c.in-Err.ensures.counts c.loop-file.invariant.read c.in-Err.ensures.unread
+    c.loop-file.invariant.kept c.loop-file.invariant.counts c.in-Err.ensures.counts c.loop-file.invariant.read c.in-Err.ensures.reads
 
 pub loop-file-preserved : goal.loop-file-preserved
 loop-file-preserved g c =
@@ -30,12 +30,12 @@ loop-file-preserved g c =
           (texts_seen c.loop-file.texts.items) (texts_seen c.add_part.new.texts.items) c.as_str.result.now within
           (word_at c.args.files.now c.loop-file.file-index c.file-item.result c.as_str.result.now (omega (arith, c.loop-file-test.true))
           c.file-item.is c.as_str.ensures.value)
-          c.loop-file.invariant.kept c.loop-file.invariant.read c.in-Ok.ensures.found;
+          c.loop-file.invariant.kept c.loop-file.invariant.read c.in-Ok.ensures.reads;
       kept = c.in-Ok.ensures.kept ∙ c.loop-file.invariant.kept;
       counts = omega (arith, c.loop-file.invariant.counts, c.in-Ok.ensures.counts);
     }
 
-pub returns-clause-found : goal.returns-clause-found
-returns-clause-found g c =
+pub returns-clause-reads : goal.returns-clause-reads
+returns-clause-reads g c =
     all_loaded (g.F.Shelf.told c.args.shelf.now) (words_seen c.args.files.now) c.loop-file.file-index (texts_seen c.loop-file.texts.items)
     (omega (arith, c.loop-file-test.false, length-map c.args.files.now string_bytes)) c.loop-file.invariant.read

@@ -1,7 +1,7 @@
 use Rattle.tool_inputs.proofs.InputLemmas.{plan_refused}
 use Rattle.lot_parts.proofs.load.read_plan.Goals as goal
 
-pub returns-clause-refused : goal.returns-clause-refused
-returns-clause-refused g c =
+pub returns-clause-reads : goal.returns-clause-reads
+returns-clause-reads g c =
     plan_refused _ _ _ c.args.plan.now _ c.as_slice.result.now c.in-Err-read_rows.fault c.in-Ok.ensures.found c.as_slice.ensures.value
     c.in-Err-read_rows.ensures.fault

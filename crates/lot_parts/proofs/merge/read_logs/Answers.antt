@@ -7,8 +7,8 @@ use Rattle.lot_parts.proofs.GradesLemmas.{file_at}
 use Rattle.lot_parts.proofs.MergeLemmas.{next_read, next_refused}
 use Rattle.lot_parts.proofs.merge.read_logs.Goals as goal
 
-pub returns-in-Err-clause-refused : goal.returns-in-Err-clause-refused
-returns-in-Err-clause-refused c =
+pub returns-in-Err : goal.returns-in-Err
+returns-in-Err c =
     next_refused c.args.rows.now (words_seen c.args.files.now) (texts_seen c.args.texts.now) (length c.args.files.now) c.loop-at.at
     c.loop-at.logs.items c.as_str.result.now c.as_slice.result.now c.in-Err.fault c.part_refusal.result
     (sym (files_long c.args.files.now))
@@ -17,7 +17,7 @@ returns-in-Err-clause-refused c =
     c.index-texts-at.is c.as_slice.ensures.value)
     (file_at c.args.files.now c.loop-at.at c.index-files-at.result c.as_str.result.now
     (omega (arith, c.loop-at-test.true, c.requires.each)) c.index-files-at.is c.as_str.ensures.value)
-    c.loop-at.invariant c.in-Err.ensures.fault c.part_refusal.ensures
+    c.loop-at.invariant c.in-Err.ensures c.part_refusal.ensures
 
 pub loop-at-preserved : goal.loop-at-preserved
 loop-at-preserved c =
@@ -25,4 +25,4 @@ loop-at-preserved c =
     c.push.new.self.items c.as_slice.result.now c.in-Ok.log (omega (arith, c.loop-at-test.true, texts_long c.args.texts.now))
     (text_at c.args.texts.now c.loop-at.at c.index-texts-at.result c.as_slice.result.now (omega (arith, c.loop-at-test.true))
     c.index-texts-at.is c.as_slice.ensures.value)
-    c.loop-at.invariant c.in-Ok.ensures.found c.in-Ok-push.ensures.items
+    c.loop-at.invariant c.in-Ok.ensures c.in-Ok-push.ensures.items

@@ -10,8 +10,8 @@ use Rattle.lot_plan.specs.Refusal.{is_signal, rows_refusal}
 use Rattle.lot_plan.proofs.ReadyLemmas.{rows-same}
 use Rattle.lot_plan.proofs.binding.check_rows.Goals as goal
 
-pub returns-in-Some-clause-fault : goal.returns-in-Some-clause-fault
-returns-in-Some-clause-fault c =
+pub returns-in-Some : goal.returns-in-Some
+returns-in-Some c =
     let b : Bound = record { rows = c.args.rows.now; program = c.args.code.now; circuits = map arc_value c.args.nets.now } in
     let known : List ℕ → Bool = λ name. list_any (bytes_eq name) (texts c.in_ok-names.names.keys) in
     let same = rows-same b known c.args.groups.now c.requires.kept c.requires.groups
@@ -20,8 +20,8 @@ returns-in-Some-clause-fault c =
     (circuit_in c.args.groups.now b.circuits) 1 b.rows) c.requires.signals in
     inr (sym same ∙ sym judged ∙ sym c.rows_refusal.ensures ∙ c.in-Some.is)
 
-pub returns-clause-accepted : goal.returns-clause-accepted
-returns-clause-accepted c =
+pub returns : goal.returns
+returns c =
     let b : Bound = record { rows = c.args.rows.now; program = c.args.code.now; circuits = map arc_value c.args.nets.now } in
     let known : List ℕ → Bool = λ name. list_any (bytes_eq name) (texts c.in_ok-names.names.keys) in
     let same = rows-same b known c.args.groups.now c.requires.kept c.requires.groups

@@ -17,17 +17,17 @@ dies_of-requires c =
     } in
     let signals = c.requires.signals in
     let found = subst (λ (l : List CodeSignal). AreBindings (map arc_value c.args.nets.now) (needs_of c.args.rows.now l) (clock_of c.args.rows.now l)
-    (map arc_value c.in_ok-bindings.bindings.items)) signals c.in_ok-bindings.ensures.found in
+    (map arc_value c.in_ok-bindings.bindings.items)) signals c.in_ok-bindings.ensures in
     let bound = is-bound b c.requires.kept (length-map c.args.nets.now arc_value ∙ c.requires.files)
     found.whole
-    c.in_ok-check_rows.ensures.accepted found.bound in
+    c.in_ok-check_rows.ensures found.bound in
     ready-in b (map arc_value c.deref-3.result.now) (map arc_value c.in_ok-bindings.bindings.items) c.deref-2.result.now
     c.in_ok-groups.groups.items bound
     found.each c.in_ok-groups.ensures (ap (map arc_value) c.deref-3.ensures.value)
     c.deref-2.ensures.value
 
-pub returns-clause-found : goal.returns-clause-found
-returns-clause-found c =
+pub returns : goal.returns
+returns c =
     let b : Bound = record {
       rows = c.args.rows.now;
       program = c.args.code.now;
@@ -35,10 +35,10 @@ returns-clause-found c =
     } in
     let signals = c.requires.signals in
     let found = subst (λ (l : List CodeSignal). AreBindings (map arc_value c.args.nets.now) (needs_of c.args.rows.now l) (clock_of c.args.rows.now l)
-    (map arc_value c.in_ok-bindings.bindings.items)) signals c.in_ok-bindings.ensures.found in
+    (map arc_value c.in_ok-bindings.bindings.items)) signals c.in_ok-bindings.ensures in
     let bound = is-bound b c.requires.kept (length-map c.args.nets.now arc_value ∙ c.requires.files)
     found.whole
-    c.in_ok-check_rows.ensures.accepted found.bound in
+    c.in_ok-check_rows.ensures found.bound in
     record {
       bound = bound;
       wired = ap (map arc_value) c.from_vec.ensures ∙ found.each;

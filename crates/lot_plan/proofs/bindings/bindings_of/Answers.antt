@@ -18,25 +18,25 @@ loop-net-preserved c =
     record {
       whole = λ rest. c.loop-net.invariant.whole
           (whole-more (map arc_value (drop (c.loop-net.net-index + 1) c.args.nets.now)) (arc_value c.net-item.result)
-          (map arc_value (drop c.loop-net.net-index c.args.nets.now)) at (rw (c.deref.ensures) at c.in_ok-binds.ensures.whole)
+          (map arc_value (drop c.loop-net.net-index c.args.nets.now)) at (rw (c.deref.ensures) at c.in_ok-binds.ensures.1)
           rest);
       bound = bound-more needs (map arc_value (drop (c.loop-net.net-index + 1) c.args.nets.now)) (arc_value c.net-item.result)
           (map arc_value (drop c.loop-net.net-index c.args.nets.now)) c.in_ok-binds.binds _ at
-          (rw (c.deref.ensures) at c.in_ok-binds.ensures.found)
+          (rw (c.deref.ensures) at c.in_ok-binds.ensures.0)
           c.loop-net.invariant.bound;
       each = each-more c.args.clock needs (map arc_value c.loop-net.bindings.items)
           (map arc_value c.add_binding.new.bindings.items)
           (map arc_value (drop (c.loop-net.net-index + 1) c.args.nets.now)) (arc_value c.net-item.result)
           (map arc_value (drop c.loop-net.net-index c.args.nets.now)) c.in_ok-binds.binds _
           (arc_value c.in_ok-binding.binding) at
-          (rw (c.deref.ensures) at c.in_ok-binds.ensures.found) c.in_ok-binding.ensures
+          (rw (c.deref.ensures) at c.in_ok-binds.ensures.0) c.in_ok-binding.ensures
           (ap (map arc_value) c.in_ok-add_binding.ensures
           ∙ map-append arc_value c.loop-net.bindings.items (c.in_ok-binding.binding ∷ []))
           c.loop-net.invariant.each;
     }
 
-pub returns-clause-found : goal.returns-clause-found
-returns-clause-found c =
+pub returns : goal.returns
+returns c =
     let none = ap (map arc_value) (drop_all c.loop-net.net-index c.args.nets.now c.loop-net-test.false) in
     record {
       whole = c.loop-net.invariant.whole (subst (All IsWhole) (sym none) (All-nil IsWhole));

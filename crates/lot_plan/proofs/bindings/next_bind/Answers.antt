@@ -8,4 +8,4 @@ mark-requires c =
     is_markable c.args.net.now (λ n. get_or c.deref.result.now n false) (needed_by c.args.pin.now).role
     (needed_by c.args.pin.now).net c.in_ok-bind.bind
     c.bind_to.result (length c.args.driven.now.items) c.requires.whole c.requires.nets c.bind_to.ensures
-    c.in_ok-bind.ensures.found
+    c.in_ok-bind.ensures

@@ -21,7 +21,7 @@ invariant_of-result c =
       program = c.args.code.now;
       circuits = map arc_value (c.deref.ensures.value i);
     })
-    c.in_ok-made.ensures.found in
+    c.in_ok-made.ensures in
     let signals = c.as_slice-5.result.now in
     let skews = c.in_ok-skews.ensures
     ∙ ap (λ (l : List Row). map (λ site. skews_of signals (skews_at site l)) (range_with_len 0 c.args.sites))

@@ -1,9 +1,10 @@
 use Rattle.std.proofs.Common.{Some, ap, ◌++◌, ◌∙◌, refl, []}
+use Rattle.std.proofs.lemmas.Result.{MatchResult-weaker}
 use Rattle.csv.specs.Records.{fields_of}
 use Rattle.plan_rows.specs.Rows.{one}
 use Rattle.plan_parts.specs.PartText.{record_in, records_text}
 use Rattle.plan_parts.proofs.TextLemmas.{starts, has_row, goes_on, is_done}
-use Rattle.plan_parts.proofs.RecordLemmas.{fresh_text, if_ok_then}
+use Rattle.plan_parts.proofs.RecordLemmas.{fresh_text}
 use Rattle.plan_parts.proofs.text.part_records.Goals as goal
 
 pub loop-row-init : goal.loop-row-init
@@ -51,13 +52,13 @@ loop-row-preserved c =
       text = i.text ++ records_text (one (record_in c.args.parts c.args.part c.args.rows.now c.index-rows-at.result (fields_of c.in-Ok.fields)));
       going = goes_on c.args.bytes.now c.loop-row.row-iterator.rdr c.next.new.self.rdr c.args.parts c.args.part c.args.rows.now c.loop-row.at i.text
           _ (fields_of c.in-Ok.fields) c.index-rows-at.result c.requires.plan i.going s.0 s.1 c.index-rows-at.is refl;
-      writing = c.in_ok-put_record.ensures.more c.args.rows.now i.text c.requires.sites i.writing;
+      writing = c.in_ok-put_record.ensures c.args.rows.now i.text c.requires.sites i.writing;
     }
 
-pub returns-clause-found : goal.returns-clause-found
-returns-clause-found c =
+pub returns : goal.returns
+returns c =
     let i = c.loop-row.invariant in
     let s = rw c.in-None.is at ((c.next.ensures.steps i.left i.going.plain).0 i.going.ready) in
-    if_ok_then c.finished.result _ _ c.finished.ensures.text (λ text wrote.
+    MatchResult-weaker c.finished.result c.finished.ensures (λ text wrote.
     is_done c.args.bytes.now c.loop-row.row-iterator.rdr c.next.new.self.rdr c.args.parts c.args.part c.args.rows.now c.loop-row.at i.text text.items
-    c.requires.plan i.going s (wrote i.text i.writing))
+    c.requires.plan i.going s (wrote i.text i.writing)) (λ e none. none)

@@ -25,12 +25,12 @@ read-requires-clause-few c = omega (
   few_rows c.args.bytes.now c.loop-row.row-iterator.rdr c.loop-row.book.rows.items c.loop-row.invariant.going,
 )
 
-pub returns-in_err-read-clause-fault : goal.returns-in_err-read-clause-fault
-returns-in_err-read-clause-fault c =
+pub returns-in_err-read : goal.returns-in_err-read
+returns-in_err-read c =
     let p = err_from_is_err_and c.from_residual-in_err-read.result c.from_residual-in_err-read.ensures.1 in
     let g = c.loop-row.invariant.going in
     let s = rw (c.in-Some.is, c.in-Ok.is) at ((c.next.ensures.steps c.loop-row.invariant.left g.plain).0 g.ready) in
-    rw (p.1, p.2) (elim c.in_err-read.ensures.fault [
+    rw (p.1, p.2) (elim c.in_err-read.ensures [
       | inl none ↦ inl none
       | inr h ↦ inr (stops c.args.bytes.now c.loop-row.row-iterator.rdr c.next.new.self.rdr c.loop-row.book.rows.items (fields_of c.in-Ok.fields) _ g s.0 h)
     ])
@@ -39,7 +39,7 @@ pub loop-row-preserved : goal.loop-row-preserved
 loop-row-preserved c =
     let g = c.loop-row.invariant.going in
     let s = rw (c.in-Some.is, c.in-Ok.is) at ((c.next.ensures.steps c.loop-row.invariant.left g.plain).0 g.ready) in
-    let r = c.in_ok-read.ensures.ok in
+    let r = c.in_ok-read.ensures in
     record {
       book = r.book;
       left = s.2;
@@ -47,11 +47,10 @@ loop-row-preserved c =
           c.read.new.self.rows.items (fields_of c.in-Ok.fields) r.row g s.0 s.1 r.judged r.more;
     }
 
-pub returns-clause-whole : goal.returns-clause-whole
-returns-clause-whole c =
+pub returns : goal.returns
+returns c =
     let g = c.loop-row.invariant.going in
-    let s = rw c.in-None.is at ((c.next.ensures.steps c.loop-row.invariant.left g.plain).0 g.ready) in
-    is_done c.args.bytes.now c.loop-row.row-iterator.rdr c.next.new.self.rdr c.loop-row.book.rows.items g s
-
-pub returns-clause-few : goal.returns-clause-few
-returns-clause-few c = few_rows c.args.bytes.now c.loop-row.row-iterator.rdr c.loop-row.book.rows.items c.loop-row.invariant.going
+    let s = rw c.in-None.is at ((c.next.ensures.steps c.loop-row.invariant.left g.plain).0 g.ready) in (
+      is_done c.args.bytes.now c.loop-row.row-iterator.rdr c.next.new.self.rdr c.loop-row.book.rows.items g s,
+      few_rows c.args.bytes.now c.loop-row.row-iterator.rdr c.loop-row.book.rows.items g,
+    )

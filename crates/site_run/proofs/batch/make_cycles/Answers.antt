@@ -4,6 +4,7 @@ use Rattle.packed_code.specs.Cycles.{period_of}
 use Rattle.cycle_run.specs.Cycle.{going_at, stand_of, PlaysCycle}
 use Rattle.cycle_run.specs.Step.{StopsCycle}
 use Rattle.cycle_run.proofs.BatchLemmas.{period_is}
+use Rattle.cycle_run.proofs.StepLemmas.{cause_behind}
 use Rattle.site_run.specs.declared.batch.Underway.{Underway}
 use Rattle.site_run.specs.Station.{device_in, point_of}
 use Rattle.site_run.proofs.MadeLemmas.{makes_none, makes_one, makes_more, stops_at, stops_more, keeps_none}
@@ -16,8 +17,11 @@ loop-init g c = record {
   keeps = keeps_none g.K.Socket.told c.args.station.now;
 }
 
-pub returns-in-Err-make_cycle-clause-stops : goal.returns-in-Err-make_cycle-clause-stops
-returns-in-Err-make_cycle-clause-stops g c =
+pub returns-in-Err-clause-makes : goal.returns-in-Err-clause-makes
+returns-in-Err-clause-makes g c = (tt, tt)
+
+pub returns-in-Err-make_cycle-clause-makes : goal.returns-in-Err-make_cycle-clause-makes
+returns-in-Err-make_cycle-clause-makes g c =
     let setup = c.args.setup.now in
     let way = c.loop.way in
     let told = g.K.Socket.told c.loop.station.socket.now in
@@ -28,8 +32,12 @@ returns-in-Err-make_cycle-clause-stops g c =
     let stops = subst (λ (p : Program). StopsCycle (stand_of p setup.skews.now (device_in setup)) way.exec
     (going_at (point_of told way) way.time way.number) cycle (point_of told way) (point_of told' new) why)
     c.code.ensures c.in-Err-make_cycle.ensures.stops in
-    stops_more setup c.loop.counter (g.K.Socket.told c.args.station.now.socket.now) told told' c.args.way.now way new c.loop.invariant.makes
-    c.args.cycles why c.loop-test.true (stops_at setup told told' way new cycle c.in-Ok.ensures.given why stops refl)
+    let first = g.K.Socket.told c.args.station.now.socket.now in (
+      stops_more setup c.loop.counter first told told' c.args.way.now way new c.loop.invariant.makes
+          c.args.cycles why c.loop-test.true (stops_at setup told told' way new cycle c.in-Ok.ensures.given why stops refl),
+      cause_behind first.count told.count told'.count why c.loop.invariant.keeps.count c.in-Err-make_cycle.ensures.count
+          c.in-Err-make_cycle.ensures.cause,
+    )
 
 pub loop-preserved : goal.loop-preserved
 loop-preserved g c =

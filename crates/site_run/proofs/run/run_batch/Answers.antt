@@ -77,7 +77,7 @@ returns-in-Err-Contact-clause-polled g c = λ part die number planned.
     let coming = coming_in c.args.setup.now old.way in
     let all = cycles_told code c.code.result.now old.way.exec c.cycles.result c.code.ensures c.cycles.ensures in
     let next = cycles_are c.args.setup.now told old c.args.most c.cycles.result count runs all (omega (arith, c.min-cycles.ensures, c.from.ensures)) in
-    let stops = rw c.in-Err-Contact.field-0-is at c.in-Err-Contact.ensures.stops in
+    let stops = rw c.in-Err-Contact.field-0-is at c.in-Err-Contact.ensures.makes.0 in
     lost_in_batch part die number c.args.most stand old new told told' count (take count coming) planned (next part die number planned)
     runs.keep runs.found runs.seen c.requires.set_up.skews runs.cursor.placed.program c.in-Err-Contact.instant stops
 
@@ -98,7 +98,7 @@ pub returns-in-Err-Contact-clause-moved : goal.returns-in-Err-Contact-clause-mov
 returns-in-Err-Contact-clause-moved g c =
     let old = c.args.run.now in
     let new : Run = record { way = c.make_cycles.new.way; done = old.done; batch = old.batch } in
-    let stops = rw c.in-Err-Contact.field-0-is at c.in-Err-Contact.ensures.stops in
+    let stops = rw c.in-Err-Contact.field-0-is at c.in-Err-Contact.ensures.makes.0 in
     moved_away c.args.setup.now (g.K.Socket.told c.args.station.now.socket.now) (g.K.Socket.told c.make_cycles.new.station.socket.now) old new
     (take c.min-cycles.result (coming_in c.args.setup.now old.way))
     c.in-Err-Contact.instant c.requires.runs c.requires.set_up.skews stops
@@ -132,8 +132,11 @@ returns-in-Err-Contact-clause-tape g c = λ part die number planned.
     let coming = coming_in c.args.setup.now old.way in
     let all = cycles_told code c.code.result.now old.way.exec c.cycles.result c.code.ensures c.cycles.ensures in
     let next = cycles_are c.args.setup.now told old c.args.most c.cycles.result count runs all (omega (arith, c.min-cycles.ensures, c.from.ensures)) in
-    let stops = rw c.in-Err-Contact.field-0-is at c.in-Err-Contact.ensures.stops in
+    let stops = rw c.in-Err-Contact.field-0-is at c.in-Err-Contact.ensures.makes.0 in
     subst (λ (calls : Calls). IsTaped (Some c.in-Err-Contact.instant) calls told.tape told'.tape)
     (batch_calls part die number c.args.most old.way.bench.checker.count.keep stand (running_of told old) (take count coming) planned (next part die number planned))
     (lost_taped stand old.way.exec (take count coming) (between_of told old.way) (between_of told' new.way) c.in-Err-Contact.instant c.requires.set_up.skews
     runs.cursor.placed.program stops)
+
+pub returns-in-Err-Contact-clause-cause : goal.returns-in-Err-Contact-clause-cause
+returns-in-Err-Contact-clause-cause g c = let risen = rw c.in-Err-Contact.field-0-is at c.in-Err-Contact.ensures.makes.1 in risen

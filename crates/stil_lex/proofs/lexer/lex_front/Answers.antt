@@ -7,4 +7,4 @@ use Rattle.stil_lex.proofs.lexer.lex_front.Goals as goal
 pub returns-in-Err-clause-fault : goal.returns-in-Err-clause-fault
 returns-in-Err-clause-fault c =
     subst (λ (read : List Token). (c.in-Err.fault ≡ NoMemory) ⊎ IsFaultBehind c.args.bytes.now read c.in-Err.fault)
-    (sym c.from_vec-in-Err.ensures) c.in-Err.ensures.fault
+    (sym c.from_vec-in-Err.ensures) c.in-Err.ensures

@@ -1,11 +1,10 @@
 use Rattle.std.proofs.Common.{◌∙◌, sym, inr, Ok, drop, arith}
 use Rattle.std.proofs.lemmas.List.{take_rest, length-take, length-drop}
-use Rattle.std.proofs.lemmas.Result.{err_from_is_err_and}
 use Rattle.stil_lex.proofs.Loop.{front_at, front_len, feeds_at, goes_on, stops}
 use Rattle.stil_lex.proofs.lexer.read_onto.Goals as goal
 
-pub returns-in-Err-clause-fault : goal.returns-in-Err-clause-fault
-returns-in-Err-clause-fault c =
+pub returns-in-Err : goal.returns-in-Err
+returns-in-Err c =
     let is = rw take_rest at c.front_of.ensures in
     inr (stops c.args.bytes.now c.loop-at.at c.loop-at.line c.loop-at.tokens.items c.in-Err.fault c.loop-at.invariant (sym c.in-Err.is ∙ is))
 

@@ -16,7 +16,7 @@ returns-clause-names k =
     named-by (λ (x : Pattern). x.name) pattern_called (λ c y. refl) (named_block (setting_of k.args.reader.now) (entry_of k.args.stmt.now))
     (λ (c : List ℕ). body_in (setting_of k.args.reader.now) place.Pattern (entry_of k.args.stmt.now))
     called k.in_ok-one.one k.in_ok-called.ensures k.in_ok-one.ensures in
-    k.in_ok-add_name.ensures.added
+    k.in_ok-add_name.ensures
     ∙ ap (λ (ns : List (List ℕ × List ℕ)). ns ++ ([], called) ∷ []) k.requires
     ∙ sym (untitled-more (λ (x : Pattern). x.name) k.args.before.now.items k.in_ok-one.one called is)
-    ∙ sym (ap pattern_names k.in_ok-add.ensures.added)
+    ∙ sym (ap pattern_names k.in_ok-add.ensures)

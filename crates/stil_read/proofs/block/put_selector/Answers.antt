@@ -15,7 +15,7 @@ returns-clause-names k =
     named-by (λ (x : Selector). x.name) selector_of (λ c y. refl) (named_block (setting_of k.args.reader.now) (entry_of k.args.stmt.now))
     (λ (c : List ℕ). selections_of (setting_of k.args.reader.now) (inner_of (entry_of k.args.stmt.now).body))
     called k.in_ok-one.one k.in_ok-called.ensures k.in_ok-one.ensures in
-    k.in_ok-add_name.ensures.added
+    k.in_ok-add_name.ensures
     ∙ ap (λ (ns : List (List ℕ × List ℕ)). ns ++ ([], called) ∷ []) k.requires
     ∙ sym (untitled-more (λ (x : Selector). x.name) k.args.before.now.items k.in_ok-one.one called is)
-    ∙ sym (ap selector_names k.in_ok-add.ensures.added)
+    ∙ sym (ap selector_names k.in_ok-add.ensures)

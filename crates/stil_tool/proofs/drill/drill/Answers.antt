@@ -9,7 +9,7 @@ pub returns-in-Err-clause-answers : goal.returns-in-Err-clause-answers
 returns-in-Err-clause-answers g c = record {
   status = status_of c.in-Err.refusal;
   text = line_of c.in-Err.refusal;
-  wanted = refused_wants _ _ _ c.in-Err.refusal (of_text c.in-Err.ensures.refused);
+  wanted = refused_wants _ _ _ c.in-Err.refusal (of_text c.in-Err.ensures);
   ends = c.put_refusal.ensures.ends;
 }
 
@@ -19,7 +19,7 @@ returns-then-sites-have-clause-answers g c = record {
   text = line_of (TooFewSockets c.sites-sites.result c.usable-have.result);
   wanted = refused_wants _ _ _ (TooFewSockets c.sites-sites.result c.usable-have.result)
       (few_refused c.args.number (length c.args.sockets.now.items) c.in-Ok.lot.code c.in-Ok.lot.plan c.sites-sites.result
-      c.usable-have.result c.in-Ok.ensures.ready c.sites-sites.ensures.count
+      c.usable-have.result c.in-Ok.ensures c.sites-sites.ensures.count
       (omega (arith, c.usable-have.ensures, c.len.ensures, c.args.sockets.now.ok)) (omega (arith, c.if-sites-have.true)));
   ends = c.put_refusal-then-sites-have.ensures.ends;
 }
@@ -30,7 +30,7 @@ returns-clause-answers g c =
     record {
       status = a.status;
       text = a.text;
-      wanted = run_wants _ _ _ _ c.in-Ok.lot.code c.in-Ok.lot.plan a.status a.text c.in-Ok.ensures.ready
+      wanted = run_wants _ _ _ _ c.in-Ok.lot.code c.in-Ok.lot.plan a.status a.text c.in-Ok.ensures
           (omega (arith, c.if-sites-have.false, c.sites-sites.ensures.count, c.usable-have.ensures, c.len.ensures, c.args.sockets.now.ok))
           a.wanted;
       ends = a.ends;

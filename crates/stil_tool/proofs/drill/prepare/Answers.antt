@@ -12,8 +12,8 @@ bind-requires c =
     sym (length-map c.in-Ok-shared.nets.items arc_value) ∙ ap (λ (l : List Circuit). length l) c.in-Ok-shared.ensures in
     omega (arith, one, c.if-len-ne1.false, c.len.ensures, ap (λ (l : List (List ℕ)). length l) c.files.ensures.files)
 
-pub returns-in-Ok-bind-clause-ready : goal.returns-in-Ok-bind-clause-ready
-returns-in-Ok-bind-clause-ready c =
+pub returns-in-Ok-bind : goal.returns-in-Ok-bind
+returns-in-Ok-bind c =
     let inputs : Inputs = record {
       code = c.in-Ok.code;
       rows = c.in-Ok-plan.plan;
@@ -22,20 +22,20 @@ returns-in-Ok-bind-clause-ready c =
     record {
       inputs = inputs;
       are = record {
-        code = c.in-Ok.ensures.found;
-        rows = c.in-Ok-plan.ensures.found;
+        code = c.in-Ok.ensures;
+        rows = c.in-Ok-plan.ensures;
         circuit = c.in-Ok-net.net;
         one = c.in-Ok-shared.ensures;
-        net = c.in-Ok-net.ensures.found.0;
-        whole = c.in-Ok-net.ensures.found.1;
+        net = c.in-Ok-net.ensures.0;
+        whole = c.in-Ok-net.ensures.1;
       };
       code_is = refl;
       is = c.in-Ok-bind.ensures.0;
       accepted = c.in-Ok-bind.ensures.1;
     }
 
-pub returns-in-Err-bind-clause-refused : goal.returns-in-Err-bind-clause-refused
-returns-in-Err-bind-clause-refused c =
+pub returns-in-Err-bind : goal.returns-in-Err-bind
+returns-in-Err-bind c =
     let inputs : Inputs = record {
       code = c.in-Ok.code;
       rows = c.in-Ok-plan.plan;
@@ -43,11 +43,11 @@ returns-in-Err-bind-clause-refused c =
     } in
     unbound_refused c.args.number inputs c.in-Err-bind.fault
     (record {
-      code = c.in-Ok.ensures.found;
-      rows = c.in-Ok-plan.ensures.found;
+      code = c.in-Ok.ensures;
+      rows = c.in-Ok-plan.ensures;
       circuit = c.in-Ok-net.net;
       one = c.in-Ok-shared.ensures;
-      net = c.in-Ok-net.ensures.found.0;
-      whole = c.in-Ok-net.ensures.found.1;
+      net = c.in-Ok-net.ensures.0;
+      whole = c.in-Ok-net.ensures.1;
     })
     c.in-Err-bind.ensures

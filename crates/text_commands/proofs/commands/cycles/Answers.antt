@@ -13,7 +13,7 @@ pub returns-in-Ok-put_cycles-clause-answers : goal.returns-in-Ok-put_cycles-clau
 returns-in-Ok-put_cycles-clause-answers g c = λ file. record {
   status = Done;
   text = cycles_text (listing_of c.in-Ok.code);
-  wanted = (c.in-Ok.ensures.found.blocks, c.in-Ok.ensures.found.listed, ap cycles_text c.in-Ok.ensures.found.listing);
+  wanted = (c.in-Ok.ensures.blocks, c.in-Ok.ensures.listed, ap cycles_text c.in-Ok.ensures.listing);
   ends = inl (refl, c.in-Ok-put_cycles.ensures.puts);
 }
 
@@ -33,7 +33,7 @@ pub returns-clause-answers : goal.returns-clause-answers
 returns-clause-answers g c = λ file. record {
   status = Done;
   text = cycles_text (listing_of c.in-Ok.code);
-  wanted = (c.in-Ok.ensures.found.blocks, c.in-Ok.ensures.found.listed, ap cycles_text c.in-Ok.ensures.found.listing);
+  wanted = (c.in-Ok.ensures.blocks, c.in-Ok.ensures.listed, ap cycles_text c.in-Ok.ensures.listing);
   ends = inr (
     refl,
     subst (λ (f : ListFault). ListsWhole (g.K.Sink.told c.args.out.now) (cycles_text (listing_of c.in-Ok.code)) (Err f) (g.K.Sink.told c.put_cycles.new.sink))

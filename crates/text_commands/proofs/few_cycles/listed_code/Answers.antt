@@ -5,11 +5,11 @@ pub refusal_at-requires-clause-lines : goal.refusal_at-requires-clause-lines
 refusal_at-requires-clause-lines c =
     line_there c.args.bytes.now c.in-Ok.text.code c.in-Ok.text.lines.items c.in-Some.exec c.in-Ok.ensures.found c.in-Some.ensures.found.within
 
-pub returns-in-Some-clause-refused : goal.returns-in-Some-clause-refused
-returns-in-Some-clause-refused c =
+pub returns-in-Some : goal.returns-in-Some
+returns-in-Some c =
     told_many c.args.bytes.now c.in-Ok.text.code c.in-Ok.text.lines.items c.in-Some.exec c.refusal_at.result c.in-Ok.ensures.found
     c.in-Some.ensures.found c.refusal_at.ensures
 
-pub returns-in-None-clause-found : goal.returns-in-None-clause-found
-returns-in-None-clause-found c =
+pub returns-in-None : goal.returns-in-None
+returns-in-None c =
     few_listed c.args.bytes.now c.in-Ok.text.code c.in-Ok.text.lines.items c.in-Ok.ensures.found c.in-None.ensures.none

@@ -11,7 +11,7 @@ returns-in_err-settle c =
     rw (p.1, p.2)
     (loop-refused c.args.variables.now c.picked-variable-items.result.now c.loop-variable.variable-index
     c.variable-item.result c.loop-variable-test.true c.variable-item.is (place_of c.spot_of.result) _ c.spot_of.ensures
-    c.loop-variable.invariant.fault c.in_err-settle.ensures.fault)
+    c.loop-variable.invariant.fault c.in_err-settle.ensures)
 
 pub loop-variable-preserved : goal.loop-variable-preserved
 loop-variable-preserved c = record {

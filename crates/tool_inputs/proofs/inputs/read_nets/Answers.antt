@@ -4,8 +4,8 @@ use Rattle.plan_rows.specs.Rows.{files_of}
 use Rattle.tool_inputs.proofs.NetLemmas.{next_read, next_refused}
 use Rattle.tool_inputs.proofs.inputs.read_nets.Goals as goal
 
-pub returns-in-Err-clause-refused : goal.returns-in-Err-clause-refused
-returns-in-Err-clause-refused g c =
+pub returns-in-Err-clause-reads : goal.returns-in-Err-clause-reads
+returns-in-Err-clause-reads g c =
     let told = g.F.Shelf.told in
     let faults = g.F.Shelf.faults in
     let files = files_of c.args.plan.now in
@@ -16,7 +16,7 @@ returns-in-Err-clause-refused g c =
     (faults c.add_net.new.shelf) files c.loop-file.file-index (map arc_value c.loop-file.nets.items) c.file-item.result
     c.in-Err.refusal within
     (subst (λ (l : List (List ℕ)). c.file-item.result ≡ get_or l c.loop-file.file-index c.file-item.result) same c.file-item.is)
-    c.loop-file.invariant.kept c.loop-file.invariant.counts c.in-Err.ensures.counts c.loop-file.invariant.read c.in-Err.ensures.refused
+    c.loop-file.invariant.kept c.loop-file.invariant.counts c.in-Err.ensures.counts c.loop-file.invariant.read c.in-Err.ensures.reads
 
 pub loop-file-preserved : goal.loop-file-preserved
 loop-file-preserved g c =
@@ -29,7 +29,7 @@ loop-file-preserved g c =
       read = next_read (told c.args.shelf.now) (told c.loop-file.shelf) files c.loop-file.file-index
           (map arc_value c.loop-file.nets.items) (map arc_value c.add_net.new.nets.items) c.file-item.result within
           (subst (λ (l : List (List ℕ)). c.file-item.result ≡ get_or l c.loop-file.file-index c.file-item.result) same c.file-item.is)
-          c.loop-file.invariant.kept c.loop-file.invariant.read c.in-Ok.ensures.found;
+          c.loop-file.invariant.kept c.loop-file.invariant.read c.in-Ok.ensures.reads;
       kept = c.in-Ok.ensures.kept ∙ c.loop-file.invariant.kept;
       counts = omega (arith, c.loop-file.invariant.counts, c.in-Ok.ensures.counts);
     }

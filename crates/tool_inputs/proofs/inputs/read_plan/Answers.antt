@@ -1,7 +1,7 @@
 use Rattle.tool_inputs.proofs.InputLemmas.{plan_refused}
 use Rattle.tool_inputs.proofs.inputs.read_plan.Goals as goal
 
-pub returns-clause-refused : goal.returns-clause-refused
-returns-clause-refused g c =
+pub returns-clause-reads : goal.returns-clause-reads
+returns-clause-reads g c =
     plan_refused _ _ _ c.args.file.now _ c.as_slice.result.now c.in-Err-read.fault c.in-Ok.ensures.found c.as_slice.ensures.value
     c.in-Err-read.ensures.fault

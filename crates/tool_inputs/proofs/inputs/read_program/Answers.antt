@@ -1,29 +1,31 @@
 use Rattle.std.proofs.Common.{◌≡◌, ◌∙◌, true, false, List, ℕ, sym, subst}
-use Rattle.tool_inputs.specs.Inputs.{is_saved, IsProgramRefused}
-use Rattle.tool_inputs.specs.Refused.{IsTextRefusal, IsSavedRefusal}
-use Rattle.tool_inputs.proofs.InputLemmas.{err_weaker, text_refused, saved_refused}
+use Rattle.std.proofs.lemmas.Result.{MatchResult-weaker}
+use Rattle.tool_inputs.specs.Inputs.{is_saved}
+use Rattle.tool_inputs.proofs.InputLemmas.{program_read, by_saved, by_text, text_refused, saved_refused}
 use Rattle.tool_inputs.proofs.inputs.read_program.Goals as goal
 
-pub returns-then-is_saved-clause-refused : goal.returns-then-is_saved-clause-refused
-returns-then-is_saved-clause-refused g c =
+pub returns-then-is_saved-clause-reads : goal.returns-then-is_saved-clause-reads
+returns-then-is_saved-clause-reads g c =
     let told = g.F.Shelf.told c.args.shelf.now in
+    let file = c.args.file.now in
     let bytes = c.in-Ok.bytes.items in
     let seen = c.as_slice-then-is_saved.result.now in
-    err_weaker (IsSavedRefusal seen) (IsProgramRefused told (g.F.Shelf.faults c.args.shelf.now) (g.F.Shelf.faults c.load.new.shelf) c.args.file.now)
-    c.saved_code.result
-    (λ r is. saved_refused told (g.F.Shelf.faults c.args.shelf.now) (g.F.Shelf.faults c.load.new.shelf) c.args.file.now bytes seen r
-    c.in-Ok.ensures.found c.as_slice-then-is_saved.ensures.value
-    (subst (λ (bs : List ℕ). true ≡ is_saved bs) (c.as_slice.ensures.value ∙ sym c.as_slice-then-is_saved.ensures.value) c.if-is_saved.ensures) is)
-    c.saved_code.ensures.refused
+    let same = c.as_slice-then-is_saved.ensures.value in
+    let so = subst (λ (bs : List ℕ). true ≡ is_saved bs) (c.as_slice.ensures.value ∙ sym same) c.if-is_saved.ensures in
+    MatchResult-weaker c.saved_code.result c.saved_code.ensures
+    (λ code is. program_read told file bytes seen code c.in-Ok.ensures.found same (by_saved (is_saved seen) seen code so is))
+    (λ r is. saved_refused told (g.F.Shelf.faults c.args.shelf.now) (g.F.Shelf.faults c.load.new.shelf) file bytes seen r
+    c.in-Ok.ensures.found same so is)
 
-pub returns-clause-refused : goal.returns-clause-refused
-returns-clause-refused g c =
+pub returns-clause-reads : goal.returns-clause-reads
+returns-clause-reads g c =
     let told = g.F.Shelf.told c.args.shelf.now in
+    let file = c.args.file.now in
     let bytes = c.in-Ok.bytes.items in
     let seen = c.as_slice-else-is_saved.result.now in
-    err_weaker (IsTextRefusal seen) (IsProgramRefused told (g.F.Shelf.faults c.args.shelf.now) (g.F.Shelf.faults c.load.new.shelf) c.args.file.now)
-    c.text_code.result
-    (λ r is. text_refused told (g.F.Shelf.faults c.args.shelf.now) (g.F.Shelf.faults c.load.new.shelf) c.args.file.now bytes seen r
-    c.in-Ok.ensures.found c.as_slice-else-is_saved.ensures.value
-    (subst (λ (bs : List ℕ). false ≡ is_saved bs) (c.as_slice.ensures.value ∙ sym c.as_slice-else-is_saved.ensures.value) c.if-is_saved.ensures) is)
-    c.text_code.ensures.refused
+    let same = c.as_slice-else-is_saved.ensures.value in
+    let so = subst (λ (bs : List ℕ). false ≡ is_saved bs) (c.as_slice.ensures.value ∙ sym same) c.if-is_saved.ensures in
+    MatchResult-weaker c.text_code.result c.text_code.ensures
+    (λ code is. program_read told file bytes seen code c.in-Ok.ensures.found same (by_text (is_saved seen) seen code so is))
+    (λ r is. text_refused told (g.F.Shelf.faults c.args.shelf.now) (g.F.Shelf.faults c.load.new.shelf) file bytes seen r
+    c.in-Ok.ensures.found same so is)

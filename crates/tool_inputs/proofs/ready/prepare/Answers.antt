@@ -10,17 +10,17 @@ use Rattle.tool_inputs.proofs.NetLemmas.{files_long}
 use Rattle.tool_inputs.proofs.ready.prepare.Goals as goal
 
 pub returns-in-Err-clause-refused : goal.returns-in-Err-clause-refused
-returns-in-Err-clause-refused g c = of_program c.in-Err.ensures.refused
+returns-in-Err-clause-refused g c = of_program c.in-Err.ensures.reads
 
 pub returns-in-Err-read_plan-clause-refused : goal.returns-in-Err-read_plan-clause-refused
 returns-in-Err-read_plan-clause-refused g c =
     let told = g.F.Shelf.told c.args.shelf.now in
     let faults = g.F.Shelf.faults in
-    of_plan c.in-Ok.code c.in-Ok.ensures.found
+    of_plan c.in-Ok.code c.in-Ok.ensures.reads
     (wide-plan told c.args.plan.now (faults c.args.shelf.now) (faults c.read_program.new.shelf) (faults c.read_plan.new.shelf)
     c.in-Err-read_plan.refusal c.in-Ok.ensures.counts c.in-Err-read_plan.ensures.counts
     (subst (λ (t : Option Files). IsPlanRefused t (faults c.read_program.new.shelf) (faults c.read_plan.new.shelf) c.args.plan.now
-    c.in-Err-read_plan.refusal) c.in-Ok.ensures.kept c.in-Err-read_plan.ensures.refused))
+    c.in-Err-read_plan.refusal) c.in-Ok.ensures.kept c.in-Err-read_plan.ensures.reads))
 
 pub returns-in-Err-read_nets-clause-refused : goal.returns-in-Err-read_nets-clause-refused
 returns-in-Err-read_nets-clause-refused g c =
@@ -29,18 +29,18 @@ returns-in-Err-read_nets-clause-refused g c =
     let rows = c.in-Ok-read_plan.plan in
     let before : faults c.args.shelf.now ≤ faults c.read_plan.new.shelf =
     omega (arith, c.in-Ok.ensures.counts, c.in-Ok-read_plan.ensures.counts) in
-    of_nets c.in-Ok.code c.in-Ok.ensures.found rows
-    (subst (λ (t : Option Files). IsPlanFile t c.args.plan.now rows) c.in-Ok.ensures.kept c.in-Ok-read_plan.ensures.found)
+    of_nets c.in-Ok.code c.in-Ok.ensures.reads rows
+    (subst (λ (t : Option Files). IsPlanFile t c.args.plan.now rows) c.in-Ok.ensures.kept c.in-Ok-read_plan.ensures.reads)
     (wide-nets told (files_of rows) (faults c.args.shelf.now) (faults c.read_plan.new.shelf) (faults c.read_nets.new.shelf)
     c.in-Err-read_nets.refusal before c.in-Err-read_nets.ensures.counts
     (subst (λ (t : Option Files). AreNetsRefused t (faults c.read_plan.new.shelf) (faults c.read_nets.new.shelf) (files_of rows)
-    c.in-Err-read_nets.refusal) (c.in-Ok-read_plan.ensures.kept ∙ c.in-Ok.ensures.kept) c.in-Err-read_nets.ensures.refused))
+    c.in-Err-read_nets.refusal) (c.in-Ok-read_plan.ensures.kept ∙ c.in-Ok.ensures.kept) c.in-Err-read_nets.ensures.reads))
 
 pub bind-requires : goal.bind-requires
 bind-requires g c =
     sym (length-map c.in-Ok-read_nets.nets.items arc_value)
     ∙ files_long (g.F.Shelf.told c.read_plan.new.shelf) (files_of c.in-Ok-read_plan.plan) (map arc_value c.in-Ok-read_nets.nets.items)
-    c.in-Ok-read_nets.ensures.found
+    c.in-Ok-read_nets.ensures.reads
 
 pub returns-in-Ok-bind-clause-ready : goal.returns-in-Ok-bind-clause-ready
 returns-in-Ok-bind-clause-ready g c =
@@ -51,8 +51,8 @@ returns-in-Ok-bind-clause-ready g c =
     } in
     record {
       inputs = inputs;
-      are = inputs_are (g.F.Shelf.told c.args.shelf.now) _ _ _ _ inputs c.in-Ok.ensures.found c.in-Ok.ensures.kept
-          c.in-Ok-read_plan.ensures.found c.in-Ok-read_plan.ensures.kept c.in-Ok-read_nets.ensures.found;
+      are = inputs_are (g.F.Shelf.told c.args.shelf.now) _ _ _ _ inputs c.in-Ok.ensures.reads c.in-Ok.ensures.kept
+          c.in-Ok-read_plan.ensures.reads c.in-Ok-read_plan.ensures.kept c.in-Ok-read_nets.ensures.reads;
       code_is = refl;
       is = c.in-Ok-bind.ensures.0;
       accepted = c.in-Ok-bind.ensures.1;
@@ -66,7 +66,7 @@ returns-in-Err-bind-clause-refused g c =
       rows = c.in-Ok-read_plan.plan;
       circuits = map arc_value c.in-Ok-read_nets.nets.items;
     } in
-    let are = inputs_are told _ _ c.args.program.now c.args.plan.now inputs c.in-Ok.ensures.found c.in-Ok.ensures.kept
-    c.in-Ok-read_plan.ensures.found c.in-Ok-read_plan.ensures.kept c.in-Ok-read_nets.ensures.found in
+    let are = inputs_are told _ _ c.args.program.now c.args.plan.now inputs c.in-Ok.ensures.reads c.in-Ok.ensures.kept
+    c.in-Ok-read_plan.ensures.reads c.in-Ok-read_plan.ensures.kept c.in-Ok-read_nets.ensures.reads in
     unbound_refused told _ _ c.args.program.now c.args.plan.now inputs c.in-Err-bind.fault are
     c.in-Err-bind.ensures

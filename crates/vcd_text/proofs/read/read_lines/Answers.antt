@@ -18,8 +18,8 @@ overflow_add-result c = omega (arith, c.loop-end.invariant.read.few, c.requires.
 pub overflow_add-lines : goal.overflow_add-lines
 overflow_add-lines c = omega (arith, c.loop-end.invariant.read.few, c.requires.few)
 
-pub returns-then-not-branch-clause-fault : goal.returns-then-not-branch-clause-fault
-returns-then-not-branch-clause-fault c =
+pub returns-then-not-branch : goal.returns-then-not-branch
+returns-then-not-branch c =
     let rest = c.loop-end.rest.now in
     let end = c.loop-end.end in
     fault_at_line c.args.bytes.now rest c.loop-end.lines c.loop-end.reader (take end rest) (drop (end + 1) rest) c.loop-end.invariant.read
@@ -38,8 +38,8 @@ loop-end-preserved c =
       end = c.line_end-end-in-loop-end.ensures;
     }
 
-pub returns-clause-read : goal.returns-clause-read
-returns-clause-read c =
+pub returns : goal.returns
+returns c =
     let rest = c.loop-end.rest.now in
     let e = c.loop-end.invariant.end in
     record {

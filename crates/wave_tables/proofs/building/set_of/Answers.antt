@@ -10,7 +10,7 @@ use Rattle.wave_tables.proofs.building.set_of.Goals as goal
 pub made_tables-requires-clause-free : goal.made_tables-requires-clause-free
 made_tables-requires-clause-free c =
     all_free (timed c.args.scope.now) c.args.before c.in_ok-wholes.wholes.items c.in_ok-wholes.ensures
-    c.in-Ok.ensures.fits
+    c.in-Ok.ensures.0
 
 pub from_vec-requires : goal.from_vec-requires
 from_vec-requires c =

@@ -39,5 +39,5 @@ loop-signals-preserved c =
           (drop (i + 1) items) (drop-item items i c.signals-item.result within c.signals-item.is)
           c.loop-signals.invariant.reads).behind;
       none = first_more (signal_fault (timed c.args.scope.now) (pos c.args.period)) items i c.signals-item.result within
-          c.signals-item.is c.loop-signals.invariant.none c.in-Ok.ensures.fits;
+          c.signals-item.is c.loop-signals.invariant.none c.in-Ok.ensures;
     }

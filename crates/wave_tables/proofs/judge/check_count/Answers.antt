@@ -13,15 +13,8 @@ use Rattle.wave_tables.proofs.RowLemmas.{counted}
 use Rattle.wave_tables.proofs.TableLemmas.{count_is}
 use Rattle.wave_tables.proofs.judge.check_count.Goals as goal
 
-pub returns-then-total-clause-total : goal.returns-then-total-clause-total
-returns-then-total-clause-total c =
-    let sum : c.in_ok-total.total ≡ c.args.before + c.in_ok-count.count = grind (arith, common_steps) in
-    sum ∙ ap (λ (n : ℕ). c.args.before + n)
-    (c.in_ok-count.ensures ∙ ap (slot_count c.args.slots.now) c.in_ok-signals.ensures
-    ∙ counted (timed c.args.scope.now) c.args.number c.args.slots.now c.requires.maps)
-
-pub returns-then-total-clause-fits : goal.returns-then-total-clause-fits
-returns-then-total-clause-fits c = λ base at.
+pub returns-then-total : goal.returns-then-total
+returns-then-total c =
     let t = timed c.args.scope.now in
     let sum : c.in_ok-total.total ≡ c.args.before + c.in_ok-count.count = grind (arith, common_steps) in
     let whole : c.in_ok-total.total
@@ -29,12 +22,14 @@ returns-then-total-clause-fits c = λ base at.
     sum ∙ ap (λ (n : ℕ). c.args.before + n)
     (c.in_ok-count.ensures ∙ ap (slot_count c.args.slots.now) c.in_ok-signals.ensures
     ∙ counted t c.args.number c.args.slots.now c.requires.maps) in
-    let few : nat_le c.in_ok-total.total most_waves ≡ true = le-leb c.in_ok-total.total most_waves (omega arith) in
-    count_is t base c.args.before c.in_ok-total.total c.args.number c.args.table.now at whole
-    ∙ ap (λ (b : Bool). unless b (fault_at (on_line t.place c.args.table.now.line) TooLarge) None) few
+    let few : nat_le c.in_ok-total.total most_waves ≡ true = le-leb c.in_ok-total.total most_waves (omega arith) in (
+      (λ base at. count_is t base c.args.before c.in_ok-total.total c.args.number c.args.table.now at whole
+          ∙ ap (λ (b : Bool). unless b (fault_at (on_line t.place c.args.table.now.line) TooLarge) None) few),
+      whole,
+    )
 
-pub returns-else-total-clause-fault : goal.returns-else-total-clause-fault
-returns-else-total-clause-fault c = λ base at blamed same.
+pub returns-else-total : goal.returns-else-total
+returns-else-total c = λ base at blamed same.
     let t = timed c.args.scope.now in
     let sum : c.in_ok-total.total ≡ c.args.before + c.in_ok-count.count = grind (arith, common_steps) in
     let whole : c.in_ok-total.total

@@ -32,8 +32,8 @@ check_other-requires-clause-reads c =
     ∙ slice_get-map (read_waves t) t.tables c.loop-number.number
     ∙ ap (option_map (read_waves t)) at
 
-pub returns-in-Err-clause-fault : goal.returns-in-Err-clause-fault
-returns-in-Err-clause-fault c =
+pub returns-in-Err : goal.returns-in-Err
+returns-in-Err c =
     let t = timed c.args.scope.now in
     let at = behind_at c.tables-tables.result.now t.tables c.loop-number.number c.index-tables-number.result
     c.tables-tables.ensures (omega arith) c.index-tables-number.is in
@@ -42,7 +42,7 @@ returns-in-Err-clause-fault c =
     let whole = c.loop-number.invariant
     ∙ first_numbered rule t.tables c.loop-number.number c.index-tables-number.result.now at in
     subst (λ (o : Option StilFault). IsAt t.place o c.in-Err.trouble) (sym whole)
-    (at_first t.place _ _ c.in-Err.trouble c.in-Err.ensures.fault)
+    (at_first t.place _ _ c.in-Err.trouble c.in-Err.ensures)
 
 pub loop-number-preserved : goal.loop-number-preserved
 loop-number-preserved c =
@@ -54,4 +54,4 @@ loop-number-preserved c =
     c.loop-number.invariant ∙ first_numbered rule t.tables c.loop-number.number c.index-tables-number.result.now at
     ∙ ap (λ (o : Option StilFault). or_else o
     (first_in rule (enumerate_from (c.loop-number.number + 1) (drop (c.loop-number.number + 1) t.tables))))
-    c.in-Ok.ensures.fits
+    c.in-Ok.ensures

@@ -17,10 +17,10 @@ refuse_standing-requires-clause-late c =
     subst (λ (o : Option StilFault). IsAt t.place o c.in-Err.late)
     (ap (first_in (late_read t.place (pos c.args.heir.now.period))) events
     ∙ late_is t (pos c.args.heir.now.period) c.args.wave.now.events)
-    (c.in-Err.ensures.late t.place)
+    (c.in-Err.ensures t.place)
 
-pub returns-in-Ok-clause-fits : goal.returns-in-Ok-clause-fits
-returns-in-Ok-clause-fits c =
+pub returns-in-Ok : goal.returns-in-Ok
+returns-in-Ok c =
     let t = timed c.args.scope.now in
     let events : c.as_slice.result.now ≡ map (read_event t) c.args.wave.now.events =
     c.as_slice.ensures ∙ ap (λ (r : ReadWave). r.events) c.requires.read in
@@ -28,4 +28,4 @@ returns-in-Ok-clause-fits c =
     (waveform_at t.names c.args.source c.args.reference.now c.args.wave.now)
     (sym (ap (first_in (late_read t.place (pos c.args.heir.now.period))) events
     ∙ late_is t (pos c.args.heir.now.period) c.args.wave.now.events)
-    ∙ c.in-Ok.ensures.early t.place)
+    ∙ c.in-Ok.ensures t.place)

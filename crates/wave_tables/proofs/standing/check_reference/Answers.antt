@@ -39,6 +39,6 @@ loop-wave-preserved c =
           ∙ late_waves t (pos c.args.heir.now.period) c.args.heir.now.number c.args.table c.loop-wave.number
           c.args.signals.now.reference
           (drop i items) c.wave-item.result rest split
-          ∙ ap (λ (o : Option StilFault). or_else o (behind (c.loop-wave.number + 1))) c.in-Ok.ensures.fits
+          ∙ ap (λ (o : Option StilFault). or_else o (behind (c.loop-wave.number + 1))) c.in-Ok.ensures
           ∙ ap behind (sym next);
     }

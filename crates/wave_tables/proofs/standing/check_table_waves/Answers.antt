@@ -19,8 +19,8 @@ check_reference-requires-clause-reads c =
     (drop (i + 1) items)
     (drop-item items i c.signals-item.result within c.signals-item.is) c.loop-signals.invariant.reads).0
 
-pub returns-in-Err-clause-fault : goal.returns-in-Err-clause-fault
-returns-in-Err-clause-fault c =
+pub returns-in-Err : goal.returns-in-Err
+returns-in-Err c =
     let t = timed c.args.scope.now in
     let items = c.as_slice-signals-items.result.now in
     let i = c.loop-signals.signals-index in
@@ -31,7 +31,7 @@ returns-in-Err-clause-fault c =
     (drop i items)
     c.signals-item.result (drop (i + 1) items) split in
     subst (λ (o : Option StilFault). IsAt t.place o c.in-Err.trouble) (sym whole)
-    (at_first t.place _ _ c.in-Err.trouble c.in-Err.ensures.fault)
+    (at_first t.place _ _ c.in-Err.trouble c.in-Err.ensures)
 
 pub loop-signals-preserved : goal.loop-signals-preserved
 loop-signals-preserved c =
@@ -41,7 +41,7 @@ loop-signals-preserved c =
     let within : i < length items = omega arith in
     let rest = drop (i + 1) items in
     let split = drop-item items i c.signals-item.result within c.signals-item.is in
-    let next : c.in-Ok.behind ≡ c.loop-signals.next + length c.signals-item.result.waves = c.in-Ok.ensures.next in
+    let next : c.in-Ok.behind ≡ c.loop-signals.next + length c.signals-item.result.waves = c.in-Ok.ensures.1 in
     let behind : ℕ → Option StilFault =
     λ n. late_in t (pos c.args.heir.now.period) c.args.heir.now.number
     (numbered_from n (flat_map (own_for t.names c.args.number) rest)) in
@@ -54,6 +54,6 @@ loop-signals-preserved c =
           (drop i items)
           c.signals-item.result rest split
           ∙ ap (λ (o : Option StilFault). or_else o
-          (behind (c.loop-signals.next + length c.signals-item.result.waves))) c.in-Ok.ensures.fits
+          (behind (c.loop-signals.next + length c.signals-item.result.waves))) c.in-Ok.ensures.0
           ∙ ap behind (sym next);
     }
