@@ -1,7 +1,7 @@
 -- That a pass finds its value or blames its first fault is the four clauses that outsiders read.
-use Rattle.std.proofs.Common.{◌≡◌, Option, None, Some, refl, inl, inr}
+use Rattle.std.proofs.Common.{Option, refl, inl, inr}
 use Rattle.std.specs.Prelude.{Result, Ok, Err}
-use Rattle.answers.specs.Answers.{Blames, Finds, IsFourOf}
+use Rattle.answers.specs.Answers.{Finds, IsFourOf}
 use Rattle.answers.specs.declared.short.Short.{Short}
 use Rattle.answers.specs.declared.short.Short.TheVariants.{NoMemory, Fault}
 

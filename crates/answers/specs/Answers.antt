@@ -22,11 +22,6 @@ abbrev pub Gives : {A B F : Type 0} → (A → B) → Result B F → Result A (S
 Gives view wanted (Ok x) = wanted ≡ Ok (view x)
 Gives view wanted (Err short) = (fault : _) → short ≡ Fault fault → wanted ≡ Err fault
 
--- a value that is seen as what a reading gives, where want of memory is one of the errors and the others are faults
-abbrev pub GivesBy : {A B E F : Type 0} → (E → Option F) → (A → B) → Result B F → Result A E → Type 0
-GivesBy fault_of view wanted (Ok x) = wanted ≡ Ok (view x)
-GivesBy fault_of view wanted (Err e) = (fault : _) → fault_of e ≡ Some fault → wanted ≡ Err fault
-
 -- the fault of a pass above
 abbrev pub Raises : {F G : Type 0} → (F → G → Type 0) → Short F → Short G → Type 0
 Raises gives NoMemory NoMemory = Unit {0}

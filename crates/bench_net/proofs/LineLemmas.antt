@@ -222,9 +222,6 @@ rest_parsed p text more b (q ∷ qs) s = (
       (step-Begins q text s.0 s.1) (step-Begins p text more b)) s.2,
 )
 
-pub Parsing-starts : (line : List ℕ) → Parsing [] line line
-Parsing-starts line = record { forth = λ ps s. s; back = λ ps s. (ps, s) }
-
 pub Parsing-goes_on : (parts : List Lexeme) (p : Lexeme) (rest more line : List ℕ)
     → front_step (skipped rest) ≡ begins p more → Parsing parts rest line
     → Parsing (parts ++ p ∷ []) more line

@@ -1,8 +1,8 @@
 -- The walk takes the next gate of the order, and ends behind the last.
-use Rattle.std.proofs.Common.{◌≡◌, ℕ, suc, ◌+◌, ◌-◌, ◌<◌, ◌≤◌, Bool, true, false, not, ◌||◌, cond, List, [], ◌∷◌, ◌++◌, length, get_or, take, drop, refl, sym, ap, ◌∙◌, subst, arith, inl, inr, eqb, length-append, take-append-drop, add-zero, drop-cons}
+use Rattle.std.proofs.Common.{◌≡◌, ℕ, suc, ◌+◌, ◌-◌, ◌<◌, ◌≤◌, Bool, true, false, not, ◌||◌, cond, List, [], ◌∷◌, ◌++◌, length, get_or, take, drop, refl, sym, ap, ◌∙◌, subst, arith, inl, inr, eqb, length-append, take-append-drop, drop-cons}
 use Rattle.std.specs.Prelude.{count_by, sum, slice_index}
 use Rattle.std.specs.List.{list_any}
-use Rattle.std.proofs.lemmas.List.{get_or_past, take_all, take_at, take_more, length-take-le, set_past}
+use Rattle.std.proofs.lemmas.List.{get_or_past, take_at, take_more, length-take-le, set_past}
 use Rattle.std.proofs.lemmas.List.Sums.{sum_by-cons, sum_by-set, sum_by-append}
 use Rattle.std.proofs.lemmas.List.Folds.{list_any-append, list_any_none}
 use Rattle.std.proofs.lemmas.List.Elements.{All-from_get_or}
@@ -11,7 +11,7 @@ use Rattle.std.proofs.Math.Bool.{or-true}
 use Rattle.text_bytes.proofs.BoolLemmas.{at_most_one}
 use Rattle.bench_net.specs.declared.gate.Driver.{Driver}
 use Rattle.bench_net.specs.Wiring.{gate_at, pins_at, driver_at, is_settled, AreReaders}
-use Rattle.bench_net.specs.Sorting.{AreWithin, times, waiting, is_ready, IsSorted, lowered, joined, walked, CanSettle}
+use Rattle.bench_net.specs.Sorting.{AreWithin, times, waiting, is_ready, lowered, joined, walked, CanSettle}
 use Rattle.bench_net.proofs.SortLemmas.{times-cons, times-there, gate_within, pins_none}
 use Rattle.bench_net.proofs.WalkLemmas.{Walk, Walk-walked, zero_count, is_ready-there}
 
@@ -150,17 +150,6 @@ Walk-next drivers readers left order at l r w = record {
           ≡ 0 = ap (times net) (pins_none (driver_at drivers g) e)
           in omega (arith, m, reads_net g, z))
     ]
-
-pub Walk-is_done : (drivers : List Driver) (left order : List ℕ) (at : ℕ) → length order ≤ at
-    → Walk drivers left order (take at order) [] → IsSorted drivers left order
-Walk-is_done drivers left order at l w = record {
-  one_each = w.one_each;
-  counts = λ g m.
-      w.counts g m ∙ add-zero (waiting drivers (take at order) g)
-      ∙ ap (λ (t : List ℕ). waiting drivers t g) (take_all at order l);
-  ready = w.ready;
-  after = w.after;
-}
 
 pub CanSettle-Walk : (drivers : List Driver) (left order front rest : List ℕ)
     → Walk drivers left order front rest → CanSettle left rest

@@ -1,6 +1,6 @@
 -- The readers of nets, gate after gate.
-use Rattle.std.proofs.Common.{◌≡◌, ℕ, ◌+◌, ◌<◌, ◌≤◌, ◌&&◌, cond, List, [], length, get_or, take, sym, ap, ◌∙◌, arith, inl, inr, eqb, ltb, replicate}
-use Rattle.std.proofs.lemmas.List.{get_or-replicate, length-replicate, get_or_past}
+use Rattle.std.proofs.Common.{◌≡◌, ℕ, ◌+◌, ◌<◌, ◌≤◌, ◌&&◌, cond, List, length, get_or, take, sym, ap, ◌∙◌, arith, inl, inr, eqb, ltb}
+use Rattle.std.proofs.lemmas.List.{get_or_past}
 use Rattle.std.proofs.lemmas.List.Sums.{sum_by_more}
 use Rattle.std.proofs.lemmas.Bool.{cases_Bool, cases_order, cases_lt, eq-eqb, ne_eqb, lt-ltb, le-ltb}
 use Rattle.std.proofs.Math.Bool.{and-true, and-false}
@@ -57,16 +57,6 @@ pub record ReadersBelow (drivers : List Driver) (readers : List (List ℕ)) (gat
   pub one_each : length readers ≡ length drivers
   pub counts : (n g : ℕ) → n < length drivers → reads readers n g
       ≡ cond {A = ℕ} (ltb g gate) (times n (pins_at drivers g)) 0
-
-pub ReadersBelow-none : (drivers : List Driver) (readers : List (List ℕ)) → readers
-    ≡ replicate (length drivers) [] → ReadersBelow drivers readers 0
-ReadersBelow-none drivers readers e = record {
-  one_each = ap length e ∙ length-replicate (length drivers) [];
-  counts = λ n g l.
-      ap (λ (rs : List (List ℕ)). reads rs n g) e
-      ∙ ap (λ (r : List ℕ). times g r) (get_or-replicate (length drivers) n [] [] l)
-      ∙ ap (λ b. cond {A = ℕ} b (times n (pins_at drivers g)) 0) (sym (le-ltb g 0 (omega arith)));
-}
 
 pub ReadersBelow-more : (drivers : List Driver) (old new : List (List ℕ)) (gate : ℕ)
     → ReadersBelow drivers old gate → AddsReaders old new (pins_at drivers gate) gate

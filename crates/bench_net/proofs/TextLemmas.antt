@@ -86,9 +86,6 @@ pub record Reading (bytes : List ℕ) (forms : List Form) (rest : List ℕ) : Ty
   pub whole : lines bytes ≡ before ++ lines rest
   pub says : AllZip Says before forms
 
-pub Reading-starts : (bytes : List ℕ) → Reading bytes [] bytes
-Reading-starts bytes = record { before = []; whole = refl; says = tt }
-
 says_more : (before : List (List ℕ)) (forms : List Form) (line : List ℕ) (f : Form)
     → AllZip Says before forms → Says line f → AllZip Says (before ++ line ∷ []) (forms ++ f ∷ [])
 says_more [] [] line f h s = (s, tt)
@@ -105,12 +102,6 @@ Reading-goes_on bytes forms rest more line f e s h = record {
       ∙ sym (append_assoc h.before (line ∷ []) (lines more));
   says = says_more h.before forms line f h.says s;
 }
-
-pub Reading-is_done : (bytes : List ℕ) (forms : List Form) (rest : List ℕ) → length rest ≡ 0
-    → Reading bytes forms rest → Reads bytes forms
-Reading-is_done bytes forms [] e h = subst (λ (ls : List (List ℕ)). AllZip Says ls forms)
-    (sym (h.whole ∙ append-nil h.before)) h.says
-Reading-is_done bytes forms (b ∷ bs) e h = absurd (omega arith)
 
 zip_length : (before : List (List ℕ)) (forms : List Form) → AllZip Says before forms → length before
     ≡ length forms

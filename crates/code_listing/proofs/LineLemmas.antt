@@ -1,16 +1,13 @@
 -- Texts that end their last line, and what a sink holds where one of several isn't put whole.
-use Rattle.std.proofs.Common.{◌≡◌, ℕ, List, [], ◌∷◌, ◌++◌, Option, Result, Ok, Err, inl, refl, sym, ap, ◌∙◌, subst, append_assoc, ◌⊎◌}
+use Rattle.std.proofs.Common.{◌≡◌, ℕ, List, [], ◌∷◌, ◌++◌, Option, Result, Ok, Err, inl, refl, sym, ap, ◌∙◌, subst, append_assoc}
 use Rattle.std.specs.List.{flat_map}
-use Rattle.std.specs.Prelude.{map}
 use Rattle.text_bytes.specs.Texts.{AreLines}
 use Rattle.text_bytes.proofs.TextLemmas.{lines_behind}
-use Rattle.tester_types.specs.Outside.{gained, GainsFront, HasRisen, Puts}
-use Rattle.tester_types.specs.declared.outside.SinkFault.{SinkFault}
-use Rattle.tester_types.specs.declared.cycle.Moment.{Moment}
-use Rattle.tester_types.proofs.OutsideLemmas.{gained-gained, gained-none, front_more, front_behind, puts_stops, gained_both}
+use Rattle.tester_types.specs.Outside.{gained, GainsFront}
+use Rattle.tester_types.proofs.OutsideLemmas.{gained-gained, gained-none, front_more, front_behind, puts_stops}
 use Rattle.code_listing.specs.declared.fault.ListFault.{ListFault}
 use Rattle.code_listing.specs.declared.fault.ListFault.TheVariants.{NoMemory, Sink}
-use Rattle.code_listing.specs.Lines.{GainsLines, Lists, ListsWhole, HasRoom, AreFirstLines, IsFor}
+use Rattle.code_listing.specs.Lines.{GainsLines, Lists}
 
 -- ---- whole lines
 
@@ -74,18 +71,6 @@ lists_stops A B held before now whole done text rest NoMemory is lines so_far go
     subst (λ (all : List ℕ). GainsLines held all now) (sym is)
     (gains_behind held before now done (text ++ rest) lines so_far (lines_more before now text rest got))
 
--- what a put of a sink is, as a listing
-pub puts_lists : (A : Type 0) (held now : Option (List ℕ)) (text : List ℕ) (fault : SinkFault) → GainsFront held text now
-    → Lists {A = A} held text (Err (Sink fault)) now
-puts_lists A held now text fault front = front
-
 -- nothing was put yet
 pub none_lists : (A : Type 0) (held : Option (List ℕ)) (text : List ℕ) → Lists {A = A} held text (Err NoMemory) held
 none_lists A held text = ([], record { rest = text; is = refl; whole = inl refl }, sym (gained-none held))
-
--- where memory isn't wanting, a listing is whole
-pub lists_whole : (held now : Option (List ℕ)) (text : List ℕ) (r : Result (Unit {0}) ListFault) → HasRoom r → Lists held text r now
-    → ListsWhole held text r now
-lists_whole held now text (Ok done) room is = is
-lists_whole held now text (Err (Sink fault)) room front = front
-lists_whole held now text (Err NoMemory) room lines = absurd room

@@ -17,7 +17,7 @@ use Rattle.std.proofs.lemmas.List.Sums.{list_all-from_AllPass}
 use Rattle.edge_gen.proofs.InsideLemmas.{unmoved_inside}
 use Rattle.packed_code.proofs.CountLemmas.{cycle_count-length}
 use Rattle.std.proofs.lemmas.Bool.{cases_order}
-use Rattle.std.proofs.lemmas.List.{append-nil, append_assoc, length-append, length-map, take_all}
+use Rattle.std.proofs.lemmas.List.{append-nil, append_assoc, length-append, length-map}
 use Rattle.std.proofs.lemmas.List.FromFn.{length-enumerate_from}
 use Rattle.std.proofs.Math.Seq.{get_or-append_seam}
 use Rattle.std.proofs.Math.ListN.{get_or-eq_default}
@@ -105,13 +105,6 @@ cycles-more code exec within = sum_by_more (λ (e : Exec). length (Means e.instr
 pub instrs-more : (code : Program) (exec : ℕ) → exec < length code.execs
     → instrs_among (take (exec + 1) code.execs) ≡ instrs_among (take exec code.execs) + length (exec_of code exec).instrs
 instrs-more code exec within = sum_by_more (λ (e : Exec). length e.instrs) code.execs exec no_exec within
-
--- all executives are counted
-pub cycles-all : (code : Program) (exec : ℕ) → exec ≡ length code.execs → cycles_among (take exec code.execs) ≡ cycles_among code.execs
-cycles-all code exec all = ap cycles_among (take_all exec code.execs (omega (arith, all)))
-
-pub instrs-all : (code : Program) (exec : ℕ) → exec ≡ length code.execs → instrs_among (take exec code.execs) ≡ instrs_among code.execs
-instrs-all code exec all = ap instrs_among (take_all exec code.execs (omega (arith, all)))
 
 -- ---- rows and tables of a code
 
@@ -257,21 +250,9 @@ pub text-next : (text : Listed → List ℕ) (code : Program) (exec n : ℕ) (wh
     → whole ≡ done ++ (exec_text text (listed_exec code exec) ++ execs_text text (execs_from code (exec + 1) (n - (exec + 1))))
 text-next text code exec n whole done within is = is ∙ ap (λ (es : List ListedExec). done ++ execs_text text es) (execs-next code exec n within)
 
--- where none is left all is put
-pub none-after : (exec n : ℕ) → (exec < n → ⊥) → n - exec ≡ 0
-none-after exec n not = by (cases_order exec n)
-  where
-    by : (exec ≡ n) ⊎ ((exec < n) ⊎ (n < exec)) → n - exec ≡ 0
-    by (inl same) = omega (arith, same)
-    by (inr (inl within)) = absurd (not within)
-    by (inr (inr beyond)) = omega (arith, beyond)
-
 -- the text of an executive is whole lines
 pub exec-text-lines : (form : Form) (code : Program) (e : ListedExec) → AreLines (exec_text (text_of form code) e)
 exec-text-lines form code e = lines_behind (exec_line e) (flat_map (text_of form code) e.cycles) (exec_lines e) (lines_all (text_of form code) e.cycles (text_lines form code))
-
-pub execs-text-lines : (form : Form) (code : Program) (es : List ListedExec) → AreLines (execs_text (text_of form code) es)
-execs-text-lines form code es = lines_all (exec_text (text_of form code)) es (exec-text-lines form code)
 
 -- the moments of a cycle, by its table and its row
 pub moments-listed : (code : Program) (n : ℕ) (c : Cycle) (table : Table) (row : List ℕ) (skews : List ℤ) (moments : List Moment)

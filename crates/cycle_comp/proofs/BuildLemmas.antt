@@ -9,7 +9,7 @@ use Rattle.std.proofs.lemmas.Grind.{flat_map-append}
 use Rattle.std.proofs.lemmas.Simd.{map-map}
 use Rattle.text_bytes.specs.Limits.{most_measure, most_cycles, most_row_characters}
 use Rattle.tester_types.specs.declared.wave.Table.{Table}
-use Rattle.stil_ast.specs.Faults.Found.{fault_at, unless, or_else, IsRefusal}
+use Rattle.stil_ast.specs.Faults.Found.{fault_at, unless, or_else}
 use Rattle.stil_ast.specs.Faults.BurstFaults.{exec_place}
 use Rattle.stil_ast.specs.Faults.CodeFaults.{trees_fault, compile_fault, compile_faults}
 use Rattle.stil_ast.specs.Meaning.ExecutiveData.{Tree, Executive, tree_run, trees_run, vectors_of, measure_of, rows_of, distinct_rows, row_of, tables_of}
@@ -30,7 +30,6 @@ use Rattle.cycle_comp.proofs.RowsOnce.{distinct_rows-append}
 use Rattle.cycle_comp.proofs.EntryLemmas.{entries-more}
 use Rattle.cycle_comp.specs.Written.{HasEachOnce, IsWritten}
 use Rattle.packed_code.specs.declared.instr.Instr.{Instr}
-use Rattle.stil_ast.specs.Data.Refusal.{StilRefusal}
 use Rattle.cycle_comp.specs.Compiled.{chain_of}
 use Rattle.cycle_comp.specs.Working.{size_fault, rows_fault, IsSized, IsInside, IsMade, AreMade, IsBuilt}
 use Rattle.cycle_comp.specs.declared.building.Building.{Building}
@@ -107,14 +106,6 @@ counted signals e flats n are is =
     ∙ (sym (trees_count e.trees (start_of signals))
     ∙ sym (length-map (trees_run e.trees (start_of signals)).made (λ (m : Made). m.vector))))
 
--- the faults of sizes
-pub size-large : (before signals : ℕ) (e : Executive) → most_measure < before + measure_of e
-    → size_fault before signals e ≡ Some (fault_at (exec_place e.name e.line) TooLarge)
-size-large before signals e large =
-    ap (λ (b : Bool). unless b (fault_at (exec_place e.name e.line) TooLarge)
-    (unless (nat_le (length (vectors_of signals e)) most_cycles) (fault_at (exec_place e.name e.line) TooManyCycles) None))
-    (lt-leb (before + measure_of e) most_measure large)
-
 pub size-many : (before signals : ℕ) (e : Executive) → before + measure_of e ≤ most_measure
     → most_cycles < length (vectors_of signals e)
     → size_fault before signals e ≡ Some (fault_at (exec_place e.name e.line) TooManyCycles)
@@ -138,10 +129,6 @@ size-none before signals e few short =
 pub faults_none : (signals : ℕ) (before rest : List Executive) (e : Executive) → compile_fault signals before e ≡ None
     → compile_faults signals before (e ∷ rest) ≡ compile_faults signals (before ++ e ∷ []) rest
 faults_none signals before rest e none = ap (λ (o : Option StilFault). or_else o (compile_faults signals (before ++ e ∷ []) rest)) none
-
-pub faults_some : (signals : ℕ) (before rest : List Executive) (e : Executive) (f : StilFault)
-    → compile_fault signals before e ≡ Some f → compile_faults signals before (e ∷ rest) ≡ Some f
-faults_some signals before rest e f some = ap (λ (o : Option StilFault). or_else o (compile_faults signals (before ++ e ∷ []) rest)) some
 
 -- ---- rows
 
@@ -292,21 +279,3 @@ built-push signals first measure before e code rows old new built at sized fine 
           subst (λ (r : List (List ℕ)). AreMade signals 0 r (before ++ e ∷ []) new.execs.items) (sym rows_are)
           (subst (λ (ms : List Exec). AreMade signals 0 rows (before ++ e ∷ []) ms) (sym execs_are) more);
     }
-
--- a refusal by one executive is that of all behind it
-pub refused-more : (signals : ℕ) (before rest : List Executive) (e : Executive) (r : StilRefusal)
-    → IsRefusal (compile_fault signals before e) r → IsRefusal (compile_faults signals before (e ∷ rest)) r
-refused-more signals before rest e r is = λ f same. faults_some signals before rest e f (is f same)
-
--- nothing is built yet
-pub built-none : (signals : ℕ) (b : Building) → b.tables.items ≡ [] → b.rows ≡ [] → b.execs.items ≡ [] → b.measure ≡ 0
-    → IsBuilt signals [] b
-built-none signals b tables rows execs measure = record {
-  tables = tables;
-  rows = rows;
-  measure = measure;
-  few = omega arith;
-  row_count = omega (arith, ap length rows);
-  few_rows = subst (λ (r : List (List ℕ)). length r * signals ≤ most_row_characters) (sym rows) (omega arith);
-  execs = subst (λ (ms : List Exec). AreMade signals 0 b.rows [] ms) (sym execs) tt;
-}

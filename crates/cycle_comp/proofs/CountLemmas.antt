@@ -1,11 +1,9 @@
 -- The count of a flat tree is how many vectors it runs.
-use Rattle.std.proofs.Common.{◌≡◌, ℕ, zero, suc, ◌+◌, ◌*◌, ◌<◌, Bool, true, false, length, refl, sym, ap, ◌∙◌, length-append, arith}
+use Rattle.std.proofs.Common.{◌≡◌, ℕ, zero, suc, ◌+◌, ◌*◌, Bool, true, false, length, refl, sym, ap, ◌∙◌, length-append, arith}
 use Rattle.stil_ast.specs.Meaning.State.{State}
 use Rattle.stil_ast.specs.Meaning.Flattening.{joined}
 use Rattle.stil_ast.specs.Meaning.Running.{Ran, times}
 use Rattle.stil_ast.specs.Meaning.Flat.{Flat, done, table, character, back, cycle, repeat, save, saved, flat_run}
-use Rattle.packed_code.specs.Count.{capped}
-use Rattle.packed_code.proofs.CountLemmas.{capped-closed}
 use Rattle.flat_tree.specs.Items.{item_front}
 use Rattle.flat_tree.specs.declared.steps.FlatItem.{FlatItem}
 use Rattle.flat_tree.proofs.FlatLemmas.{item_front-joined}
@@ -50,10 +48,3 @@ pub item-count : (item : FlatItem) (rest : Flat)
     → vector_count (item_front item rest) ≡ vector_count (item_front item done) + vector_count rest
 item-count item rest =
     ap vector_count (sym (item_front-joined item done rest)) ∙ count-joined (item_front item done) rest
-
--- a loop's count, capped
-pub capped-loop : (count body : ℕ) → capped (count * capped body) ≡ capped (count * body + 0)
-capped-loop zero body = omega arith
-capped-loop (suc count) body =
-    let some : 0 < suc count = omega arith in
-    omega (arith, capped-closed (suc count) body 0 some)

@@ -23,9 +23,8 @@ use Rattle.strobe_check.specs.Step.{is_watched}
 use Rattle.strobe_check.specs.History.{Held, Answers, sensed, open_window}
 use Rattle.strobe_check.proofs.SensedLemmas.{is_sensed-watched}
 use Rattle.site_meaning.specs.Playing.{is_bound, bound_of}
-use Rattle.std.specs.Prelude.{◌≢◌}
 use Rattle.std.proofs.lemmas.List.{append-nil}
-use Rattle.die_sim.specs.Socket.{Calls, taped}
+use Rattle.die_sim.specs.Socket.{Calls}
 use Rattle.cycle_run.specs.Tape.{call_at, with_calls}
 use Rattle.cycle_run.specs.Step.{AreLevels, IsCheckedBy, IsSettled}
 
@@ -151,10 +150,3 @@ pub tape-none : (tape now : Option Calls) (at : ℕ) (drives : List (ℕ × Driv
     → now ≡ with_calls tape (call_at at drives)
 tape-none tape now at drives none same =
     same ∙ sym (with-none tape) ∙ ap (λ (l : List (ℕ × Drive)). with_calls tape (call_at at l)) (sym none)
-
--- and one that has some is
-pub tape-some : (tape now : Option Calls) (at : ℕ) (drives : List (ℕ × Drive)) → length drives ≢ 0 → now ≡ taped tape at drives
-    → now ≡ with_calls tape (call_at at drives)
-tape-some tape now at [] some is = absurd (some refl)
-tape-some None now at (d ∷ drives) some is = is
-tape-some (Some calls) now at (d ∷ drives) some is = is

@@ -11,6 +11,7 @@ use Rattle.lot_plan.specs.Bound.{Bound}
 use Rattle.site_meaning.specs.Part.{part_of}
 use Rattle.site_meaning.specs.Records.{Sound}
 use Rattle.floor_core.specs.Book.{at_site}
+use Rattle.text_bytes.specs.Limits.{most_plan_sites}
 
 -- the records of a book are sound, each at the site under whose number it stands, and the sites are those of the plan
 pub record AreSound (plan : Bound) (book : List SiteRecords) : Type 0 where
@@ -38,8 +39,8 @@ pub record IsPrintableAt (code : Program) (plan : Bound) (site : ℕ) (entry : R
   pub own : entry.site ≡ site
   pub printable : IsPrintable code plan entry
 
--- each record is printable, and of the site under whose number it stands; sites are at most 64
+-- each record is printable, and of the site under whose number it stands; there are no more sites than a plan names
 pub record ArePrintable (code : Program) (plan : Bound) (sites : List (List Record)) : Type 0 where
-  pub few : length sites ≤ 64
+  pub few : length sites ≤ most_plan_sites
   pub each : (site : ℕ) (none : List Record) → site < length sites
       → All (IsPrintableAt code plan site) (slice_index_or sites site none)

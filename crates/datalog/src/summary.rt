@@ -1,6 +1,7 @@
 //! What a lot comes to in all: how many looks failed, and how many dies each bin has.
 
 ghost use Rattle.std.specs.Prelude.{◌≡◌, ◌+◌, ◌<◌, ◌≤◌, All, OnErr, length, min, sum_by};
+ghost use Rattle.text_bytes.specs.Limits.{most_plan_sites};
 ghost use Rattle.tester_types.specs.Outside.{HasRisen, Puts};
 ghost use Rattle.tester_types.specs.Records.{records_of};
 ghost use Rattle.datalog.specs.DatalogText.{bins_of, totals_text};
@@ -34,7 +35,7 @@ pub(crate) fn put_sums<K: Sink>(
     plan: &BoundPlan,
     sites: &[RecordList],
 ) -> Result<(), SinkFault>
-    requires few { length sites.now ≤ 64 }
+    requires few { length sites.now ≤ most_plan_sites }
     requires tried { All (All (λ entry. 0 < length entry.trials)) (records_of sites.now) }
     ensures puts { Puts (K.told sink.old) (totals_text (bins_of plan.now (records_of sites.now))) result
         (K.told sink.new) }

@@ -1,6 +1,7 @@
 //! How many dies each bin has.
 
 ghost use Rattle.std.specs.Prelude.{◌≡◌, ℕ, ◌^◌, ◌<◌, ◌≤◌, All, OnErr, [], length, map, slice_index};
+ghost use Rattle.text_bytes.specs.Limits.{most_plan_sites};
 ghost use Rattle.tester_types.specs.Outside.{HasRisen, Puts};
 ghost use Rattle.tester_types.specs.Records.{records_of};
 ghost use Rattle.datalog.specs.Counts.{AreCounts, HaveGrown};
@@ -46,7 +47,7 @@ fn put_total<K: Sink>(sink: &mut K, bin: usize, dies: u128) -> Result<(), SinkFa
 
 /// How many dies fell into each bin.
 pub(crate) fn counts_of(plan: &BoundPlan, sites: &[RecordList]) -> [u128; BINS]
-    requires few { length sites.now ≤ 64 }
+    requires few { length sites.now ≤ most_plan_sites }
     requires tried { All (All (λ entry. 0 < length entry.trials)) (records_of sites.now) }
     ensures { AreCounts (bins_of plan.now (records_of sites.now)) result }
 {

@@ -44,10 +44,6 @@ pub HoldsPins-front : (pins whole nets : List ℕ) (more : ℕ) (c : Cell) → I
     → HoldsPins pins nets c → HoldsPins whole nets c
 HoldsPins-front pins whole nets more c f h = subst (λ (ps : List ℕ). HoldsPins ps nets c) (sym f.is) (holds_kept pins f.rest nets c h)
 
--- no gate stands at its place yet
-pub AreWiredTo-none : (c : Circuit) (pins : List ℕ) → AreWiredTo c [] pins 0
-AreWiredTo-none c pins = record { count = refl; each = λ j l. absurd (omega arith) }
-
 -- one more does
 pub AreWiredTo-more : (c : Circuit) (cells : List Cell) (pins whole : List ℕ) (k more : ℕ) (cell : Cell)
     → AreWiredTo c cells pins k → IsFront pins whole more
@@ -76,9 +72,6 @@ row_in-with_row : (c : Cell) (r : Row) → row_in (with_row c r) ≡ r
 row_in-with_row (Pair row a b) r = refl
 row_in-with_row (Many row from to) r = refl
 
-pub SamePins-none : (cells : List Cell) → SamePins cells cells
-SamePins-none cells = record { count = refl; each = λ k pins nets h. h }
-
 pub SamePins-set : (old cells : List Cell) (k : ℕ) (x : Cell) (r : Row) → k < length cells
     → x ≡ with_row (get_or cells k no_cell) r → SamePins old cells → SamePins old (set cells k x)
 SamePins-set old cells k x r l x_is h = record {
@@ -92,9 +85,6 @@ SamePins-set old cells k x r l x_is h = record {
     | inr ne ↦ subst (λ (y : Cell). HoldsPins pins nets y) (sym (get_or-set_other cells k j x no_cell ne)) (h.each j pins nets p)
   ];
 }
-
-pub HaveRows-none : (c : Circuit) (fixed : List (Option Level)) (cells : List Cell) → HaveRows c fixed cells 0
-HaveRows-none c fixed cells = record { each = λ j l. absurd (omega arith) }
 
 pub HaveRows-more : (c : Circuit) (fixed : List (Option Level)) (cells : List Cell) (k : ℕ) (x y : Cell) (r : Row)
     → k < length cells → x ≡ with_row y r

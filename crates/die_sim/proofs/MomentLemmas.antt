@@ -1,5 +1,5 @@
 -- The flip-flops capture one after another, and the inputs get their levels.
-use Rattle.std.proofs.Common.{◌≡◌, ℕ, suc, ◌+◌, ◌<◌, ◌≤◌, ◌⊎◌, ◌++◌, Bool, true, false, cond, List, [], ◌∷◌, length, get_or, set, refl, sym, ap, ◌∙◌, subst, arith, inl, inr, length-set, length-append}
+use Rattle.std.proofs.Common.{◌≡◌, ℕ, suc, ◌+◌, ◌<◌, ◌⊎◌, ◌++◌, Bool, true, cond, List, [], ◌∷◌, length, get_or, set, refl, sym, ap, ◌∙◌, subst, arith, inl, inr, length-set, length-append}
 use Rattle.std.proofs.lemmas.List.{get_or-set_same, get_or-set_other, get_or_append_left, get_or_push, get_or_past}
 use Rattle.std.proofs.lemmas.Bool.{cases_Bool, cases_eq, cases_lt, both_ways}
 use borrow.Author.Count.{below_more}
@@ -8,15 +8,15 @@ use Rattle.tester_types.specs.declared.level.Level.TheVariants.{Zero, One, X, Z}
 use Rattle.tester_types.specs.declared.level.Drive.{Drive}
 use Rattle.bench_net.specs.declared.gate.Driver.{Driver}
 use Rattle.bench_net.specs.declared.gate.Driver.TheVariants.{Input, Dff, Gate}
-use Rattle.bench_net.specs.Wiring.{driver_at, is_gate}
+use Rattle.bench_net.specs.Wiring.{driver_at}
 use Rattle.die_sim.specs.declared.image.Bind.{Bind}
 use Rattle.die_sim.specs.declared.image.Bind.TheVariants as bind
 use Rattle.die_sim.specs.declared.moment.Edge.{Edge}
 use Rattle.die_sim.specs.declared.moment.Edge.TheVariants.{Takes, Doubts, Keeps}
 use Rattle.bench_net.specs.Gates.{level_at}
 use Rattle.die_sim.specs.Die.{bind_at}
-use Rattle.die_sim.specs.Moment.{captured, capture, agreed, Captures, drive_level, put_at, put_all}
-use Rattle.die_sim.specs.Walk.{is_flip_flop, StandsAt, AreFlipFlops, MayCapture}
+use Rattle.die_sim.specs.Moment.{captured, capture, agreed, drive_level, put_at, put_all}
+use Rattle.die_sim.specs.Walk.{is_flip_flop, StandsAt, AreFlipFlops}
 
 -- to capture twice is to capture once
 agreed-twice : (own d : Level) → agreed (agreed own d) d ≡ agreed own d
@@ -41,12 +41,6 @@ captured-twice Input e own before = refl
 captured-twice (Dff p) e own before = capture-twice e own (level_at before p)
 captured-twice (Gate kind pins) e own before = refl
 
--- a flip-flop is no gate
-pub flip_flop_no_gate : (d : Driver) → is_flip_flop d ≡ true → is_gate d ≡ false
-flip_flop_no_gate Input e = refl
-flip_flop_no_gate (Dff p) e = refl
-flip_flop_no_gate (Gate kind pins) e = cc
-
 -- a flip-flop's net is one of the nets
 pub flip_flop_within : (drivers : List Driver) (n : ℕ) → is_flip_flop (driver_at drivers n) ≡ true → n < length drivers
 flip_flop_within drivers n e = elim (cases_lt n (length drivers)) [
@@ -59,13 +53,6 @@ pub record CapturedTo (drivers : List Driver) (e : Edge) (before old new : List 
   pub count : length new ≡ length old
   pub either : (n : ℕ) → (level_at new n ≡ level_at old n) ⊎ (level_at new n ≡ captured (driver_at drivers n) e (level_at old n) before)
   pub done : (k : ℕ) → k < i → level_at new (get_or nets k 0) ≡ captured (driver_at drivers (get_or nets k 0)) e (level_at old (get_or nets k 0)) before
-
-pub CapturedTo-none : (drivers : List Driver) (e : Edge) (before old : List Level) (nets : List ℕ) → CapturedTo drivers e before old old nets 0
-CapturedTo-none drivers e before old nets = record {
-  count = refl;
-  either = λ n. inl refl;
-  done = λ k l. absurd (omega arith);
-}
 
 -- one more has
 module _ (drivers : List Driver) (e : Edge) (before old cur : List Level) (nets : List ℕ) (i n : ℕ) (x : Level)
@@ -99,27 +86,6 @@ module _ (drivers : List Driver) (e : Edge) (before old cur : List Level) (nets 
         (λ k l. kept (get_or nets k 0) (h.done k l))
         (subst (λ (a : ℕ). level_at (set cur n x) a ≡ captured (driver_at drivers a) e (level_at old a) before) n_is here);
   }
-
--- when each of them has, all flip-flops have captured
-pub CapturedTo-all : (drivers : List Driver) (e : Edge) (before old new : List Level) (nets : List ℕ) (i : ℕ)
-    → length nets ≤ i → MayCapture drivers e before old nets → CapturedTo drivers e before old new nets i
-    → Captures drivers e before old new
-CapturedTo-all drivers e before old new nets i l may h = record {
-  count = h.count;
-  each = λ n within. elim (may.all n within) [
-    | inl s ↦
-        let w = s.within in
-        subst (λ (a : ℕ). level_at new a ≡ captured (driver_at drivers a) e (level_at old a) before) s.is (h.done s.place (omega (arith, w, l)))
-    | inr stays ↦ elim (h.either n) [
-      | inl was ↦ was ∙ sym stays
-      | inr now ↦ now
-    ]
-  ];
-}
-
--- the list of flip-flops after one more net
-pub AreFlipFlops-none : (drivers : List Driver) → AreFlipFlops drivers [] 0
-AreFlipFlops-none drivers = record { each = λ k l. absurd (omega arith); all = λ n l. absurd (omega arith) }
 
 stands_pushed : (n m : ℕ) (xs : List ℕ) → StandsAt n xs → StandsAt n (xs ++ m ∷ [])
 stands_pushed n m xs s = record {

@@ -137,13 +137,6 @@ not_itself drivers order o k l reads = let m = later drivers order o k k l l rea
 pub reads_is_times : (c : Circuit) → IsWhole c → (n g : ℕ) → n < length c.net.names → times g (get_or c.readers n []) ≡ times n (pins_at c.net.drivers g)
 reads_is_times c w n g l = w.readers.counts n g (omega (arith, w.drivers))
 
--- they are nets
-pub readers_within : (c : Circuit) → IsWhole c → (n : ℕ) → n < length c.net.names → All (λ r. r < length c.net.names) (get_or c.readers n [])
-readers_within c w n l = All-times (λ r. r < length c.net.names) (get_or c.readers n []) (λ g m.
-    let r : Reads c.net.drivers g n = omega (arith, m, reads_is_times c w n g l) in
-    let b = gate_within c.net.drivers g (reader_is_gate c.net.drivers g n r) in
-    omega (arith, b, w.drivers))
-
 -- a number is apart from a list at none of whose places it stands
 apart_from : (x : ℕ) (xs : List ℕ) → ((k : ℕ) → k < length xs → x ≡ get_or xs k 0 → ⊥) → AllByRecursion (λ y. eqb x y ≡ false) xs
 apart_from x [] h = tt

@@ -1,7 +1,7 @@
 -- Pending gates by their places: one that is set or cleared leaves the others, and all are set where each gate has its place.
-use Rattle.std.proofs.Common.{◌≡◌, ◌≢◌, ℕ, ◌+◌, ◌<◌, ◌≤◌, Bool, true, false, cond, List, [], length, get_or, take, set, replicate, refl, sym, ap, ◌∙◌, subst, arith, inl, inr, eqb, length-set}
+use Rattle.std.proofs.Common.{◌≡◌, ◌≢◌, ℕ, ◌+◌, ◌<◌, ◌≤◌, Bool, true, false, cond, List, [], length, get_or, take, set, refl, sym, ap, ◌∙◌, subst, arith, inl, inr, eqb, length-set}
 use Rattle.std.specs.Prelude.{All}
-use Rattle.std.proofs.lemmas.List.{get_or-set_same, get_or-set_other, get_or_past, get_or-replicate, length-replicate}
+use Rattle.std.proofs.lemmas.List.{get_or-set_same, get_or-set_other, get_or_past}
 use Rattle.std.proofs.lemmas.List.Sums.{sum_by_more}
 use Rattle.std.proofs.lemmas.Bool.{cases_Bool, cases_lt, cases_eq, eq-eqb, ne_eqb, both_ways}
 use Rattle.bench_net.specs.declared.gate.Driver.{Driver}
@@ -34,14 +34,6 @@ SetsPending-set places bits new n place b apart is within new_is = record {
   seats = record { places = refl; size = ap (λ (l : List Bool). length l) new_is ∙ length-set bits place b };
 }
 
--- places that are apart stay so
-pub AreApart-set : (places : List ℕ) (bits new : List Bool) → length new ≡ length bits
-    → AreApart (record { places = places; bits = bits }) → AreApart (record { places = places; bits = new })
-AreApart-set places bits new e h = record { few = omega (arith, h.few, e); each = λ a b same has. h.each a b same (omega (arith, has, e)) }
-
-pub HasPlace-same : (old new : PendingGates) (n : ℕ) → SameSeats old new → HasPlace old n → HasPlace new n
-HasPlace-same old new n s h = omega (arith, h, s.size, ap (λ (l : List ℕ). get_or l n nowhere) s.places)
-
 pub AreSeats-same : (order : List ℕ) (old new : PendingGates) → SameSeats old new → AreSeats order old → AreSeats order new
 AreSeats-same order old new s h = record {
   room = omega (arith, h.room, s.size);
@@ -56,14 +48,6 @@ gate_has_place drivers order o m s g e =
     let is : place_at m g ≡ p.place = subst (λ (n : ℕ). place_at m n ≡ p.place) p.is (s.here p.place p.within) in
     let w = p.within in
     omega (arith, is, w, s.room)
-
--- one more net is pending
-pub ActivatesEach-none : (nets : List ℕ) (pending : PendingGates) → nets ≡ [] → ActivatesEach nets pending pending
-ActivatesEach-none nets pending e = record {
-  active = λ g l. absurd (let z : times g nets ≡ 0 = ap (times g) e in omega (arith, l, z));
-  others = λ g z. refl;
-  seats = record { places = refl; size = refl };
-}
 
 pub ActivatesEach-more : (nets : List ℕ) (old mid new : PendingGates) (i : ℕ) → i < length nets
     → SetsPending (get_or nets i 0) true mid new → ActivatesEach (take i nets) old mid
@@ -127,17 +111,6 @@ ActivatesEach-all drivers order o old new clear h n = elim (cases_Bool (gate_at 
     cc_of : gate_at drivers n ≡ false → gate_at drivers n ≡ true → ⊥
     cc_of a b = cc
 
--- no gate has its place yet
-pub SeatedTo-none : (order : List ℕ) (n : ℕ) (bits : List Bool) → SeatedTo order (replicate n nowhere) bits 0
-SeatedTo-none order n bits = record {
-  here = λ j l. absurd (omega arith);
-  back = λ m. inl (elim (cases_lt m n) [
-    | inl l ↦ get_or-replicate n m nowhere nowhere l
-    | inr l ↦ get_or_past (replicate n nowhere) m nowhere (omega (arith, l, length-replicate n nowhere))
-  ]);
-  active = λ j l. absurd (omega arith);
-}
-
 -- one more has
 pub SeatedTo-more : (drivers : List Driver) (order : List ℕ) → IsOrder drivers order
     → (places : List ℕ) (bits : List Bool) (k : ℕ) → k < length order → get_or order k 0 < length places
@@ -171,21 +144,6 @@ SeatedTo-more drivers order o places bits k l in' room h = record {
 module _ (drivers : List Driver) (order : List ℕ) (o : IsOrder drivers order) (m : PendingGates)
     (few : length m.bits ≤ 65600) (room : length order ≤ length m.bits)
     (h : SeatedTo order m.places m.bits (length order)) where
-  pub AreSeats-all : AreSeats order m
-  AreSeats-all = record { room = room; here = λ k l. h.here k l }
-
-  pub AreApart-all : AreApart m
-  AreApart-all = record {
-    few = few;
-    each = λ a b same has. elim (h.back a) [
-      | inl none ↦ absurd (omega (arith, none, has, few))
-      | inr one ↦ elim (h.back b) [
-        | inl none ↦ absurd (omega (arith, same, none, has, few))
-        | inr two ↦ sym one.1 ∙ ap (λ (i : ℕ). get_or order i 0) same ∙ two.1
-      ]
-    ];
-  }
-
   pub pending_gates : (n : ℕ) → is_pending m n ≡ gate_at drivers n
   unfolding is_pending
   pending_gates n = elim (cases_Bool (gate_at drivers n)) [

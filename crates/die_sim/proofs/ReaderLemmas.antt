@@ -36,15 +36,6 @@ readers_are_gates c w n l = All-times (λ g. gate_at c.net.drivers g ≡ true) (
     let r : Reads c.net.drivers g n = omega (arith, t, reads_is_times c w n g l) in
     reader_is_gate c.net.drivers g n r)
 
--- no net has its readers yet
-pub AreReadersTo-none : (c : Circuit) → AreReadersTo c (0 ∷ []) [] 0
-AreReadersTo-none c = record {
-  count = refl;
-  last = refl;
-  cuts = λ n l. absurd (omega arith);
-  each = λ n l. absurd (omega arith);
-}
-
 -- one more has
 module _ (c : Circuit) (starts places more whole starts' : List ℕ) (k : ℕ) (h : AreReadersTo c starts places k)
     (whole_is : whole ≡ places ++ more) (starts_is : starts' ≡ starts ++ length whole ∷ [])

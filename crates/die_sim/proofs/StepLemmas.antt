@@ -1,38 +1,23 @@
 -- One moment: after the flip-flops and the driven inputs got their levels, all inputs and flip-flops have theirs.
-use Rattle.std.proofs.Common.{◌≡◌, ℕ, ◌<◌, Bool, true, false, List, length, get_or, refl, sym, ap, ◌∙◌, subst, inl, inr, Option, None}
+use Rattle.std.proofs.Common.{◌≡◌, ℕ, ◌<◌, Bool, true, false, List, length, get_or, sym, ap, ◌∙◌, subst, inl, inr, Option, None}
 use Rattle.std.specs.Prelude.{slice_index_or, unwrap_or}
 use Rattle.std.proofs.lemmas.Bool.{both_ways}
 use Rattle.tester_types.specs.declared.level.Level.{Level}
 use Rattle.tester_types.specs.declared.level.Drive.{Drive}
 use Rattle.bench_net.specs.declared.gate.Driver.{Driver}
-use Rattle.bench_net.specs.declared.gate.Driver.TheVariants.{Input, Dff, Gate}
-use Rattle.bench_net.specs.Wiring.{driver_at, gate_at, is_gate}
+use Rattle.bench_net.specs.declared.gate.Driver.TheVariants.{Input}
+use Rattle.bench_net.specs.Wiring.{gate_at}
 use Rattle.die_sim.specs.declared.image.Bind.{Bind}
 use Rattle.die_sim.specs.declared.image.Bind.TheVariants as bind
 use Rattle.die_sim.specs.declared.moment.Edge.{Edge}
 use Rattle.bench_net.specs.Gates.{level_at}
-use Rattle.die_sim.specs.Die.{own_level, driven, Settled, bind_at}
+use Rattle.die_sim.specs.Die.{own_level, Settled, bind_at}
 use Rattle.die_sim.specs.Moment.{Captures, put_all}
 use Rattle.die_sim.specs.Spread.{IsSpread}
 use Rattle.die_sim.specs.Pending.{PendingGates, is_pending}
 use Rattle.die_sim.specs.Walk.{MayCapture, HasLevel, HaveLevels, HaveDriven, Waits, Refreshes, HasCause, before, by, Carries}
 use Rattle.die_sim.proofs.MomentLemmas.{put_all-other}
 use Rattle.die_sim.proofs.WalkLemmas.{wanted_source, Refreshes-keeps, Refreshes-then}
-
-driven_gate : (d : Driver) (own own' : Level) (v : List Level) → is_gate d ≡ true → driven d own v ≡ driven d own' v
-driven_gate Input own own' v e = cc
-driven_gate (Dff p) own own' v e = cc
-driven_gate (Gate kind pins) own own' v e = refl
-
--- settled levels wait for nothing, whatever inputs and flip-flops are to have
-pub Waits-settled : (drivers : List Driver) (fixed : List (Option Level)) (old held levels : List Level)
-    (pending : PendingGates) → Settled drivers fixed old levels → ((n : ℕ) → is_pending pending n ≡ false)
-    → Waits drivers fixed held levels pending
-Waits-settled drivers fixed old held levels pending s clear = record {
-  levels_count = s.one_each;
-  gates_only = λ g m. absurd (both_ways (is_pending pending g) (clear g) m);
-  fits = λ g l e f. s.fits g l ∙ ap (unwrap_or (slice_index_or fixed g None)) (driven_gate (driver_at drivers g) (level_at old g) (level_at held g) levels e);
-}
 
 -- where each gate is pending all waits
 pub Waits-all : (drivers : List Driver) (fixed : List (Option Level)) (held levels : List Level)

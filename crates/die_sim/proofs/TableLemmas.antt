@@ -71,17 +71,6 @@ base_step Xnor z o n l h = xor_step z o n l h
 base_step Low z o n l h = refl
 base_step High z o n l h = refl
 
--- no level yet
-pub base_none : (r : Row) → unit_of r ≡ gives (base_of r) 0 0 0
-base_none And = refl
-base_none Nand = refl
-base_none Or = refl
-base_none Nor = refl
-base_none Xor = refl
-base_none Xnor = refl
-base_none Low = refl
-base_none High = refl
-
 -- the negation at the end
 and_end : (z o n : ℕ) → pair_of And One (and_of z o n) ≡ and_of z o n
 and_end z o n = grind (arith, common_steps)
@@ -153,14 +142,6 @@ many_done r v pins i unit level x unit_is over within level_is x_is =
     ∙ base_end r (zeros v (take i pins)) (ones v (take i pins)) i
     ∙ ap (λ (ps : List ℕ). gives r (zeros v ps) (ones v ps) i) all
     ∙ ap (λ (n : ℕ). gives r (zeros v pins) (ones v pins) n) (omega (arith, over, within))
-
--- two nets
-pub pair_is : (r : Row) (v : List Level) (pins : List ℕ) → length pins ≡ 2
-    → pair_of r (level_at v (get_or pins 0 0)) (level_at v (get_or pins 1 0)) ≡ gives r (zeros v pins) (ones v pins) (length pins)
-pair_is r v [] e = absurd (omega (arith, e))
-pair_is r v (p ∷ []) e = absurd (omega (arith, e))
-pair_is r v (p ∷ q ∷ []) e = refl
-pair_is r v (p ∷ q ∷ s ∷ ps) e = absurd (omega (arith, e))
 
 -- one net
 nand_one : (l : Level) → gives Nand (0 + bit (is_zero l)) (0 + bit (is_one l)) 1 ≡ negated l

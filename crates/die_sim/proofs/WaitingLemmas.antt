@@ -1,10 +1,10 @@
 -- Flip-flops that don't wait keep what their D nets have, through captures, drives and new levels.
-use Rattle.std.proofs.Common.{◌≡◌, ◌≢◌, ℕ, ◌+◌, ◌-◌, ◌<◌, ◌≤◌, ◌⊎◌, ◌++◌, Bool, true, false, cond, List, [], ◌∷◌, length, get_or, take, set, replicate, refl, sym, ap, ◌∙◌, subst, arith, inl, inr, length-set, length-append}
-use Rattle.std.proofs.lemmas.List.{get_or-set_same, get_or-set_other, get_or_append_left, get_or_push, get_or_past, get_or-take, length-take-le, get_or-replicate, length-replicate}
-use Rattle.std.proofs.lemmas.Bool.{cases_Bool, cases_eq, cases_lt, both_ways, eqb-true}
+use Rattle.std.proofs.Common.{◌≡◌, ◌≢◌, ℕ, ◌+◌, ◌-◌, ◌<◌, ◌≤◌, ◌⊎◌, ◌++◌, Bool, true, false, cond, List, [], ◌∷◌, length, get_or, take, set, refl, sym, ap, ◌∙◌, subst, arith, inl, inr, length-set, length-append}
+use Rattle.std.proofs.lemmas.List.{get_or-set_same, get_or-set_other, get_or_append_left, get_or_push, get_or_past, get_or-take, length-take-le}
+use Rattle.std.proofs.lemmas.Bool.{cases_Bool, cases_eq, cases_lt, both_ways}
 use Rattle.std.proofs.lemmas.Nat.Bits.{bit_at-zero}
 use Rattle.std.specs.Int.{bit_at}
-use Rattle.place_bits.specs.Bits.{in_word, IsLowest, IsRest}
+use Rattle.place_bits.specs.Bits.{IsLowest, IsRest}
 use Rattle.tester_types.specs.declared.level.Level.{Level}
 use Rattle.tester_types.specs.declared.level.Level.TheVariants.{Zero, One, X, Z}
 use Rattle.tester_types.specs.declared.level.Drive.{Drive}
@@ -18,11 +18,9 @@ use Rattle.die_sim.specs.declared.moment.Edge.TheVariants.{Takes, Doubts, Keeps}
 use Rattle.bench_net.specs.Gates.{level_at, read}
 use Rattle.die_sim.specs.Die.{bind_at, IsNetBind}
 use Rattle.die_sim.specs.Moment.{agreed, capture, captured, Captures, put_all}
-use Rattle.die_sim.specs.Pending.{PendingGates}
-use Rattle.die_sim.specs.Walk.{same_level, is_flip_flop, StandsAt, AreFlipFlops, MayCapture, Puts}
-use Rattle.die_sim.specs.Waiting.{FlipFlops, first_at, next_at, waits_at, IsLinked, here, onward, AreLinkedTo, AreWakers, AreAtRest, SameLinks, Wakes, StandsBelow, AreListed, AreTaken}
+use Rattle.die_sim.specs.Walk.{is_flip_flop, StandsAt, AreFlipFlops, MayCapture}
+use Rattle.die_sim.specs.Waiting.{FlipFlops, first_at, next_at, waits_at, IsLinked, here, onward, AreLinkedTo, AreWakers, AreAtRest, SameLinks, StandsBelow, AreListed, AreTaken}
 use Rattle.die_sim.proofs.MomentLemmas.{flip_flop_within, put_all-other}
-use Rattle.die_sim.proofs.WalkLemmas.{same_level-true}
 
 -- one more place is set
 pub waits_more : (old new : List Bool) (i : ℕ) → new ≡ set old i true → i < length old
@@ -36,26 +34,6 @@ waits_more old new i is room h k l = ap (λ (b : List Bool). waits_at b k) is �
 pub length-pushed-le : (b : Bool) (xs : List ℕ) (x : ℕ) → length (cond b (xs ++ x ∷ []) xs) ≤ length xs + 1
 length-pushed-le true xs x = omega (arith, length-append xs (x ∷ []))
 length-pushed-le false xs x = omega arith
-
--- no flip-flop is linked yet
-pub AreLinkedTo-none : (drivers : List Driver) (nets firsts : List ℕ) (count : ℕ) → count ≡ length drivers
-    → firsts ≡ replicate count 0 → AreLinkedTo drivers nets firsts [] 0
-AreLinkedTo-none drivers nets firsts count same is = record {
-  count = refl;
-  size = ap (λ (xs : List ℕ). length xs) is ∙ length-replicate {A = ℕ} count 0 ∙ same;
-  heads = λ n. omega (arith, none n);
-  back = λ j. omega (arith, get_or_past none_yet j 0 (omega arith));
-  each = λ j d l. absurd (omega (arith, l));
-}
-  where
-    none_yet : List ℕ
-    none_yet = []
-
-    none : (n : ℕ) → first_at firsts n ≡ 0
-    none n = ap (λ (xs : List ℕ). get_or xs n 0) is ∙ elim (cases_lt n count) [
-      | inl l ↦ get_or-replicate count n 0 0 l
-      | inr l ↦ get_or_past (replicate count 0) n 0 (omega (arith, l, length-replicate {A = ℕ} count 0))
-    ]
 
 -- a link stays where another is added behind
 IsLinked-push : (nexts : List ℕ) (x k link : ℕ) → IsLinked nexts k link → IsLinked (nexts ++ x ∷ []) k link
@@ -131,62 +109,12 @@ pub record WakesTo (nexts : List ℕ) (first link : ℕ) (old new : List Bool) :
   pub wakes : (k : ℕ) → IsLinked nexts k first → (waits_at new k ≡ true) ⊎ IsLinked nexts k link
   pub keeps : (k : ℕ) → waits_at old k ≡ true → waits_at new k ≡ true
 
-pub WakesTo-none : (nexts : List ℕ) (first : ℕ) (bits : List Bool) → first ≤ length nexts → WakesTo nexts first first bits bits
-WakesTo-none nexts first bits l = record { within = l; size = refl; wakes = λ k r. inr r; keeps = λ k w. w }
-
 -- the flip-flop behind a link, or one that is reached from the next
 behind : (nexts : List ℕ) (k link j : ℕ) → link ≡ j + 1 → IsLinked nexts k link → (k ≡ j) ⊎ IsLinked nexts k (next_at nexts j)
 behind nexts k link j e here = inl (omega (arith, e))
 behind nexts k link j e (onward i l r) =
     let q : i ≡ j = omega (arith, e) in
     inr (subst (λ (n : ℕ). IsLinked nexts k (next_at nexts n)) q r)
-
--- one more waits
-pub WakesTo-more : (nexts : List ℕ) (first link j : ℕ) (old mid : List Bool) → link ≡ j + 1 → j < length mid
-    → next_at nexts j ≤ length nexts → WakesTo nexts first link old mid
-    → WakesTo nexts first (next_at nexts j) old (set mid j true)
-WakesTo-more nexts first link j old mid e room below h = record {
-  within = below;
-  size = length-set mid j true ∙ h.size;
-  wakes = λ k r. elim (h.wakes k r) [
-    | inl w ↦ inl (kept k w)
-    | inr on ↦ elim (behind nexts k link j e on) [
-      | inl q ↦ inl (ap (waits_at (set mid j true)) q ∙ get_or-set_same mid j true false room)
-      | inr then' ↦ inr then'
-    ]
-  ];
-  keeps = λ k w. kept k (h.keeps k w);
-}
-  where
-    kept : (k : ℕ) → waits_at mid k ≡ true → waits_at (set mid j true) k ≡ true
-    kept k w = elim (cases_eq k j) [
-      | inl q ↦ ap (waits_at (set mid j true)) q ∙ get_or-set_same mid j true false room
-      | inr ne ↦ get_or-set_other mid j k true false ne ∙ w
-    ]
-
--- nothing is reached from no link
-no_link : (nexts : List ℕ) (k link : ℕ) → link ≡ 0 → IsLinked nexts k link → ⊥
-no_link nexts k link e here = omega (arith, e)
-no_link nexts k link e (onward j l r) = omega (arith, e)
-
-pub WakesTo-all : (nexts : List ℕ) (first link : ℕ) (old new : List Bool) → link ≡ 0 → WakesTo nexts first link old new
-    → Wakes nexts first old new
-WakesTo-all nexts first link old new e h = record {
-  size = h.size;
-  wakes = λ k r. elim (h.wakes k r) [
-    | inl w ↦ w
-    | inr on ↦ absurd (no_link nexts k link e on)
-  ];
-  keeps = h.keeps;
-}
-
--- none is listed yet
-pub AreListed-none : (nets : List ℕ) (bits : List Bool) (list : List ℕ) → AreListed nets bits 0 0 list
-AreListed-none nets bits list = record {
-  few = omega arith;
-  each = λ j l. absurd (omega (arith, l));
-  all = λ j l. absurd (omega (arith, l));
-}
 
 -- flip-flops that don't wait are passed
 pub AreListed-on : (nets : List ℕ) (bits : List Bool) (j k count : ℕ) (list : List ℕ)
@@ -201,50 +129,6 @@ AreListed-on nets bits j k count list clear h = record {
   ];
 }
 
--- one more is listed
-pub AreListed-more : (nets : List ℕ) (bits : List Bool) (k count : ℕ) (list : List ℕ) → k < length nets
-    → count < length list → AreListed nets bits k count list
-    → AreListed nets bits (k + 1) (count + 1) (set list count (get_or nets k 0))
-AreListed-more nets bits k count list within room h = record {
-  few = omega (arith, room, length-set list count (get_or nets k 0));
-  each = λ j l. elim (cases_eq j count) [
-    | inl q ↦ record { place = k; within = within; is = sym (ap (λ (i : ℕ). get_or (set list count (get_or nets k 0)) i 0) q ∙ get_or-set_same list count (get_or nets k 0) 0 room) }
-    | inr ne ↦
-        let s = h.each j (omega (arith, l, ne)) in
-        record { place = s.place; within = s.within; is = s.is ∙ sym (get_or-set_other list count j (get_or nets k 0) 0 ne) }
-  ];
-  all = λ j l in' w. elim (cases_eq j k) [
-    | inl q ↦ record {
-      place = count;
-      within = omega arith;
-      is = get_or-set_same list count (get_or nets k 0) 0 room ∙ ap (λ (i : ℕ). get_or nets i 0) (sym q);
-    }
-    | inr ne ↦
-        let s = h.all j (omega (arith, l, ne)) in' w in
-        let b = s.within in
-        let other : s.place ≢ count = λ q. omega (arith, q, b) in
-        record { place = s.place; within = omega (arith, b); is = get_or-set_other list count s.place (get_or nets k 0) 0 other ∙ s.is }
-  ];
-}
-
--- past the last flip-flop none is listed
-pub AreListed-end : (nets : List ℕ) (bits : List Bool) (k count : ℕ) (list : List ℕ) → length nets ≤ k
-    → AreListed nets bits k count list → AreListed nets bits (k + 1) count list
-AreListed-end nets bits k count list past h = record {
-  few = h.few;
-  each = h.each;
-  all = λ j l within w. h.all j (omega (arith, within, past)) within w;
-}
-
--- all are listed where the places are as many as the flip-flops or more
-pub AreListed-all : (nets : List ℕ) (bits : List Bool) (k count : ℕ) (list : List ℕ) → length nets ≤ k
-    → AreListed nets bits k count list → AreListed nets bits (length nets) count list
-AreListed-all nets bits k count list past h = record {
-  few = h.few;
-  each = h.each;
-  all = λ j l within w. h.all j (omega (arith, within, past)) within w;
-}
-
 -- of a word the flip-flops in front of a place are listed, and the marks of the others are left
 pub record ListedTo (nets : List ℕ) (bits : List Bool) (base left count : ℕ) (list : List ℕ) : Type 0 where
   pub from : ℕ
@@ -253,18 +137,6 @@ pub record ListedTo (nets : List ℕ) (bits : List Bool) (base left count : ℕ)
   pub marks : (k : ℕ) → from ≤ k → k < 64 → waits_at bits (base + k) ≡ true → bit_at left k ≡ 1
   pub listed : AreListed nets bits (base + from) count list
   pub few : count ≤ base + from
-
-pub ListedTo-none : (nets : List ℕ) (bits : List Bool) (base word count : ℕ) (list : List ℕ)
-    → ((k : ℕ) → k < 64 → waits_at bits (base + k) ≡ in_word word k) → AreListed nets bits base count list → count ≤ base
-    → ListedTo nets bits base word count list
-ListedTo-none nets bits base word count list is h few = record {
-  from = 0;
-  within = omega arith;
-  skipped = λ k l. absurd (omega (arith, l));
-  marks = λ k f l w. eqb-true (bit_at word k) 1 (sym (is k l) ∙ w);
-  listed = subst (λ (n : ℕ). AreListed nets bits n count list) (omega arith) h;
-  few = omega (arith, few);
-}
 
 -- the flip-flops that don't wait in front of the first mark
 pub ListedTo-on : (nets : List ℕ) (bits : List Bool) (base left count place : ℕ) (list : List ℕ) → place ≤ 64
@@ -294,9 +166,6 @@ module _ (nets : List ℕ) (bits : List Bool) (base left count place : ℕ) (lis
     (within : place < 64) (low : IsLowest left place) where
   start : h.from ≤ place
   start = from-le nets bits base left count place list low.found h
-
-  pub ListedTo-few : count ≤ base + place
-  ListedTo-few = omega (arith, h.few, start)
 
   -- the flip-flop at the first mark is listed, and its mark is taken
   pub ListedTo-more : (count' rest : ℕ) (list' : List ℕ) → IsRest left place rest
@@ -348,32 +217,6 @@ pub AreAtRest-all : (drivers : List Driver) (held levels : List Level) (old new 
     → AreAtRest drivers held levels new
 AreAtRest-all drivers held levels old new w s all =
     AreAtRest-same drivers held held levels levels old new s w (λ k d l e f. absurd (both_ways (waits_at new.bits k) f (all k l)))
-
--- a net got a level, and where that is another one its flip-flops wait
-module _ (drivers : List Driver) (n : ℕ) (x : Level) (held levels levels' : List Level)
-    (pending pending' : PendingGates) (p : Puts drivers n x levels levels' pending pending') where
-  pub AreAtRest-stays : (m : FlipFlops) → same_level (level_at levels n) x ≡ true → AreAtRest drivers held levels m
-      → AreAtRest drivers held levels' m
-  AreAtRest-stays m same h = AreAtRest-same drivers held held levels levels' m m (record { nets = refl; firsts = refl; nexts = refl }) h.wakers
-      (λ k d l e f. h.each k d l e f ∙ ap read (elim (cases_eq d n) [
-        | inl q ↦ ap (level_at levels) q ∙ same_level-true (level_at levels n) x same ∙ sym p.here ∙ ap (level_at levels') (sym q)
-        | inr ne ↦ sym (p.others d ne)
-      ]))
-
-  pub AreAtRest-wakes : (old new : FlipFlops) → SameLinks old new
-      → Wakes old.nexts (first_at old.firsts n) old.bits new.bits → AreAtRest drivers held levels old
-      → AreAtRest drivers held levels' new
-  AreAtRest-wakes old new s w h = AreAtRest-same drivers held held levels levels' old new s h.wakers
-      (λ k d l e f. elim (cases_eq d n) [
-        | inl q ↦ absurd (both_ways (waits_at new.bits k) f (w.wakes k (subst (λ (i : ℕ). IsLinked old.nexts k (first_at old.firsts i)) q (h.wakers.each k d l e))))
-        | inr ne ↦ h.each k d l e (asleep k f) ∙ ap read (sym (p.others d ne))
-      ])
-    where
-      asleep : (k : ℕ) → waits_at new.bits k ≡ false → waits_at old.bits k ≡ false
-      asleep k f = elim (cases_Bool (waits_at old.bits k)) [
-        | inl t ↦ absurd (both_ways (waits_at new.bits k) f (w.keeps k t))
-        | inr e ↦ e
-      ]
 
 agreed_read : (d : Level) → agreed (read d) d ≡ read d
 agreed_read Zero = refl

@@ -1,7 +1,7 @@
 -- The event-driven walk: a write keeps each net that doesn't read the written one, and those that do are pending.
-use Rattle.std.proofs.Common.{◌≡◌, ◌≢◌, ℕ, ◌+◌, ◌<◌, ◌≤◌, ◌⊎◌, Bool, true, false, cond, List, [], length, get_or, take, set, refl, sym, ap, ◌∙◌, subst, arith, inl, inr, Option, None, length-set}
+use Rattle.std.proofs.Common.{◌≡◌, ◌≢◌, ℕ, ◌+◌, ◌<◌, ◌≤◌, ◌⊎◌, Bool, true, false, cond, List, length, get_or, take, set, refl, sym, ap, ◌∙◌, subst, arith, inl, inr, Option, None}
 use Rattle.std.specs.Prelude.{count_by, All, slice_index_or, unwrap_or}
-use Rattle.std.proofs.lemmas.List.{get_or-set_same, get_or-set_other, take-take, get_or-take, length-take-le, get_or_default}
+use Rattle.std.proofs.lemmas.List.{take-take, get_or-take, length-take-le, get_or_default}
 use Rattle.std.proofs.lemmas.List.Sums.{sum_by_more, sum_by-take-drop}
 use Rattle.std.proofs.lemmas.Bool.{cases_Bool, cases_lt, cases_eq, both_ways}
 use Rattle.tester_types.specs.declared.level.Level.{Level}
@@ -15,11 +15,10 @@ use Rattle.die_sim.specs.declared.image.Bind.{Bind}
 use Rattle.die_sim.specs.declared.image.Bind.TheVariants as bind
 use Rattle.die_sim.specs.Die.{own_level, driven, wanted, Settled, bind_at}
 use Rattle.die_sim.specs.Spread.{Reads}
-use Rattle.die_sim.specs.Pending.{PendingGates, is_pending, ActivatesReaders}
+use Rattle.die_sim.specs.Pending.{PendingGates, is_pending}
 use Rattle.die_sim.specs.Walk.{same_level, Puts, Waits, HasCause, before, by, Refreshes, HaveLevels, HasLevel, HaveDriven, Carries, Visits, WalkedTo}
 use Rattle.die_sim.proofs.GateLemmas.{wanted-same}
-use Rattle.bench_net.specs.Sorting.{times}
-use Rattle.bench_net.proofs.SortLemmas.{gate_within, pins_none}
+use Rattle.bench_net.proofs.SortLemmas.{gate_within}
 use Rattle.die_sim.proofs.OrderLemmas.{All-times, reader_is_gate, place_of, gate_in_order, later, not_itself}
 
 -- two levels are one where the test says so, and the other way round
@@ -50,40 +49,6 @@ same_level-self Z = refl
 pub same_level-from : (a b : Level) → a ≡ b → same_level a b ≡ true
 same_level-from a b e = subst (λ (c : Level). same_level a c ≡ true) e (same_level-self a)
 
--- a level that was there already
-pub Puts-same : (drivers : List Driver) (n : ℕ) (x : Level) (levels : List Level) (pending : PendingGates)
-    → same_level (level_at levels n) x ≡ true → Puts drivers n x levels levels pending pending
-Puts-same drivers n x levels pending e = record {
-  count = refl;
-  here = same_level-true (level_at levels n) x e;
-  others = λ m ne. refl;
-  keeps = λ g m. m;
-  read = λ f. absurd (both_ways (same_level (level_at levels n) x) f e);
-  only = λ g a b. absurd (both_ways (is_pending pending g) b a);
-}
-
--- another level than before
-pub Puts-other : (drivers : List Driver) (n : ℕ) (x : Level) (levels : List Level) (pending pending' : PendingGates)
-    → n < length levels → same_level (level_at levels n) x ≡ false → ActivatesReaders drivers n pending pending'
-    → Puts drivers n x levels (set levels n x) pending pending'
-Puts-other drivers n x levels pending pending' l e h = record {
-  count = length-set levels n x;
-  here = get_or-set_same levels n x Zero l;
-  others = λ m ne. get_or-set_other levels n m x Zero ne;
-  keeps = λ g m. elim (cases_lt 0 (times n (pins_at drivers g))) [
-    | inl r ↦ h.active g r
-    | inr r ↦ h.others g (λ q. omega (arith, q, r)) ∙ m
-  ];
-  read = λ f g r. h.active g r;
-  only = λ g a b. (
-    e,
-    elim (cases_lt 0 (times n (pins_at drivers g))) [
-      | inl r ↦ r
-      | inr r ↦ absurd (both_ways (is_pending pending g) b (sym (h.others g (λ q. omega (arith, q, r))) ∙ a))
-    ],
-  );
-}
-
 module _ (drivers : List Driver) (n : ℕ) (x : Level) (old new : List Level) (pending pending' : PendingGates)
     (p : Puts drivers n x old new pending pending') where
   -- a gate that isn't pending now wasn't before
@@ -102,14 +67,6 @@ module _ (drivers : List Driver) (n : ℕ) (x : Level) (old new : List Level) (p
     ]
     | inr ne ↦ p.others q ne
   ])
-
-sources_kept : (drivers : List Driver) (fixed : List (Option Level)) (held v w : List Level) (n : ℕ)
-    → gate_at drivers n ≡ false → IsWired (length drivers) (driver_at drivers n)
-    → wanted drivers fixed held v n ≡ wanted drivers fixed held w n
-sources_kept drivers fixed held v w n e wired =
-    wanted-same drivers fixed held v w n wired
-    (subst (λ (ps : List ℕ). All (λ q. level_at v q ≡ level_at w q) ps) (sym (pins_none (driver_at drivers n) e))
-    (All-times (λ q. level_at v q ≡ level_at w q) [] (λ q r. absurd (omega (arith, r)))))
 
 driven_source : (d : Driver) (own : Level) (v : List Level) → is_gate d ≡ false → driven d own v ≡ own
 driven_source Input own v e = refl
@@ -154,16 +111,6 @@ module _ (drivers : List Driver) (wired : (n : ℕ) → n < length drivers
           by i o.1 source (λ q. both_ways (same_level (level_at old i) x) o.0 (same_level-from (level_at old i) x (q ∙ p.here)))
     ];
   }
-
--- no input and no flip-flop got another level
-pub Refreshes-none : (drivers : List Driver) (fixed : List (Option Level)) (held levels : List Level)
-    (pending : PendingGates) → Waits drivers fixed held levels pending
-    → Refreshes drivers fixed held levels levels pending pending
-Refreshes-none drivers fixed held levels pending h = record {
-  waits = h;
-  sources = λ n. inl refl;
-  cause = λ g m. before m;
-}
 
 -- what has its level keeps it
 pub Refreshes-keeps : (drivers : List Driver) (fixed : List (Option Level)) (held old new : List Level)
@@ -211,19 +158,6 @@ module _ (drivers : List Driver) (fixed : List (Option Level)) (held start old n
     ];
     cause = λ g m. any_cause g (b.cause g m);
   }
-
--- nothing is walked yet
-pub WalkedTo-none : (drivers : List Driver) (fixed : List (Option Level)) (held : List Level) (order : List ℕ)
-    (levels : List Level) (pending : PendingGates) → Waits drivers fixed held levels pending
-    → WalkedTo drivers fixed held order levels levels pending pending 0 0
-WalkedTo-none drivers fixed held order levels pending h = record {
-  waits = h;
-  kept = λ n e. refl;
-  done = λ j l. absurd (omega arith);
-  counted = omega arith;
-  bound = λ set c. omega arith;
-  carried = λ set c. c.start;
-}
 
 module _ (drivers : List Driver) (wired : (n : ℕ) → n < length drivers
     → IsWired (length drivers) (driver_at drivers n)) (order : List ℕ) (o : IsOrder drivers order)

@@ -1,7 +1,7 @@
 -- What gates give by a table over pairs of levels; no public clause cites it.
 use Rattle.std.specs.Prelude.{ℕ, List, [], ◌∷◌, count_by}
 use Rattle.tester_types.specs.declared.level.Level.{Level}
-use Rattle.tester_types.specs.declared.level.Level.TheVariants.{Zero, One, X}
+use Rattle.tester_types.specs.declared.level.Level.TheVariants.{Zero, One}
 use Rattle.bench_net.specs.declared.gate.GateKind.{GateKind}
 use Rattle.bench_net.specs.declared.gate.GateKind.TheVariants as kind
 use Rattle.die_sim.specs.declared.table.TheConstants.{TABLE}

@@ -1,5 +1,5 @@
 -- A drill's plan is bound to its code and its netlist.
-use Rattle.std.proofs.Common.{◌≡◌, ℕ, zero, suc, ◌+◌, ◌≤◌, ◌<◌, Bool, true, false, not, ◌||◌, cond, List, [], ◌∷◌, ◌++◌, length, map, Option, Some, None, refl, sym, ap, subst, ◌∙◌, arith, append_assoc, append-nil}
+use Rattle.std.proofs.Common.{◌≡◌, ℕ, zero, suc, ◌+◌, ◌≤◌, Bool, true, false, ◌||◌, cond, List, [], ◌∷◌, ◌++◌, length, map, Option, Some, None, refl, sym, ap, subst, ◌∙◌, arith, append_assoc, append-nil}
 use Rattle.std.specs.Prelude.{codes, decimal, fold, nat_lt}
 use Rattle.std.specs.List.{list_any, filter_map, flat_map, range_with_len}
 use Rattle.std.specs.Option.{option_map, option_or}
@@ -15,9 +15,8 @@ use Rattle.bench_net.specs.Line.{Form}
 use Rattle.bench_net.specs.Net.{names, named, shown, driver_for}
 use Rattle.bench_net.proofs.NamesLemmas.{numbers_within, number-within}
 use Rattle.packed_code.specs.Program.{Program}
-use Rattle.lot_plan.specs.Needs.{PinNeed, needs_of}
+use Rattle.lot_plan.specs.Needs.{needs_of}
 use Rattle.lot_plan.specs.Binds.{binds_of, unbound_in}
-use Rattle.lot_plan.specs.Bound.{Bound}
 use Rattle.lot_plan.specs.Refusal.{is_net, first_unbound, refused_row, refusal}
 use Rattle.plan_rows.specs.declared.row.Row.{Row}
 use Rattle.plan_rows.specs.declared.row.Row.TheVariants as row

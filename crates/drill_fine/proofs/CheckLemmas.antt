@@ -1,5 +1,5 @@
 -- The statements of a drill's pattern have no fault.
-use Rattle.std.proofs.Common.{◌≡◌, ℕ, ◌+◌, ◌*◌, ◌≤◌, Bool, true, false, List, [], ◌∷◌, ◌++◌, length, Option, Some, None, refl, sym, ap, subst, ◌∙◌, arith}
+use Rattle.std.proofs.Common.{◌≡◌, ℕ, ◌+◌, ◌*◌, ◌≤◌, true, false, List, [], ◌∷◌, length, refl, ap, ◌∙◌, arith}
 use Rattle.std.specs.Prelude.{◌-◌, nat_lt, codes}
 use Rattle.std.proofs.lemmas.Bool.{le-leb}
 use Rattle.text_bytes.specs.Limits.{most_walked, deepest_calls}
@@ -13,12 +13,12 @@ use Rattle.stil_ast.specs.Meaning.Signals.{names_of}
 use Rattle.stil_ast.specs.Meaning.Resolved.{Scope, resolved}
 use Rattle.stil_ast.specs.Meaning.Running.{stops}
 use Rattle.stil_ast.specs.Faults.AssignmentFaults.{Walked, Checked, fine, Standing, may_walk, check_assign}
-use Rattle.stil_ast.specs.Faults.PatternFaults.{on_top, counted, check_step, check_list, check_calls, check_pattern}
+use Rattle.stil_ast.specs.Faults.PatternFaults.{on_top, check_list, check_calls, check_pattern}
 use Rattle.drill_fine.specs.Texts.{driven_bit}
 use Rattle.drill_fine.specs.Said.{bit_byte, look_byte}
 use Rattle.drill_fine.specs.Blocks.{drill_signals, blocks_with}
 use Rattle.line_texts.proofs.AssignmentLemmas.{gives}
-use Rattle.drill_fine.proofs.ReadLemmas.{vector_stmt, stmts_from}
+use Rattle.drill_fine.proofs.ReadLemmas.{stmts_from}
 use Rattle.drill_fine.proofs.BlockLemmas.{wave_stmt}
 
 -- what the names in the pattern mean

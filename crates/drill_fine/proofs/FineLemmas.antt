@@ -1,5 +1,5 @@
 -- The text of a drill has no fault.
-use Rattle.std.proofs.Common.{◌≡◌, ℕ, ◌+◌, ◌*◌, ◌≤◌, List, ◌∷◌, length, Option, Some, None, refl, sym, ap, subst, ◌∙◌, arith}
+use Rattle.std.proofs.Common.{◌≡◌, ℕ, ◌+◌, ◌*◌, ◌≤◌, List, ◌∷◌, length, Option, None, sym, ap, ◌∙◌, arith}
 use Rattle.std.specs.List.{range_with_len}
 use Rattle.std.proofs.lemmas.List.FromFn.{length-range_with_len}
 use Rattle.stil_lex.specs.declared.token.Token.{Token}
@@ -7,7 +7,6 @@ use Rattle.stil_form.specs.Setting.{line_at}
 use Rattle.stil_ast.specs.Data.Bodies.{written_of}
 use Rattle.stil_ast.specs.declared.fault.StilFault.{StilFault}
 use Rattle.stil_ast.specs.Faults.Found.{or_else}
-use Rattle.stil_ast.specs.Faults.SignalFaults.{fourth_fault}
 use Rattle.stil_ast.specs.Faults.ExecutiveFaults.{fifth_fault}
 use Rattle.stil_ast.specs.Faults.CodeFaults.{sixth_fault}
 use Rattle.stil_ast.specs.Faults.TextFaults.{blocks_fault}

@@ -1,11 +1,11 @@
 -- A drill's text is read as its blocks.
-use Rattle.std.proofs.Common.{◌≡◌, ℕ, List, [], ◌∷◌, ◌++◌, drop, Ok, refl, sym, ap, subst, ◌∙◌, append-nil, true, ◌+◌}
+use Rattle.std.proofs.Common.{◌≡◌, ℕ, List, [], ◌∷◌, ◌++◌, drop, Ok, sym, ap, subst, ◌∙◌, append-nil, true, ◌+◌}
 use Rattle.std.specs.List.{range_with_len}
 use Rattle.stil_lex.specs.Tokens.{spelled, tokens_of}
 use Rattle.stil_lex.specs.declared.token.Token.{Token}
 use Rattle.stil_lex.proofs.Loop.{tokens_of-append}
 use Rattle.stil_tree.specs.Trees.{entries}
-use Rattle.stil_form.specs.Lexeme.{Lexeme, lexemes_of}
+use Rattle.stil_form.specs.Lexeme.{lexemes_of}
 use Rattle.stil_form.specs.Setting.{setting, line_at}
 use Rattle.stil_ast.specs.Data.Bodies.{written_of}
 use Rattle.stil_ast.specs.Data.Written.{Written}
@@ -14,11 +14,11 @@ use Rattle.pat_read.specs.Body.{body_from}
 use Rattle.stil_read.specs.Top.{blocks_of}
 use Rattle.stil_program.specs.Front.{IsReadAs}
 use Rattle.drill_fine.specs.Texts.{vectors, stil_text}
-use Rattle.line_texts.specs.Said.{Said, no_more, pieces_of, trees_at, each_said}
+use Rattle.line_texts.specs.Said.{Said, pieces_of, trees_at}
 use Rattle.line_texts.specs.Lexemes.{lexemes_in}
 use Rattle.line_texts.proofs.PieceLemmas.{spelled-append}
 use Rattle.line_texts.proofs.LexemeLemmas.{lexemes_of-pieces}
-use Rattle.drill_fine.specs.Said.{vector_said, vectors_said, text_said, drill_said}
+use Rattle.drill_fine.specs.Said.{vectors_said, text_said, drill_said}
 use Rattle.drill_fine.specs.Blocks.{drill_blocks}
 use Rattle.drill_fine.proofs.SaidLemmas.{head_pieces, tail_pieces, spelled_drill, drill_tokens, drill_reads, drill_parses}
 use Rattle.drill_fine.proofs.ReadLemmas.{stmts_from, vectors_read}

@@ -1,8 +1,5 @@
 -- What the texts of a drill say, and that nothing refuses it.
-use Rattle.std.proofs.Common.{◌≡◌, ℕ, ◌≤◌, List, [], ◌∷◌, Option, Some, None, Result, Ok, Err, refl, sym, ap, subst, ◌∙◌, arith}
-use Rattle.bench_net.specs.Circuit.{Net, Circuit}
-use Rattle.bench_net.specs.Net.{IsNet}
-use Rattle.bench_net.specs.declared.fault.NetFault.{NetFault}
+use Rattle.std.proofs.Common.{◌≡◌, ℕ, ◌≤◌, List, [], ◌∷◌, None, Result, Ok, sym, ap, subst, ◌∙◌, arith}
 use Rattle.bench_net.proofs.ReadLemmas.{one_net, no_fault_where_net}
 use Rattle.plan_rows.specs.Judging.{plan_of}
 use Rattle.plan_rows.specs.Plan.{IsPlan}
@@ -16,7 +13,7 @@ use Rattle.stil_ast.specs.Meaning.Signals.{names_of}
 use Rattle.stil_ast.specs.Faults.FrontFaults.{Front, read_as}
 use Rattle.stil_ast.specs.declared.blocks.Blocks.{Blocks}
 use Rattle.cycle_comp.specs.Compiled.{signal_of}
-use Rattle.stil_program.specs.Front.{IsFront, IsReadAs}
+use Rattle.stil_program.specs.Front.{IsFront}
 use Rattle.stil_program.specs.Program.{IsProgramOf}
 use Rattle.drill_fine.specs.Texts.{stil_text, net_text, plan_text}
 use Rattle.drill_fine.specs.Bindings.{code_signals}

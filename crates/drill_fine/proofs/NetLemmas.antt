@@ -1,20 +1,16 @@
 -- The netlist of a drill has no fault.
-use Rattle.std.proofs.Common.{◌≡◌, ℕ, zero, suc, ◌+◌, ◌*◌, ◌≤◌, ◌<◌, Bool, true, false, not, cond, ◌||◌, List, [], ◌∷◌, ◌++◌, length, map, get_or, Option, Some, None, refl, sym, ap, subst, ◌∙◌, arith, append_assoc, length-append, inl, inr}
+use Rattle.std.proofs.Common.{◌≡◌, ℕ, zero, suc, ◌+◌, ◌*◌, ◌≤◌, ◌<◌, Bool, true, false, not, cond, ◌||◌, List, [], ◌∷◌, ◌++◌, length, map, Option, Some, None, refl, sym, ap, ◌∙◌, arith, length-append, inl, inr}
 use Rattle.std.specs.Prelude.{fold}
 use Rattle.std.specs.List.{list_any, flat_map, filter_map, find, range_with_len}
 use Rattle.std.specs.Str.{bytes_eq}
 use Rattle.std.proofs.lemmas.Bool.{cases_Bool, cases_lt}
-use Rattle.std.proofs.lemmas.List.{append-nil}
 use Rattle.std.proofs.lemmas.List.Concat.{flat_map-cons}
-use Rattle.std.proofs.lemmas.List.FromFn.{length-range_with_len}
 use Rattle.std.proofs.lemmas.List.Folds.{list_any-append}
 use Rattle.text_bytes.specs.Limits.{most_nets}
 use Rattle.text_bytes.specs.Texts.{added}
-use Rattle.bench_net.specs.declared.gate.Driver.{Driver}
 use Rattle.bench_net.specs.declared.gate.Driver.TheVariants.{Input}
-use Rattle.bench_net.specs.Wiring.{driver_at, gate_at, is_gate, IsReached, IsClosed}
+use Rattle.bench_net.specs.Wiring.{gate_at, is_gate}
 use Rattle.bench_net.specs.Circuit.{Net}
-use Rattle.bench_net.specs.Line.{Form}
 use Rattle.bench_net.specs.Net.{names, named, used, driven, driver_of, driver_for, drives, net_of, wrong_arity, first_repeat, head_of, is_missing, arity_fault, twice_fault, missing_fault, IsDriven, IsNet}
 use Rattle.drill_fine.specs.Texts.{net_text}
 use Rattle.drill_fine.specs.Nets.{net_at, register_form, drill_forms}

@@ -1,8 +1,6 @@
 -- A drill's blocks have no fault of signals, groups and executives.
-use Rattle.std.proofs.Common.{◌≡◌, ℕ, ◌+◌, ◌*◌, ◌≤◌, Bool, true, false, List, [], ◌∷◌, length, Option, Some, None, refl, sym, ap, subst, ◌∙◌, arith}
+use Rattle.std.proofs.Common.{◌≡◌, ℕ, Bool, false, [], None, refl, ap, ◌∙◌}
 use Rattle.text_bytes.specs.Bytes.{is_blank, is_digit, begins_name, is_word}
-use Rattle.stil_lex.specs.declared.token.Token.{Token}
-use Rattle.stil_ast.specs.Data.Bodies.{written_of}
 use Rattle.stil_ast.specs.Data.Places.{of_pattern}
 use Rattle.stil_ast.specs.Data.Written.{Written}
 use Rattle.stil_ast.specs.Meaning.Resolved.{resolved}
@@ -16,15 +14,13 @@ use Rattle.stil_ast.specs.Faults.TableFaults.{tables_fault}
 use Rattle.stil_ast.specs.Faults.BurstFaults.{exec_names_fault}
 use Rattle.stil_ast.specs.Faults.AssignmentFaults.{Checked, fine}
 use Rattle.stil_ast.specs.Faults.PatternFaults.{check_pattern}
-use Rattle.stil_ast.specs.Faults.ExecutiveFaults.{timed_of, behind_pattern, check_patterns, checked_fault, exec_fault, fifth_fault}
+use Rattle.stil_ast.specs.Faults.ExecutiveFaults.{timed_of, behind_pattern, check_patterns, fifth_fault}
 use Rattle.expr_text.specs.Range.{divisor_of, remainders}
 use Rattle.expr_text.specs.Ratio.{lowest, lowest_signed}
-use Rattle.expr_text.specs.Front.{capped, unit_front, number_front, paren_len, short_name, word_front, quoted_front, sign_front, front_of, lexed}
+use Rattle.expr_text.specs.Front.{capped, unit_front, number_front, paren_len, short_name, word_front, sign_front, front_of, lexed}
 use Rattle.time_expr.specs.TimesOf.{times_of}
 use Rattle.drill_fine.specs.Blocks.{drill_exec, drill_blocks}
-use Rattle.drill_fine.proofs.ReadLemmas.{stmts_from}
-use Rattle.drill_fine.proofs.BlockLemmas.{wave_stmt}
-use Rattle.drill_fine.proofs.CheckLemmas.{drill_scope, at_count, pattern_fine, pattern_goes_on}
+use Rattle.drill_fine.proofs.CheckLemmas.{drill_scope, at_count}
 
 -- signals and groups
 pub fourth_fine : (body : Written) (a b c : ℕ) → fourth_fault (drill_blocks body a b c) ≡ None

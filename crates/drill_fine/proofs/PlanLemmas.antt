@@ -1,22 +1,20 @@
 -- The plan of a drill has no fault, and its rows are those of four dies.
-use Rattle.std.proofs.Common.{◌≡◌, ℕ, ◌+◌, ◌^◌, ◌≤◌, ◌<◌, Bool, true, false, not, cond, List, [], ◌∷◌, ◌++◌, length, Option, Some, None, Result, Ok, Err, refl, sym, ap, subst, ◌∙◌, arith, append_assoc, append-nil}
+use Rattle.std.proofs.Common.{◌≡◌, ℕ, ◌+◌, ◌≤◌, true, false, not, List, [], ◌∷◌, ◌++◌, length, Ok, refl, sym, ap, subst, ◌∙◌, arith, append_assoc}
 use Rattle.std.specs.Prelude.{codes, decimal, map, nat_le, nat_lt}
 use Rattle.std.specs.List.{list_all, list_any}
-use Rattle.std.specs.Str.{bytes_eq}
 use Rattle.std.proofs.lemmas.Bool.{le-leb, lt-ltb}
 use Rattle.std.proofs.lemmas.Fmt.{length-decimal-le}
 use Rattle.csv.specs.Machine.{next_record}
 use Rattle.csv.specs.Reading.{default_config, strip_bom, Reached, AreRecords}
-use Rattle.csv.specs.Writing.{needs_byte, default_writer, field_text, fields_text, row_text, is_blank, escaped}
+use Rattle.csv.specs.Writing.{needs_byte, default_writer, fields_text, row_text, is_blank, escaped}
 use Rattle.csv.specs.declared.parser.State.TheVariants as st
 use Rattle.csv.proofs.RoundTrip.{read-write-many}
 use Rattle.text_bytes.specs.Bytes.{is_digit, is_printing, is_printable}
-use Rattle.text_bytes.specs.Numbers.{are_digits, number_of}
 use Rattle.text_bytes.specs.Limits.{longest_name}
 use Rattle.text_bytes.proofs.Spans.{list_any-not}
 use Rattle.text_bytes.proofs.DigitLemmas.{decimal_all, digit_cases}
-use Rattle.plan_rows.specs.Words.{is_text, net_of}
-use Rattle.plan_rows.specs.Judging.{judge, plan_of}
+use Rattle.plan_rows.specs.Words.{is_text}
+use Rattle.plan_rows.specs.Judging.{plan_of}
 use Rattle.plan_rows.specs.Plan.{HasRecords, IsPlan}
 use Rattle.plan_rows.specs.Rows.{sites_of}
 use Rattle.drill_fine.specs.Texts.{die_rows, plan_text}

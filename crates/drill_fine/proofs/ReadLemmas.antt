@@ -14,7 +14,7 @@ use Rattle.stil_ast.specs.declared.body.PatAction.TheVariants as action
 use Rattle.stil_ast.specs.declared.body.PatStmt.{PatStmt}
 use Rattle.pat_read.specs.Data.{has_underscore}
 use Rattle.pat_read.specs.Body.{on_line, one_more, body_from}
-use Rattle.line_texts.specs.Said.{Said, no_more, pieces_of, trees_at, each_said}
+use Rattle.line_texts.specs.Said.{no_more, pieces_of, trees_at, each_said}
 use Rattle.line_texts.specs.Lexemes.{lexemes_in}
 use Rattle.line_texts.proofs.AssignmentLemmas.{gives, assignment_said}
 use Rattle.line_texts.proofs.SettingLemmas.{head_behind}
@@ -61,12 +61,6 @@ lexemes_with bit look more =
     word (codes "V") ∷ sign (Other 123) ∷ word (codes "d") ∷ sign Equals ∷ word (bit ∷ []) ∷ sign (Other 59)
     ∷ word (codes "ck") ∷ sign Equals ∷ word (codes "P") ∷ sign (Other 59)
     ∷ word (codes "q") ∷ sign Equals ∷ word (look ∷ []) ∷ sign (Other 59) ∷ sign (Other 125) ∷ more
-
--- the lexemes of a vector in front of statements, before others
-pub lexemes_vector : (n i : ℕ) (more : Said) (after : List Lexeme)
-    → lexemes_in (pieces_of (vector_said n i more)) ++ after
-    ≡ lexemes_with (bit_byte (driven_bit n i)) (look_byte (nat_lt i n) (driven_bit n (i - n))) (lexemes_in (pieces_of more) ++ after)
-lexemes_vector n i more after = refl
 
 -- no character of a vector is a low line
 bit_fits : (high : Bool) → has_underscore (bit_byte high ∷ []) ≡ false

@@ -1,5 +1,5 @@
 -- The text of a drill's pattern is the statements that are said, and has their tokens.
-use Rattle.std.proofs.Common.{◌≡◌, ℕ, ◌-◌, Bool, true, false, List, [], ◌∷◌, ◌++◌, take, drop, refl, sym, ap, subst, ◌∙◌, append_assoc, append-nil, cond}
+use Rattle.std.proofs.Common.{◌≡◌, ℕ, ◌-◌, Bool, true, false, List, [], ◌++◌, take, drop, refl, sym, ap, subst, ◌∙◌, append_assoc, append-nil, cond}
 use Rattle.std.specs.Prelude.{nat_lt, codes}
 use Rattle.std.specs.List.{flat_map, range_with_len}
 use Rattle.text_bytes.specs.Bytes.{is_blank, is_word, is_printing, is_printable}
@@ -11,12 +11,12 @@ use Rattle.stil_lex.specs.Step.{mark_len}
 use Rattle.stil_lex.specs.Slow.{line_test, comment_test, annotation_test, closed_test, word_test, quoted_rest_test, comments_test, sign_byte_test}
 use Rattle.stil_tree.specs.Grammar.{Parses}
 use Rattle.drill_fine.specs.Texts.{vectors, driven_bit, vector_line, stil_head, stil_tail, stil_text}
-use Rattle.line_texts.specs.Said.{Said, no_more, pieces_of, trees_at, each_said}
+use Rattle.line_texts.specs.Said.{no_more, pieces_of, trees_at}
 use Rattle.line_texts.specs.Tests.{are_pieces, fits}
 use Rattle.line_texts.proofs.PieceLemmas.{are_pieces-are, spelled-append, ArePieces-append, reads_pieces}
 use Rattle.line_texts.proofs.TreeLemmas.{said_parses}
 use Rattle.line_texts.proofs.EachLemmas.{pieces_each, spelled_each, ArePieces_each, fits_each}
-use Rattle.drill_fine.specs.Said.{bit_byte, look_byte, vector_of, vector_said, vectors_said, text_said, drill_said}
+use Rattle.drill_fine.specs.Said.{vector_of, vector_said, vectors_said, text_said, drill_said}
 
 -- the pieces of a vector
 abbrev pub pieces_with : Bool → Bool → Bool → List Piece
@@ -77,10 +77,6 @@ spelled_head = refl
 spelled_tail : spelled tail_pieces ≡ stil_tail
 unfolding stil_tail
 spelled_tail = refl
-
--- the pieces of the text
-pub pieces_text : (v : Said) → pieces_of (text_said v) ≡ head_pieces ++ (pieces_of v ++ tail_pieces)
-pieces_text v = refl
 
 -- the text is what is said
 pub spelled_drill : (n : ℕ) → spelled (pieces_of (drill_said n)) ≡ stil_text n

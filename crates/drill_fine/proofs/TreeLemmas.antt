@@ -1,9 +1,9 @@
 -- The flat tree of a drill's pattern, and what it is compiled to, have no fault.
-use Rattle.std.proofs.Common.{◌≡◌, ℕ, ◌+◌, ◌*◌, ◌≤◌, ◌<◌, Bool, true, false, List, [], ◌∷◌, ◌++◌, map, length, Option, Some, None, refl, sym, ap, subst, ◌∙◌, arith, length-append, cond}
-use Rattle.std.specs.Prelude.{◌-◌, nat_lt, nat_le, codes, slice_get, sum_by}
+use Rattle.std.proofs.Common.{◌≡◌, ℕ, ◌+◌, ◌*◌, ◌≤◌, Bool, true, false, List, [], ◌∷◌, ◌++◌, map, length, Option, Some, None, refl, ap, ◌∙◌, arith, length-append, cond}
+use Rattle.std.specs.Prelude.{◌-◌, nat_lt, nat_le, slice_get, sum_by}
 use Rattle.std.specs.List.{flat_map}
 use Rattle.std.proofs.lemmas.Bool.{le-leb}
-use Rattle.std.proofs.lemmas.List.{length-map, append-nil}
+use Rattle.std.proofs.lemmas.List.{length-map}
 use Rattle.text_bytes.specs.Limits.{deepest_calls, most_measure, most_cycles, most_row_characters}
 use Rattle.text_bytes.specs.Bytes.{is_blank, is_digit, begins_name, is_word}
 use Rattle.stil_lex.specs.declared.token.Token.{Token}
@@ -14,12 +14,12 @@ use Rattle.stil_ast.specs.Data.Places.{of_pattern, Origin, Titles}
 use Rattle.stil_ast.specs.Data.Texts.{has_name}
 use Rattle.stil_ast.specs.Data.Written.{Written}
 use Rattle.stil_ast.specs.Meaning.Statements.{Statements}
-use Rattle.stil_ast.specs.Meaning.State.{State, Vector, start_of}
+use Rattle.stil_ast.specs.Meaning.State.{State, start_of}
 use Rattle.stil_ast.specs.Meaning.Resolved.{origin, resolved, setting_of}
-use Rattle.stil_ast.specs.Meaning.Running.{Setting, Ran, Made}
+use Rattle.stil_ast.specs.Meaning.Running.{Setting, Made}
 use Rattle.stil_ast.specs.Meaning.Flat.{Flat, done, table, character, cycle, flat_run, measure}
-use Rattle.stil_ast.specs.Meaning.Flattening.{Spot, Piece, behind_flat, flat_list, flat_calls, flat_of}
-use Rattle.stil_ast.specs.Meaning.ExecutiveData.{Tree, Executive, tree_run, vectors_of, measure_of, row_of, distinct_rows, rows_of}
+use Rattle.stil_ast.specs.Meaning.Flattening.{Spot, Piece, flat_list, flat_calls, flat_of}
+use Rattle.stil_ast.specs.Meaning.ExecutiveData.{Executive, vectors_of, measure_of, row_of, distinct_rows, rows_of}
 use Rattle.stil_ast.specs.Meaning.Executive.{table_list, Part, cut_behind, tree_of, executives_of}
 use Rattle.stil_ast.specs.Faults.Found.{fault_at, unless, or_else, first_in}
 use Rattle.stil_ast.specs.Faults.BurstFaults.{exec_place}

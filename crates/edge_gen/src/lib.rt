@@ -15,7 +15,7 @@ mod waves;
 
 pub use inside::{keep_inside, stays_inside};
 pub use laws::moments_of_a_later_cycle;
-pub use schedules::Schedules;
+pub use schedules::{HELD_SCHEDULES, Schedules};
 use std::alloc::Global;
 use tester_types::{MomentList, NoMemory, Table};
 

@@ -7,6 +7,9 @@ use std::marker::Model;
 use std::num::NonZeroUsize;
 use tester_types::{MomentList, NoMemory, Table};
 
+/// How many schedules those hold who play cycles.
+pub const HELD_SCHEDULES: usize = 64;
+
 /// The moments of the cycles that were asked for last, dated from 0, by the numbers of their tables and rows.
 #[derive(Drop)]
 pub struct Schedules {

@@ -1,32 +1,23 @@
 -- The first die of a plan: it is planned, and its part says of it what the plan says.
-use Rattle.std.proofs.Common.{◌≡◌, ℕ, ◌+◌, ◌-◌, ◌<◌, ℤ, Bool, true, cond, List, [], ◌∷◌, ◌++◌, length, map, filter, Option, Some, None, refl, sym, ap, ◌∙◌, subst, arith, zero-add, length-append}
-use Rattle.std.specs.Prelude.{All, IfSome, ◌==◌, max, fold, slice_get, option_map}
+use Rattle.std.proofs.Common.{◌≡◌, ℕ, ◌+◌, ◌-◌, ◌<◌, ℤ, Bool, cond, List, [], ◌∷◌, length, map, filter, Option, Some, None, refl, sym, ap, ◌∙◌, subst, arith}
+use Rattle.std.specs.Prelude.{IfSome, ◌==◌, max, fold, slice_get, option_map}
 use Rattle.std.specs.List.{range_with_len}
 use Rattle.std.specs.Option.{option_map_or}
-use Rattle.std.proofs.lemmas.List.{length-map}
 use Rattle.std.proofs.lemmas.Bool.{eq-eqb}
-use Rattle.tester_types.specs.declared.wave.Table.{Table}
-use Rattle.packed_code.specs.declared.parts.CodeSignal.{CodeSignal}
 use Rattle.packed_code.specs.Program.{Program}
 use Rattle.packed_code.specs.Conditions.{IsProgram}
-use Rattle.edge_gen.specs.Signals.{keeps_inside}
 use Rattle.bench_net.specs.Circuit.{Circuit, IsWhole}
 use Rattle.die_sim.specs.Die.{Image}
-use Rattle.die_sim.specs.declared.image.Bind.{Bind}
 use Rattle.die_sim.specs.declared.image.StuckAt.{StuckAt}
 use Rattle.plan_rows.specs.declared.row.Row.{Row}
 use Rattle.plan_rows.specs.declared.row.DieRow.{DieRow}
-use Rattle.plan_rows.specs.Rows.{dies_of, dies_at, sites_of, skews_at}
-use Rattle.lot_plan.specs.Needs.{PinNeed, need_of, needs_of}
-use Rattle.lot_plan.specs.Binds.{bound_or, bind_to, is_driven, binds_from, list_of, unbound_in}
-use Rattle.lot_plan.specs.Bound.{Bound, signals_of, circuit_of, image_of}
+use Rattle.plan_rows.specs.Rows.{dies_of, dies_at, sites_of}
+use Rattle.lot_plan.specs.Bound.{Bound, image_of}
 use Rattle.lot_plan.specs.Readings.{first_of}
-use Rattle.lot_plan.specs.Skews.{skew_by, site_skews}
+use Rattle.lot_plan.specs.Skews.{site_skews}
 use Rattle.lot_plan.specs.Refusal.{IsBound}
-use Rattle.lot_plan.proofs.ReadyLemmas.{circuit-whole, circuit-bound}
 use Rattle.site_meaning.specs.Part.{circuit_in, part_of}
 use Rattle.site_meaning.proofs.PartLemmas.{skews_in-part_of, image_in-part_of, circuit_in-part_of}
-use Rattle.site_meaning.proofs.SkewLemmas.{accepted_part}
 use Rattle.site_meaning.proofs.ImageLemmas.{image-long, image-whole}
 use Rattle.cycle_run.specs.Step.{FitCode}
 use Rattle.cycle_run.proofs.FitLemmas.{skews_fit}

@@ -4,11 +4,6 @@ use Rattle.std.proofs.lemmas.List.{append-nil, nil_from_length, take-append-drop
 use Rattle.std.proofs.Math.Seq.{take-length}
 use Rattle.tester_types.specs.declared.cycle.Cycle.{Cycle}
 use Rattle.tester_types.specs.declared.record.Fail.{Fail}
-use Rattle.packed_code.proofs.CountLemmas.{cycle_count-length}
-use Rattle.packed_code.specs.Program.{Program}
-use Rattle.packed_code.specs.Conditions.{IsProgram}
-use Rattle.packed_code.specs.Cycles.{exec_of, cycles_of}
-use Rattle.packed_code.proofs.WalkLemmas.{exec_is, length-cycles}
 use Rattle.strobe_check.specs.History.{Held, HasSeen, Answers, total_of}
 use Rattle.strobe_check.proofs.HistoryLemmas.{fails-none}
 use Rattle.die_sim.specs.Die.{Device}

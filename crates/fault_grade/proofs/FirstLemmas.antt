@@ -2,7 +2,6 @@
 use Rattle.std.proofs.Common.{◌≡◌, ℕ, ◌+◌, cond, ltb, List, [], ◌∷◌, ◌++◌, length, map, take, Option, None, refl, sym, ap, ◌∙◌}
 use Rattle.std.specs.List.{flat_map, range_with_len}
 use Rattle.std.specs.Option.{option_or}
-use Rattle.std.proofs.lemmas.List.Concat.{flat_map-append}
 use Rattle.tester_types.specs.declared.cycle.Cycle.{Cycle}
 use Rattle.tester_types.specs.declared.record.Fail.{Fail}
 use Rattle.bench_net.specs.Circuit.{Circuit}
@@ -21,10 +20,6 @@ use Rattle.fault_grade.specs.Search.{first_from, first_on}
 use Rattle.fault_grade.specs.declared.graded.Graded.{Graded}
 
 -- ---- the first of fails
-
-pub first_fail-append : (xs ys : List Fail) → first_fail (xs ++ ys) ≡ option_or (first_fail xs) (first_fail ys)
-first_fail-append [] ys = refl
-first_fail-append (x ∷ xs) ys = refl
 
 pub first_fail-take : (xs : List Fail) → first_fail (take 1 xs) ≡ first_fail xs
 first_fail-take [] = refl

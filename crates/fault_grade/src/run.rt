@@ -9,13 +9,10 @@ use crate::graded::{GradeList, Graded};
 use crate::lent::Lent;
 use crate::search::first_cycle_of;
 use die_sim::{DieImage, SimSocket, Socket};
-use edge_gen::Schedules;
+use edge_gen::{HELD_SCHEDULES, Schedules};
 use packed_code::Code;
 use std::alloc::Global;
 use tester_types::NoMemory;
-
-/// How many schedules are held that are not lent.
-const SCHEDULES: usize = 64;
 
 /// A socket in which this die is loaded.
 fn loaded(alloc: Global, image: &DieImage) -> Result<SimSocket, NoMemory>
@@ -50,7 +47,7 @@ pub(crate) fn try_image(
     ensures { IfOk result (λ first. first ≡ first_on code.now skews.now image.now) }
 {
     let mut socket = loaded(alloc, image)?;
-    let mut schedules = Schedules::new(alloc, SCHEDULES)?;
+    let mut schedules = Schedules::new(alloc, HELD_SCHEDULES)?;
     first_cycle_of(alloc, lent, &mut schedules, &mut socket, code, image, skews)
 }
 
@@ -73,7 +70,7 @@ pub(crate) fn try_run(
 {
     let mut image = image_with(alloc, base, None)?;
     let mut socket = loaded(alloc, &image)?;
-    let mut schedules = Schedules::new(alloc, SCHEDULES)?;
+    let mut schedules = Schedules::new(alloc, HELD_SCHEDULES)?;
     let mut list = Vec::with_capacity(alloc, (to - from) as usize)?;
     for number in from..to {
         let fault = fault_at(number);

@@ -17,7 +17,7 @@ use Rattle.stil_ast.specs.Meaning.Signals.{Names}
 use Rattle.stil_ast.specs.Meaning.Members.{members}
 use Rattle.stil_ast.specs.Meaning.Times.{Met, Times, time_at}
 use Rattle.stil_ast.specs.Meaning.Tables as tables
-use Rattle.stil_ast.specs.Meaning.Tables.{Waveform, unnumbered, own_waveforms, inherited_by, inherited, put_in, lineage, own_of, waveforms, timed_act, event_of, events_of, last_of, own_period, period_text, time_or_zero, period_of, waves_of, table_of, made_table, made_tables}
+use Rattle.stil_ast.specs.Meaning.Tables.{Waveform, unnumbered, own_waveforms, waveforms, timed_act, event_of, time_or_zero, period_of, waves_of, made_table}
 use Rattle.packed_code.specs.Program.{Program}
 use Rattle.packed_code.specs.Conditions as conditions
 use Rattle.packed_code.specs.Conditions.{EachBehind, IsEvent, IsWave, IsTable, is_behind}

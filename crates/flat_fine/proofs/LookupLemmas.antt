@@ -6,7 +6,7 @@ use Rattle.text_bytes.specs.Limits.{most_patterns}
 use Rattle.packed_code.specs.Program.{Program}
 use Rattle.packed_code.specs.Conditions.{IsProgram}
 use Rattle.stil_ast.specs.Data.Texts.{same, name_or_none}
-use Rattle.stil_ast.specs.Meaning.Bursts.{Played, pattern_named, burst_named, entry_played, macros_name, procedures_name, item_played, played_within, played_of, played, scans_of, scans_name, exec_scans}
+use Rattle.stil_ast.specs.Meaning.Bursts.{Played, pattern_named, burst_named, entry_played, macros_name, procedures_name, item_played, played_within, played_of, played}
 use Rattle.stil_ast.specs.Meaning.Executive.{exec_tables}
 use Rattle.stil_ast.specs.Meaning.Tables.{tables_named}
 use Rattle.stil_ast.specs.Faults.Found.{fault_at, unless, first_in}
@@ -137,10 +137,6 @@ module _ (code : Program) (blocks : Blocks) (exec : ℕ) (e : ExecDecl) (flat : 
       ap (played_of blocks) burst_named_is
       ∙ ap (λ (n : ℕ). played_within blocks n [] [] flat.burst) flat.bursts
       ∙ burst_plays flat.burst flat.fewer flat.burst_is.items
-
-  -- and has no scan structures of its own
-  pub scans_are : exec_scans blocks e ≡ []
-  scans_are = ap scans_of burst_named_is ∙ ap scans_name flat.burst_is.items
 
   -- what is met in its burst
   abbrev met : Mention

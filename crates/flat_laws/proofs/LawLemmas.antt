@@ -1,7 +1,6 @@
 -- The faults and the cycles of the flat text of a code.
 use Rattle.std.proofs.Common.{◌≡◌, ◌⊎◌, Option, Some, None, sym, ap, subst, ◌∙◌, inl, inr}
 use Rattle.stil_ast.specs.Faults.Found.{or_else}
-use Rattle.stil_ast.specs.Faults.SignalFaults.{fourth_fault}
 use Rattle.stil_ast.specs.Faults.ExecutiveFaults.{fifth_fault}
 use Rattle.stil_ast.specs.Faults.CodeFaults.{sixth_fault}
 use Rattle.stil_ast.specs.Faults.TextFaults.{blocks_fault}

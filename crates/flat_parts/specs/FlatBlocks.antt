@@ -1,22 +1,18 @@
 -- The blocks that the flat text of a code says, part by part. Lines are left open: they are those of the text.
-use Rattle.std.specs.Prelude.{◌≡◌, ℕ, ◌+◌, ◌==◌, Bool, true, false, List, [], ◌∷◌, ◌++◌, codes, decimal, length, slice_index_or, Option, Some, None}
+use Rattle.std.specs.Prelude.{◌≡◌, ℕ, ◌+◌, ◌==◌, Bool, true, false, List, [], ◌∷◌, ◌++◌, codes, decimal, length, slice_index_or, Some, None}
 use Rattle.std.specs.List.{AllZip, filter, range_with_len}
 use Rattle.tester_types.specs.declared.wave.Event.{Event}
 use Rattle.tester_types.specs.declared.wave.Wave.{Wave}
 use Rattle.tester_types.specs.declared.wave.Table.{Table}
-use Rattle.packed_code.specs.declared.instr.Instr.{Instr}
 use Rattle.packed_code.specs.declared.instr.Instr.TheVariants.{Done}
 use Rattle.packed_code.specs.declared.parts.CodeSignal.{CodeSignal}
-use Rattle.packed_code.specs.Program.{Exec, Program}
+use Rattle.packed_code.specs.Program.{Program}
 use Rattle.packed_code.specs.Conditions.{characters_of}
 use Rattle.packed_code.specs.Cycles.{exec_of}
-use Rattle.stil_ast.specs.declared.name.NameRef.{NameRef}
-use Rattle.stil_ast.specs.declared.name.Named.{Named}
 use Rattle.stil_ast.specs.declared.name.SigRef.{SigRef}
 use Rattle.stil_ast.specs.declared.name.SigRef.TheVariants as ref
 use Rattle.stil_ast.specs.declared.signal.SignalDecl.{SignalDecl}
 use Rattle.stil_ast.specs.declared.timing.EventDecl.{EventDecl}
-use Rattle.stil_ast.specs.declared.timing.WaveDecl.{WaveDecl}
 use Rattle.stil_ast.specs.declared.timing.SignalWaves.{SignalWaves}
 use Rattle.stil_ast.specs.declared.timing.TableDecl.{TableDecl}
 use Rattle.stil_ast.specs.declared.timing.TimingBlock.{TimingBlock}
@@ -27,7 +23,6 @@ use Rattle.stil_ast.specs.declared.blocks.DefBlock.{DefBlock}
 use Rattle.stil_ast.specs.declared.blocks.Pattern.{Pattern}
 use Rattle.stil_ast.specs.declared.blocks.Blocks.{Blocks}
 use Rattle.stil_ast.specs.declared.executive.BurstWord.TheVariants as burst
-use Rattle.stil_ast.specs.declared.executive.BurstItem.{BurstItem}
 use Rattle.stil_ast.specs.declared.executive.Burst.{Burst}
 use Rattle.stil_ast.specs.declared.executive.ExecDecl.{ExecDecl}
 use Rattle.stil_ast.specs.Data.Written.{single, no_more}

@@ -49,7 +49,3 @@ written_in code (run lines table row mark times rest) =
     written.single lines.wave (Wave (table_name code table))
     (called lines (row_name code row) times (written_in code rest))
 written_in code (loop line times body rest) = written.looped line times (written_in code body) (written_in code rest)
-
--- how deep its loops nest, where a Run that is called more than once is a loop too
-abbrev pub run_depth : ℕ → ℕ
-run_depth times = if nat_lt 1 times then 1 else 0

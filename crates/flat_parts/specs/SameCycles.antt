@@ -1,5 +1,5 @@
 -- The cycles of a flat text beside those of its code.
-use Rattle.std.specs.Prelude.{◌≡◌, ℕ, List, slice_get, Some, map, unwrap_or}
+use Rattle.std.specs.Prelude.{◌≡◌, ℕ, List, slice_get, Some}
 use Rattle.std.specs.List.{AllZip}
 use Rattle.tester_types.specs.declared.wave.Table.{Table}
 use Rattle.tester_types.specs.declared.cycle.Cycle.{Cycle}

@@ -1,5 +1,5 @@
 -- The flat text of a code as statements, where the instructions of each executive nest in a known way.
-use Rattle.std.specs.Prelude.{ℕ, nat_lt, List, [], ◌∷◌, ◌++◌, codes, decimal, length, if◌then◌else◌}
+use Rattle.std.specs.Prelude.{ℕ, nat_lt, List, [], ◌∷◌, codes, decimal, length, if◌then◌else◌}
 use Rattle.std.specs.List.{range_with_len}
 use Rattle.tester_types.specs.declared.wave.Event.{Event}
 use Rattle.tester_types.specs.declared.wave.Wave.{Wave}

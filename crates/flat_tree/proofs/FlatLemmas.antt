@@ -5,7 +5,7 @@ use Rattle.stil_ast.specs.Meaning.Running.{times}
 use Rattle.stil_ast.specs.Meaning.Flat.{Flat, done, table, character, back, cycle, repeat, save, saved, flat_run, measure}
 use Rattle.stil_ast.specs.Meaning.Least.{least_written}
 use Rattle.stil_ast.specs.Meaning.Flattening.{joined}
-use Rattle.flat_tree.specs.Counts.{item_count, body_count}
+use Rattle.flat_tree.specs.Counts.{body_count}
 use Rattle.flat_tree.specs.Items.{item_front}
 use Rattle.flat_tree.specs.declared.steps.FlatItem.{FlatItem}
 use Rattle.flat_tree.specs.declared.steps.FlatItem.TheVariants.{Table, Character, Back, Cycle, Repeat, Save}
@@ -66,15 +66,6 @@ item_front-joined (Back signal) a b = refl
 item_front-joined (Cycle mark place) a b = refl
 item_front-joined (Repeat count body) a b = refl
 item_front-joined (Save putting body) a b = refl
-
--- it counts once
-pub item_front-count : (item : FlatItem) (rest : Flat) → item_count (item_front item rest) ≡ 1 + item_count rest
-item_front-count (Table t) rest = refl
-item_front-count (Character signal c) rest = refl
-item_front-count (Back signal) rest = refl
-item_front-count (Cycle mark place) rest = refl
-item_front-count (Repeat count body) rest = refl
-item_front-count (Save putting body) rest = refl
 
 -- what an item begins has its bodies and those of the rest
 pub item_bodies : (item : FlatItem) (rest : Flat)

@@ -47,10 +47,6 @@ held_lines lines text all hits are is count found =
 
 -- ---- words in front of lines
 
-pub is_good-opens : (line : List ℕ) → opens (codes "good ") line ≡ true → is_one_line line ≡ true → is_good line ≡ true
-is_good-opens line e one =
-    and_from (begins_so (codes "good") line) (is_one_line line) (bytes_eq-comm (take 5 line) (codes "good ") ∙ e) one
-
 pub is_fault-opens : (line : List ℕ) → opens (codes "fault ") line ≡ true → is_one_line line ≡ true → is_fault line ≡ true
 is_fault-opens line e one =
     and_from (begins_so (codes "fault") line) (is_one_line line) (bytes_eq-comm (take 6 line) (codes "fault ") ∙ e) one

@@ -6,7 +6,6 @@ use Rattle.lot_plan.specs.Bound.{Bound}
 use Rattle.site_meaning.specs.Part.{Part}
 use Rattle.fault_grade.specs.Grade.{first, first_part, nets_in, grade_of}
 use Rattle.fault_grade.specs.Run.{cut_at, run_of}
-use Rattle.fault_grade.specs.declared.graded.Grade.{Grade}
 use Rattle.fault_grade.specs.declared.graded.Graded.{Graded}
 use Rattle.fault_grade.proofs.RunLemmas.{joined-none, joined-next, joined-all, run-all}
 use Rattle.grade_listing.specs.GradeText.{grade_text}

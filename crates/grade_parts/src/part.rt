@@ -1,6 +1,7 @@
 //! A part of a grade.
 
 ghost use Rattle.std.specs.Prelude.{◌≡◌, ◌+◌, ◌<◌, ◌≤◌, IfOk};
+ghost use Rattle.text_bytes.specs.Limits.{most_parts};
 ghost use Rattle.plan_rows.specs.Rows.{sites_of};
 ghost use Rattle.fault_grade.specs.Run.{cut_at};
 ghost use Rattle.grade_parts.specs.Part.{part_grade};
@@ -15,7 +16,7 @@ use tester_types::NoMemory;
 fn cut_at(faults: u32, parts: u16, part: u16) -> u32
     requires faults { faults ≤ 131072 }
     requires some { 0 < parts }
-    requires part { part ≤ 4096 }
+    requires part { part ≤ most_parts }
     ensures { result ≡ cut_at faults parts part }
 {
     faults * u32::from(part) / u32::from(parts)
@@ -33,7 +34,7 @@ pub fn grade_part(
     requires die { 0 < sites_of plan.now.rows }
     requires one_program { plan.now.program ≡ code.now }
     requires some { 0 < parts }
-    requires few { parts ≤ 4096 }
+    requires few { parts ≤ most_parts }
     requires part { part < parts }
     ensures { IfOk result (λ grade. grade ≡ part_grade plan.now parts part) }
 {

@@ -11,3 +11,6 @@ pub use command_line::words;
 pub use desk::FileDesk;
 pub use shelf::FileShelf;
 pub use sink::WriterSink;
+
+/// How many bytes of output are written at a time.
+pub const HELD_BACK: usize = 65_536;

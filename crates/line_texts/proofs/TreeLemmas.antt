@@ -1,15 +1,14 @@
 -- The tokens of statements that fit are these statements.
-use Rattle.std.proofs.Common.{◌≡◌, ℕ, suc, ◌+◌, ◌<◌, Bool, true, false, not, ◌&&◌, ◌||◌, List, [], ◌∷◌, ◌++◌, length, refl, sym, ap, subst, ◌∙◌, arith, length-append, ltb}
+use Rattle.std.proofs.Common.{◌≡◌, ℕ, suc, ◌+◌, true, not, ◌&&◌, List, [], ◌∷◌, ◌++◌, length, refl, sym, ap, subst, ◌∙◌, arith, ltb}
 use Rattle.std.specs.Prelude.{nat_lt}
-use Rattle.std.proofs.lemmas.Bool.{and_parts, or_from, not-true, ltb-true, cases_Bool}
+use Rattle.std.proofs.lemmas.Bool.{and_parts, or_from, not-true, ltb-true}
 use Rattle.std.specs.List.{list_any}
-use Rattle.stil_lex.specs.Pieces.{Piece, gap, token, spelling}
+use Rattle.stil_lex.specs.Pieces.{Piece, gap, token}
 use Rattle.stil_lex.specs.Tokens.{spelled, token_at, tokens_of}
 use Rattle.stil_lex.specs.declared.token.Token.{Token}
-use Rattle.stil_lex.specs.declared.token.TokenKind.{TokenKind}
 use Rattle.stil_lex.specs.declared.token.TokenKind.TheVariants.{Sign}
 use Rattle.stil_lex.proofs.Loop.{tokens_of-append}
-use Rattle.stil_tree.specs.Signs.{semicolon, open_brace, close_brace, is_kind, is_delimiter}
+use Rattle.stil_tree.specs.Signs.{semicolon, open_brace, close_brace, is_delimiter}
 use Rattle.stil_tree.specs.Trees.{Trees}
 use Rattle.stil_tree.specs.Grammar.{most_levels, AreHead, ParsesAt, ParsesAt.nothing, ParsesAt.ended, ParsesAt.nested}
 use Rattle.line_texts.specs.Said.{Said, no_more, space, statement, braced, a_sign, pieces_of, count_of, trees_at}

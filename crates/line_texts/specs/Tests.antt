@@ -3,12 +3,12 @@ use Rattle.std.specs.Prelude.{ℕ, suc, Bool, true, false, not, ◌&&◌, ◌||�
 use Rattle.stil_lex.specs.Bytes.{double_quote, single_quote}
 use Rattle.stil_lex.specs.Pieces.{Piece, gap, token}
 use Rattle.stil_lex.specs.Tokens.{spelled}
-use Rattle.stil_lex.specs.Slow.{gap_test, word_test, quoted_test, sign_test, sign_byte_test}
+use Rattle.stil_lex.specs.Slow.{gap_test, word_test, quoted_test, sign_byte_test}
 use Rattle.stil_lex.specs.declared.token.TokenKind.{TokenKind}
 use Rattle.stil_lex.specs.declared.token.TokenKind.TheVariants.{Word, Name, Text, Sign}
 use Rattle.stil_tree.specs.Signs.{semicolon, open_brace, close_brace, is_kind}
 use Rattle.stil_tree.specs.Grammar.{most_levels}
-use Rattle.line_texts.specs.Said.{Said, no_more, space, statement, braced, pieces_of, count_of}
+use Rattle.line_texts.specs.Said.{Said, no_more, space, statement, braced, count_of}
 
 -- a text that is a sign of this byte
 abbrev pub is_sign_text : ℕ → List ℕ → List ℕ → Bool

@@ -9,7 +9,7 @@ use Rattle.datalog.specs.DatalogText.{die_line, bin_line}
 use Rattle.part_lines.specs.Lines.{is_one_line, ended, lines_in}
 use Rattle.part_lines.specs.Reading.{Reading, IsNext, HasRead, FaultFrom}
 use Rattle.part_lines.specs.declared.fault.LineFault.{LineFault}
-use Rattle.part_lines.specs.declared.fault.LineFault.TheVariants.{NoMemory, Line}
+use Rattle.part_lines.specs.declared.fault.LineFault.TheVariants.{Line}
 use Rattle.part_lines.proofs.LineLemmas.{lines_more, lines_ended}
 use Rattle.part_lines.proofs.FaultLemmas.{goes_on_more}
 use Rattle.part_lines.proofs.HasReadLemmas.{read_none, read_more, read_as, fault_from_behind, fault_here}
@@ -35,11 +35,6 @@ body_more before between now body line are is first second = (
     flat_more : (body : List (List ℕ)) → flat_map ended (body ++ line ∷ []) ≡ flat_map ended body ++ ended line
     flat_more [] = append-nil (ended line)
     flat_more (l ∷ body) = ap (λ t. ended l ++ t) (flat_more body) ∙ sym (append_assoc (ended l) (flat_map ended body) (ended line))
-
--- no memory is a fault of any text
-pub no_memory_from : (Whole : List ℕ → Type 0) (at : Reading) (e : LineFault) → e ≡ NoMemory → FaultFrom Whole at e
-no_memory_from Whole at e is =
-    let none : FaultFrom Whole at NoMemory = tt in subst (λ (f : LineFault). FaultFrom Whole at f) (sym is) none
 
 -- the line of the die isn't there
 pub die_stops : (name : List ℕ) (at : Reading) (e : LineFault) → is_one_line name ≡ true → e ≡ Line (lines_in at.front + 1) →

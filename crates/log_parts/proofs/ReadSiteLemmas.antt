@@ -53,17 +53,6 @@ site_read number names a b c olds news left len first dies is size = record {
       let sum = length-append b.front (dies_text names dies.logs) in omega arith);
 }
 
--- the part of what was left that was read lies within it
-pub left_within : (b c : Reading) (text left : List ℕ) → HasRead b c text → left ≡ b.rest →
-    (length b.front ≤ length c.front) × (length c.front - length b.front ≤ length left)
-left_within b c text left read is =
-    let front : length c.front ≡ length (b.front ++ text) = ap length read.front in
-    let rest : length b.rest ≡ length (text ++ c.rest) = ap length read.rest in
-    let same : length left ≡ length b.rest = ap length is in
-    let x = length-append b.front text in
-    let y = length-append text c.rest in
-    (omega arith, omega arith)
-
 -- ---- sites
 
 -- the lines of one site more

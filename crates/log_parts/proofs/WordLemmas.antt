@@ -1,15 +1,15 @@
 -- The words of the lines of a datalog: each is one line, and tells what it is.
-use Rattle.std.proofs.Common.{◌≡◌, ℕ, ◌+◌, ◌≤◌, Bool, true, false, List, ◌++◌, refl, sym, ap, ◌∙◌, arith, codes}
-use Rattle.std.specs.Prelude.{decimal, ◌&&◌, ◌||◌}
+use Rattle.std.proofs.Common.{◌≡◌, ℕ, ◌+◌, ◌≤◌, Bool, true, false, List, ◌++◌, refl, arith, codes}
+use Rattle.std.specs.Prelude.{decimal, ◌&&◌}
 use Rattle.std.proofs.lemmas.Bool.{and_parts, false≢true}
 use Rattle.std.proofs.lemmas.Fmt.{decimal_injective}
 use Rattle.std.proofs.lemmas.List.{append_cancel_left}
 use Rattle.tester_types.specs.Printing.{printed_name}
 use Rattle.plan_rows.specs.Limits.{last_bin}
-use Rattle.part_lines.specs.Lines.{is_one_line, begins_so}
+use Rattle.part_lines.specs.Lines.{is_one_line}
 use Rattle.part_lines.proofs.LineLemmas.{one_append, one_decimal, one_printed}
 use Rattle.log_parts.specs.Log.{is_body_line}
-use Rattle.log_parts.specs.Step.{site_words, bin_words, IsBinLine}
+use Rattle.log_parts.specs.Step.{site_words, bin_words}
 
 -- the line of a site
 pub one_site : (number : ℕ) → is_one_line (site_words number) ≡ true
@@ -38,10 +38,6 @@ one_body line is = (and_parts _ (is_one_line line) is).1
 pub bin_is_no_body : (bin : ℕ) → is_body_line (bin_words bin) ≡ true → ⊥
 bin_is_no_body bin is = false≢true is
 
--- nor is the line that says so
-pub no_body_line : (line : List ℕ) → IsBinLine line → is_body_line line ≡ true → ⊥
-no_body_line line says is = bin_is_no_body says.bin (ap is_body_line (sym says.is) ∙ is)
-
 -- the words of a bin tell it
 pub one_bin_said : (a b : ℕ) → a ≤ last_bin → b ≤ last_bin → bin_words a ≡ bin_words b → a ≡ b
 one_bin_said a b p q e =
@@ -50,10 +46,3 @@ one_bin_said a b p q e =
 and_true : (b : Bool) → (b && true) ≡ b
 and_true true = refl
 and_true false = refl
-
--- a line that tells so is one of the body
-pub body_told : (line : List ℕ) → is_one_line line ≡ true →
-    is_body_line line ≡ (begins_so (codes "try") line || begins_so (codes "fail") line || begins_so (codes "verdict") line)
-body_told line one =
-    let told : Bool = begins_so (codes "try") line || begins_so (codes "fail") line || begins_so (codes "verdict") line in
-    ap (λ t. told && t) one ∙ and_true told

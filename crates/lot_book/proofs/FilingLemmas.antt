@@ -1,12 +1,12 @@
 -- A share that takes a book, writes a record in it and gives it back.
-use Rattle.std.proofs.Common.{◌≡◌, ℕ, ◌<◌, List, [], ◌∷◌, ◌++◌, None, length, slice_index, sym, ap, ◌∙◌, subst, arith}
+use Rattle.std.proofs.Common.{◌≡◌, ℕ, ◌<◌, List, [], ◌∷◌, ◌++◌, None, length, slice_index, sym, ap, ◌∙◌, arith}
 use Rattle.atomic_table.specs.Table.{Me, rest}
 use Rattle.tester_types.specs.Records.{SiteRecords}
 use Rattle.tester_types.specs.declared.record.Record.{Record}
 use Rattle.floor_core.specs.Book.{at_site, places_of, places_in, filed}
 use Rattle.floor_core.proofs.BookLemmas.{slice_index-places_in, places_in-filed, at_site-filed, at_site-filed_elsewhere}
 use Rattle.lot_book.specs.Rule.{as_share}
-use Rattle.lot_book.specs.Steps.{holding, IsBookOf, DiffersAt, HasTaken, HoldsBook, HasRoom, HasChanged, HasWritten, given, in_hand, after_filing}
+use Rattle.lot_book.specs.Steps.{IsBookOf, HasTaken, HoldsBook, HasRoom, HasWritten, given, in_hand, after_filing}
 use Rattle.lot_book.specs.declared.view.View.{View}
 use Rattle.lot_book.specs.declared.view.View.TheVariants.{Share}
 use Rattle.lot_book.specs.declared.view.ShareView.{ShareView}
@@ -40,35 +40,6 @@ is_written me v entry book after taken known same site room =
           ∙ ap (λ k. (at_site (filed book entry) k).records) (sym site)
           ∙ ap (λ (s : SiteRecords). s.records) (at_site-filed book entry spare)
           ∙ ap (λ l. l ++ entry ∷ []) (ap (λ k. (at_site book k).records) site ∙ known.records),
-    )
-
--- what a share holds by its own view
-pub holds_by_view : (me : Me (List SiteRecords) View) (v : ShareView) → HoldsBook me v → HoldsBook me (as_share me.0)
-holds_by_view me v holds =
-    let book = holds.0 in
-    let view : as_share me.0 ≡ holding v book = ap (λ m. as_share m.0) holds.1 in (
-      book,
-      holds.1 ∙ ap (λ u. (Share (holding u book), (0, book) ∷ [])) (sym view),
-      subst (λ (u : ShareView). IsBookOf u book) (sym view) (record { places = holds.2.places; records = holds.2.records }),
-    )
-
--- its site and its room are as before
-pub site_by_view : (me : Me (List SiteRecords) View) (v : ShareView) → HoldsBook me v → (as_share me.0).site ≡ v.site
-site_by_view me v holds = ap (λ m. (as_share m.0).site) holds.1
-
-pub room_by_view : (me : Me (List SiteRecords) View) (v : ShareView) → HoldsBook me v → HasRoom v → HasRoom (as_share me.0)
-room_by_view me v holds room = subst HasRoom (sym (ap (λ m. as_share m.0) holds.1)) room
-
--- what a share has changed by its own view
-pub changed_by_view : (me : Me (List SiteRecords) View) (v : ShareView) (entry : Record) → HasWritten me v entry
-    → HasChanged me (as_share me.0)
-changed_by_view me v entry written =
-    let taken = written.0 in
-    let view : as_share me.0 ≡ holding v taken = ap (λ m. as_share m.0) written.2 in (
-      taken,
-      written.1,
-      written.2 ∙ ap (λ u. (Share (holding u taken), (0, written.1) ∷ [])) (sym view),
-      subst (λ (u : ShareView). DiffersAt u.site taken written.1) (sym view) written.3,
     )
 
 -- a share that took the book, wrote a record and gave the book back has filed the record

@@ -55,10 +55,6 @@ pub record AreRead (texts : List (List ℕ)) (number : ℕ) (logs : List GradeLo
   pub long : length front ≡ number
   pub are : AreLogTexts front logs
 
--- none is at first
-pub none_read : (texts : List (List ℕ)) → AreRead texts 0 []
-none_read texts = record { front = []; split = refl; long = refl; are = tt }
-
 -- one text more
 logs_push : (texts : List (List ℕ)) (text : List ℕ) (logs : List GradeLog) (log : GradeLog) → AreLogTexts texts logs → IsLog text log
     → AreLogTexts (texts ++ text ∷ []) (logs ++ log ∷ [])

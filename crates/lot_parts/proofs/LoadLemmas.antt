@@ -1,7 +1,7 @@
 -- The texts of parts that are loaded one after another are those of all files, or one of them isn't loaded.
 use Rattle.std.proofs.Common.{◌≡◌, ℕ, ◌+◌, ◌<◌, ◌≤◌, List, [], ◌∷◌, ◌++◌, length, drop, get_or, Option, Some, None, Err, refl, sym, ap, ◌∙◌, subst, append_assoc, arith, inl, inr, String, string_bytes, Vec}
 use Rattle.std.specs.declared.alloc.Global.{Global}
-use Rattle.std.proofs.lemmas.List.{append-nil, drop_all, length-map, get_or-map, map-append}
+use Rattle.std.proofs.lemmas.List.{append-nil, drop_all, length-map, get_or-map}
 use Rattle.text_bytes.proofs.ListLemmas.{split_more}
 use Rattle.tester_types.specs.Outside.{Files, TellsFile, Loads, FailsBy}
 use Rattle.tester_types.specs.declared.outside.ShelfFault.{ShelfFault}
@@ -87,10 +87,6 @@ pub record AreLoaded (told : Option Files) (files : List (List ℕ)) (number : �
   pub split : files ≡ front ++ drop number files
   pub are : ArePartFiles told front texts
 
--- none is at first
-pub none_loaded : (told : Option Files) (files : List (List ℕ)) → AreLoaded told files 0 []
-none_loaded told files = record { front = []; split = refl; are = tt }
-
 -- with the next one
 pub next_loaded : (told told' : Option Files) (files : List (List ℕ)) (number : ℕ) (texts texts' : List (List ℕ)) (file : List ℕ)
     → number < length files → file ≡ get_or files number file → told' ≡ told → AreLoaded told files number texts
@@ -118,11 +114,6 @@ pub next_unloaded : (told told' : Option Files) (b b' n : ℕ) (files : List (Li
 next_unloaded told told' b b' n files number texts file r within is same low between read why =
     of_file read.front (drop (number + 1) files) file (split_more files read.front number file within is read.split) texts read.are
     (wide-unloaded told file b b' n n r low between (omega arith) (subst (λ (t : Option Files). IsUnloaded t b' n file r) same why))
-
--- one text more
-pub texts_push : (texts texts' : List (Vec ℕ Global)) (text : Vec ℕ Global) → texts' ≡ texts ++ text ∷ []
-    → texts_seen texts' ≡ texts_seen texts ++ text.items ∷ []
-texts_push texts texts' text more = ap texts_seen more ∙ map-append (λ (t : Vec ℕ Global). t.items) texts (text ∷ [])
 
 -- the text at a place
 pub text_at : (texts : List (Vec ℕ Global)) (number : ℕ) (item : Vec ℕ Global) (seen : List ℕ) → number < length texts

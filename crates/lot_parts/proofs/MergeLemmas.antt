@@ -97,10 +97,6 @@ pub record AreRead (rows : List Row) (parts : ℕ) (texts : List (List ℕ)) (nu
   pub long : length front ≡ number
   pub are : AreSliced rows parts 0 front slices
 
--- none is at first
-pub none_read : (rows : List Row) (parts : ℕ) (texts : List (List ℕ)) → AreRead rows parts texts 0 []
-none_read rows parts texts = record { front = []; split = refl; long = refl; are = tt }
-
 -- one text more
 slices_push : (rows : List Row) (parts part : ℕ) (texts : List (List ℕ)) (text : List ℕ) (slices : List SlicedLog) (slice : SlicedLog)
     → AreSliced rows parts part texts slices → IsSliced (names_in parts (part + length texts) rows) text slice

@@ -1,6 +1,6 @@
 -- The names of the dies of a part as they are gathered, site by site, and how many sites there are.
 use Rattle.std.proofs.Common.{◌≡◌, ℕ, ◌+◌, ◌*◌, ◌<◌, ◌≤◌, List, [], ◌∷◌, ◌++◌, length, map, get_or, sym, ap, ◌∙◌, arith, Vec, cond, Bool, ◌==◌}
-use Rattle.std.specs.Prelude.{filter, slice_index_or, Option, None}
+use Rattle.std.specs.Prelude.{filter, slice_index_or}
 use Rattle.std.specs.List.{range_with_len}
 use Rattle.std.specs.Borrow.{Bor}
 use Rattle.std.specs.declared.alloc.Global.{Global}
@@ -47,11 +47,6 @@ pub name_elsewhere : (site : ℕ) (x : Row) (d : DieRow) → x ≡ row.Die d →
 name_elsewhere site x d is other =
     ap (λ (r : Row). names_at site (r ∷ [])) is
     ∙ ap (λ (b : Bool). map (λ (e : DieRow). e.name) (cond b (d ∷ []) [])) (ne_eqb d.site site other)
-
--- no die
-pub name_none : (site : ℕ) (x : Row) → as_die x ≡ None → names_at site (x ∷ []) ≡ []
-name_none site x none =
-    ap (λ (o : Option DieRow). map (λ (e : DieRow). e.name) (filter (λ (e : DieRow). e.site == site) (one o ++ []))) none
 
 -- ---- the names of a site
 

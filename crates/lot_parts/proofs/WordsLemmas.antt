@@ -5,8 +5,9 @@ use Rattle.std.specs.declared.alloc.Global.{Global}
 use Rattle.std.specs.Cmp.Lexicographic.{pointwise, bytes_decides}
 use Rattle.std.proofs.lemmas.Fmt.{decimal_injective}
 use Rattle.std.proofs.lemmas.List.{length-map}
+use Rattle.text_bytes.specs.Limits.{most_parts}
 use Rattle.text_bytes.proofs.ListLemmas.{one_item, three_items, four_items}
-use Rattle.lot_parts.specs.Words.{words_seen, most_parts, ArePart, AreParts, AreCut, AreMerge, AreGrade, AreMergeGrade}
+use Rattle.lot_parts.specs.Words.{words_seen, ArePart, AreParts, AreCut, AreMerge, AreGrade, AreMergeGrade}
 
 -- the first of some words
 abbrev first_word : List (List ℕ) → List ℕ

@@ -1,15 +1,11 @@
 -- The words of the command line.
 use Rattle.std.specs.Prelude.{◌≡◌, ℕ, ◌<◌, ◌≤◌, List, [], ◌∷◌, ◌+◌, length, map, codes, decimal, String, string_bytes}
 use Rattle.std.specs.declared.alloc.Global.{Global}
-use Rattle.lot_parts.specs.declared.words.TheConstants.{MOST_PARTS}
+use Rattle.text_bytes.specs.Limits.{most_parts}
 
 -- words without where they lie in memory
 abbrev pub words_seen : List (String Global) → List (List ℕ)
 words_seen words = map string_bytes words
-
--- the most parts
-abbrev pub most_parts : ℕ
-most_parts = MOST_PARTS
 
 -- part `part`, counted from 0, of so many
 pub record IsPart (parts part : ℕ) : Type 0 where

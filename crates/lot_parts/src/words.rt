@@ -1,13 +1,12 @@
 //! What the words of the command line ask for.
 
 ghost use Rattle.std.specs.Prelude.{◌≡◌, ◌<◌, ◌≤◌, ◌↔◌, ◌∷◌, [], ℕ, List, IfSome, IfNone, IsTrue, decimal, length};
-ghost use Rattle.lot_parts.specs.Words.{words_seen, most_parts, IsPart, ArePart, AreParts, AreCut, AreMerge, AreGrade, AreMergeGrade};
+ghost use Rattle.text_bytes.specs.Limits.{most_parts};
+ghost use Rattle.lot_parts.specs.Words.{words_seen, IsPart, ArePart, AreParts, AreCut, AreMerge, AreGrade, AreMergeGrade};
 ghost use Rattle.lot_parts.specs.Jobs.{IsJob};
 
 use itoa::Buffer;
-
-/// The most parts.
-const MOST_PARTS: u16 = 4096;
+use text_bytes::MOST_PARTS;
 
 /// A part, counted from 0, of so many.
 #[derive(Clone, Copy)]

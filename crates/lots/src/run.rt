@@ -1,13 +1,10 @@
 //! The command that the command line names, run.
 
-use host_files::{FileShelf, WriterSink, words};
+use host_files::{FileShelf, HELD_BACK, WriterSink, words};
 use lot_parts::{Outcome, Status, divide, out_of_memory};
 use std::io::{self, BufWriter};
 use std::rt::{Env, Files};
 use tester_types::Sink;
-
-/// How many bytes of output are written at a time.
-const HELD_BACK: usize = 65_536;
 
 /// Runs the command that the command line names, over a sink.
 fn run_over<R: Files + Env + AllocGlobal, K: Sink>(rt: &R, sink: &mut K) -> Outcome {

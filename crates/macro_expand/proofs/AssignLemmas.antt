@@ -1,5 +1,5 @@
 -- Assignments in text order.
-use Rattle.std.proofs.Common.{◌≡◌, ℕ, ◌+◌, true, false, List, [], ◌∷◌, ◌++◌, Option, Some, None, refl, ap, sym, ◌∙◌, subst, length, append-nil, append_assoc, Vec, Global}
+use Rattle.std.proofs.Common.{◌≡◌, ℕ, ◌+◌, true, List, [], ◌∷◌, ◌++◌, Option, Some, None, refl, ap, sym, ◌∙◌, subst, length, append-nil, append_assoc}
 use Rattle.std.specs.Prelude.{Result, Ok, Err}
 use Rattle.stil_ast.specs.Data.Places.{Titles}
 use Rattle.stil_ast.specs.Meaning.Arguments.{Argument}
@@ -10,27 +10,20 @@ use Rattle.stil_ast.specs.Meaning.Statements.{Assign, Item}
 use Rattle.stil_ast.specs.Meaning.Dealing.{Gift, deal, deal_pairs, spread, hashed, takers}
 use Rattle.stil_ast.specs.Meaning.Flattening.{gifts_front}
 use Rattle.stil_ast.specs.Meaning.Resolved.{Scope, resolved_assign, resolved_assigns}
-use Rattle.stil_ast.specs.Faults.AssignmentFaults.{Walked, Checked, refused, then_check, rule, rule_kind, Standing, fault_on, may_walk, check_assign, check_assigns}
+use Rattle.stil_ast.specs.Faults.AssignmentFaults.{Walked, Checked, then_check, rule, rule_kind, Standing, fault_on, may_walk, check_assign, check_assigns}
 use Rattle.stil_ast.specs.declared.body.Assignment.{Assignment}
 use Rattle.stil_ast.specs.declared.fault.StilFault.{StilFault}
 use Rattle.stil_ast.specs.declared.fault.StilKind.{StilKind}
 use Rattle.stil_ast.specs.declared.fault.StilKind.TheVariants.{TooLarge}
-use Rattle.macro_expand.specs.declared.pairing.Pair.{Pair}
 use Rattle.macro_expand.specs.declared.references.References.{References}
 use Rattle.answers.specs.declared.short.Short.TheVariants.{NoMemory, Fault}
 use Rattle.macro_expand.specs.declared.walk.Walk.{Walk}
 use Rattle.macro_expand.specs.Placing.{placed, placed_from, assign_of, Writes}
-use Rattle.macro_expand.specs.Refusing.{IsAt, Trouble}
+use Rattle.macro_expand.specs.Refusing.{Trouble}
 use Rattle.macro_expand.specs.Stepping.{WritesOr, IsAssigning}
 use Rattle.macro_expand.specs.Walks.{walked, then_kept}
 use Rattle.macro_expand.proofs.FlatLemmas.{gifts_front-append}
-use Rattle.macro_expand.proofs.PlaceLemmas.{ruled_out, not_ruled_out}
-
--- a reference that has a fault
-pub kind_refused : (kind : Option StilKind) (k : StilKind) (fault : StilKind → StilFault) (next : Walked → Checked) (w : Walked)
-    → kind ≡ Some k → rule_kind kind fault next w ≡ refused (fault k)
-kind_refused None k fault next w e = cc
-kind_refused (Some kind) k fault next w e = ap (λ (x : Option StilKind). rule_kind x fault next w) e
+use Rattle.macro_expand.proofs.PlaceLemmas.{not_ruled_out}
 
 pub kind_passes : (kind : Option StilKind) (fault : StilKind → StilFault) (next : Walked → Checked) (w : Walked)
     → kind ≡ None → rule_kind kind fault next w ≡ next w
@@ -43,27 +36,12 @@ behind_reference sc s d w =
     rule (may_walk (w.count + length (resolved_assign sc.names d).signals)) (fault_on sc s d.line TooLarge)
     (placed_from sc s d.line (resolved_assign sc.names d) w) w
 
-pub assign_unknown : (sc : Scope) (s : Standing) (d : Assignment) (w : Walked) (kind : StilKind)
-    → reference_kind sc.names d.reference ≡ Some kind → check_assign sc s d w ≡ refused (fault_on sc s d.line kind)
-assign_unknown sc s d w kind e =
-    kind_refused (reference_kind sc.names d.reference) kind (fault_on sc s d.line)
-    (rule (may_walk (w.count + length (resolved_assign sc.names d).signals)) (fault_on sc s d.line TooLarge)
-    (placed_from sc s d.line (resolved_assign sc.names d) w)) w e
-
 behind_kind : (sc : Scope) (s : Standing) (d : Assignment) (w : Walked) → reference_kind sc.names d.reference ≡ None
     → check_assign sc s d w ≡ behind_reference sc s d w
 behind_kind sc s d w e =
     kind_passes (reference_kind sc.names d.reference) (fault_on sc s d.line)
     (rule (may_walk (w.count + length (resolved_assign sc.names d).signals)) (fault_on sc s d.line TooLarge)
     (placed_from sc s d.line (resolved_assign sc.names d) w)) w e
-
-pub assign_large : (sc : Scope) (s : Standing) (d : Assignment) (w : Walked) → reference_kind sc.names d.reference ≡ None
-    → may_walk (w.count + length (resolved_assign sc.names d).signals) ≡ false
-    → check_assign sc s d w ≡ refused (fault_on sc s d.line TooLarge)
-assign_large sc s d w known e =
-    behind_kind sc s d w known
-    ∙ ruled_out (may_walk (w.count + length (resolved_assign sc.names d).signals)) (fault_on sc s d.line TooLarge)
-    (placed_from sc s d.line (resolved_assign sc.names d) w) w e
 
 pub assign_known : (sc : Scope) (s : Standing) (d : Assignment) (w : Walked) → reference_kind sc.names d.reference ≡ None
     → may_walk (w.count + length (resolved_assign sc.names d).signals) ≡ true
@@ -97,13 +75,6 @@ assigned sc s d runs signals before after r items known few h =
     (assign_known sc s d (walked before) known.0 (ap (λ (xs : List ℕ). may_walk (before.count + length xs)) (sym known.1) ∙ few))
     (subst (λ (a : Assign). WritesOr sc.titles (placed sc s d.line a) (a ∷ []) before after r) same h)
 
--- one that is beyond it
-pub assigned_large : (sc : Scope) (s : Standing) (d : Assignment) (signals : List ℕ) (w : Walked)
-    → (reference_kind sc.names d.reference ≡ None) × (signals ≡ members sc.names d.reference)
-    → may_walk (w.count + length signals) ≡ false → check_assign sc s d w ≡ refused (fault_on sc s d.line TooLarge)
-assigned_large sc s d signals w known e =
-    assign_large sc s d w known.0 (ap (λ (xs : List ℕ). may_walk (w.count + length xs)) (sym known.1) ∙ e)
-
 -- whichever places of references were noted before, the same is written
 pub writes_noted : {A : Type 0} (titles : Titles) (check : Walked → Checked) (assigns : List Assign) (before after : Walk)
     (references : References) (r : Result A Trouble) → WritesOr titles check assigns (record before { references = references }) after r
@@ -124,10 +95,6 @@ pub takers-first : (a : Assign) (rest : List Assign) → takers (a ∷ rest) ≡
 takers-first a rest = ap (λ xs. xs ++ takers rest) (sym (append-nil (hashed a.signals (spread a.signals a.items))))
 
 module _ (sc : Scope) (s : Standing) (all : List Assignment) (start : Walk) where
-  -- none of them yet, whichever pairs are at hand
-  pub assigning_starts : (pairs : Vec Pair Global) → IsAssigning sc s all start all (record start { pairs = pairs })
-  assigning_starts pairs = record { checked = refl; args = refl; out = λ more. refl; taken = refl }
-
   -- one of them more
   pub assigning_step : (d : Assignment) (left : List Assignment) (now after : Walk)
       → IsAssigning sc s all start (d ∷ left) now
@@ -149,21 +116,3 @@ module _ (sc : Scope) (s : Standing) (all : List Assignment) (start : Walk) wher
         taken = ap (λ xs. xs ++ takers rest) e.taken ∙ append_assoc now.taken (takers (a ∷ [])) (takers rest)
             ∙ ap (λ xs. now.taken ++ xs) (sym (takers-first a rest)) ∙ before.taken;
       }
-
-  -- one that has a fault
-  pub assigning_refused : (titles : Titles) (d : Assignment) (left : List Assignment) (now : Walk) (trouble : Trouble)
-      → IsAssigning sc s all start (d ∷ left) now → IsAt titles (check_assign sc s d (walked now)) trouble
-      → IsAt titles (check_assigns sc s all (walked start)) trouble
-  assigning_refused titles d left now NoMemory before e = tt
-  assigning_refused titles d left now (Fault at) before e =
-      sym before.checked ∙ ap (λ (c : Checked). then_check c (check_assigns sc s left)) e
-
-  -- all of them, whichever pairs are at hand behind them
-  pub assigning_ends : (now : Walk) (pairs : Vec Pair Global) → IsAssigning sc s all start [] now
-      → Writes (check_assigns sc s all) (resolved_assigns sc.names all) start (record now { pairs = pairs })
-  assigning_ends now pairs e = record {
-    checked = sym e.checked;
-    args = e.args;
-    out = e.out;
-    taken = sym (append-nil now.taken) ∙ e.taken;
-  }

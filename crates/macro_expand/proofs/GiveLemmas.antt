@@ -84,9 +84,6 @@ module _ (sc : Scope) (s : Standing) (d : Assignment) (runs : List ItemRun) (sig
       ∙ ap (λ (xs : List Item). argument_fits (record { signals = signals; items = xs })) items
       ∙ argument_width signals runs
 
-  pub argument_large : may_walk (w.count + length signals) ≡ false → check_argument sc s d w ≡ refused (fault_on sc s d.line TooLarge)
-  argument_large e = behind_kind ∙ ruled_out limit (fault_on sc s d.line TooLarge) form_rule w (sym is_limit ∙ e)
-
   behind_limit : may_walk (w.count + length signals) ≡ true → check_argument sc s d w ≡ form_rule w
   behind_limit few = behind_kind ∙ not_ruled_out limit (fault_on sc s d.line TooLarge) form_rule w (sym is_limit ∙ few)
 

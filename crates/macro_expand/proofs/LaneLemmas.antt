@@ -52,12 +52,6 @@ no_given xs lane past =
 no_front : (xs : List Entry) (lane : Lane) → lane.front ≡ 0 → left_of xs lane ≡ behind xs lane
 no_front xs lane none = ap (λ (n : ℕ). replicate n padding ++ behind xs lane) none
 
--- padding stands first
-pub front-first : (xs : List Entry) (lane : Lane) → 0 < lane.front
-    → left_of xs lane ≡ padding ∷ left_of xs (record lane { front = lane.front - 1 })
-front-first xs lane some =
-    ap (λ (n : ℕ). replicate n padding ++ behind xs lane) (let e : lane.front ≡ suc (lane.front - 1) = omega arith in e)
-
 -- a character stands first, and the next one is a width behind it
 pub given-first : (xs : List Entry) (lane : Lane) (top : ℕ) → Fits xs lane → lane.front ≡ 0 → lane.place < lane.end
     → lane.end ≤ top

@@ -13,7 +13,7 @@ use Rattle.stil_ast.specs.Faults.PatternFaults.{inside_body, same_callee, back_f
 use Rattle.stil_ast.specs.declared.body.Assignment.{Assignment}
 use Rattle.stil_ast.specs.declared.blocks.BodyDef.{BodyDef}
 use Rattle.stil_ast.specs.declared.fault.StilKind.TheVariants.{TooLarge, ShiftForm, UnknownName, Cyclic}
-use Rattle.macro_expand.proofs.PlaceLemmas.{barred, not_barred, ruled_out, not_ruled_out}
+use Rattle.macro_expand.proofs.PlaceLemmas.{barred, not_barred, not_ruled_out}
 
 -- where the first item passes a test, or doesn't
 first-passes : {A : Type 0} (test : A → Bool) (x : A) (xs : List A) → test x ≡ true → position_or_len test (x ∷ xs) ≡ 0
@@ -78,17 +78,6 @@ table_missed tables i n name at e =
 module _ (sc : Scope) (check : Standing → Written → Walked → Checked) (s : Standing) (line : ℕ) (c : Callee) (assigns : List Assignment) (w : Walked) where
   abbrev form : Walked → Checked
   form = bar_if s.in_shift (fault_on sc s line ShiftForm) (check_body sc check s line c assigns c.found)
-
-  -- a call that goes too deep
-  pub call_deep : nat_lt s.calls deepest_calls ≡ false → check_call sc check s line c assigns w ≡ refused (fault_on sc s line TooLarge)
-  call_deep e = ruled_out (nat_lt s.calls deepest_calls) (fault_on sc s line TooLarge) form w e
-
-  -- a call in a Shift
-  pub call_shifted : nat_lt s.calls deepest_calls ≡ true → s.in_shift ≡ true
-      → check_call sc check s line c assigns w ≡ refused (fault_on sc s line ShiftForm)
-  call_shifted few e =
-      not_ruled_out (nat_lt s.calls deepest_calls) (fault_on sc s line TooLarge) form w few
-      ∙ barred s.in_shift (fault_on sc s line ShiftForm) (check_body sc check s line c assigns c.found) w e
 
   behind_form : nat_lt s.calls deepest_calls ≡ true → s.in_shift ≡ false
       → check_call sc check s line c assigns w ≡ check_body sc check s line c assigns c.found w

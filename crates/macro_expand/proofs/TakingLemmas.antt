@@ -4,7 +4,6 @@ use Rattle.stil_ast.specs.Meaning.Statements.{Item, Assign, Statements}
 use Rattle.stil_ast.specs.Meaning.Dealing.{spread, takers}
 use Rattle.stil_ast.specs.Meaning.Shift.{taking}
 use Rattle.macro_expand.specs.Pairs.{Taker, paired, hashed_in}
-use Rattle.macro_expand.proofs.AssignLemmas.{takers-first}
 use Rattle.macro_expand.proofs.PairLemmas.{takers_paired}
 
 -- those of a V or a C in front of those behind it
@@ -21,10 +20,3 @@ taken_of after before signals known items ts are pairs e =
     e ∙ ap (λ us. before ++ hashed_in us) pairs
     ∙ ap (λ xs. before ++ xs) (sym (takers_paired signals items))
     ∙ ap (λ (xs : List ℕ). before ++ takers (record { signals = xs; items = items } ∷ [])) are
-
--- those of one assignment more
-pub taken_more : (after now : List ℕ) (a : Assign) (rest : List Assign) → after ≡ now ++ takers (a ∷ [])
-    → after ++ takers rest ≡ now ++ takers (a ∷ rest)
-taken_more after now a rest e =
-    ap (λ xs. xs ++ takers rest) e ∙ append_assoc now (takers (a ∷ [])) (takers rest)
-    ∙ ap (λ xs. now ++ xs) (sym (takers-first a rest))

@@ -76,11 +76,6 @@ module _ (sc : Scope) (t : Setting) (check : Standing → Written → Walked →
     walking_refused titles step x rest now (Fault at) checks before e =
         sym before.checked ∙ checks ∙ ap (λ (c : Checked). then_check c (check_list sc check s rest)) e
 
-    -- all statements
-    pub walking_ends : (now : Walk) → IsWalking sc t check f s all start no_more now
-        → Steps (check_list sc check s all) (flat_at t f (resolved sc s.body all) start.args) start now
-    walking_ends now e = record { checked = sym e.checked; out = e.out; args = e.args }
-
     -- nothing behind a Stop is walked
     pub walking_stops : (line : ℕ) (rest : Written) (now after : Walk) → may_walk (now.count + 1) ≡ true
         → after ≡ record now { count = now.count + 1 } → IsWalking sc t check f s all start (single line Stop rest) now

@@ -7,7 +7,7 @@ ghost use Rattle.edge_gen.specs.Signals.{FitSkews};
 ghost use Rattle.edge_gen.specs.Moments.{moments_of};
 
 use crate::words::{number, word};
-use edge_gen::{Schedules, keep_inside, schedule};
+use edge_gen::{HELD_SCHEDULES, Schedules, keep_inside, schedule};
 use std::alloc::Global;
 use std::io;
 use std::io::Print;
@@ -100,7 +100,7 @@ fn lent_moments(
 ) -> Result<usize, NoMemory>
     requires { FitSkews table.now row.now skews.now }
 {
-    let mut held = Schedules::new(alloc, 64)?;
+    let mut held = Schedules::new(alloc, HELD_SCHEDULES)?;
     let mut count = 0;
     for call in 0..calls {
         count = lent(&mut held, call % 64, table, row, skews)?;

@@ -514,19 +514,6 @@ pub record IsWalked (code : List Instr) (begun : Course) (step : CourseStep) (no
   pub so_far : coming code begun ≡ given_by step ++ coming code now
   pub says : step ≡ Over → coming code now ≡ []
 
-pub walked_once : (code : List Instr) (begun : Course) (step : CourseStep) (now : Course) → Steps code begun step now → IsWalked code begun step now
-walked_once code begun (Gave entry) now s = record { on = s.on; so_far = s.given; says = λ e. absurd cc }
-walked_once code begun Moved now s = record { on = s.on; so_far = s.given; says = λ e. absurd cc }
-walked_once code begun Over now s = record { on = s.on; so_far = s.given; says = λ e. s.says }
-
-pub walked_on : (code : List Instr) (begun old : Course) (last step : CourseStep) (new : Course) → is_move last ≡ true
-    → IsWalked code begun last old → Steps code old step new → IsWalked code begun step new
-walked_on code begun old (Gave entry) step new move was s = absurd cc
-walked_on code begun old Moved step new move was s =
-    let once = walked_once code old step new s in
-    record { on = s.on; so_far = was.so_far ∙ s.given; says = once.says }
-walked_on code begun old Over step new move was s = absurd cc
-
 pub falls : (code : List Instr) (old : Course) (last step : CourseStep) (new : Course) → is_move last ≡ true → Steps code old step new
     → still code step new < still code last old
 falls code old (Gave entry) step new move s = absurd cc

@@ -9,6 +9,7 @@ use Rattle.packed_code.specs.declared.course.CourseStep.{CourseStep}
 use Rattle.packed_code.specs.declared.course.CourseStep.TheVariants.{Gave, Moved, Over}
 use Rattle.packed_code.specs.Meaning.{repeated, top, below, bodies}
 use Rattle.packed_code.specs.Whole.{IsRest}
+use Rattle.text_bytes.specs.Limits.{deepest_loops}
 
 -- the loop at a place of the array
 abbrev pub loop_at : List OpenLoop → ℕ → OpenLoop
@@ -53,8 +54,8 @@ run_times (Done ∷ code) = 0
 -- a walk stands in these instructions
 pub record IsOn (code : List Instr) (course : Course) : Type 0 where
   pub inside : course.at < length code
-  pub room : length course.loops ≡ 64
-  pub depth : course.depth ≤ 64
+  pub room : length course.loops ≡ deepest_loops
+  pub depth : course.depth ≤ deepest_loops
   pub begun : Bool
   pub rest : IsRest course.depth begun (drop course.at code)
   pub loops : AreOpen code (bodies_at code course.at) (opened course.depth course.loops)

@@ -18,7 +18,7 @@ use std::marker::Model;
 use tester_types::{Direction, Table, TableList};
 
 /// How many instructions a page holds.
-const PAGE: usize = 256;
+pub const PAGE: usize = 256;
 
 /// A compiled test program: signals, tables, rows of characters, and executives.
 #[derive(Drop)]

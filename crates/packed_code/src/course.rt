@@ -7,6 +7,7 @@ ghost use Rattle.packed_code.specs.Whole.{IsRest};
 ghost use Rattle.packed_code.specs.Course.{coming, IsOn, StandsAt, Steps};
 
 use crate::instr::{Entry, Instr};
+use text_bytes::DEEPEST_LOOPS;
 
 /// A loop that is open: the place of its body's first instruction, and how many passes follow the
 /// one that runs.
@@ -33,7 +34,7 @@ pub struct Course {
     at: usize,
     taken: u32,
     depth: usize,
-    loops: [OpenLoop; 64],
+    loops: [OpenLoop; DEEPEST_LOOPS],
 }
 
 impl Course {
@@ -46,7 +47,7 @@ impl Course {
             at: 0,
             taken: 0,
             depth: 0,
-            loops: [OpenLoop { start: 0, left: 0 }; 64],
+            loops: [OpenLoop { start: 0, left: 0 }; DEEPEST_LOOPS],
         }
     }
 

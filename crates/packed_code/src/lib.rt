@@ -15,7 +15,7 @@ mod rows;
 mod walker;
 
 pub use beginning::walk;
-pub use code::Code;
+pub use code::{Code, PAGE};
 pub use counting::cycles;
 pub use course::{Course, CourseStep};
 pub use cycle_sums::CycleSums;

@@ -1,6 +1,7 @@
 //! Reading the instructions of a saved program.
 
 ghost use Rattle.std.specs.Prelude.{◌≡◌, ◌+◌, ◌-◌, ◌<◌, ◌≤◌, ◌&&◌, ◌||◌, ◌==◌, ◌++◌, ◌∷◌, true, false, [], not, List, Ok, MatchResult, IfOk};
+ghost use Rattle.text_bytes.specs.Limits.{deepest_loops};
 ghost use Rattle.page_code.specs.Fields.{Gives, Fails, known, piece_at, items_at};
 ghost use Rattle.page_code.specs.Reading.{follows, is_bounded, instr_with, instr_at};
 ghost use Rattle.packed_code.specs.Packed.{instr_of};
@@ -51,7 +52,7 @@ impl Nest {
 
     /// The loops that are open behind one more instruction.
     fn after(self, instr: Instr) -> Nest
-        requires { self.depth ≤ 64 }
+        requires { self.depth ≤ deepest_loops }
         ensures { result ≡ record { depth = depth_after self.depth instr; begun = begins instr } }
     {
         match instr {

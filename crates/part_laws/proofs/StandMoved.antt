@@ -1,6 +1,5 @@
 -- A site under another number has the same tries, and puts the same drive calls on a tape.
 use Rattle.std.proofs.Common.{◌≡◌, ℕ, ◌<◌, List, [], ◌∷◌, ◌++◌, length, take, refl, sym, ap, ◌∙◌, subst}
-use Rattle.std.specs.Prelude.{◌-◌}
 use Rattle.std.specs.List.{AllByRecursion, flat_map}
 use Rattle.tester_types.specs.declared.record.Record.{Record}
 use Rattle.tester_types.specs.declared.record.Trial.{Trial}

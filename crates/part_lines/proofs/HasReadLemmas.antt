@@ -2,7 +2,7 @@
 use Rattle.std.proofs.Common.{◌≡◌, ℕ, ◌+◌, true, List, [], ◌++◌, refl, sym, ap, subst, ◌∙◌, arith, append_assoc}
 use Rattle.std.proofs.lemmas.List.{append-nil}
 use Rattle.text_bytes.specs.Texts.{AreLines}
-use Rattle.part_lines.specs.Lines.{is_one_line, ended, lines_in}
+use Rattle.part_lines.specs.Lines.{is_one_line, lines_in}
 use Rattle.part_lines.specs.LineFault.{IsLineFault}
 use Rattle.part_lines.specs.Reading.{Reading, IsNext, GoesOn, HasRead, FaultFrom}
 use Rattle.part_lines.specs.declared.fault.LineFault.{LineFault}
@@ -25,11 +25,6 @@ read_more before between now a b first second = record {
 -- the same bytes, by another name
 pub read_as : (before now : Reading) (a b : List ℕ) → a ≡ b → HasRead before now a → HasRead before now b
 read_as before now a b same read = subst (λ (t : List ℕ). HasRead before now t) same read
-
--- a line was passed
-pub line_passed : (before now : Reading) (line : List ℕ) → now.front ≡ before.front ++ ended line → before.rest ≡ ended line ++ now.rest →
-    HasRead before now (ended line)
-line_passed before now line front rest = record { rest = rest; front = front }
 
 -- a fault of what stands behind lines that were read is one of what stood before them
 pub fault_from_behind : (Whole Rest : List ℕ → Type 0) (before now : Reading) (text : List ℕ) (e : LineFault) → AreLines text →

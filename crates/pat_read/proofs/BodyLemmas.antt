@@ -1,5 +1,5 @@
 -- The loop over the statements of a body, and how large their blocks are.
-use Rattle.std.proofs.Common.{◌≡◌, ℕ, zero, suc, ◌+◌, ◌<◌, ◌≤◌, Bool, true, false, cond, List, [], ◌∷◌, ◌++◌, length, drop, map, get_or, Option, Some, None, Result, Ok, Err, refl, sym, ap, ◌∙◌, arith}
+use Rattle.std.proofs.Common.{◌≡◌, ℕ, zero, suc, ◌+◌, ◌<◌, ◌≤◌, Bool, false, cond, List, [], ◌∷◌, ◌++◌, length, drop, map, get_or, Option, Some, None, Result, Ok, Err, refl, sym, ap, ◌∙◌, arith}
 use Rattle.stil_tree.specs.declared.stmt.Stmt.{Stmt}
 use Rattle.stil_tree.specs.Trees.{Trees, end, plain, block, entries, entry_of, in_front, trees_from}
 use Rattle.stil_form.specs.declared.fault.FormFault.{FormFault}
@@ -38,16 +38,6 @@ pub body-at : (s : Setting) (top : Bool) (before : List PatStmt) (stmts : List S
 body-at s top before stmts i item within is =
     ap (λ ss. body_from s top before (trees_from (map entry_of ss))) (drop-item stmts i item within is)
     ∙ body-front s top before (entry_of item).first (entry_of item).count (entry_of item).body (trees_from (map entry_of (drop (i + 1) stmts)))
-
--- a statement that is skipped
-pub body_skips : (s : Setting) (top : Bool) (before : List PatStmt) (stmts : List Stmt) (i : ℕ) (item : Stmt) (whole : Result (List PatStmt) FormFault) →
-    i < length stmts → item ≡ get_or stmts i item → is_skipped s.words (lexemes_at s (entry_of item)) ≡ true →
-    body_from s top before (trees_from (map entry_of (drop i stmts))) ≡ whole →
-    body_from s top before (trees_from (map entry_of (drop (i + 1) stmts))) ≡ whole
-body_skips s top before stmts i item whole within is skipped all =
-    let rest : List PatStmt → Result (List PatStmt) FormFault = λ read. body_from s top read (trees_from (map entry_of (drop (i + 1) stmts))) in
-    sym (ap (λ b. cond b (rest before) (and_then (judge_statement s top (entry_of item) (inner_body s (entry_of item).body)) (λ stmt. rest (before ++ stmt ∷ [])))) skipped)
-    ∙ sym (body-at s top before stmts i item within is) ∙ all
 
 -- a statement that is not skipped comes before the rest
 body-kept : (s : Setting) (top : Bool) (before : List PatStmt) (stmts : List Stmt) (i : ℕ) (item : Stmt) (whole : Result (List PatStmt) FormFault) →

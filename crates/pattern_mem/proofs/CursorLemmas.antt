@@ -1,17 +1,13 @@
 -- A cursor stays over its code.
-use Rattle.std.proofs.Common.{◌≡◌, ℕ, ◌+◌, ◌*◌, ◌/◌, ◌^◌, ◌<◌, ◌≤◌, List, [], ◌∷◌, length, slice_get, false, Option, Some, None, sym, subst, ap, ◌∙◌, arith}
-use Rattle.std.specs.List.{AllByRecursion}
-use Rattle.packed_code.specs.declared.instr.Entry.{Entry}
+use Rattle.std.proofs.Common.{◌≡◌, ℕ, ◌+◌, ◌/◌, ◌^◌, ◌<◌, List, [], ◌∷◌, length, slice_get, false, Option, Some, None, sym, subst, ap, ◌∙◌, arith}
 use Rattle.packed_code.specs.declared.instr.Instr.{Instr}
 use Rattle.packed_code.specs.declared.course.Course.{Course}
 use Rattle.packed_code.specs.Meaning.{Means}
 use Rattle.packed_code.specs.Whole.{IsRest}
 use Rattle.packed_code.specs.Course.{coming, IsOn, StandsAt}
-use Rattle.packed_code.specs.declared.walker.Walk.{Walk}
 use Rattle.packed_code.specs.Program.{Program}
 use Rattle.packed_code.specs.Conditions.{IsProgram}
-use Rattle.packed_code.specs.Cycles.{exec_of, page_of}
-use Rattle.packed_code.specs.Walk.{IsOf, IsOver, entries_left}
+use Rattle.packed_code.specs.Cycles.{page_of}
 use Rattle.packed_code.proofs.WalkLemmas.{begins_over, exec_is}
 use Rattle.pattern_mem.specs.Cursor.{instrs_of, ShowsPage, IsPlaced, IsCursorOf, IsSameBut}
 use Rattle.pattern_mem.specs.declared.cursor.Cursor.{Cursor}
@@ -42,12 +38,6 @@ few_pages code cursor place placed here =
 
 -- ---- another course or window
 
--- a cursor that shows a page of its code
-pub placed_showing : (code : Program) (old : Cursor) (window : Option (ℕ × List Instr)) → IsPlaced code old → ShowsPage code window
-    → IsPlaced code (record { exec = old.exec; first = old.first; start = old.start; course = old.course; window = window })
-placed_showing code old window placed shows =
-    record { program = placed.program; exec = placed.exec; on = placed.on; first = placed.first; window = shows }
-
 -- a cursor that took a step
 pub placed_on : (code : Program) (old : Cursor) (course : Course) → IsPlaced code old → IsOn (instrs_of code old.exec) course
     → IsPlaced code (record { exec = old.exec; first = old.first; start = old.start; course = course; window = old.window })
@@ -66,17 +56,6 @@ stands_at code old new instr placed same course here = record {
 }
 
 -- ---- what comes
-
--- a walk that still gives the same from another place is over its code
-pub stays_over : (code : Program) (old : Walk) (course : Course) → IsOver code old → IsOn (exec_of code old.exec).instrs course
-    → coming (exec_of code old.exec).instrs course ≡ entries_left code old
-    → IsOver code (record { exec = old.exec; start = old.start; course = course })
-stays_over code old course over on same = record {
-  exec = over.exec;
-  on = on;
-  room = subst (λ (xs : List Entry). old.start + 1000000000000 * length xs ≤ 1000000000000 * 2 ^ 48) (sym same) over.room;
-  named = subst (λ (xs : List Entry). AllByRecursion (λ (entry : Entry). IsOf code entry.table entry.row) xs) (sym same) over.named;
-}
 
 -- an executive has an instruction
 pub some_instr : (code : Program) (exec : ℕ) → IsProgram code → exec < length code.execs → 0 < length (instrs_of code exec)

@@ -9,8 +9,8 @@ ghost use Rattle.pattern_mem.specs.Pool.{page_at, shown};
 ghost use Rattle.pattern_mem.specs.Nexts.{IsNext};
 
 use crate::memory::{PatternMem, PoolPass};
-use crate::window::{PAGE, Window};
-use packed_code::{Course, CourseStep, Entry, Instr};
+use crate::window::Window;
+use packed_code::{Course, CourseStep, Entry, Instr, PAGE};
 use std::alloc::Global;
 use std::sync::Wait;
 use tester_types::{Cycle, NoMemory};

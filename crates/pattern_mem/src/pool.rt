@@ -6,9 +6,9 @@ ghost use Rattle.std.specs.Arc.{arc_value};
 ghost use Rattle.packed_code.specs.Cycles.{pages_of};
 ghost use Rattle.pattern_mem.specs.Pool.{new_pool, basis_of, page_at, is_held, answered, asked, IsPool};
 
-use crate::window::{PAGE, Window};
+use crate::window::Window;
 use lru::LruCache;
-use packed_code::{Code, Instr};
+use packed_code::{Code, Instr, PAGE};
 use std::alloc::{AllocError, Global};
 use std::marker::Model;
 use std::num::NonZeroUsize;

@@ -3,13 +3,10 @@
 ghost use Rattle.std.specs.Prelude.{◌≡◌, ◌<◌, ◌≤◌, Some, None, IfOk, length, slice_get};
 ghost use Rattle.pattern_mem.specs.Pool.{is_of, shown};
 
-use packed_code::Instr;
+use packed_code::{Instr, PAGE};
 use std::alloc::{AllocError, Global};
 use std::marker::Model;
 use tester_types::NoMemory;
-
-/// How many instructions a page has at most.
-pub(crate) const PAGE: usize = 256;
 
 /// Room for one decoded page. Contracts see it as the page's number and its instructions, or as `None` where it has no
 /// page.

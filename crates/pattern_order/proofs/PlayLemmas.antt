@@ -75,12 +75,6 @@ module _ (blocks : Blocks) where
     loud count count' f.begun f.begun (f.number ∷ old) (f.number ∷ new) (omega (arith, h.0, lt)) (omega arith) fs h.2,
   )
 
-  -- the same bursts, with room for more
-  quiet-most : (count most most' : ℕ) (silent : List ℕ) → most ≤ most' → (fs : List Frame) → AreQuiet blocks count most silent fs
-      → AreQuiet blocks count most' silent fs
-  quiet-most count most most' silent le [] h = tt
-  quiet-most count most most' silent le (f ∷ fs) h = (omega (arith, h.0, le), h.1, h.2)
-
   -- a burst that runs no pattern
   record RunsNone (silent : List ℕ) (round : List (List ℕ)) (b : Burst) : Type 0 where
     number : ℕ
@@ -385,12 +379,6 @@ module _ (blocks : Blocks) where
       (fresh_of marks s.meaning) marks' (reverse frames') (ways blocks marks f (reverse frames) s n)
       (subst (λ (c : ℕ). PassesIn blocks (fresh_of marks s.meaning) f s c marks (reverse frames) marks' (reverse frames')) counted'
       (passes-in blocks (fresh_of marks s.meaning) f s count' marks frames marks' frames' p))
-
-  -- the number that an entry means is that of a pattern
-  pub pattern-within : (i : BurstItem) (m : Meaning) (k : ℕ) → m ≡ meaning_of blocks i → m ≡ APattern k
-      → k < length blocks.patterns
-  pattern-within i m k is e =
-      let what : Means blocks i (APattern k) = subst (Means blocks i) (sym is ∙ e) (means blocks i) in what.2
 
 -- the same, with the innermost burst taken off, and of the blocks by another name
 pub played-on : (bs blocks : Blocks) (ran ran' : List Played) (frames before : List Frame) (f : Frame) (marks' : List Mark)

@@ -75,10 +75,6 @@ bit_of_word words k w i e l =
     let r : k % 64 ≡ i = omega arith in
     ap (λ x. eqb (bit_at (get_or words x 0) (k % 64)) 1) q ∙ ap (λ x. eqb (bit_at (get_or words w 0) x) 1) r
 
--- a bit that is 0 or 1
-pub bit_of_one : (words : List ℕ) (k w i : ℕ) → k ≡ 64 * w + i → i < 64 → bit_at (get_or words w 0) i ≡ 1 → bit_of words k ≡ true
-bit_of_one words k w i e l one = bit_of_word words k w i e l ∙ eq-eqb _ 1 one
-
 pub bit_of_none : (words : List ℕ) (k w i : ℕ) → k ≡ 64 * w + i → i < 64 → bit_at (get_or words w 0) i ≡ 0 → bit_of words k ≡ false
 bit_of_none words k w i e l none = bit_of_word words k w i e l ∙ ne_eqb _ 1 (omega (arith, none))
 

@@ -1,5 +1,5 @@
 -- A text has a plan or a fault, and only one.
-use Rattle.std.proofs.Common.{◌≡◌, ℕ, ◌<◌, List, [], ◌∷◌, ◌++◌, length, Result, Ok, Err, refl, sym, ap, ◌∙◌, arith, append_assoc}
+use Rattle.std.proofs.Common.{◌≡◌, ℕ, List, [], ◌∷◌, ◌++◌, length, Result, Ok, Err, refl, sym, ap, ◌∙◌, arith, append_assoc}
 use Rattle.csv.specs.Reading.{Reached, default_config, strip_bom}
 use Rattle.csv.specs.declared.parser.State.{State}
 use Rattle.csv.specs.declared.parser.State.TheVariants as st
@@ -47,12 +47,6 @@ fault_found bytes records rows fields e s ys reached is judged =
           ∙ reading-append judge [] rows records (fields ∷ rest) is
           ∙ ap (λ (r : Result Row PlanFault). and_then r (λ y. reading judge (rows ++ y ∷ []) rest)) judged;
     }
-
--- all records were read: a plan where there is one, and a fault where there is none
-pub plan_found : (bytes : List ℕ) (records : List (List (List ℕ))) (rows : List Row) → HasRecords bytes records → reading judge [] records ≡ Ok rows →
-    0 < length rows → IsPlan bytes rows
-plan_found bytes [] rows are is some = let same : [] ≡ rows = cc in absurd (omega (arith, ap (λ (r : List Row). length r) same))
-plan_found bytes (r ∷ records) rows are is some = record { records = r ∷ records; are = are; read = is }
 
 pub empty_found : (bytes : List ℕ) (records : List (List (List ℕ))) (rows : List Row) → HasRecords bytes records → reading judge [] records ≡ Ok rows →
     length rows ≡ 0 → IsFault bytes (Shape 1)

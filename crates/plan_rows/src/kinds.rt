@@ -12,7 +12,7 @@ use crate::row::{BinRow, BindRow, Ending, LotRow, Row};
 use crate::written::Ended;
 use std::alloc::Global;
 use tester_types::Items;
-use text_bytes::MOST_PLAN_SITES;
+use text_bytes::{MOST_EXECUTIVES, MOST_PLAN_SITES};
 
 /// The greatest number of a site.
 pub(crate) const LAST_SITE: u64 = MOST_PLAN_SITES as u64 - 1;
@@ -33,7 +33,7 @@ const MOST_BATCH: u64 = 1_048_576;
 const MOST_KEEP: u64 = 1024;
 
 /// The greatest number of an executive.
-const LAST_EXECUTIVE: u64 = 63;
+const LAST_EXECUTIVE: u64 = MOST_EXECUTIVES as u64 - 1;
 
 /// The greatest number of a bin.
 const LAST_BIN: u64 = 99;

@@ -5,6 +5,7 @@ ghost use Rattle.std.specs.List.{position};
 ghost use Rattle.std.specs.Str.{bytes_eq};
 ghost use Rattle.text_bytes.specs.Limits.{most_plan_sites};
 ghost use Rattle.text_bytes.specs.Texts.{key_texts, added};
+ghost use Rattle.plan_rows.specs.Limits.{most_dies, most_kept};
 ghost use Rattle.plan_rows.specs.Inside.{kept_names, IsTally, HasPlace, Notes};
 
 use crate::row::{DieRow, LotRow, Row};
@@ -81,8 +82,8 @@ impl DieTally {
 
     /// Whether one more die is within the limits of dies and of kept fails.
     pub(crate) fn has_room(&self) -> bool
-        ensures { result ≡ (nat_le (self.now.dies + 1) 4096
-            && nat_le ((self.now.dies + 1) * (self.now.lot.tries * self.now.lot.keep)) 1048576) }
+        ensures { result ≡ (nat_le (self.now.dies + 1) most_dies
+            && nat_le ((self.now.dies + 1) * (self.now.lot.tries * self.now.lot.keep)) most_kept) }
     {
         let tries = self.lot.tries;
         let keep = self.lot.keep;
@@ -93,7 +94,7 @@ impl DieTally {
 
     fn add_die(&mut self, alloc: Global, die: &DieRow) -> Result<(), AllocError>
         requires site { die.now.site < length self.old.names.items }
-        requires few { self.old.dies < 4096 }
+        requires few { self.old.dies < most_dies }
         ensures lot { OnOk result (self.new.lot ≡ self.old.lot) }
         ensures dies { OnOk result (self.new.dies ≡ self.old.dies + 1) }
         ensures names { OnOk result (kept_names self.new

@@ -16,7 +16,7 @@ use Rattle.stil_ast.specs.declared.name.NameRef.{NameRef}
 use Rattle.stil_ast.proofs.GroupItems.{none_is_some}
 use Rattle.scan_blocks.specs.declared.cells.CellsRead.{CellsRead}
 use Rattle.scan_blocks.specs.Cells as definition
-use Rattle.scan_blocks.specs.Cells.{alone, range_by, cell_named, cell_within, joined, cells_spelled, cells_said}
+use Rattle.scan_blocks.specs.Cells.{alone, joined, cells_spelled, cells_said}
 use Rattle.scan_blocks.specs.Working.{no_cells, with_cell, with_indices, named_cell, cell_begins, first_index, last_index, within_limits, ended, cells_step, cells_worked}
 use Rattle.scan_blocks.proofs.LimitLemmas.{Left, one_added, added, limits}
 

@@ -1,5 +1,5 @@
 -- What is answered of the chains of an executive.
-use Rattle.std.specs.Prelude.{◌≡◌, ℕ, List, [], Option, Some, Result}
+use Rattle.std.specs.Prelude.{◌≡◌, ℕ, List, Option, Some, Result}
 use Rattle.answers.specs.Answers.{Finds}
 use Rattle.stil_ast.specs.Meaning.Signals.{names_of}
 use Rattle.stil_ast.specs.Meaning.Chains.{Chain, chains_named, chains_of, chains_fault}

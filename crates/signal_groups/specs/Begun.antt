@@ -2,7 +2,7 @@
 use Rattle.std.specs.Prelude.{ℕ, List, [], ◌∷◌, ◌++◌, Vec, Option, Result, Ok, Err, nat_le, nat_lt, length, map, if◌then◌else◌}
 use Rattle.std.specs.List.{list_any}
 use Rattle.std.specs.declared.alloc.Global.{Global}
-use Rattle.text_bytes.specs.Limits.{longest_name, most_signals}
+use Rattle.text_bytes.specs.Limits.{longest_name, most_signals, most_groups}
 use Rattle.text_bytes.specs.Texts.{key_texts}
 use Rattle.answers.specs.Reading.{stepping}
 use Rattle.stil_ast.specs.Data.Texts.{same}
@@ -56,7 +56,7 @@ signal_said b s =
 abbrev pub group_said : List (List ℕ) → Group → Result (List (List ℕ)) StilFault
 group_said names g =
     if list_any (λ n. same n g.name) names then Err (fault_at g.place Twice)
-    else if nat_lt (length names) 4096 then Ok (names ++ g.name ∷ []) else Err (fault_at g.place OutOfRange)
+    else if nat_lt (length names) most_groups then Ok (names ++ g.name ∷ []) else Err (fault_at g.place OutOfRange)
 
 -- a signal that a declaration declares under this text
 abbrev pub signal_as : SignalDecl → List ℕ → Option (List ℕ) → Signal

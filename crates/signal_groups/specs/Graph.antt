@@ -2,7 +2,6 @@
 use Rattle.std.specs.Prelude.{◌∷◌, ◌+◌, ◌≡◌, ◌<◌, ◌≤◌, ℕ, zero, suc, Bool, true, false, ◌==◌, ◌||◌, List, [], Option, Some, None, length, map, slice_index, slice_index_or, count_by, All}
 use Rattle.std.specs.List.{list_any, filter_map}
 use Rattle.stil_ast.specs.Meaning.GroupText.{Term}
-use Rattle.stil_ast.specs.Meaning.GroupReading.{terms_of}
 use Rattle.stil_ast.specs.Meaning.Members.{text_members}
 use Rattle.stil_ast.specs.Meaning.Signals.{Names, Group}
 use Rattle.stil_ast.specs.Faults.Found.{or_else}
@@ -11,7 +10,6 @@ use Rattle.stil_ast.specs.declared.fault.StilFault.{StilFault}
 use Rattle.stil_ast.specs.declared.fault.StilKind.{StilKind}
 use Rattle.stil_ast.specs.declared.fault.StilKind.TheVariants.{Cyclic}
 use Rattle.stil_ast.specs.declared.name.IndexRange.{IndexRange}
-use Rattle.signal_groups.specs.Table.{Table}
 use Rattle.signal_groups.specs.Lookup.{number_in}
 
 -- the group of a name that stands for no signal and has no indices
@@ -29,10 +27,6 @@ needed_by texts groups t =
 abbrev pub needed_in : List (List ℕ) → List (List ℕ) → Option (List Term) → List ℕ
 needed_in texts groups None = []
 needed_in texts groups (Some terms) = filter_map (needed_by texts groups) terms
-
--- the groups that each text needs
-abbrev pub graph_of : Table → List (List ℕ) → List (List ℕ)
-graph_of table texts = map (λ text. needed_in table.texts table.groups (terms_of text)) texts
 
 -- the groups that one group needs
 abbrev pub needs_at : List (List ℕ) → ℕ → List ℕ

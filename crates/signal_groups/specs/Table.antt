@@ -1,7 +1,7 @@
 -- What is known of the signals and groups of a text, once the texts of groups have been followed (IEEE 1450-1999,
 -- clauses 14 and 15). It answers every reference. A signal and a group are their numbers.
 use Rattle.std.specs.Prelude.{ℕ, ◌<◌, ◌≤◌, ◌≡◌, List, Option, length, map, All}
-use Rattle.text_bytes.specs.Limits.{most_signals}
+use Rattle.text_bytes.specs.Limits.{most_signals, most_groups}
 use Rattle.stil_ast.specs.Meaning.Signals.{Signal, Group, Names}
 use Rattle.stil_ast.specs.Meaning.Members.{text_members}
 use Rattle.tester_types.specs.declared.signal.Direction.{Direction}
@@ -39,7 +39,7 @@ with_members table members = record {
 -- a table within the limits: each list of signals has one item for each, each member is a signal
 pub record IsSound (table : Table) : Type 0 where
   pub few : length table.texts ≤ most_signals
-  pub few_groups : length table.groups ≤ 4096
+  pub few_groups : length table.groups ≤ most_groups
   pub each_base : length table.bases ≡ length table.texts
   pub each_direction : length table.directions ≡ length table.texts
   pub each_group : length table.members ≡ length table.groups

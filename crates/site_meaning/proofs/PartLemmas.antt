@@ -20,7 +20,7 @@ use Rattle.plan_rows.specs.declared.row.DieRow.{DieRow}
 use Rattle.plan_rows.specs.declared.row.BindRow.{BindRow}
 use Rattle.plan_rows.specs.declared.row.FaultRow.{FaultRow}
 use Rattle.plan_rows.specs.declared.row.StopRow.{StopRow}
-use Rattle.plan_rows.specs.Rows.{dies_of, dies_at, faults_at, files_of, lot_of, each_of, as_clock, as_bind, is_about}
+use Rattle.plan_rows.specs.Rows.{dies_of, dies_at, faults_at, files_of, lot_of, each_of, as_clock, as_bind}
 use Rattle.lot_plan.specs.Needs.{PinNeed, role_of, is_clock_name, has_name}
 use Rattle.lot_plan.specs.Binds.{binds_of, list_of}
 use Rattle.lot_plan.specs.Bound.{Bound, no_circuit, die_at, circuit_of, binding_to, numbered, loaded, image_of, stop_of}

@@ -3,8 +3,6 @@ use Rattle.std.proofs.Common.{◌≡◌, ℕ, ◌+◌, ◌<◌, ◌≤◌, true,
 use Rattle.std.specs.List.{AllByRecursion, find, slice_get}
 use Rattle.std.specs.Option.{option_map_or}
 use Rattle.std.proofs.lemmas.Bool.{eq-eqb, ne_eqb, and_from, and_left, cond-true, cond-false}
-use Rattle.std.proofs.lemmas.List.{append_assoc, map-append}
-use Rattle.std.proofs.lemmas.List.Concat.{flat_map-append}
 use Rattle.text_bytes.proofs.ListLemmas.{all_append}
 use Rattle.tester_types.specs.declared.wave.Event.{Event}
 use Rattle.tester_types.specs.declared.wave.Table.{Table}
@@ -19,9 +17,9 @@ use Rattle.strobe_check.specs.Entry.{Entry}
 use Rattle.packed_code.proofs.Lists.{all_mapped}
 use Rattle.site_meaning.proofs.AllLemmas.{all_parts}
 use Rattle.site_meaning.specs.Playing.{Stand, Going, Along, Whose, PlayedMoment, PlayedCycle, FitStand, along_of, whose_next, after_moment, entry_of, moments_in, moments_played, played_cycle, after_cycle}
-use Rattle.site_meaning.specs.Trials.{played, is_hit, lost_at, behind_cycle, reached}
+use Rattle.site_meaning.specs.Trials.{played, is_hit}
 use Rattle.site_meaning.specs.Rising.{instants_of, instants_in}
-use Rattle.site_meaning.proofs.ReachedLemmas.{before_is_apart, Before, From, behind, reached-behind}
+use Rattle.site_meaning.proofs.ReachedLemmas.{Before, From}
 use Rattle.site_meaning.proofs.InstantLemmas.{cycle_before}
 use Rattle.site_meaning.proofs.TimeLemmas.{played-from}
 
@@ -112,26 +110,6 @@ played_rises stand exec going (cycle ∷ cycles) fit =
 
 -- ---- one moment alone
 
-instants_in-append : (xs ys : List PlayedCycle) → instants_in (xs ++ ys) ≡ instants_in xs ++ instants_in ys
-instants_in-append xs ys = flat_map-append instants_of xs ys
-
--- the instants round a moment
-round_moment : (xs ys : List PlayedCycle) (c : PlayedCycle) (ms ns : List PlayedMoment) (m : PlayedMoment)
-    → c.moments ≡ ms ++ m ∷ ns
-    → instants_in (xs ++ c ∷ ys)
-    ≡ (instants_in xs ++ map (λ (k : PlayedMoment). k.at) ms) ++ m.at ∷ (map (λ (k : PlayedMoment). k.at) ns ++ instants_in ys)
-round_moment xs ys c ms ns m are =
-    instants_in-append xs (c ∷ ys)
-    ∙ ap (λ (l : List ℕ). instants_in xs ++ (l ++ instants_in ys)) (ap of are ∙ map-append at_of ms (m ∷ ns))
-    ∙ ap (λ (l : List ℕ). instants_in xs ++ l) (append_assoc (of ms) (m.at ∷ of ns) (instants_in ys))
-    ∙ sym (append_assoc (instants_in xs) (of ms) (m.at ∷ (of ns ++ instants_in ys)))
-  where
-    at_of : PlayedMoment → ℕ
-    at_of k = k.at
-
-    of : List PlayedMoment → List ℕ
-    of l = map (λ (k : PlayedMoment). k.at) l
-
 before_from : (now : ℕ) (cs : List PlayedCycle) → AllByRecursion (λ (n : ℕ). n < now) (instants_in cs) → Before now cs
 before_from now [] all = tt
 before_from now (c ∷ cs) all =
@@ -154,22 +132,3 @@ find-moment (k ∷ ms) ns m calls below =
     cond-false (is_hit m.at k) (Some k) (find (is_hit m.at) (ms ++ m ∷ ns))
     (and_left (eqb k.at m.at) k.calls (ne_eqb k.at m.at (λ e. omega (arith, first, e))))
     ∙ find-moment ms ns m calls below.1
-
--- a moment of rising instants that makes a call is where its instant is reached
-pub reached_moment : (xs ys : List PlayedCycle) (c : PlayedCycle) (ms ns : List PlayedMoment) (m : PlayedMoment)
-    → Rises (instants_in (xs ++ c ∷ ys)) → c.moments ≡ ms ++ m ∷ ns → m.calls ≡ true
-    → reached m.at (xs ++ c ∷ ys) ≡ Some (behind xs (record { cycles = 0; fails = m.earlier }))
-unfolding reached
-reached_moment xs ys c ms ns m rises are calls =
-    reached-behind m.at xs (c ∷ ys) (record { cycles = 0; fails = m.earlier }) (before_is_apart m.at xs (before_from m.at xs parts.0))
-    (ap (λ (o : Option PlayedMoment). lost_at o (behind_cycle c (reached m.at ys)))
-    (ap (find (is_hit m.at)) are ∙ find-moment ms ns m calls parts.1))
-  where
-    front : List ℕ
-    front = map (λ (k : PlayedMoment). k.at) ms
-
-    parts : AllByRecursion (λ (n : ℕ). n < m.at) (instants_in xs) × AllByRecursion (λ (n : ℕ). n < m.at) front
-    parts =
-        all_parts (λ (n : ℕ). n < m.at) (instants_in xs) front
-        (rises_below (instants_in xs ++ front) m.at (map (λ (k : PlayedMoment). k.at) ns ++ instants_in ys)
-        (subst Rises (round_moment xs ys c ms ns m are) rises))

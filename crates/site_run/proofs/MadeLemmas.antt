@@ -79,12 +79,3 @@ module _ (setup : Setup) (count : ℕ) (told mid_told told' : Told) (old mid new
 -- it is the same station
 pub keeps_none : {R K : Type 0} (told : K → Told) (station : Station R K) → Keeps told station station
 keeps_none told station = record { pass = refl; schedules = refl; socket = refl; loaded = refl; count = omega arith }
-
-pub keeps_more : {R K : Type 0} (told : K → Told) (old mid new : Station R K) → Keeps told old mid → Keeps told mid new → Keeps told old new
-keeps_more told old mid new first then = record {
-  pass = then.pass ∙ first.pass;
-  schedules = then.schedules ∙ first.schedules;
-  socket = then.socket ∙ first.socket;
-  loaded = then.loaded ∙ first.loaded;
-  count = let a = first.count in let b = then.count in omega (arith, a, b);
-}

@@ -24,16 +24,13 @@ use crate::station::{Setup, Station};
 use crate::task::Task;
 use crate::trial::{Outcome, is_ordered, is_tried_again, outcome_of, without_cycles};
 use die_sim::Socket;
-use edge_gen::Schedules;
+use edge_gen::{HELD_SCHEDULES, Schedules};
 use lot_plan::BoundPlan;
 use pattern_mem::{PatternMem, PoolPass};
 use std::alloc::Global;
 use std::mem;
 use std::sync::Wait;
 use tester_types::{By, Items, NoMemory, Record, Trial, Verdict};
-
-/// How many schedules a site holds.
-const SCHEDULES: usize = 64;
 
 /// How far a batch came.
 #[derive(Clone, Copy, Debug, PartialEq, Eq)]
@@ -88,7 +85,7 @@ impl Site {
             alloc,
             site,
             pass,
-            schedules: Schedules::new(alloc, SCHEDULES)?,
+            schedules: Schedules::new(alloc, HELD_SCHEDULES)?,
             state: SiteState::new(),
             dies: plan.dies(site),
             die: 0,

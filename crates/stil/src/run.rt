@@ -1,7 +1,7 @@
 //! The command that the command line names, run.
 
 use die_sim::{SimSocket, SocketBox};
-use host_files::{FileShelf, WriterSink, words};
+use host_files::{FileShelf, HELD_BACK, WriterSink, words};
 use std::alloc::Global;
 use std::io::{self, BufWriter};
 use std::rt::{Env, Files};
@@ -10,9 +10,6 @@ use std::thread::Threads;
 use stil_tool::{Status, no_memory, tester};
 use tester_types::{Desk, OpenGate, Shelf, Sink};
 use text_bytes::MOST_SITES;
-
-/// How many bytes of output are written at a time.
-const HELD_BACK: usize = 65_536;
 
 /// Runs the command of these words at sockets with simulated dies, one for each site. The gate is open.
 fn run_words<R: Threads + Wait + Sync, F: Shelf, D: Desk, K: Sink>(

@@ -3,7 +3,7 @@ use Rattle.std.proofs.Common.{◌≡◌, ℕ, zero, suc, ◌+◌, ◌*◌, ◌�
 use Rattle.std.specs.Prelude.{◌==◌}
 use Rattle.std.proofs.lemmas.Bool.{cond-false, ne_eqb}
 use Rattle.std.proofs.lemmas.List.{length-append, length-replicate, replicate-append-replicate}
-use Rattle.std.proofs.lemmas.List.Elements.{All-head, All-push, All-tail}
+use Rattle.std.proofs.lemmas.List.Elements.{All-head, All-tail}
 use Rattle.std.proofs.lemmas.List.Sums.{sum_by-cons}
 use Rattle.text_bytes.specs.Limits.{most_repeats}
 use Rattle.stil_ast.specs.Data.Items.{item_of, items_of, KeepRepeats, run_length, first_item, lone_item}
@@ -47,10 +47,6 @@ items_of-longer (run ∷ runs) (suc at) times last item one is same =
     ap (λ items. replicate run.times (item_of run.item) ++ items)
     (items_of-longer runs at times last item (omega (arith, one)) is same)
     ∙ sym (append_assoc (replicate run.times (item_of run.item)) (items_of runs) (replicate times (item_of item)))
-
--- one run more that is not too long
-pub one_more_keeps : (runs : List ItemRun) (run : ItemRun) → KeepRepeats runs → run.times ≤ most_repeats → KeepRepeats (runs ++ run ∷ [])
-one_more_keeps runs run keep fits = All-push (λ (r : ItemRun). r.times ≤ most_repeats) runs run keep fits
 
 -- n runs stand for at most n times as many items as one may stand for
 pub length-items_of-le : (runs : List ItemRun) → KeepRepeats runs → length (items_of runs) ≤ length runs * most_repeats

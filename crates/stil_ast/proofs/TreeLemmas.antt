@@ -11,15 +11,14 @@ use Rattle.stil_ast.specs.Meaning.Least.{least_written}
 use Rattle.stil_ast.specs.Meaning.Running.{Ran, Made, Here, behind, then_run, run, outside, stops}
 use Rattle.stil_ast.specs.Meaning.Bursts.{Played, played, exec_scans}
 use Rattle.stil_ast.specs.Meaning.Chains.{scan_outs, chains_named, chains_fault}
-use Rattle.stil_ast.specs.Meaning.Cycles.{dated}
 use Rattle.stil_ast.specs.Meaning.Times.{Times}
 use Rattle.stil_ast.specs.Meaning.Variables.{picked, variables_fault}
 use Rattle.stil_ast.specs.Faults.BurstFaults.{exec_names_fault}
 use Rattle.stil_ast.specs.Faults.TableFaults.{tables_fault}
 use Rattle.stil_ast.specs.Meaning.Signals.{names_of}
 use Rattle.stil_ast.specs.Meaning.Resolved.{resolved}
-use Rattle.stil_ast.specs.Meaning.ExecutiveData.{Tree, Executive, tree_run, trees_run, vectors_of, cycles_of, vector_period, measure_in, least_in, tables_of, code_table, AreSameTrees}
-use Rattle.stil_ast.specs.Meaning.Executive.{Part, scope_of, part_of, cut_behind, parts, tree_of, run_parts, exec_vectors, chain_list, table_list, cycles, executive_of}
+use Rattle.stil_ast.specs.Meaning.ExecutiveData.{Tree, Executive, tree_run, trees_run, vectors_of, measure_in, least_in, tables_of, code_table, AreSameTrees}
+use Rattle.stil_ast.specs.Meaning.Executive.{Part, scope_of, part_of, cut_behind, parts, tree_of, run_parts, exec_vectors, chain_list}
 use Rattle.stil_ast.specs.Meaning.Laws.{with_state}
 use Rattle.stil_ast.specs.Faults.AssignmentFaults.{Walked, Checked, fine, refused}
 use Rattle.stil_ast.specs.Faults.PatternFaults.{check_pattern}
@@ -93,15 +92,6 @@ patterns_fine times blocks before e none =
     let three = or_else-none (tables_fault (timed_of times blocks e) (sum_by (exec_waves blocks) before)) _ two.1 in
     let four = or_else-none (chains_fault (names_of blocks) (exec_scans blocks e) (chains_named blocks.scans (exec_scans blocks e))) _ three.1 in
     checked-none (check_patterns blocks e (played blocks e) (sum_by (exec_walked blocks) before)) four.1
-
--- the cycles of an executive without a fault are those of its plain data
-pub cycles_agree : {V : Type 0} (times : Times V) (blocks : Blocks) (before : List ExecDecl) (e : ExecDecl)
-    → exec_fault times blocks before e ≡ None
-    → cycles_of (length (names_of blocks).signals) (executive_of times blocks e) ≡ cycles times blocks e
-cycles_agree times blocks before e none =
-    let checked = patterns_fine times blocks before e none in
-    ap (dated (vector_period (table_list times blocks e)))
-    (vectors_agree blocks e (sum_by (exec_walked blocks) before) checked.0 (executive_of times blocks e) checked.1 refl)
 
 pub same_trees_serve : (tables : List Table) (trees more : List Tree) (s : State) → AreSameTrees trees more
     → (trees_run trees s ≡ trees_run more s) × (trees_fault tables trees s ≡ trees_fault tables more s)

@@ -131,11 +131,6 @@ found_behind bytes pieces rest fault each whole is =
       refl,
     )
 
--- what is found first is the fault
-pub found_is_fault : (bytes : List ℕ) (pieces : List Piece) (rest : List ℕ) (fault : LexFault) → ArePieces pieces rest → bytes ≡ spelled pieces ++ rest
-    → front_of (length (spelled pieces)) rest ≡ Err fault → IsFault bytes fault
-found_is_fault bytes pieces rest fault each whole is = (found_behind bytes pieces rest fault each whole is).0
-
 -- the fault of a text is one
 pub one_fault : (bytes : List ℕ) (fault other : LexFault) → IsFault bytes fault → IsFault bytes other → fault ≡ other
 one_fault bytes fault other f g =

@@ -21,13 +21,6 @@ use Rattle.stil_lex.proofs.Readings.{one_reading, refusal_stops}
 use Rattle.stil_lex.proofs.Slowly.{list_any-no_place, opened_is, drop-mark_len}
 use Rattle.stil_lex.proofs.SlowlyBack.{stops_where_none}
 
--- a byte that begins nothing
-pub stray_is : (text : List ℕ) → stray_test text ≡ true → IsStray text
-stray_is [] h = absurd (false≢true h)
-stray_is (b ∷ rest) h =
-    let parts = and_parts (not (is_blank b)) (not (is_printing b)) h in
-    record { byte = b; after = rest; spelled = refl; no_blank = not-true (is_blank b) parts.0; no_print = not-true (is_printing b) parts.1 }
-
 -- the same, back
 pub stray_test-is : (text : List ℕ) → IsStray text → stray_test text ≡ true
 stray_test-is text s =
@@ -184,10 +177,6 @@ bad_quoted_within text skipped h =
 -- no byte before this one is such a byte
 abbrev pub NoneBadBelow : ℕ → List ℕ → Type 0
 NoneBadBelow skipped text = (other : ℕ) → other < skipped → HasBadQuoted text other → ⊥
-
--- at the start
-pub none_bad-start : (text : List ℕ) → NoneBadBelow 0 text
-none_bad-start text other below h = omega (arith, below)
 
 -- one byte more
 pub none_bad-more : (skipped : ℕ) (text : List ℕ) → NoneBadBelow skipped text

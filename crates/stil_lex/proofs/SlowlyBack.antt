@@ -157,10 +157,6 @@ no_token text after word double single sign (Sign byte) s = false≢true (sym si
 abbrev pub NoneBelow : ℕ → List ℕ → Type 0
 NoneBelow len text = (kind : Option TokenKind) (k : ℕ) → k < len → Begins kind k text → ⊥
 
--- at the start
-pub none_below-start : (text : List ℕ) → NoneBelow 1 text
-none_below-start text kind k below b = absurd (omega (arith, b.some))
-
 -- one byte more
 pub none_below-more : (len : ℕ) (text : List ℕ) → NoneBelow len text → gap_test (take len text) (drop len text) ≡ false
     → ((kind : TokenKind) → IsToken kind (take len text) (drop len text) → ⊥) → NoneBelow (len + 1) text

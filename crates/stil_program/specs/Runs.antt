@@ -1,6 +1,6 @@
 -- The sixth pass over what an executive runs: its patterns one after another, as the language runs them, vector by
 -- vector (IEEE 1450-1999, clauses 16 and 22).
-use Rattle.std.specs.Prelude.{ℕ, List, [], ◌∷◌, Option, None}
+use Rattle.std.specs.Prelude.{List, [], ◌∷◌, Option, None}
 use Rattle.tester_types.specs.declared.wave.Table.{Table}
 use Rattle.stil_ast.specs.Meaning.Running.{Here, run, outside}
 use Rattle.stil_ast.specs.Meaning.Executive.{Part}

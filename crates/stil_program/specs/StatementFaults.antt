@@ -1,6 +1,6 @@
 -- The fault of tokens that are no statements: the line is that of the token that the fault names, and the block is read
 -- from the tokens before the place, and from the refused sign, if there is one.
-use Rattle.std.specs.Prelude.{ℕ, ◌+◌, List, length, take, drop}
+use Rattle.std.specs.Prelude.{ℕ, ◌+◌, List, take, drop}
 use Rattle.std.specs.List.{position_or_len}
 use Rattle.stil_lex.specs.declared.token.Token.{Token}
 use Rattle.stil_tree.specs.Signs.{close_brace, is_sign}

@@ -47,14 +47,8 @@ fn code_of(alloc: Global, blocks: &Blocks) -> Result<Code, StilRefusal>
     requires { AreOfOneText blocks.now }
     ensures { Finds (first_fault blocks.now) (IsBlocksCode blocks.now) result }
 {
-    let signals = match signal_groups::build(alloc, blocks) {
-        Ok(signals) => signals,
-        Err(refusal) => return Err(refusal),
-    };
-    let execs = match executives(alloc, blocks, &signals) {
-        Ok(execs) => execs,
-        Err(refusal) => return Err(refusal),
-    };
+    let signals = signal_groups::build(alloc, blocks)?;
+    let execs = executives(alloc, blocks, &signals)?;
     compile(alloc, &signals, execs)
 }
 
@@ -63,10 +57,8 @@ fn compiled_of(alloc: Global, blocks: &Blocks) -> Result<CompiledText, StilRefus
     requires { AreOfOneText blocks.now }
     ensures { Finds (first_fault blocks.now) (IsCompiledOf blocks.now) result }
 {
-    match code_of(alloc, blocks) {
-        Ok(code) => with_lines(alloc, blocks.executives.as_slice(), code),
-        Err(refusal) => Err(refusal),
-    }
+    let code = code_of(alloc, blocks)?;
+    with_lines(alloc, blocks.executives.as_slice(), code)
 }
 
 /// The code of a text with the lines of its executives, from its bytes.
@@ -74,10 +66,8 @@ fn compiled_from(alloc: Global, bytes: &[u8]) -> Result<CompiledText, StilRefusa
     requires { length bytes.now ≤ most_bytes }
     ensures { Answers bytes.now (λ (c : CompiledText). IsCompiledText bytes.now c.code c.lines.items) result }
 {
-    match read_text(alloc, bytes) {
-        Ok(blocks) => compiled_of(alloc, &blocks),
-        Err(refusal) => Err(refusal),
-    }
+    let blocks = read_text(alloc, bytes)?;
+    compiled_of(alloc, &blocks)
 }
 
 /// The code of a text, with the line of each of its executives, or its first fault.
@@ -105,8 +95,6 @@ pub fn program(alloc: Global, bytes: &[u8]) -> Result<Code, StilRefusal>
     ensures refused { (fault : StilFault) → IsTextFault bytes.now (Some fault)
         → MatchResult result (λ _. ⊥) (λ e. (e ≡ refusal.NoMemory) ⊎ (e ≡ refusal.Fault fault)) }
 {
-    match compiled(alloc, bytes) {
-        Ok(text) => Ok(text.code),
-        Err(refusal) => Err(refusal),
-    }
+    let text = compiled(alloc, bytes)?;
+    Ok(text.code)
 }

@@ -1,5 +1,5 @@
 -- A lot whose files are there and accepted is done, where no count rises: `lot_completes`.
-use Rattle.std.proofs.Common.{◌≡◌, codes, ◌⊎◌, ℕ, List, [], ◌∷◌, length, Option, sym, ap, ◌∙◌, subst, arith, inl, inr}
+use Rattle.std.proofs.Common.{◌≡◌, ◌⊎◌, ℕ, List, [], ◌∷◌, length, Option, sym, ap, ◌∙◌, subst, arith, inl, inr}
 use Rattle.tester_types.specs.Outside.{HasRisen, Files, gained, GainsFront}
 use Rattle.die_sim.specs.Socket.{Told}
 use Rattle.plan_rows.specs.Rows.{sites_of}
@@ -7,16 +7,12 @@ use Rattle.lot_plan.specs.Refusal.{refusal}
 use Rattle.tool_inputs.specs.declared.status.Status.{Status}
 use Rattle.tool_inputs.specs.declared.status.Status.TheVariants.{WriteFault, OutOfMemory}
 use Rattle.tool_inputs.specs.declared.refusal.Refusal.{Refusal}
-use Rattle.text_commands.specs.declared.command.Command.{Command}
-use Rattle.text_commands.specs.declared.command.Command.TheVariants.{Check, Cycles, Events, Save, Flat}
-use Rattle.text_commands.specs.Commands.{command_word}
 use Rattle.tool_inputs.specs.Endings.{Answers, IsDone}
-use Rattle.stil_tool.specs.Offline.{IsFine}
 use Rattle.tool_inputs.specs.Refusals.{status_of}
 use Rattle.stil_tool.specs.Lot.{Floor, IsRefused, LotWants}
 use Rattle.stil_tool.specs.Lot.IsRefused.{of_inputs, few_sockets}
 use Rattle.stil_tool.specs.Lot.LotWants.{is_run, is_refused}
-use Rattle.stil_tool.specs.Tester.{NeedTester, TesterWants}
+use Rattle.stil_tool.specs.Tester.{TesterWants}
 use Rattle.stil_tool.specs.Tester.TesterWants.{of_lot, of_drill, of_grade, of_other}
 use Rattle.stil_tool.specs.FineLot.{IsFineLot}
 use Rattle.tool_inputs.proofs.FineLemmas.{inputs_fine, rows_same}
@@ -87,20 +83,3 @@ lot_completes tells words told before now old new held held' faults faults' resu
     by (inr front) = absurd (fine.puts front.2)
 
 -- ---- a command that needs no tester
-
--- its word begins with another byte than that of a drill
-other_word : (command : Command) → command_word command ≡ codes "drill" → ⊥
-other_word Check is = let wrong : 99 ≡ 100 = ap first_byte is in omega (arith, wrong)
-other_word Cycles is = let wrong : 99 ≡ 100 = ap first_byte is in omega (arith, wrong)
-other_word Events is = let wrong : 101 ≡ 100 = ap first_byte is in omega (arith, wrong)
-other_word Save is = let wrong : 115 ≡ 100 = ap first_byte is in omega (arith, wrong)
-other_word Flat is = let wrong : 102 ≡ 100 = ap first_byte is in omega (arith, wrong)
-
-pub fine_needs_none : (words : List (List ℕ)) (told : Option Files) (before now faults faults' : ℕ)
-    → IsFine words told before now faults faults' → NeedTester words → ⊥
-fine_needs_none words told before now faults faults' fine (inl lot) =
-    let wrong : 2 ≡ 3 = ap (λ (l : List (List ℕ)). length l) (sym fine.are ∙ lot.2) in omega (arith, wrong)
-fine_needs_none words told before now faults faults' fine (inr (inl drill)) =
-    other_word fine.command (ap first_word (sym fine.are ∙ drill.1.is))
-fine_needs_none words told before now faults faults' fine (inr (inr grade)) =
-    let wrong : 2 ≡ 3 = ap (λ (l : List (List ℕ)). length l) (sym fine.are ∙ grade.2) in omega (arith, wrong)

@@ -49,11 +49,6 @@ pub trees_of-push : (xs : List Stmt) (s : Stmt) (e : Entry) → entry_of s ≡ e
     → trees_of (xs ++ s ∷ []) ≡ join (trees_of xs) (in_front e.first e.count e.body end)
 trees_of-push xs s e is = ap trees_from (map_push entry_of xs s ∙ ap (λ x. map entry_of xs ++ x ∷ []) is) ∙ trees_from-push (map entry_of xs) e
 
--- a statement made without a block
-pub entry_of-plain : (first count : ℕ)
-    → entry_of (roll-Stmt (record { first = first; count = count; body = None })) ≡ record { first = first; count = count; body = None }
-entry_of-plain first count = fold-roll-Stmt Entry Trees stmt_step list_step (record { first = first; count = count; body = None })
-
 -- a statement made with a block
 pub entry_of-block : (first count : ℕ) (l : StmtList)
     → entry_of (roll-Stmt (record { first = first; count = count; body = Some l })) ≡ record { first = first; count = count; body = Some (trees l) }

@@ -1,7 +1,7 @@
 -- The plain slow reader of the open block: the tokens that end a statement outside all braces.
 use Rattle.std.proofs.Common.{◌≡◌, ◌⊎◌, ℕ, ◌+◌, ◌≤◌, ◌<◌, true, List, ◌∷◌, ◌++◌, length, take, drop, get_or, refl, sym, ap, ◌∙◌, subst, inl, inr, arith, length-append}
 use Rattle.std.proofs.lemmas.Bool.{cases_order}
-use Rattle.std.proofs.lemmas.List.{take_at, drop_more, take-append-drop, length-take-le, get_or_at}
+use Rattle.std.proofs.lemmas.List.{drop_more, take-append-drop, length-take-le}
 use Rattle.stil_lex.specs.declared.token.Token.{Token}
 use Rattle.stil_tree.specs.Signs.{semicolon, close_brace, is_sign}
 use Rattle.stil_tree.specs.Blocks.{open_braces, EndsStatement, BeginsAt}
@@ -9,14 +9,6 @@ use Rattle.stil_tree.specs.Blocks.{open_braces, EndsStatement, BeginsAt}
 -- a token is an end, by the braces that are open before it
 abbrev pub Ends : List Token → Token → Type 0
 Ends front t = ((is_sign semicolon t ≡ true) × (open_braces front ≡ 0)) ⊎ ((is_sign close_brace t ≡ true) × (open_braces front ≡ 1))
-
--- the token at the index of an end is one
-pub ends-at : (tokens : List Token) (index : ℕ) (d : Token) → EndsStatement tokens index
-    → Ends (take index tokens) (get_or tokens index d)
-ends-at tokens index d e =
-    let here : get_or tokens index d ≡ e.token = ap (λ ts. get_or ts index d) e.spelled ∙ get_or_at e.front e.token e.back d index (sym e.place) in
-    let front : take index tokens ≡ e.front = ap (take index) e.spelled ∙ take_at e.front (e.token ∷ e.back) index (sym e.place) in
-    subst (λ (ts : List Token). Ends ts (get_or tokens index d)) (sym front) (subst (Ends e.front) (sym here) e.ends)
 
 -- a token that is one stands at the index of an end
 pub at-ends : (tokens : List Token) (index : ℕ) (d : Token) → index < length tokens
@@ -35,10 +27,6 @@ pub record IsLast (tokens : List Token) (read start : ℕ) : Type 0 where
   pub within : start ≤ read
   pub after_end : (start ≡ 0) ⊎ ((before : ℕ) × (start ≡ before + 1) × EndsStatement tokens before)
   pub no_later : (index : ℕ) → start ≤ index → index < read → EndsStatement tokens index → ⊥
-
--- at the start
-pub last-start : (tokens : List Token) → IsLast tokens 0 0
-last-start tokens = record { within = omega arith; after_end = inl refl; no_later = λ index above below e. absurd (omega (arith, below)) }
 
 -- at a token that ends the statement
 pub last-end : (tokens : List Token) (read start : ℕ) → EndsStatement tokens read → IsLast tokens (read + 1) (read + 1)

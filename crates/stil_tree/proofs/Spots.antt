@@ -145,13 +145,6 @@ pub braces-other : (t : Token) (braces : ℕ) → is_sign open_brace t ≡ false
 braces-other t braces n_open n_close =
     sym (cond-false (is_sign open_brace t) (braces + 1) _ n_open ∙ cond-false (is_sign close_brace t) (braces - 1) braces n_close)
 
--- behind a `;` outside braces
-pub spot-semicolon : (xs : List Token) (t : Token) (start braces : ℕ) → is_sign semicolon t ≡ true → braces ≡ 0
-    → IsSpot xs start braces → IsSpot (xs ++ t ∷ []) (length xs + 1) braces
-spot-semicolon xs t start braces is none s =
-    spot-end xs t start braces braces s (inl (is, sym s.are_open ∙ none))
-    (braces-other t braces (is_kind-other semicolon open_brace t.kind is refl) (is_kind-other semicolon close_brace t.kind is refl))
-
 -- behind any other token
 pub spot-other : (xs : List Token) (t : Token) (start braces : ℕ) → is_sign open_brace t ≡ false → is_sign close_brace t ≡ false
     → (is_sign semicolon t ≡ true → braces ≡ 0 → ⊥) → IsSpot xs start braces → IsSpot (xs ++ t ∷ []) start braces

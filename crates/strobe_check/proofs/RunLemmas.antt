@@ -1,8 +1,8 @@
 -- Looks that stand in the order of their signals are cut, signal after signal.
-use Rattle.std.proofs.Common.{◌≡◌, ℕ, ◌+◌, ◌<◌, ◌≤◌, Bool, true, false, cond, eqb, List, [], ◌∷◌, ◌++◌, length, get_or, take, drop, map, filter, refl, sym, ap, subst, ◌∙◌, arith, inl, inr}
+use Rattle.std.proofs.Common.{◌≡◌, ℕ, ◌+◌, ◌<◌, ◌≤◌, Bool, true, false, cond, eqb, List, [], ◌∷◌, ◌++◌, length, take, drop, map, filter, refl, sym, ap, subst, ◌∙◌, arith, inl, inr}
 use Rattle.std.specs.List.{prefix_len}
-use Rattle.std.proofs.lemmas.Bool.{cases_eq, cond-true, cond-false, eq-eqb, ne_eqb, both_ways}
-use Rattle.std.proofs.lemmas.List.{take_at, drop_at, drop_more, drop_all}
+use Rattle.std.proofs.lemmas.Bool.{cases_eq, cond-true, cond-false, eq-eqb, ne_eqb}
+use Rattle.std.proofs.lemmas.List.{take_at, drop_at}
 use Rattle.tester_types.specs.declared.wave.Look.{Look}
 use Rattle.strobe_check.specs.Step.{looks_of, Ascends, SplitsRun}
 
@@ -109,25 +109,3 @@ SplitsRun-run sorted signal n looks is count = record {
 
     ascends : IsRun signal looks → Ascends (signal + 1) (drop n looks)
     ascends r = subst (λ (l : List (ℕ × Look)). Ascends (signal + 1) l) (sym (back_is r)) r.ascends
-
--- others are not cut
-pub SplitsRun-all : (sorted : Bool) (signal : ℕ) (looks : List (ℕ × Look)) → sorted ≡ false
-    → SplitsRun sorted signal looks looks looks
-SplitsRun-all sorted signal looks is = record {
-  here = λ h. refl;
-  behind = λ h k l. refl;
-  ascends = λ h s. absurd (both_ways sorted is s);
-}
-
--- one look more that is no earlier than the one before it
-pub Ascends-more : (looks : List (ℕ × Look)) (i least : ℕ) (d : ℕ × Look) → i < length looks
-    → least ≤ (get_or looks i d).0 → (Ascends least (drop i looks) → Ascends 0 looks)
-    → Ascends (get_or looks i d).0 (drop (i + 1) looks) → Ascends 0 looks
-Ascends-more looks i least d within fits before rest =
-    before (subst (λ (l : List (ℕ × Look)). Ascends least l) (sym (drop_more looks i d within)) (fits, rest))
-
--- past the last look all of them ascend
-pub Ascends-all : (looks : List (ℕ × Look)) (i least : ℕ) → length looks ≤ i
-    → (Ascends least (drop i looks) → Ascends 0 looks) → Ascends 0 looks
-Ascends-all looks i least all before =
-    before (subst (λ (l : List (ℕ × Look)). Ascends least l) (sym (drop_all i looks all)) tt)

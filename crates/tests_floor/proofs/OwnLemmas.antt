@@ -1,6 +1,6 @@
 -- The binding of the tests: an image with it is sound, and drives of inputs and the clock are drives of its die.
-use Rattle.std.proofs.Common.{◌≡◌, ℕ, ◌+◌, ◌<◌, ◌≤◌, ◌⊎◌, ◌++◌, Bool, true, false, cond, Some, List, [], ◌∷◌, length, get_or, take, refl, sym, ap, ◌∙◌, subst, arith, inl, inr, length-append}
-use Rattle.std.proofs.lemmas.List.{get_or_append_left, get_or_push, get_or-take, length-take-le, get_or_default}
+use Rattle.std.proofs.Common.{◌≡◌, ℕ, ◌+◌, ◌<◌, ◌≤◌, ◌⊎◌, Bool, true, false, cond, Some, List, length, get_or, take, refl, sym, ap, ◌∙◌, subst, arith, inl, inr}
+use Rattle.std.proofs.lemmas.List.{get_or-take, length-take-le, get_or_default}
 use Rattle.std.proofs.lemmas.Bool.{cases_Bool, cases_eq}
 use Rattle.tester_types.specs.declared.level.Drive.{Drive}
 use Rattle.bench_net.specs.declared.gate.Driver.{Driver}
@@ -11,29 +11,12 @@ use Rattle.die_sim.specs.declared.image.Bind.{Bind}
 use Rattle.die_sim.specs.declared.image.Bind.TheVariants as bind
 use Rattle.die_sim.specs.declared.image.StuckAt.{StuckAt}
 use Rattle.die_sim.specs.Die.{Image, Device, device_of, bind_at, is_clock, IsNetBind, IsSound, IsBoundTo}
-use Rattle.die_sim.specs.Moment.{AreDrives, IsInputBind}
 use Rattle.tests_floor.specs.Own.{is_input, own_bind, AreOwn, IsOwnImage, IsOwnDevice, AreOwnDrives}
 
 input_driver : (d : Driver) → is_input d ≡ true → d ≡ Input
 input_driver Input e = refl
 input_driver (Dff p) e = cc
 input_driver (Gate kind pins) e = cc
-
-pub AreOwn-none : (drivers : List Driver) → AreOwn drivers [] 0
-AreOwn-none drivers = record { count = refl; each = λ n l. absurd (omega arith) }
-
--- one more net is bound
-pub AreOwn-more : (drivers : List Driver) (binds : List Bind) (n : ℕ) (b : Bind) → b ≡ own_bind drivers n
-    → AreOwn drivers binds n → AreOwn drivers (binds ++ b ∷ []) (n + 1)
-AreOwn-more drivers binds n b is h = record {
-  count = length-append binds (b ∷ []) ∙ omega (arith, h.count);
-  each = λ m l. elim (cases_eq m n) [
-    | inl q ↦ ap (bind_at (binds ++ b ∷ [])) q ∙ get_or_push binds b bind.Free n h.count ∙ is ∙ ap (own_bind drivers) (sym q)
-    | inr ne ↦
-        let before : m < n = omega (arith, l, ne) in
-        get_or_append_left binds (b ∷ []) bind.Free m (omega (arith, before, h.count)) ∙ h.each m before
-  ];
-}
 
 module _ (drivers : List Driver) (n : ℕ) where
   own_input : is_input (driver_at drivers n) ≡ true → own_bind drivers n ≡ bind.Input n
@@ -81,24 +64,9 @@ IsSound-own i own one fault = record {
 pub bound_own : (c : Circuit) (clock : ℕ) (d : Device) → IsOwnDevice c clock d → (n : ℕ) → n < length c.net.drivers → IsBoundTo (bind_at d.binds n)
 bound_own c clock d h n l = subst (λ (b : Bind). IsBoundTo b) (sym (h.own.each n l)) (own_bound c.net.drivers n)
 
--- drives of inputs and of the clock are drives of the die
-pub AreDrives-own : (c : Circuit) (clock : ℕ) (d : Device) (drives : List (ℕ × Drive)) → IsOwnDevice c clock d
-    → AreOwnDrives c.net.drivers clock drives → AreDrives d drives
-AreDrives-own c clock d drives h own = record {
-  rising = own.rising;
-  each = λ k a l. elim (own.each k a l) [
-    | inl e ↦ inl (ap (λ x. is_clock x (get_or drives k a).0) h.clock ∙ e)
-    | inr e ↦ inr (subst (λ (b : Bind). IsInputBind b) (sym (h.own.each (get_or drives k a).0 e.0 ∙ own_input c.net.drivers (get_or drives k a).0 e.1)) tt)
-  ];
-}
-
 -- the die that an image with this binding gives has it too
 pub IsOwnDevice-of : (number : ℕ) (i : Image) → IsOwnImage number i → IsOwnDevice i.circuit number (device_of i)
 IsOwnDevice-of number i h = record { circuit = refl; clock = h.clock; own = h.own }
-
-pub AreDrives-of : (number : ℕ) (i : Image) (drives : List (ℕ × Drive)) → IsOwnImage number i
-    → AreOwnDrives i.circuit.net.drivers number drives → AreDrives (device_of i) drives
-AreDrives-of number i drives h own = AreDrives-own i.circuit number (device_of i) drives (IsOwnDevice-of number i h) own
 
 pub bound_of : (number : ℕ) (i : Image) → IsOwnImage number i → (n : ℕ) → n < length i.circuit.net.drivers → IsBoundTo (bind_at (device_of i).binds n)
 bound_of number i h n l = bound_own i.circuit number (device_of i) (IsOwnDevice-of number i h) n l

@@ -49,11 +49,6 @@ pub is_digit-word : (b : ℕ) → is_word b ≡ false → is_digit b ≡ false
 unfolding is_digit is_word
 is_digit-word b h = grind (arith, nat_tests)
 
--- what begins a name is part of a word
-pub begins_name-word : (b : ℕ) → is_word b ≡ false → begins_name b ≡ false
-unfolding begins_name is_word
-begins_name-word b h = grind (arith, nat_tests)
-
 -- the same, forwards
 pub is_word-begins_name : (b : ℕ) → begins_name b ≡ true → is_word b ≡ true
 unfolding begins_name is_word

@@ -1,7 +1,7 @@
 -- The limits of texts, of what they declare and of testers, each once: the constants of the code. They are this
 -- project's own.
 use Rattle.std.specs.Prelude.{ℕ}
-use Rattle.text_bytes.specs.declared.limit.TheConstants.{MOST_BYTES, LONGEST_NAME, LONGEST_LABEL, MOST_SIGNALS, MOST_GROUPS, MOST_EXECUTIVES, MOST_CHAINS, MOST_CELLS, MOST_REPEATS, MOST_PASSES, MOST_VARIABLES, MOST_TABLES, MOST_CODE_TABLES, MOST_PATTERNS, MOST_LISTED, MOST_EVENTS, LONGEST_PERIOD, MOST_WAVES, DEEPEST_CALLS, DEEPEST_LOOPS, MOST_WALKED, MOST_MEASURE, MOST_CYCLES, MOST_ROW_CHARACTERS, MOST_NETS, MOST_INPUTS, MOST_SITES, MOST_PLAN_SITES}
+use Rattle.text_bytes.specs.declared.limit.TheConstants.{MOST_BYTES, LONGEST_NAME, LONGEST_LABEL, MOST_SIGNALS, MOST_GROUPS, MOST_EXECUTIVES, MOST_CHAINS, MOST_CELLS, MOST_REPEATS, MOST_PASSES, MOST_VARIABLES, MOST_TABLES, MOST_CODE_TABLES, MOST_PATTERNS, MOST_LISTED, MOST_EVENTS, LONGEST_PERIOD, MOST_WAVES, DEEPEST_CALLS, DEEPEST_LOOPS, MOST_WALKED, MOST_MEASURE, MOST_CYCLES, MOST_ROW_CHARACTERS, MOST_NETS, MOST_INPUTS, MOST_SITES, MOST_PLAN_SITES, MOST_PARTS}
 
 -- the most bytes of a file
 abbrev pub most_bytes : ℕ
@@ -114,3 +114,7 @@ most_sites = MOST_SITES
 -- the most sites that a lot plan may name, over all testers
 abbrev pub most_plan_sites : ℕ
 most_plan_sites = MOST_PLAN_SITES
+
+-- the most parts of a lot, or of a grade
+abbrev pub most_parts : ℕ
+most_parts = MOST_PARTS

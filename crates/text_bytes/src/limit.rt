@@ -83,3 +83,6 @@ pub const MOST_SITES: usize = 16;
 
 /// The most sites that a lot plan may name, over all testers.
 pub const MOST_PLAN_SITES: usize = 64;
+
+/// The most parts of a lot, or of a grade.
+pub const MOST_PARTS: u16 = 4096;

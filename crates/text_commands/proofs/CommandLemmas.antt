@@ -23,7 +23,7 @@ use Rattle.text_commands.specs.declared.command.Command.{Command}
 use Rattle.text_commands.specs.declared.command.Command.TheVariants.{Events, Flat}
 use Rattle.tool_inputs.specs.declared.status.Status.{Status}
 use Rattle.tool_inputs.specs.declared.status.Status.TheVariants.{Done, Usage, ReadFault, WriteFault, RefusedStil, RefusedNet, RefusedPlan, TooFewSockets, OutOfMemory, TooLong, RefusedSaved, TooFlat, NoDie, TapeTooLong}
-use Rattle.text_commands.specs.Commands.{IsListing, BytesWant}
+use Rattle.text_commands.specs.Commands.{BytesWant}
 use Rattle.tool_inputs.specs.Endings.{Ends, Answers, memory_line}
 use Rattle.text_commands.specs.Commands.Wanting.{at_once, behind}
 use Rattle.text_commands.specs.FlatWants.{FlatWant, flat_status, flat_line}
@@ -43,13 +43,6 @@ want_refused command file bytes r (inl none) =
     subst (λ (e : StilRefusal). BytesWant command file bytes (stil_status e) (stil_line e)) (sym none) (at_once refl)
 want_refused command file bytes r (inr is) =
     subst (λ (e : StilRefusal). BytesWant command file bytes (stil_status e) (stil_line e)) (sym is.is) (is.fault, inl is.first, refl)
-
--- or by too many cycles
-pub want_unlisted : (command : Command) (file bytes : List ℕ) (r : StilRefusal) → IsListing command → IsListRefused bytes r
-    → BytesWant command file bytes (stil_status r) (stil_line r)
-want_unlisted command file bytes NoMemory lists is = at_once refl
-want_unlisted command file bytes (Fault fault) lists (inl first) = (fault, inl first, refl)
-want_unlisted command file bytes (Fault fault) lists (inr many) = (fault, inr (lists, many), refl)
 
 -- ---- what a code lists
 

@@ -7,7 +7,7 @@ use Rattle.stil_ast.specs.Data.Places.{Place}
 use Rattle.stil_ast.specs.Meaning.Times.{in_text}
 use Rattle.stil_ast.specs.Meaning.Variables.{Variable, value_of, value_of_found, value_within, value_fault, picked_fault}
 use Rattle.stil_ast.specs.Data.Texts.{same}
-use Rattle.stil_ast.specs.Faults.Found.{fault_at, first_in, or_else}
+use Rattle.stil_ast.specs.Faults.Found.{first_in, or_else}
 use Rattle.stil_ast.specs.declared.fault.StilFault.{StilFault}
 use Rattle.stil_ast.specs.Data.Refusal.{StilRefusal}
 use Rattle.answers.specs.Answers.{Blames}
@@ -43,11 +43,6 @@ unknown-value : (vs : List Variable) (name : List ℕ) → variable_named vs nam
     → value_of times_of vs name ≡ Err (in_text UnknownName)
 unknown-value vs name none =
     ap (λ o. value_of_found false o (times_of.value (value_within times_of vs (length vs) (name ∷ [])))) none
-
-pub unknown-first : (vs : List Variable) (p : Place) (name : List ℕ) (e : StilRefusal) → variable_named vs name ≡ None
-    → Blames (Some (fault_at p UnknownName)) e → Blames (value_fault p (value_of times_of vs name)) e
-unknown-first vs p name e none told = λ f same.
-    ap (value_fault p) (unknown-value vs name none) ∙ told f same
 
 -- one value more
 module _ (vs : List Variable) (before now : List (List ℕ × Ratio)) (v : Variable) (r : Ratio) (known : AreKnown vs before)
@@ -130,9 +125,6 @@ pub chooses : (vs : List Variable) (r : Result (List (List ℕ × Ratio)) StilRe
     → AreValues vs r → Chooses vs r
 chooses vs (Ok vars) apart h = (ap (λ o. or_else o (first_in (own_fault vs) vs)) apart ∙ h.0, h.1)
 chooses vs (Err e) apart h = λ f same. ap (λ o. or_else o (first_in (own_fault vs) vs)) apart ∙ h f same
-
-pub apart-chooses : (vs : List Variable) (e : StilRefusal) → Blames (picked_fault [] vs) e → Chooses vs (Err e)
-apart-chooses vs e h = λ f same. ap (λ o. or_else o (first_in (own_fault vs) vs)) (h f same)
 
 -- the loop over the variables, at one of them
 module _ (vs : List Variable) (items : List Picked) (i : ℕ) (x : Picked) (within : i < length items)

@@ -2,7 +2,6 @@
 use Rattle.std.proofs.Common.{◌≡◌, ℕ, Bool, true, false, cond, List, Option, Some, None, refl, sym, ap, subst, ◌∙◌, inr}
 use Rattle.std.specs.Prelude.{IfSome}
 use Rattle.std.specs.Borrow.{Bor}
-use Rattle.std.specs.Map.{lookup}
 use Rattle.std.specs.Option.{option_copied}
 use Rattle.std.specs.Str.{bytes_eq}
 use Rattle.std.proofs.lemmas.Option.{same_Some}
@@ -34,12 +33,6 @@ kept-more old new text expr spelled spells now = λ other e is. by_test other e 
         (subst (λ (x : Expr). Spells text (tree_of x) true) here spells)
     by_test other e is false f =
         spelled other e (sym (ap (λ b. cond b (Some expr) (expr_for old other)) f) ∙ sym (now other) ∙ is)
-
--- nothing more is kept
-pub kept-same : {S : Type 0} (old new : IndexMap (Bor (List ℕ)) Expr S) → new.entries ≡ old.entries → AreSpelled old
-    → AreSpelled new
-kept-same old new same spelled = λ text e is.
-    spelled text e (sym (ap (λ es. lookup (λ (k : Bor (List ℕ)). bytes_eq text k.now) es) same) ∙ is)
 
 -- what is found for a text is the expression that it spells
 pub kept-spells : {S : Type 0} (exprs : IndexMap (Bor (List ℕ)) Expr S) (text : List ℕ) (found : Option (Bor Expr))

@@ -1,5 +1,5 @@
 -- Where names have the values of variables, an expression has the value that it has under the variables.
-use Rattle.std.proofs.Common.{◌≡◌, ◌⊎◌, ℕ, List, Option, Some, None, Result, Ok, Err, refl, sym, ap, ◌∙◌, inl, inr}
+use Rattle.std.proofs.Common.{◌≡◌, ◌⊎◌, ℕ, List, Result, Ok, Err, refl, sym, ap, ◌∙◌, inl, inr}
 use Rattle.stil_ast.specs.Meaning.Times.{Met}
 use Rattle.expr_text.specs.Ratio.{Ratio, given}
 use Rattle.expr_text.specs.Tree.{Tree, number, name, chain, linked, extreme, also, tree_of}
@@ -126,20 +126,3 @@ value_by-value_of names vars e each = closed_case (value_agrees ⊥ names vars (
     closed_case : Agree ⊥ (value_of vars e) (value_by names (tree_of e)) → value_by names (tree_of e) ≡ met_of (value_of vars e)
     closed_case (inl u) = absurd u.0
     closed_case (inr v) = v
-
--- under names of which some are variables with values: what doesn't stop at another name is the value
-pub value_unless_unknown : (names : List ℕ → Result Ratio Met) (vars : List (List ℕ × Ratio)) (e : Expr)
-    → ((bytes : List ℕ) (r : Ratio) → value_of_name bytes vars ≡ Some r → names bytes ≡ Ok r)
-    → (value_of vars e ≡ Err UnknownName) ⊎ (value_by names (tree_of e) ≡ met_of (value_of vars e))
-value_unless_unknown names vars e each =
-    open_case (value_agrees (Unit {0}) names vars (λ bytes. by_found bytes (value_of_name bytes vars) refl) e (value_of vars e) refl)
-  where
-    by_found : (bytes : List ℕ) (found : Option Ratio) → value_of_name bytes vars ≡ found
-        → Agree (Unit {0}) (named_of found) (names bytes)
-    by_found bytes None is = inl (tt, refl)
-    by_found bytes (Some r) is = inr (each bytes r is)
-
-    open_case : Agree (Unit {0}) (value_of vars e) (value_by names (tree_of e))
-        → (value_of vars e ≡ Err UnknownName) ⊎ (value_by names (tree_of e) ≡ met_of (value_of vars e))
-    open_case (inl u) = inl u.1
-    open_case (inr v) = inr v

@@ -32,10 +32,6 @@ pub record AreRead (told : Option Files) (files : List (List ℕ)) (number : ℕ
   pub split : files ≡ front ++ drop number files
   pub nets : AreNetFiles told front circuits
 
--- none is at first
-pub none_read : (told : Option Files) (files : List (List ℕ)) → AreRead told files 0 []
-none_read told files = record { front = []; split = refl; nets = tt }
-
 -- with the next one
 pub next_read : (told told' : Option Files) (files : List (List ℕ)) (number : ℕ) (circuits circuits' : List Circuit) (file : List ℕ)
     → number < length files → file ≡ get_or files number file → told' ≡ told → AreRead told files number circuits

@@ -81,10 +81,7 @@ pub(crate) fn read_program<F: Shelf>(
     ensures kept { F.told shelf.new ≡ F.told shelf.old }
     ensures counts { F.faults shelf.old ≤ F.faults shelf.new }
 {
-    let bytes = match load(alloc, file, shelf) {
-        Ok(bytes) => bytes,
-        Err(refusal) => return Err(refusal),
-    };
+    let bytes = load(alloc, file, shelf)?;
     if is_saved(bytes.as_slice()) {
         saved_code(alloc, bytes.as_slice())
     } else {
@@ -107,10 +104,7 @@ pub(crate) fn read_plan<F: Shelf>(alloc: Global, file: &str, shelf: &mut F) -> R
     ensures kept { F.told shelf.new ≡ F.told shelf.old }
     ensures counts { F.faults shelf.old ≤ F.faults shelf.new }
 {
-    let bytes = match load(alloc, file, shelf) {
-        Ok(bytes) => bytes,
-        Err(refusal) => return Err(refusal),
-    };
+    let bytes = load(alloc, file, shelf)?;
     match Plan::read(alloc, bytes.as_slice()) {
         Ok(plan) => Ok(plan),
         Err(fault) => Err(Refusal::Plan(fault)),
@@ -127,10 +121,7 @@ fn read_net<F: Shelf>(alloc: Global, file: &str, shelf: &mut F) -> Result<Netlis
     let Ok(name) = Vec::from_slice(alloc, file.as_bytes()) else {
         return Err(Refusal::NoMemory);
     };
-    let bytes = match load(alloc, file, shelf) {
-        Ok(bytes) => bytes,
-        Err(refusal) => return Err(refusal),
-    };
+    let bytes = load(alloc, file, shelf)?;
     match Netlist::read(alloc, bytes.as_slice()) {
         Ok(net) => Ok(net),
         Err(fault) => Err(Refusal::Net(Text::from_vec(name), fault)),
@@ -170,10 +161,7 @@ fn add_net<F: Shelf>(
     ensures kept { F.told shelf.new ≡ F.told shelf.old }
     ensures counts { F.faults shelf.old ≤ F.faults shelf.new }
 {
-    let net = match read_net(alloc, name_of(file), shelf) {
-        Ok(net) => net,
-        Err(refusal) => return Err(refusal),
-    };
+    let net = read_net(alloc, name_of(file), shelf)?;
     match share(alloc, net, nets) {
         Ok(()) => Ok(()),
         Err(_) => Err(Refusal::NoMemory),
@@ -195,10 +183,7 @@ pub(crate) fn read_nets<F: Shelf>(
     let files = plan.files().as_slice();
     let mut nets = Vec::new(alloc);
     for file in files {
-        match add_net(alloc, file, shelf, &mut nets) {
-            Ok(()) => {}
-            Err(refusal) => return Err(refusal),
-        }
+        add_net(alloc, file, shelf, &mut nets)?;
     }
     Ok(nets)
 }

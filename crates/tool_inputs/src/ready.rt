@@ -30,18 +30,9 @@ pub fn prepare<F: Shelf>(
     ensures kept { F.told shelf.new ≡ F.told shelf.old }
     ensures counts { F.faults shelf.old ≤ F.faults shelf.new }
 {
-    let code = match read_program(alloc, program, shelf) {
-        Ok(code) => code,
-        Err(refusal) => return Err(refusal),
-    };
-    let plan = match read_plan(alloc, plan, shelf) {
-        Ok(plan) => plan,
-        Err(refusal) => return Err(refusal),
-    };
-    let nets = match read_nets(alloc, &plan, shelf) {
-        Ok(nets) => nets,
-        Err(refusal) => return Err(refusal),
-    };
+    let code = read_program(alloc, program, shelf)?;
+    let plan = read_plan(alloc, plan, shelf)?;
+    let nets = read_nets(alloc, &plan, shelf)?;
     match plan.bind(alloc, &code, nets) {
         Ok(plan) => Ok(ReadyLot { code, plan }),
         Err(fault) => Err(Refusal::Plan(fault)),

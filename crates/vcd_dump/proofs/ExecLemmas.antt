@@ -1,5 +1,5 @@
 -- What comes behind an executive of a try whose drives are recorded.
-use Rattle.std.proofs.Common.{◌≡◌, ℕ, ◌+◌, ◌-◌, ◌*◌, ◌^◌, ◌<◌, ◌≤◌, ◌&&◌, ℤ, Bool, true, false, not, List, [], ◌∷◌, ◌++◌, length, take, drop, min, eqb, Option, refl, sym, ap, ◌∙◌, subst, arith, rules, append_assoc}
+use Rattle.std.proofs.Common.{◌≡◌, ℕ, ◌+◌, ◌-◌, ◌*◌, ◌^◌, ◌<◌, ◌≤◌, ◌&&◌, ℤ, Bool, true, false, not, List, [], ◌++◌, length, take, drop, min, eqb, Option, refl, sym, ap, ◌∙◌, subst, arith, rules, append_assoc}
 use Rattle.std.specs.Prelude.{nat_le}
 use Rattle.std.proofs.Math.Seq.{take-add}
 use Rattle.std.proofs.lemmas.Bool.{lt-ltb}

@@ -1,6 +1,6 @@
 -- What comes of a tape whose calls were recorded.
 use Rattle.std.proofs.Common.{◌≡◌, ℕ, ℤ, ◌<◌, ◌≤◌, Bool, true, false, List, [], ◌++◌, length, Option, Result, Ok, Err, sym, ap, ◌∙◌, subst, arith}
-use Rattle.std.specs.Prelude.{IfOk, IfErr, OnOk}
+use Rattle.std.specs.Prelude.{IfOk, OnOk, MatchResult}
 use Rattle.std.proofs.lemmas.Bool.{false≢true}
 use Rattle.packed_code.specs.Program.{Program}
 use Rattle.die_sim.specs.Die.{Image, device_of}
@@ -30,27 +30,31 @@ abbrev pub Refuses : Recording → TapeFault → Type 0
 Refuses r e = (e ≡ fault.TapeTooLong) × (most_drives < drives_in r.calls)
 
 module _ (all : Calls) (old new : Way) (none : old.recorder.calls ≡ []) where
-  pub finish_calls : (whole : Bool) → RecordsSo whole all old new → (r : Result TapeState TapeFault) → IfOk r (Hands new.recorder)
+  pub finish_calls : (whole : Bool) → RecordsSo whole all old new → (r : Result TapeState TapeFault)
+      → MatchResult r (Hands new.recorder) (Refuses new.recorder)
       → IfOk r (λ tape. tape.calls ≡ all)
   finish_calls true records (Ok tape) hands = hands.0 ∙ records ∙ ap (λ c. c ++ all) none
   finish_calls false records (Ok tape) hands = absurd (false≢true (sym hands.1 ∙ records.2))
   finish_calls whole records (Err e) hands = tt
 
-  pub finish_sound : (vars : List Var) (whole : Bool) → RecordsSo whole all old new → (r : Result TapeState TapeFault) → IfOk r (Hands new.recorder)
+  pub finish_sound : (vars : List Var) (whole : Bool) → RecordsSo whole all old new → (r : Result TapeState TapeFault)
+      → MatchResult r (Hands new.recorder) (Refuses new.recorder)
       → IsSound vars all → IfOk r (λ tape. IsSound vars tape.calls)
   finish_sound vars true records (Ok tape) hands sound =
       subst (IsSound vars) (sym (hands.0 ∙ records ∙ ap (λ c. c ++ all) none)) sound
   finish_sound vars false records (Ok tape) hands sound = absurd (false≢true (sym hands.1 ∙ records.2))
   finish_sound vars whole records (Err e) hands sound = tt
 
-  pub finish_few : (whole : Bool) → RecordsSo whole all old new → (r : Result TapeState TapeFault) → IfOk r (Hands new.recorder)
+  pub finish_few : (whole : Bool) → RecordsSo whole all old new → (r : Result TapeState TapeFault)
+      → MatchResult r (Hands new.recorder) (Refuses new.recorder)
       → OnOk r (drives_in all ≤ most_drives)
   finish_few true records (Ok tape) hands =
       omega (arith, hands.2, ap drives_in (records ∙ ap (λ c. c ++ all) none))
   finish_few false records (Ok tape) hands = absurd (false≢true (sym hands.1 ∙ records.2))
   finish_few whole records (Err e) hands = tt
 
-  pub finish_long : (whole : Bool) → RecordsSo whole all old new → (r : Result TapeState TapeFault) → IfErr r (Refuses new.recorder)
+  pub finish_long : (whole : Bool) → RecordsSo whole all old new → (r : Result TapeState TapeFault)
+      → MatchResult r (Hands new.recorder) (Refuses new.recorder)
       → r ≡ Err fault.TapeTooLong → most_drives < drives_in all
   finish_long whole records (Ok tape) refuses is = absurd cc
   finish_long true records (Err e) refuses is =

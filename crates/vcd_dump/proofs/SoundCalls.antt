@@ -18,12 +18,11 @@ use Rattle.packed_code.proofs.WalkLemmas.{period_fits}
 use Rattle.edge_gen.specs.Moments as edge
 use Rattle.die_sim.specs.Die.{Device}
 use Rattle.die_sim.specs.Socket.{Calls}
-use Rattle.site_meaning.specs.Playing.{Stand, Going, Along, Whose, PlayedMoment, FitStand, along_of, whose_next, driven, is_driven, after_moment, entry_of, moments_in, moments_played, played_cycle, after_cycle}
+use Rattle.site_meaning.specs.Playing.{Stand, Going, Along, PlayedMoment, FitStand, along_of, whose_next, driven, is_driven, after_moment, moments_in, played_cycle, after_cycle}
 use Rattle.site_meaning.specs.Trials.{played}
 use Rattle.site_meaning.specs.Rising.{instants_of}
 use Rattle.site_meaning.proofs.InstantLemmas.{cycle_from, cycle_before}
 use Rattle.site_meaning.proofs.RiseLemmas.{played-ats, played_rises}
-use Rattle.strobe_check.specs.Entry.{Entry}
 use Rattle.packed_code.proofs.Lists.{all_mapped}
 use Rattle.cycle_run.specs.Tape.{call_at, calls_in, calls_of_cycle}
 use Rattle.cycle_run.specs.Batch.{calls_of_cycles}

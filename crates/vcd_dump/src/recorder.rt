@@ -1,6 +1,6 @@
 //! A socket that records the drives of a simulated die, on a tape that grows in step with them.
 
-ghost use Rattle.std.specs.Prelude.{◌≡◌, ◌++◌, ◌∷◌, [], ◌<◌, ◌≤◌, None, false, IfOk, IfErr, OnOk, OnErr};
+ghost use Rattle.std.specs.Prelude.{◌≡◌, ◌++◌, ◌∷◌, [], ◌<◌, ◌≤◌, None, false, IfOk, MatchResult, OnOk, OnErr};
 ghost use Rattle.vcd_dump.specs.Taken.{drives_in, most_drives};
 ghost use Rattle.vcd_dump.specs.declared.fault.TapeFault.TheVariants as fault;
 ghost use Rattle.vcd_dump.specs.Recording.{Recording, recording_told};
@@ -59,9 +59,9 @@ impl Recorder {
 
     /// The tape of the drives, unless there are too many.
     pub fn finish(self) -> Result<Tape, TapeFault>
-        ensures ok { IfOk result (λ tape. (tape.calls ≡ self.calls) × (self.over ≡ false)
-            × (drives_in self.calls ≤ most_drives)) }
-        ensures err { IfErr result (λ e. (e ≡ fault.TapeTooLong) × (most_drives < drives_in self.calls)) }
+        ensures { MatchResult result
+            (λ tape. (tape.calls ≡ self.calls) × (self.over ≡ false) × (drives_in self.calls ≤ most_drives))
+            (λ e. (e ≡ fault.TapeTooLong) × (most_drives < drives_in self.calls)) }
     {
         if self.over {
             Err(TapeFault::TapeTooLong)

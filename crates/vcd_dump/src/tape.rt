@@ -18,14 +18,11 @@ use crate::play::Way;
 use crate::recorder::Recorder;
 use cycle_run::Bench;
 use die_sim::{DieImage, Socket, Tape};
-use edge_gen::Schedules;
+use edge_gen::{HELD_SCHEDULES, Schedules};
 use lot_plan::BoundPlan;
 use packed_code::Code;
 use std::alloc::Global;
 use tester_types::NoMemory;
-
-/// How many schedules are held.
-const SCHEDULES: usize = 64;
 
 /// A recorder in which a die is loaded.
 fn loaded(alloc: Global, image: &DieImage) -> Result<Recorder, NoMemory>
@@ -49,7 +46,7 @@ fn started(alloc: Global, code: &Code, image: &DieImage) -> Result<Way, NoMemory
 {
     let recorder = loaded(alloc, image)?;
     let bench = Bench::new(alloc, image, code.signals(), 0)?;
-    let schedules = Schedules::new(alloc, SCHEDULES)?;
+    let schedules = Schedules::new(alloc, HELD_SCHEDULES)?;
     Ok(Way {
         number: 0,
         time: 0,

@@ -5,8 +5,6 @@ use Rattle.std.specs.Prelude.{slice_get}
 use Rattle.std.proofs.lemmas.List.{length-map, length-append}
 use Rattle.std.proofs.Math.Seq.{take-append_seam, drop-append_seam}
 use Rattle.std.proofs.lemmas.List.Elements.{All-get_or}
-use Rattle.std.proofs.lemmas.Bool.{eq-eqb, ne_eqb}
-use Rattle.std.proofs.Math.Bool.{and-false}
 use Rattle.text_bytes.specs.Bytes.{is_character}
 use Rattle.stil_ast.specs.Data.Places.{Place}
 use Rattle.stil_ast.specs.Meaning.Times.{time_at}
@@ -88,14 +86,6 @@ stands_is t table slots source r w signals characters maps listed written within
     test : ℕ → ℕ → Bool
     test s c = is_waveform (waveform_at t.names source r w) (waveform_of (waveforms t.names t.tables table) s c)
 
--- a table's own waveform isn't inherited
-pub not_late_own : (t : Timed Ratio) (period : ℤ) (table : ℕ) (w : Waveform) → w.table ≡ table
-    → late_one t period table w ≡ None
-not_late_own t period table w own =
-    ap (λ (b : Bool). first_in (late_event t period)
-    (cond (not b && stands (waveforms t.names t.tables table) w) w.events []))
-    (eq-eqb w.table table own)
-
 first_of_either : (f : EventDecl → Option StilFault) (b : Bool) (es : List EventDecl) → first_in f es ≡ None
     → first_in f (cond b es []) ≡ None
 first_of_either f true es e = e
@@ -108,24 +98,6 @@ pub not_late_early : (t : Timed Ratio) (period : ℤ) (table : ℕ) (w : Wavefor
 not_late_early t period table w early =
     first_of_either (late_event t period) (not (w.table == table) && stands (waveforms t.names t.tables table) w)
     w.events early
-
--- one that doesn't stand isn't late
-pub not_late_gone : (t : Timed Ratio) (period : ℤ) (table : ℕ) (w : Waveform)
-    → stands (waveforms t.names t.tables table) w ≡ false
-    → late_one t period table w ≡ None
-not_late_gone t period table w gone =
-    ap (λ (b : Bool). first_in (late_event t period) (cond (not (w.table == table) && b) w.events [])) gone
-    ∙ ap (λ (b : Bool). first_in (late_event t period) (cond b w.events [])) (and-false (not (w.table == table)))
-
--- one of another table that stands is as late as its events
-pub late_standing : (t : Timed Ratio) (period : ℤ) (table : ℕ) (w : Waveform) → (w.table ≡ table → ⊥)
-    → stands (waveforms t.names t.tables table) w ≡ true
-    → late_one t period table w ≡ first_in (late_event t period) w.events
-late_standing t period table w other standing =
-    ap (λ (b : Bool). first_in (late_event t period)
-    (cond (not b && stands (waveforms t.names t.tables table) w) w.events []))
-    (ne_eqb w.table table other)
-    ∙ ap (λ (b : Bool). first_in (late_event t period) (cond b w.events [])) standing
 
 -- the waveform of the next number stands first
 pub stand_first : (t : Timed Ratio) (reads : List ReadWave) (number : ℕ) (waves : List WaveDecl) (w : WaveDecl)

@@ -1,5 +1,5 @@
-use Rattle.std.proofs.Common.{◌∙◌, arith, length, ◌<◌}
-use Rattle.code_listing.proofs.ListingLemmas.{few_cycles, cycles-more, cycles-all}
+use Rattle.std.proofs.Common.{arith, length, ◌<◌}
+use Rattle.code_listing.proofs.ListingLemmas.{few_cycles, cycles-more}
 use Rattle.code_listing.proofs.check.cycle_total.Goals as goal
 
 pub overflow_add-total : goal.overflow_add-total

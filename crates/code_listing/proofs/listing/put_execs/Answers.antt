@@ -1,4 +1,4 @@
-use Rattle.std.proofs.Common.{◌<◌, ◌++◌, ◌+◌, ◌-◌, ◌∙◌, ℕ, length, sym, arith, append_assoc, ◌≡◌, List, ap}
+use Rattle.std.proofs.Common.{◌<◌, ◌++◌, ◌+◌, ◌-◌, ◌∙◌, ℕ, length, sym, arith, append_assoc}
 use Rattle.std.proofs.lemmas.Result.{err_from_is_err_and}
 use Rattle.text_bytes.proofs.TextLemmas.{lines_behind}
 use Rattle.tester_types.proofs.OutsideLemmas.{gained_both}

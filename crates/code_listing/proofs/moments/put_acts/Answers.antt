@@ -4,7 +4,7 @@ use Rattle.std.specs.Prelude.{codes}
 use Rattle.std.specs.List.{flat_map}
 use Rattle.tester_types.specs.declared.wave.Look.{Look}
 use Rattle.tester_types.specs.declared.wave.Push.{Push}
-use Rattle.tester_types.specs.Outside.{gained, GainsFront}
+use Rattle.tester_types.specs.Outside.{GainsFront}
 use Rattle.tester_types.proofs.OutsideLemmas.{first_stops, second_stops, third_ends}
 use Rattle.code_listing.specs.Text.{names_of, push_words, look_words}
 use Rattle.code_listing.proofs.moments.put_acts.Goals as goal

@@ -1,4 +1,3 @@
-use Rattle.std.proofs.lemmas.List.{get_or_default}
 use Rattle.std.proofs.lemmas.Result.{err_from_is_err_and}
 use Rattle.tester_types.proofs.OutsideLemmas.{each_stops}
 use Rattle.code_listing.specs.Text.{names_of, moment_line}

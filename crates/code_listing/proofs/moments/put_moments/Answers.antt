@@ -1,4 +1,4 @@
-use Rattle.std.proofs.Common.{◌∙◌, ◌≡◌, List, ℕ, ap, pos, sym, subst, length}
+use Rattle.std.proofs.Common.{◌∙◌, List, ℕ, ap, pos, sym, subst, length}
 use Rattle.std.proofs.lemmas.List.{length-replicate}
 use Rattle.std.proofs.lemmas.Result.{err_from_is_err_and}
 use Rattle.tester_types.specs.Outside.{gained, GainsFront}

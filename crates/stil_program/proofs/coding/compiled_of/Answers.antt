@@ -1,7 +1,7 @@
 use Rattle.stil_program.proofs.AnswerLemmas.{with_lines}
 use Rattle.stil_program.proofs.coding.compiled_of.Goals as goal
 
-pub returns-in-Ok : goal.returns-in-Ok
-returns-in-Ok c =
-    with_lines c.args.blocks.now c.with_lines.result c.in-Ok.code c.as_slice.result.now c.in-Ok.ensures.0 c.in-Ok.ensures.1
-    c.as_slice.ensures c.with_lines.ensures
+pub returns : goal.returns
+returns c =
+    with_lines c.args.blocks.now c.with_lines.result c.in_ok-code.code c.as_slice.result.now c.in_ok-code.ensures.0
+    c.in_ok-code.ensures.1 c.as_slice.ensures c.with_lines.ensures

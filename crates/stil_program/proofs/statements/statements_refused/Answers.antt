@@ -1,4 +1,4 @@
-use Rattle.std.proofs.Common.{◌≡◌, ◌+◌, ℕ, List, take, subst}
+use Rattle.std.proofs.Common.{List, subst}
 use Rattle.stil_lex.specs.declared.token.Token.{Token}
 use Rattle.stil_tree.specs.declared.fault.TreeFault.TheVariants.{OpenBlock, OpenStatement, StrayClose, TooDeep}
 use Rattle.stil_form.specs.Setting.{line_at}

@@ -1,5 +1,4 @@
-use Rattle.std.proofs.Common.{List, ℕ}
-use Rattle.time_expr.proofs.KeptLemmas.{kept-more, kept-same}
+use Rattle.time_expr.proofs.KeptLemmas.{kept-more}
 use Rattle.time_expr.proofs.texts.keep.Goals as goal
 
 pub returns : goal.returns

@@ -61,7 +61,7 @@ returns-clause-calls c =
     c.requires.one_program c.requires.die some c.image-image.ensures c.skews.ensures c.batch.ensures c.stop-order.ensures c.in_ok-way.ensures.going in
     subst (λ (all : Calls). IfOk c.finish.result (λ tape. tape.calls ≡ all)) is
     (finish_calls all c.in_ok-way.way c.play_execs.new.way c.in_ok-way.ensures.calls c.in_ok-play_execs.field-0 c.in_ok-play_execs.ensures
-    c.finish.result c.finish.ensures.ok)
+    c.finish.result c.finish.ensures)
 
 pub returns-clause-few : goal.returns-clause-few
 returns-clause-few c =
@@ -75,7 +75,7 @@ returns-clause-few c =
     c.requires.one_program c.requires.die some c.image-image.ensures c.skews.ensures c.batch.ensures c.stop-order.ensures c.in_ok-way.ensures.going in
     subst (λ (all : Calls). OnOk c.finish.result (drives_in all ≤ most_drives)) is
     (finish_few all c.in_ok-way.way c.play_execs.new.way c.in_ok-way.ensures.calls c.in_ok-play_execs.field-0 c.in_ok-play_execs.ensures
-    c.finish.result c.finish.ensures.ok)
+    c.finish.result c.finish.ensures)
 
 pub returns-clause-too_long : goal.returns-clause-too_long
 returns-clause-too_long c =
@@ -89,7 +89,7 @@ returns-clause-too_long c =
     c.requires.one_program c.requires.die some c.image-image.ensures c.skews.ensures c.batch.ensures c.stop-order.ensures c.in_ok-way.ensures.going in
     subst (λ (all : Calls). c.finish.result ≡ Err fault.TapeTooLong → most_drives < drives_in all) is
     (finish_long all c.in_ok-way.way c.play_execs.new.way c.in_ok-way.ensures.calls c.in_ok-play_execs.field-0 c.in_ok-play_execs.ensures
-    c.finish.result c.finish.ensures.err)
+    c.finish.result c.finish.ensures)
 
 pub play_execs-requires-clause-before : goal.play_execs-requires-clause-before
 play_execs-requires-clause-before c = c.in_ok-way.ensures.before c.skews.result.now
@@ -105,5 +105,5 @@ returns-clause-sound c =
     let is = all_is plan c.args.site code image c.skews.result.now c.batch.result c.stop-order.result (going_of c.in_ok-way.way)
     c.requires.one_program c.requires.die some c.image-image.ensures c.skews.ensures c.batch.ensures c.stop-order.ensures c.in_ok-way.ensures.going in
     (finish_sound all c.in_ok-way.way c.play_execs.new.way c.in_ok-way.ensures.calls (vars_of plan c.args.site) c.in_ok-play_execs.field-0 c.in_ok-play_execs.ensures
-    c.finish.result c.finish.ensures.ok
+    c.finish.result c.finish.ensures
     (subst (IsSound (vars_of plan c.args.site)) (sym is) (tape_sound plan c.args.site program c.sites-bound.ensures.bound c.requires.die)))

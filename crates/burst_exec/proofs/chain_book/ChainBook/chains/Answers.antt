@@ -1,4 +1,4 @@
-use Rattle.std.proofs.Common.{◌≡◌, sym, ◌∙◌}
+use Rattle.std.proofs.Common.{sym, ◌∙◌}
 use Rattle.std.proofs.lemmas.Option.{same_Some}
 use Rattle.burst_exec.specs.Booked.{AreChainsOf}
 use Rattle.burst_exec.proofs.MadeLemmas.{stands_within}
