@@ -25,10 +25,7 @@ pub(crate) fn read_plan<F: Shelf>(
     ensures kept { F.told shelf.new ≡ F.told shelf.old }
     ensures counts { F.faults shelf.old ≤ F.faults shelf.new }
 {
-    let bytes = match load(alloc, plan, shelf) {
-        Ok(bytes) => bytes,
-        Err(refusal) => return Err(refusal),
-    };
+    let bytes = load(alloc, plan, shelf)?;
     match read_rows(alloc, bytes.as_slice()) {
         Ok(rows) => Ok(rows),
         Err(fault) => Err(Refusal::Plan(fault)),
@@ -72,10 +69,7 @@ pub(crate) fn load_parts<F: Shelf>(
 {
     let mut texts = Vec::new(alloc);
     for file in files {
-        match add_part(alloc, file.as_str(), shelf, &mut texts) {
-            Ok(()) => {}
-            Err(refusal) => return Err(refusal),
-        }
+        add_part(alloc, file.as_str(), shelf, &mut texts)?;
     }
     Ok(texts)
 }
@@ -93,10 +87,7 @@ fn add_part<F: Shelf>(
     ensures kept { F.told shelf.new ≡ F.told shelf.old }
     ensures counts { F.faults shelf.old ≤ F.faults shelf.new }
 {
-    let text = match load_part(alloc, file, shelf) {
-        Ok(text) => text,
-        Err(refusal) => return Err(refusal),
-    };
+    let text = load_part(alloc, file, shelf)?;
     match push_text(text, texts) {
         Ok(()) => Ok(()),
         Err(_) => Err(Refusal::NoMemory),

@@ -81,5 +81,3 @@ lot_completes tells words told before now old new held held' faults faults' resu
         → IsDone result
     by (inl whole) = subst IsDone (sym whole.0) (wanted_done tells words told before now faults faults' old new a.status a.text fine a.wanted)
     by (inr front) = absurd (fine.puts front.2)
-
--- ---- a command that needs no tester

@@ -92,18 +92,9 @@ fn shared(alloc: Global, net: Netlist) -> Result<Vec<Arc<Netlist>>, AllocError>
 fn prepare(alloc: Global, number: u8) -> Result<ReadyLot, Refusal>
     ensures { MatchResult result (λ lot. IsDrillReady number lot.code lot.plan) (IsTextRefused number) }
 {
-    let code = match code(alloc, number) {
-        Ok(code) => code,
-        Err(refusal) => return Err(refusal),
-    };
-    let plan = match plan(alloc, number) {
-        Ok(plan) => plan,
-        Err(refusal) => return Err(refusal),
-    };
-    let net = match net(alloc, number) {
-        Ok(net) => net,
-        Err(refusal) => return Err(refusal),
-    };
+    let code = code(alloc, number)?;
+    let plan = plan(alloc, number)?;
+    let net = net(alloc, number)?;
     if plan.files().len() != 1 {
         return Err(Refusal::NoMemory);
     }

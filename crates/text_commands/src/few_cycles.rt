@@ -1,6 +1,6 @@
 //! Texts with few enough cycles to be printed one by one.
 
-ghost use Rattle.std.specs.Prelude.{◌≡◌, ◌<◌, ◌≤◌, ℕ, IfOk, IfSome, IfNone, MatchResult, length};
+ghost use Rattle.std.specs.Prelude.{◌≡◌, ◌<◌, ◌≤◌, IfOk, IfSome, IfNone, MatchResult, length};
 ghost use Rattle.text_bytes.specs.Limits.{most_listed, most_bytes};
 ghost use Rattle.stil_ast.specs.Faults.Found.{fault_at};
 ghost use Rattle.stil_ast.specs.Faults.BurstFaults.{exec_place};
@@ -66,10 +66,7 @@ pub(crate) fn listed_code(alloc: Global, bytes: &[u8]) -> Result<Code, StilRefus
     requires { length bytes.now ≤ most_bytes }
     ensures { MatchResult result (IsListedCode bytes.now) (IsListRefused bytes.now) }
 {
-    let text = match compiled(alloc, bytes) {
-        Ok(text) => text,
-        Err(refusal) => return Err(refusal),
-    };
+    let text = compiled(alloc, bytes)?;
     match crossing(&text.code) {
         Some(exec) => Err(refusal_at(alloc, &text, exec)),
         None => Ok(text.code),

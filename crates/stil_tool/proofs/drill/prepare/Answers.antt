@@ -8,46 +8,46 @@ use Rattle.stil_tool.proofs.drill.prepare.Goals as goal
 
 pub bind-requires : goal.bind-requires
 bind-requires c =
-    let one : length c.in-Ok-shared.nets.items ≡ 1 =
-    sym (length-map c.in-Ok-shared.nets.items arc_value) ∙ ap (λ (l : List Circuit). length l) c.in-Ok-shared.ensures in
+    let one : length c.in-Ok.nets.items ≡ 1 =
+    sym (length-map c.in-Ok.nets.items arc_value) ∙ ap (λ (l : List Circuit). length l) c.in-Ok.ensures in
     omega (arith, one, c.if-len-ne1.false, c.len.ensures, ap (λ (l : List (List ℕ)). length l) c.files.ensures.files)
 
 pub returns-in-Ok-bind : goal.returns-in-Ok-bind
 returns-in-Ok-bind c =
     let inputs : Inputs = record {
-      code = c.in-Ok.code;
-      rows = c.in-Ok-plan.plan;
-      circuits = map arc_value c.in-Ok-shared.nets.items;
+      code = c.in_ok-code.code;
+      rows = c.in_ok-plan.plan;
+      circuits = map arc_value c.in-Ok.nets.items;
     } in
     record {
       inputs = inputs;
       are = record {
-        code = c.in-Ok.ensures;
-        rows = c.in-Ok-plan.ensures;
-        circuit = c.in-Ok-net.net;
-        one = c.in-Ok-shared.ensures;
-        net = c.in-Ok-net.ensures.0;
-        whole = c.in-Ok-net.ensures.1;
+        code = c.in_ok-code.ensures;
+        rows = c.in_ok-plan.ensures;
+        circuit = c.in_ok-net.net;
+        one = c.in-Ok.ensures;
+        net = c.in_ok-net.ensures.0;
+        whole = c.in_ok-net.ensures.1;
       };
       code_is = refl;
       is = c.in-Ok-bind.ensures.0;
       accepted = c.in-Ok-bind.ensures.1;
     }
 
-pub returns-in-Err-bind : goal.returns-in-Err-bind
-returns-in-Err-bind c =
+pub returns-in-Err : goal.returns-in-Err
+returns-in-Err c =
     let inputs : Inputs = record {
-      code = c.in-Ok.code;
-      rows = c.in-Ok-plan.plan;
-      circuits = map arc_value c.in-Ok-shared.nets.items;
+      code = c.in_ok-code.code;
+      rows = c.in_ok-plan.plan;
+      circuits = map arc_value c.in-Ok.nets.items;
     } in
-    unbound_refused c.args.number inputs c.in-Err-bind.fault
+    unbound_refused c.args.number inputs c.in-Err.fault
     (record {
-      code = c.in-Ok.ensures;
-      rows = c.in-Ok-plan.ensures;
-      circuit = c.in-Ok-net.net;
-      one = c.in-Ok-shared.ensures;
-      net = c.in-Ok-net.ensures.0;
-      whole = c.in-Ok-net.ensures.1;
+      code = c.in_ok-code.ensures;
+      rows = c.in_ok-plan.ensures;
+      circuit = c.in_ok-net.net;
+      one = c.in-Ok.ensures;
+      net = c.in_ok-net.ensures.0;
+      whole = c.in_ok-net.ensures.1;
     })
-    c.in-Err-bind.ensures
+    c.in-Err.ensures
