@@ -1,5 +1,5 @@
 -- What a reader of statements answers, and which statements it skips. How statements are read one after another, up to
--- the first fault in text order, is first_fault's.
+-- the first fault in text order, is said in `answers`.
 use Rattle.std.specs.Prelude.{◌≡◌, ℕ, Bool, false, List, [], ◌∷◌, Result, Ok, Err}
 pub use Rattle.answers.specs.Reading.{and_then, reading, stepping, IsFirst}
 use Rattle.stil_form.specs.Lexeme.{Lexeme, word, name, text, sign}

@@ -148,7 +148,7 @@ fn check_numbered(
 {
     match reads.get(source.number as usize) {
         Some(read) => check_inherited_wave(alloc, scope, heir, source, reference, wave, read),
-        None => Err(Trouble::NoMemory),
+        None => unreachable!(),
     }
 }
 
@@ -227,7 +227,7 @@ fn check_other(
     let short = u16::try_from(number).map_err(|_| Trouble::NoMemory)?;
     match reads.get(number) {
         Some(own) => check_table_waves(alloc, scope, heir, short, table, own.as_slice()),
-        None => Err(Trouble::NoMemory),
+        None => unreachable!(),
     }
 }
 
