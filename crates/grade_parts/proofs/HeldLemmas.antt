@@ -1,21 +1,20 @@
 -- What is held of fault lines, one more line at a time.
-use Rattle.std.proofs.Common.{◌≡◌, ℕ, ◌+◌, ◌≤◌, Bool, true, false, not, ◌&&◌, cond, List, [], ◌∷◌, ◌++◌, length, take, drop, refl, sym, ap, ◌∙◌, subst, arith, append_assoc, length-append, length-drop}
+use Rattle.std.proofs.Common.{◌≡◌, ℕ, ◌+◌, ◌≤◌, Bool, true, false, not, cond, List, [], ◌∷◌, ◌++◌, length, take, drop, refl, sym, ap, ◌∙◌, subst, arith, append_assoc, length-append, length-drop}
 use Rattle.std.specs.Prelude.{codes, decimal, Option, Some, None}
 use denote.Ref.{Bor}
 use Rattle.std.specs.List.{flat_map}
-use Rattle.std.proofs.lemmas.Bool.{and_from}
 use Rattle.std.proofs.lemmas.List.{append-nil, append_cancel_left, take_at}
 use Rattle.std.proofs.lemmas.List.Sums.{sum_by_push}
 use Rattle.std.proofs.Math.Seq.{take-add}
 use Rattle.std.proofs.lemmas.Grind.{flat_map-append}
 use Rattle.text_bytes.proofs.ListLemmas.{all_append}
-use Rattle.text_bytes.proofs.TextLemmas.{bytes_eq-comm}
-use Rattle.part_lines.specs.Lines.{is_one_line, ended, begins_so}
-use Rattle.grade_parts.specs.Log.{ends_none, found_in}
-use Rattle.grade_parts.specs.Held.{is_good, is_fault, AreFaults, onto_first, lines_of, AreHeld}
-use Rattle.grade_parts.specs.Step.{opens, HasLine, LacksLine, AreFront, IsBehind, counts_text}
+use Rattle.part_lines.specs.Lines.{is_one_line, ended}
+use Rattle.grade_parts.specs.Log.{Stuck, Tells, AreFaults, ends_none, found_in}
+use Rattle.grade_parts.specs.Held.{onto_first, lines_of, AreHeld}
+use Rattle.grade_parts.specs.Step.{Known, AreMore, IsFirst, IsNextFault, IsBehind, counts_text}
 use Rattle.part_lines.proofs.LineLemmas.{line_parts}
 use Rattle.grade_parts.proofs.LogLemmas.{fault_one}
+use Rattle.grade_parts.proofs.TurnLemmas.{more_push}
 
 -- ---- the lines of a text
 
@@ -33,6 +32,15 @@ lines-faults [] are = refl
 lines-faults (line ∷ lines) are =
     lines-ended line (flat_map ended lines) (fault_one line are.0) ∙ ap (λ (l : List (List ℕ)). line ∷ l) (lines-faults lines are.1)
 
+-- with a text behind them
+lines_behind-faults : (lines : List (List ℕ)) (rest : List ℕ) → AreFaults lines
+    → lines_of (flat_map ended lines ++ rest) ≡ lines ++ lines_of rest
+lines_behind-faults [] rest are = refl
+lines_behind-faults (line ∷ lines) rest are =
+    ap lines_of (append_assoc (ended line) (flat_map ended lines) rest)
+    ∙ lines-ended line (flat_map ended lines ++ rest) (fault_one line are.0)
+    ∙ ap (λ (l : List (List ℕ)). line ∷ l) (lines_behind-faults lines rest are.1)
+
 -- they are held by their counts
 pub held_lines : (lines : List (List ℕ)) (text : List ℕ) (all hits : ℕ) → AreFaults lines → text ≡ flat_map ended lines
     → all ≡ length lines → hits ≡ found_in lines → AreHeld text all hits
@@ -45,37 +53,37 @@ held_lines lines text all hits are is count found =
       found = found ∙ ap found_in (sym same);
     }
 
--- ---- words in front of lines
-
-pub is_fault-opens : (line : List ℕ) → opens (codes "fault ") line ≡ true → is_one_line line ≡ true → is_fault line ≡ true
-is_fault-opens line e one =
-    and_from (begins_so (codes "fault") line) (is_one_line line) (bytes_eq-comm (take 6 line) (codes "fault ") ∙ e) one
-
-pub not_good : (line : List ℕ) → opens (codes "good ") line ≡ false → is_good line ≡ false
-not_good line e = ap (λ (x : Bool). x && is_one_line line) (bytes_eq-comm (take 5 line) (codes "good ") ∙ e)
-
-pub not_fault : (line : List ℕ) → opens (codes "fault ") line ≡ false → is_fault line ≡ false
-not_fault line e = ap (λ (x : Bool). x && is_one_line line) (bytes_eq-comm (take 6 line) (codes "fault ") ∙ e)
-
 -- ---- one more line
 
 pub held_more : (text : List ℕ) (end all hits : ℕ) (line : List ℕ) → AreHeld (take end text) all hits
-    → HasLine (codes "fault ") (drop end text) line
+    → IsFirst (drop end text) line → (stuck : Stuck) × Tells line stuck
     → AreHeld (take (end + (length line + 1)) text) (all + 1) (hits + cond {A = ℕ} (not (ends_none line)) 1 0)
-held_more text end all hits line held has =
+held_more text end all hits line held has fault =
     let lines = lines_of (take end text) in
     let more = line ∷ [] in
     let rest = drop (length line + 1) (drop end text) in
     let cut : take (length line + 1) (drop end text) ≡ ended line =
-    ap (take (length line + 1)) has.0.whole ∙ take_at (ended line) rest (length line + 1) (length-append line (codes "\n")) in
+    ap (take (length line + 1)) has.whole ∙ take_at (ended line) rest (length line + 1) (length-append line (codes "\n")) in
     let last : flat_map ended more ≡ ended line = append-nil (ended line) in
     let is = take-add end (length line + 1) text ∙ (λ i. held.whole i ++ cut i)
     ∙ ap (λ (l : List ℕ). flat_map ended lines ++ l) (sym last) ∙ sym (flat_map-append ended lines more) in
     held_lines (lines ++ more) (take (end + (length line + 1)) text) (all + 1) (hits + cond {A = ℕ} (not (ends_none line)) 1 0)
-    (all_append (λ (l : List ℕ). is_fault l ≡ true) lines more held.are (is_fault-opens line has.1 has.0.one, tt)) is
+    (all_append (λ (l : List ℕ). (stuck : Stuck) × Tells l stuck) lines more held.are (fault, tt)) is
     (ap (λ (n : ℕ). n + 1) held.count ∙ sym (length-append lines more))
     (ap (λ (n : ℕ). n + cond {A = ℕ} (not (ends_none line)) 1 0) held.found
     ∙ sym (sum_by_push (λ l. cond {A = ℕ} (not (ends_none l)) 1 0) lines line))
+
+-- its lines are those before and this one
+pub lines_push : (text : List ℕ) (end all hits : ℕ) (line : List ℕ) → AreHeld (take end text) all hits → IsFirst (drop end text) line
+    → lines_of (take (end + (length line + 1)) text) ≡ lines_of (take end text) ++ line ∷ []
+lines_push text end all hits line held has =
+    let lines = lines_of (take end text) in
+    let rest = drop (length line + 1) (drop end text) in
+    let cut : take (length line + 1) (drop end text) ≡ ended line =
+    ap (take (length line + 1)) has.whole ∙ take_at (ended line) rest (length line + 1) (length-append line (codes "\n")) in
+    ap lines_of (take-add end (length line + 1) text ∙ (λ i. held.whole i ++ cut i))
+    ∙ lines_behind-faults lines (ended line) held.are
+    ∙ ap (λ (l : List (List ℕ)). lines ++ l) (ap lines_of (sym (append-nil (ended line))) ∙ lines-ended line [] has.one)
 
 -- ---- what stands behind
 
@@ -106,29 +114,32 @@ counts-parts all hits =
 
 -- ---- where the lines of faults end
 
--- no line of a fault stands there
-pub ends_so : (text rest : List ℕ) (end all hits : ℕ) → AreHeld (take end text) all hits → end ≤ length text → all ≤ end
-    → rest ≡ drop end text → LacksLine (codes "fault ") rest → AreFront text end all hits
-ends_so text rest end all hits held within few is lacks = record {
-  held = held;
-  within = within;
-  last = λ line later e one. not_fault line (lacks line later (is ∙ e) one);
-  few = few;
-}
-
 -- one more stands there
-pub goes_so : (text rest line : List ℕ) (end all hits hits' : ℕ) → AreHeld (take end text) all hits → rest ≡ drop end text
-    → HasLine (codes "fault ") rest line → hits' ≡ hits + cond {A = ℕ} (not (ends_none line)) 1 0
+pub goes_so : (text rest line : List ℕ) (end all hits hits' : ℕ) (before now : Known) → AreHeld (take end text) all hits
+    → rest ≡ drop end text → IsNextFault rest line before now → hits' ≡ hits + cond {A = ℕ} (not (ends_none line)) 1 0
     → AreHeld (take (end + (length line + 1)) text) (all + 1) hits'
-goes_so text rest line end all hits hits' held is has more =
+goes_so text rest line end all hits hits' before now held is has more =
     subst (λ (n : ℕ). AreHeld (take (end + (length line + 1)) text) (all + 1) n) (sym more)
-    (held_more text end all hits line held (subst (λ (l : List ℕ). HasLine (codes "fault ") l line) is has))
+    (held_more text end all hits line held (subst (λ (l : List ℕ). IsFirst l line) is has.is_first) (has.stuck, has.tells))
+
+-- and is known
+pub known_so : (text rest line : List ℕ) (end all hits : ℕ) (known before now : Known) → AreHeld (take end text) all hits
+    → rest ≡ drop end text → IsNextFault rest line before now
+    → (told : List Stuck) × AreMore known (lines_of (take end text)) told before
+    → (told : List Stuck) × AreMore known (lines_of (take (end + (length line + 1)) text)) told now
+known_so text rest line end all hits known before now held is has so_far =
+    (
+      so_far.0 ++ has.stuck ∷ [],
+      subst (λ (l : List (List ℕ)). AreMore known l (so_far.0 ++ has.stuck ∷ []) now)
+          (sym (lines_push text end all hits line held (subst (λ (l : List ℕ). IsFirst l line) is has.is_first)))
+          (more_push (lines_of (take end text)) known before now so_far.0 line has.stuck so_far.1 has.tells has.next has.more),
+    )
 
 -- it is whole within the text
-pub fits_so : (text rest line : List ℕ) (end : ℕ) → end ≤ length text → rest ≡ drop end text → HasLine (codes "fault ") rest line
+pub fits_so : (text rest line : List ℕ) (end : ℕ) → end ≤ length text → rest ≡ drop end text → IsFirst rest line
     → end + (length line + 1) ≤ length text
 fits_so text rest line end within is has =
-    omega (arith, within, ap (λ (l : List ℕ). length l) is, has.0.fits, length-drop end text)
+    omega (arith, within, ap (λ (l : List ℕ). length l) is, has.fits, length-drop end text)
 
 -- it counts once at most
 pub weight-le : (line : List ℕ) → cond {A = ℕ} (not (ends_none line)) 1 0 ≤ 1

@@ -1,12 +1,12 @@
 -- The lines of a grade's text are fixed by it, line by line.
-use Rattle.std.proofs.Common.{◌≡◌, ℕ, true, false, List, [], ◌∷◌, ◌++◌, length, refl, sym, ap, ◌∙◌, append_assoc}
+use Rattle.std.proofs.Common.{◌≡◌, ℕ, true, List, [], ◌∷◌, ◌++◌, length, take, drop, ◌&&◌, refl, sym, ap, subst, ◌∙◌, append_assoc}
 use Rattle.std.specs.Prelude.{codes, decimal}
 use Rattle.std.specs.List.{flat_map}
-use Rattle.std.proofs.lemmas.Bool.{and_parts}
+use Rattle.std.specs.Str.{bytes_eq}
+use Rattle.std.proofs.lemmas.Bool.{and_parts, false≢true}
 use Rattle.std.proofs.lemmas.List.{append-nil}
 use Rattle.part_lines.specs.Lines.{is_one_line, ended, begins_so}
-use Rattle.grade_parts.specs.Log.{GradeLog, counts_line, found_in, log_text, IsLog}
-use Rattle.grade_parts.specs.Held.{is_good, is_fault, AreFaults}
+use Rattle.grade_parts.specs.Log.{GradeLog, Stuck, is_cycle, is_good, Tells, AreFaults, counts_line, found_in, log_text, IsLog}
 use Rattle.part_lines.proofs.LineLemmas.{one_reading, one_append, one_decimal}
 
 -- ---- the line of the counts
@@ -24,14 +24,15 @@ counts_one faults =
     (one_decimal (found_in faults))
 
 -- it is no line of a fault
-pub counts_no_fault : (faults : List (List ℕ)) → is_fault (counts_body faults) ≡ false
-counts_no_fault faults = refl
+pub counts_no_fault : (faults : List (List ℕ)) (stuck : Stuck) → Tells (counts_body faults) stuck → ⊥
+counts_no_fault faults stuck tells =
+    false≢true (ap (λ (line : List ℕ). bytes_eq (take 7 line) (codes "faults ")) (sym tells.is))
 
 -- ---- the faults
 
 -- a line of a fault is one line
-pub fault_one : (line : List ℕ) → is_fault line ≡ true → is_one_line line ≡ true
-fault_one line e = (and_parts (begins_so (codes "fault") line) (is_one_line line) e).1
+pub fault_one : (line : List ℕ) → (stuck : Stuck) × Tells line stuck → is_one_line line ≡ true
+fault_one line fault = fault.1.one
 
 -- where faults and counts begin with faults, they are the first of them
 pub faults_front : (xs ys all : List (List ℕ)) (rest : List ℕ) → AreFaults xs → AreFaults ys
@@ -41,10 +42,7 @@ faults_front [] ys all rest are others e = (ys, refl, others, e)
 faults_front (x ∷ xs) [] all rest are others e =
     let both = one_reading (counts_body all) x [] (flat_map ended xs ++ rest) (counts_one all) (fault_one x are.0)
     (append-nil (counts_line all) ∙ e ∙ append_assoc (ended x) (flat_map ended xs) rest) in
-    let clash : false ≡ true = sym (counts_no_fault all) ∙ ap is_fault both.0 ∙ are.0 in absurd (false_true clash)
-  where
-    false_true : false ≡ true → ⊥
-    false_true e = cc
+    absurd (counts_no_fault all are.0.0 (subst (λ (l : List ℕ). Tells l are.0.0) (sym both.0) are.0.1))
 faults_front (x ∷ xs) (y ∷ ys) all rest are others e =
     let both = one_reading y x (flat_map ended ys ++ counts_line all) (flat_map ended xs ++ rest) (fault_one y others.0)
     (fault_one x are.0)
@@ -56,7 +54,7 @@ faults_front (x ∷ xs) (y ∷ ys) all rest are others e =
 
 -- a line of a good die is one line
 pub good_one : (line : List ℕ) → is_good line ≡ true → is_one_line line ≡ true
-good_one line e = (and_parts (begins_so (codes "good") line) (is_one_line line) e).1
+good_one line e = (and_parts (begins_so (codes "good") line && is_cycle (drop 5 line)) (is_one_line line) e).1
 
 -- a text that begins with the lines of a good die and of faults is that of this die, and of these faults first
 pub log_front : (good : List ℕ) (xs : List (List ℕ)) (rest text : List ℕ) (log : GradeLog) → is_good good ≡ true → AreFaults xs
@@ -80,13 +78,10 @@ one_log text a b is was =
     let same : a.faults ≡ b.faults = found.1.1 ∙ ap (λ (l : List (List ℕ)). b.faults ++ l) none ∙ append-nil b.faults in
     λ i. record { good = found.0 i; faults = same i }
   where
-    false_true : false ≡ true → ⊥
-    false_true e = cc
-
     no_more : (more : List (List ℕ)) → AreFaults more → flat_map ended more ++ counts_line a.faults ≡ counts_line b.faults → more ≡ []
     no_more [] are e = refl
     no_more (m ∷ more) are e =
         let both = one_reading m (counts_body b.faults) (flat_map ended more ++ counts_line a.faults) [] (fault_one m are.0)
         (counts_one b.faults)
         (sym (append_assoc (ended m) (flat_map ended more) (counts_line a.faults)) ∙ e ∙ sym (append-nil (counts_line b.faults))) in
-        let clash : false ≡ true = sym (counts_no_fault b.faults) ∙ ap is_fault (sym both.0) ∙ are.0 in absurd (false_true clash)
+        absurd (counts_no_fault b.faults are.0.0 (subst (λ (l : List ℕ). Tells l are.0.0) both.0 are.0.1))

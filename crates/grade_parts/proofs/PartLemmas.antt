@@ -1,20 +1,22 @@
 -- The parts of a grade, one after another, are the whole grade.
-use Rattle.std.proofs.Common.{◌≡◌, ℕ, zero, suc, ◌+◌, ◌*◌, ◌≤◌, List, [], ◌∷◌, ◌++◌, map, refl, sym, ap, ◌∙◌, arith, append_assoc}
+use Rattle.std.proofs.Common.{◌≡◌, ℕ, zero, suc, ◌+◌, ◌*◌, ◌≤◌, List, [], ◌∷◌, ◌++◌, map, length, refl, sym, ap, subst, ◌∙◌, arith, append_assoc}
 use Rattle.std.specs.List.{flat_map, range_with_len}
 use Rattle.std.proofs.lemmas.List.{append-nil, map-append}
 use Rattle.lot_plan.specs.Bound.{Bound}
 use Rattle.site_meaning.specs.Part.{Part}
-use Rattle.fault_grade.specs.Grade.{first, first_part, nets_in, grade_of}
+use Rattle.fault_grade.specs.Grade.{first, first_part, nets_in, graded, faults_in, grade_of}
 use Rattle.fault_grade.specs.Run.{cut_at, run_of}
 use Rattle.fault_grade.specs.declared.graded.Graded.{Graded}
 use Rattle.fault_grade.proofs.RunLemmas.{joined-none, joined-next, joined-all, run-all}
 use Rattle.grade_listing.specs.GradeText.{grade_text}
 use Rattle.grade_parts.specs.Part.{part_grade}
 use Rattle.grade_parts.specs.Log.{GradeLog, log_text}
-use Rattle.grade_parts.specs.Merged.{merged, merged_text}
-use Rattle.grade_parts.specs.Printed.{AreOneLine, said_fault, said_by, part_texts, AreLogs}
+use Rattle.grade_parts.specs.Turns.{AreInTurn, all_lines}
+use Rattle.grade_parts.specs.Merged.{AgreeWith, AreParts, merged, merged_text}
+use Rattle.grade_parts.specs.Printed.{AreOneLine, AreNames, said_fault, said_by, part_texts, AreLogs}
 use Rattle.grade_parts.proofs.LogLemmas.{one_log}
 use Rattle.grade_parts.proofs.PrintedLemmas.{text_is_said}
+use Rattle.grade_parts.proofs.InTurnLemmas.{turn_all}
 
 -- ---- the faults of all parts
 
@@ -99,3 +101,35 @@ merged_is_whole names plan parts first later plain some are =
     ∙ ap (map (said_fault names)) (runs_all part parts some ∙ run-all part) in
     let whole : merged first later ≡ said_by names (grade_of plan) = λ i. record { good = good i; faults = faults i } in
     ap log_text whole ∙ sym (text_is_said names (grade_of plan) plain).is
+
+-- the lines of all parts are those of the whole grade
+lines_all : (names : List (List ℕ)) (plan : Bound) (parts : ℕ) (logs : List GradeLog) → AreOneLine names → 1 ≤ parts
+    → AreLogs (part_texts names plan parts) logs → all_lines logs ≡ map (said_fault names) (map (graded (first_part plan)) (faults_in (first_part plan)))
+lines_all names plan parts logs plain some are =
+    ap all_lines (logs_are names plan parts plain (range_with_len 0 parts) logs are)
+    ∙ lines_are names plan parts (range_with_len 0 parts)
+    ∙ ap (map (said_fault names)) (runs_all (first_part plan) parts some ∙ run-all (first_part plan))
+
+-- what each part says of the good die
+agree_all : (names : List (List ℕ)) (plan : Bound) (parts : ℕ) (ks : List ℕ)
+    → AgreeWith (said_by names (grade_of plan)).good (map (said_part names plan parts) ks)
+agree_all names plan parts [] = tt
+agree_all names plan parts (k ∷ ks) = (good_is names plan parts k, agree_all names plan parts ks)
+
+agree_first : (good : List ℕ) (log : GradeLog) (later : List GradeLog) → AgreeWith good (log ∷ later) → AgreeWith log.good later
+agree_first good log later are = subst (λ (g : List ℕ). AgreeWith g later) (sym are.0) are.1
+
+-- the texts of all parts are those of parts of one grade, and of all of it
+pub parts_are_taken : (names : List (List ℕ)) (plan : Bound) (parts : ℕ) (logs : List GradeLog) → AreNames names
+    → nets_in (first_part plan) ≡ length names → 1 ≤ parts → AreLogs (part_texts names plan parts) logs → AreParts logs
+parts_are_taken names plan parts logs are count some of_texts =
+    let e = logs_are names plan parts are.one (range_with_len 0 parts) logs of_texts in
+    let all = turn_all names (first_part plan) are count in
+    record {
+      good = λ log later is.
+          agree_first (said_by names (grade_of plan)).good log later
+          (subst (AgreeWith (said_by names (grade_of plan)).good) (sym e ∙ is) (agree_all names plan parts (range_with_len 0 parts)));
+      told = all.0;
+      in_turn = subst (λ (l : List (List ℕ)). AreInTurn [] l all.0) (sym (lines_all names plan parts logs are.one some of_texts)) all.1;
+      none_open = all.2;
+    }

@@ -2,12 +2,14 @@
 use Rattle.std.proofs.Common.{◌≡◌, ℕ, zero, suc, ◌+◌, ◌-◌, ◌<◌, Bool, true, false, not, ◌||◌, cond, inl, inr, List, [], ◌∷◌, ◌++◌, length, map, take, drop, refl, sym, ap, ◌∙◌, arith, append_assoc, length-append}
 use Rattle.std.specs.Prelude.{codes, decimal, Option, Some, None, ◌==◌, count_by, slice_index_or}
 use Rattle.std.specs.List.{flat_map, list_any}
-use Rattle.std.proofs.lemmas.Bool.{cases_Bool, ne_eqb, eq-eqb}
+use Rattle.std.specs.Str.{bytes_eq}
+use Rattle.std.proofs.lemmas.Bool.{cases_Bool, ne_eqb, eq-eqb, and_from}
 use Rattle.std.proofs.lemmas.List.{length-map, drop_at, take-append-drop}
 use Rattle.std.proofs.lemmas.List.Folds.{list_any-append}
 use Rattle.std.proofs.lemmas.List.Sums.{sum_by-cons}
 use Rattle.std.proofs.lemmas.Slice.Eq.{bytes_eq-Decides}
 use Rattle.tester_types.specs.Printing.{printed_name}
+use Rattle.text_bytes.specs.Bytes.{is_digit}
 use Rattle.text_bytes.proofs.Spans.{list_any-not}
 use Rattle.text_bytes.proofs.DigitLemmas.{decimal_all, decimal_some}
 use Rattle.fault_grade.specs.declared.graded.Grade.{Grade}
@@ -15,9 +17,9 @@ use Rattle.fault_grade.specs.declared.graded.Graded.{Graded}
 use Rattle.grade_listing.specs.GradeText.{cycle_text, value_text, fault_line, is_found, grade_text}
 use Rattle.part_lines.specs.Lines.{is_one_line, ended}
 use Rattle.part_lines.proofs.LineLemmas.{one_append, one_decimal, one_printed}
-use Rattle.grade_parts.specs.Log.{ends_none, found_in, log_text, IsLog}
-use Rattle.grade_parts.specs.Held.{AreFaults}
-use Rattle.grade_parts.specs.Printed.{AreOneLine, said_fault, said_by}
+use Rattle.part_lines.proofs.WordLemmas.{printed_is_named, decimal_is_number}
+use Rattle.grade_parts.specs.Log.{is_cycle, Tells, AreFaults, ends_none, found_in, log_text, IsLog}
+use Rattle.grade_parts.specs.Printed.{AreOneLine, said_fault, stuck_said, said_by}
 
 -- ---- no line feed
 
@@ -42,9 +44,26 @@ fault_is_one names graded are =
     (one_append (codes "fault ") name refl (one_printed (slice_index_or names graded.net []) (named_one names graded.net are)))
     (value_one graded.value)) (cycle_one graded.first)
 
+-- what tells a cycle
+cycle_told : (cycle : Option ℕ) → is_cycle (cycle_text cycle) ≡ true
+unfolding is_digit
+cycle_told None = refl
+cycle_told (Some n) = ap (λ (t : Bool). t || bytes_eq (decimal n) (codes "none")) (decimal_is_number n)
+
+-- a line tells of its fault
+pub said_tells : (names : List (List ℕ)) (graded : Graded) → AreOneLine names
+    → Tells (said_fault names graded) (stuck_said names graded)
+said_tells names graded are = record {
+  one = fault_is_one names graded are;
+  is_net = printed_is_named (slice_index_or names graded.net []);
+  cycle = cycle_text graded.first;
+  is_cycle = cycle_told graded.first;
+  is = refl;
+}
+
 faults_are : (names : List (List ℕ)) (faults : List Graded) → AreOneLine names → AreFaults (map (said_fault names) faults)
 faults_are names [] are = tt
-faults_are names (graded ∷ faults) are = (fault_is_one names graded are, faults_are names faults are)
+faults_are names (graded ∷ faults) are = ((stuck_said names graded, said_tells names graded are), faults_are names faults are)
 
 -- ---- the last word
 
@@ -127,7 +146,8 @@ pub text_is_said : (names : List (List ℕ)) (grade : Grade) → AreOneLine name
 unfolding log_text
 text_is_said names grade are = record {
   are = record {
-    good = one_append (codes "good ") (cycle_text grade.good) refl (cycle_one grade.good);
+    good = and_from (is_cycle (cycle_text grade.good)) (is_one_line (codes "good " ++ cycle_text grade.good))
+        (cycle_told grade.good) (one_append (codes "good ") (cycle_text grade.good) refl (cycle_one grade.good));
     faults = faults_are names grade.faults are;
   };
   is = λ i. (ended (codes "good " ++ cycle_text grade.good) ++ lines-said names grade.faults i)

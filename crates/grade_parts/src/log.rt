@@ -1,14 +1,18 @@
 //! What the text of a part of a grade says, by its lines.
 
-ghost use Rattle.std.specs.Prelude.{◌≡◌, ℕ, true, IfOk, IfErr, MatchResult, length};
+ghost use Rattle.std.specs.Prelude.{◌≡◌, ◌⊎◌, ℕ, List, true, MatchResult, length};
 ghost use Rattle.std.specs.List.{flat_map};
 ghost use Rattle.part_lines.specs.Lines.{ended};
 ghost use Rattle.part_lines.specs.LineFault.{IsLineFault};
-ghost use Rattle.part_lines.specs.declared.fault.LineFault.TheVariants.{Line};
-ghost use Rattle.grade_parts.specs.Log.{GradeLog as Said, IsLog, IsLogOf, IsLogWith, found_in};
-ghost use Rattle.grade_parts.specs.Held.{is_good, lines_of, AreHeld};
+ghost use Rattle.part_lines.specs.declared.fault.LineFault.TheVariants.{NoMemory, Line};
+ghost use Rattle.grade_parts.specs.Log.{GradeLog as Said, Stuck, is_good, found_in};
+ghost use Rattle.grade_parts.specs.Turns.{IsPartBehind, HasGood, IsPartOf};
+ghost use Rattle.grade_parts.specs.Held.{lines_of, AreHeld};
+ghost use Rattle.grade_parts.specs.Step.{Knows};
+ghost use Rattle.grade_parts.specs.Reads.{said_good, IsGoodSaid, ReadsPart};
 
-use crate::reading::{read_text, read_text_with};
+use crate::reading::read_text;
+use crate::told::Told;
 use part_lines::LineFault;
 use std::marker::Model;
 
@@ -27,8 +31,8 @@ pub struct GradeLog<'a> {
 
 impl<'a> Model for GradeLog<'a> {
     ghost use Rattle.std.specs.Prelude.{◌≡◌, true};
-    ghost use Rattle.grade_parts.specs.Log.{GradeLog as Said};
-    ghost use Rattle.grade_parts.specs.Held.{is_good, lines_of, AreHeld};
+    ghost use Rattle.grade_parts.specs.Log.{GradeLog as Said, is_good};
+    ghost use Rattle.grade_parts.specs.Held.{lines_of, AreHeld};
 
     ghost Value = { Said };
 
@@ -53,36 +57,26 @@ impl<'a> GradeLog<'a> {
         }
     }
 
-    /// Reads the text of a part of a grade, without memory. A fault is the first line up to which no text of a grade begins
-    /// as this one does.
-    pub fn read(text: &'a [u8]) -> Result<GradeLog<'a>, LineFault>
-        ensures found { IfOk result (λ log. IsLog text.now log) }
-        ensures only { (log : Said) → IsLog text.now log → MatchResult result (λ l. l ≡ log) (λ _. ⊥) }
-        ensures fault { IfErr result (λ e. (n : ℕ) × (e ≡ Line n) × IsLineFault IsLogOf text.now n) }
-        ensures refused { (n : ℕ) → IsLineFault IsLogOf text.now n
-            → MatchResult result (λ _. ⊥) (λ e. e ≡ Line n) }
+    /// Reads the text of a part of a grade, behind parts that told of these faults; it may be the last one. Its good die has
+    /// this line, where one is handed over. A fault is the first line up to which no text of such a part begins as this one
+    /// does. Of what was told nothing is promised behind a fault.
+    pub fn read(
+        text: &'a [u8],
+        good: Option<&[u8]>,
+        told: &mut Told<'a>,
+        last: bool,
+    ) -> Result<GradeLog<'a>, LineFault>
+        requires good { IsGoodSaid (said_good good) }
+        ensures reads { (before : List Stuck) → Knows told.old before
+            → ReadsPart (said_good good.entry) before last text.now told.new result }
+        ensures only { (before told' : List Stuck) (log : Said) → Knows told.old before
+            → IsPartBehind before last text.now log told' → HasGood (said_good good.entry) log
+            → MatchResult result (λ l. l ≡ log) (λ e. e ≡ NoMemory) }
+        ensures refused { (before : List Stuck) (n : ℕ) → Knows told.old before
+            → IsLineFault (IsPartOf (said_good good.entry) before last) text.now n
+            → MatchResult result (λ _. ⊥) (λ e. (e ≡ NoMemory) ⊎ (e ≡ Line n)) }
     {
-        match read_text(text) {
-            Ok(log) => Ok(log),
-            Err(line) => Err(LineFault::Line(line)),
-        }
-    }
-
-    /// Reads the text of a part of a grade whose good die has this line. Where it has another, its line 1 is the fault.
-    pub fn read_with(text: &'a [u8], good: &[u8]) -> Result<GradeLog<'a>, LineFault>
-        requires { is_good good.now ≡ true }
-        ensures found { IfOk result (λ log. IsLog text.now log) }
-        ensures same { IfOk result (λ log. log.good ≡ good.now) }
-        ensures only { (log : Said) → IsLog text.now log → log.good ≡ good.now
-            → MatchResult result (λ l. l ≡ log) (λ _. ⊥) }
-        ensures fault { IfErr result (λ e. (n : ℕ) × (e ≡ Line n) × IsLineFault (IsLogWith good.now) text.now n) }
-        ensures refused { (n : ℕ) → IsLineFault (IsLogWith good.now) text.now n
-            → MatchResult result (λ _. ⊥) (λ e. e ≡ Line n) }
-    {
-        match read_text_with(text, good) {
-            Ok(log) => Ok(log),
-            Err(line) => Err(LineFault::Line(line)),
-        }
+        read_text(text, good, told, last)
     }
 
     /// The line of the good die, without its line feed.

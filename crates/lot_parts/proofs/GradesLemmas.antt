@@ -1,7 +1,9 @@
 -- The texts of the parts of a grade, read one after another, and the answer where they are merged.
-use Rattle.std.proofs.Common.{◌≡◌, ℕ, ◌+◌, ◌<◌, ◌≤◌, List, [], ◌∷◌, ◌++◌, length, drop, get_or, Option, Result, Ok, Err, refl, sym, ap, ◌∙◌, subst, append_assoc, arith, inl, inr, length-append, String, string_bytes}
-use Rattle.std.specs.Prelude.{IfOk, IfErr, MatchResult}
+use Rattle.std.proofs.Common.{◌≡◌, ℕ, ◌+◌, ◌<◌, ◌≤◌, ◌==◌, Bool, true, false, List, [], ◌∷◌, ◌++◌, length, drop, get_or, Option, refl, sym, ap, ◌∙◌, subst, append_assoc, arith, inl, inr, length-append, length-drop, String, string_bytes}
+use Rattle.std.specs.Prelude.{None}
 use Rattle.std.specs.declared.alloc.Global.{Global}
+use Rattle.std.proofs.lemmas.Bool.{cases_Bool, eqb-true, eq-eqb, false≢true}
+use Rattle.std.proofs.lemmas.Grind.{flat_map-append}
 use Rattle.std.proofs.lemmas.List.{append-nil, drop_all, get_or-map}
 use Rattle.text_bytes.proofs.ListLemmas.{all_append, split_more}
 use Rattle.tester_types.specs.Outside.{Files, HasRisen, gained, GainsFront}
@@ -9,8 +11,12 @@ use Rattle.tool_inputs.specs.declared.status.Status.TheVariants.{Done, WriteFaul
 use Rattle.part_lines.specs.declared.fault.LineFault.{LineFault}
 use Rattle.part_lines.specs.declared.fault.LineFault.TheVariants as fault
 use Rattle.part_lines.specs.LineFault.{IsLineFault}
-use Rattle.grade_parts.specs.Log.{GradeLog, IsLog, IsLogOf, IsLogWith}
-use Rattle.grade_parts.specs.Merged.{merged_text}
+use Rattle.grade_parts.specs.Log.{GradeLog, Stuck, IsLog}
+use Rattle.grade_parts.specs.Turns.{open_net, AreInTurn, IsPartOf, HasGood, all_lines, AreTold, good_of}
+use Rattle.grade_parts.specs.Merged.{AgreeWith, AreParts, merged_text}
+use Rattle.grade_parts.specs.Step.{Known, Knows}
+use Rattle.grade_parts.specs.Reads.{IsReadPart, IsPartFault}
+use Rattle.grade_parts.proofs.TurnLemmas.{turn_join}
 use Rattle.lot_parts.specs.Words.{words_seen}
 use Rattle.lot_parts.specs.Files.{ArePartFiles}
 use Rattle.lot_parts.specs.declared.outcome.Outcome.{Outcome}
@@ -18,33 +24,9 @@ use Rattle.lot_parts.specs.declared.outcome.Outcome.TheVariants.{Ended}
 use Rattle.lot_parts.specs.declared.refusal.PartRefusal.{PartRefusal}
 use Rattle.lot_parts.specs.Refusals.{outcome_of, line_of, IsRefusalBy}
 use Rattle.lot_parts.specs.Endings.{EndsAs, AnswersAs}
-use Rattle.lot_parts.specs.Grades.{Agree, AreLogTexts, IsFaultBehind, IsTextRefused, IsMergeRefused, MergeWants}
+use Rattle.lot_parts.specs.Grades.{Agree, AreLogTexts, are_none, IsTextRefused, IsMergeRefused, MergeWants}
 use Rattle.lot_parts.specs.Grades.IsTextRefused.{no_memory, of_text}
 use Rattle.lot_parts.specs.Grades.MergeWants.{are_merged, is_refused}
-
--- ---- one text
-
--- the first text
-pub first_read : (logs : List GradeLog) (text : List ℕ) (r : Result GradeLog LineFault) → length logs ≡ 0 → IfOk r (IsLog text)
-    → IfErr r (λ e. (n : ℕ) × (e ≡ fault.Line n) × IsLineFault IsLogOf text n)
-    → MatchResult r (λ log. IsLog text log × Agree (logs ++ log ∷ [])) (λ e. (n : ℕ) × (e ≡ fault.Line n) × IsFaultBehind logs text n)
-first_read [] text (Ok log) none found why = (found, tt)
-first_read [] text (Err e) none found why = why
-first_read (l ∷ logs) text r none found why = absurd (omega (arith, none))
-
--- a later one
-pub later_read : (logs : List GradeLog) (first : GradeLog) (text good : List ℕ) (r : Result GradeLog LineFault) → 0 < length logs
-    → first ≡ get_or logs 0 first → good ≡ first.good → Agree logs → IfOk r (IsLog text) → IfOk r (λ log. log.good ≡ good)
-    → IfErr r (λ e. (n : ℕ) × (e ≡ fault.Line n) × IsLineFault (IsLogWith good) text n)
-    → MatchResult r (λ log. IsLog text log × Agree (logs ++ log ∷ [])) (λ e. (n : ℕ) × (e ≡ fault.Line n) × IsFaultBehind logs text n)
-later_read [] first text good r some is good_is agree found same why = absurd (omega (arith, some))
-later_read (l ∷ logs) first text good (Ok log) some is good_is agree found same why = (
-  found,
-  all_append (λ (x : GradeLog). x.good ≡ l.good) logs (log ∷ []) agree
-      (same ∙ good_is ∙ ap (λ (x : GradeLog). x.good) is, tt),
-)
-later_read (l ∷ logs) first text good (Err e) some is good_is agree found same why =
-    (why.0, why.1, subst (λ (line : List ℕ). IsLineFault (IsLogWith line) text why.0) (good_is ∙ ap (λ (x : GradeLog). x.good) is) why.2)
 
 -- ---- one after another
 
@@ -87,25 +69,92 @@ pub file_at : (files : List (String Global)) (number : ℕ) (item : String Globa
 file_at files number item seen within is seen_is =
     seen_is ∙ ap string_bytes is ∙ sym (get_or-map string_bytes files number item [] within)
 
--- the fault behind what was read, and what agrees
-pub behind_same : (seen logs : List GradeLog) (text : List ℕ) (e : LineFault) → seen ≡ logs
-    → (n : ℕ) × (e ≡ fault.Line n) × IsFaultBehind seen text n → (n : ℕ) × (e ≡ fault.Line n) × IsFaultBehind logs text n
-behind_same seen logs text e same why =
-    (why.0, why.1, subst (λ (l : List GradeLog). IsFaultBehind l text why.0) same why.2)
+-- ---- what was told
 
-pub agree_same : (seen logs logs' : List GradeLog) (log : GradeLog) → seen ≡ logs → logs' ≡ logs ++ log ∷ []
-    → Agree (seen ++ log ∷ []) → Agree logs'
-agree_same seen logs logs' log same more are =
-    subst Agree (ap (λ (l : List GradeLog). l ++ log ∷ []) same ∙ sym more) are
+-- what these parts told of is known, and behind all texts no net lacks its fault at 1
+pub record AreKnown (logs : List GradeLog) (known : Known) (number all : ℕ) : Type 0 where
+  pub agree : Agree logs
+  pub told : List Stuck
+  pub in_turn : AreTold logs told
+  pub knows : Knows known told
+  pub ended : number ≡ all → open_net told ≡ None
+
+pub none_known : (known : Known) (all : ℕ) → Knows known [] → AreKnown [] known 0 all
+none_known known all knows = record {
+  agree = tt;
+  told = [];
+  in_turn = tt;
+  knows = knows;
+  ended = λ _. refl;
+}
+
+agree_more : (logs : List GradeLog) (log : GradeLog) → Agree logs → HasGood (good_of logs) log → Agree (logs ++ log ∷ [])
+agree_more [] log agree has = tt
+agree_more (first ∷ logs) log agree has =
+    all_append (λ (x : GradeLog). x.good ≡ first.good) logs (log ∷ []) agree (has, tt)
+
+lines_more : (logs : List GradeLog) (log : GradeLog) → all_lines (logs ++ log ∷ []) ≡ all_lines logs ++ log.faults
+lines_more logs log =
+    flat_map-append (λ (l : GradeLog). l.faults) logs (log ∷ [])
+    ∙ ap (λ (l : List (List ℕ)). all_lines logs ++ l) (append-nil log.faults)
+
+-- one part more
+pub known_more : (logs logs' seen : List GradeLog) (log : GradeLog) (text : List ℕ) (known now : Known) (number all : ℕ) (last : Bool)
+    → seen ≡ logs → last ≡ (number + 1 == all) → (known_of : AreKnown logs known number all)
+    → IsReadPart (good_of seen) known_of.told last text log now → logs' ≡ logs ++ log ∷ [] → AreKnown logs' now (number + 1) all
+known_more logs logs' seen log text known now number all last same is_last known_of read more =
+    let turn : AreTold (logs ++ log ∷ []) (known_of.told ++ read.told) =
+    subst (λ (l : List (List ℕ)). AreInTurn [] l (known_of.told ++ read.told)) (sym (lines_more logs log))
+    (turn_join (all_lines logs) log.faults [] known_of.told read.told known_of.in_turn read.is_part.in_turn) in
+    subst (λ (l : List GradeLog). AreKnown l now (number + 1) all) (sym more) (record {
+      agree = agree_more logs log known_of.agree (subst (λ (l : List GradeLog). HasGood (good_of l) log) same read.same);
+      told = known_of.told ++ read.told;
+      in_turn = turn;
+      knows = read.knows;
+      ended = λ e. read.is_part.ended (is_last ∙ eq-eqb (number + 1) all e);
+    })
+
+-- all parts are those of one grade
+pub parts_so : (logs : List GradeLog) (known : Known) (number all : ℕ) → number ≡ all → AreKnown logs known number all → AreParts logs
+parts_so logs known number all e are = record {
+  good = λ log later is. agree_first logs log later is are.agree;
+  told = are.told;
+  in_turn = are.in_turn;
+  none_open = are.ended e;
+}
+  where
+    agree_first : (logs : List GradeLog) (log : GradeLog) (later : List GradeLog) → logs ≡ log ∷ later → Agree logs
+        → AgreeWith log.good later
+    agree_first logs log later is agree = subst Agree is agree
+
+-- behind the last text none is left
+last_left : (texts : List (List ℕ)) (number : ℕ) → number < length texts → (number + 1 == length texts) ≡ are_none (drop (number + 1) texts)
+last_left texts number within =
+    elim (cases_Bool (number + 1 == length texts)) [
+      | inl y ↦ y ∙ sym (ap are_none (drop_all (number + 1) texts (omega (arith, eqb-true (number + 1) (length texts) y))))
+      | inr other ↦ other ∙ sym (some_left (drop (number + 1) texts)
+          (omega (arith, length-drop (number + 1) texts, within, not_all (number + 1) (length texts) other)))
+    ]
+  where
+    some_left : (l : List (List ℕ)) → 0 < length l → are_none l ≡ false
+    some_left [] some = absurd (omega (arith, some))
+    some_left (x ∷ l) some = refl
+
+    not_all : (m n : ℕ) → (m == n) ≡ false → m ≡ n → ⊥
+    not_all m n other same = false≢true (sym other ∙ eq-eqb m n same)
 
 -- the next text isn't taken
-pub next_refused : (files texts : List (List ℕ)) (number : ℕ) (logs : List GradeLog) (file text : List ℕ) (e : LineFault)
-    (r : PartRefusal) → number < length texts → text ≡ get_or texts number text → file ≡ get_or files number []
-    → AreRead texts number logs → Agree logs → (n : ℕ) × (e ≡ fault.Line n) × IsFaultBehind logs text n → IsRefusalBy file e r
-    → IsTextRefused files texts r
-next_refused files texts number logs file text fault.NoMemory r within is file_is read agree why by_fault = let wrong = why.1 in cc
-next_refused files texts number logs file text (fault.Line m) r within is file_is read agree why (inl none) = no_memory none
-next_refused files texts number logs file text (fault.Line m) r within is file_is read agree why (inr same) =
+pub next_refused : (files texts : List (List ℕ)) (number : ℕ) (logs seen : List GradeLog) (known now : Known) (file text : List ℕ)
+    (last : Bool) (e : LineFault) (r : PartRefusal) → number < length texts → text ≡ get_or texts number text
+    → file ≡ get_or files number [] → AreRead texts number logs → seen ≡ logs → last ≡ (number + 1 == length texts)
+    → (known_of : AreKnown logs known number (length texts)) → IsPartFault (good_of seen) known_of.told last text e
+    → IsRefusalBy file e r → IsTextRefused files texts r
+next_refused files texts number logs seen known now file text last fault.NoMemory r within is file_is read same is_last known_of why none =
+    no_memory none
+next_refused files texts number logs seen known now file text last (fault.Line m) r within is file_is read same is_last known_of why
+    (inl none) = no_memory none
+next_refused files texts number logs seen known now file text last (fault.Line m) r within is file_is read same is_last known_of why
+    (inr refused) =
     of_text file m (record {
       front = read.front;
       text = text;
@@ -114,12 +163,13 @@ next_refused files texts number logs file text (fault.Line m) r within is file_i
       file_is = file_is ∙ ap (λ (n : ℕ). get_or files n []) (sym read.long);
       logs = logs;
       before = read.are;
-      agree = agree;
-      fault = subst (IsFaultBehind logs text) (line_of_fault why.0 m why.1) why.2;
-    }) same
-  where
-    line_of_fault : (n m : ℕ) → fault.Line m ≡ fault.Line n → n ≡ m
-    line_of_fault n m h = cc
+      agree = known_of.agree;
+      told = known_of.told;
+      in_turn = known_of.in_turn;
+      fault = subst (λ (b : Bool). IsLineFault (IsPartOf (good_of logs) known_of.told b) text m)
+          (is_last ∙ last_left texts number within)
+          (subst (λ (l : List GradeLog). IsLineFault (IsPartOf (good_of l) known_of.told last) text m) same why);
+    }) refused
 
 -- ---- the answer
 
@@ -132,7 +182,7 @@ some_logs (t ∷ ts) (l ∷ ls) some are = omega arith
 -- grades that are merged
 pub merged_answers : (told : Option Files) (before now : ℕ) (files texts : List (List ℕ)) (logs : List GradeLog)
     (held held' : Option (List ℕ)) (faults faults' : ℕ) (result : Outcome) → 0 < length logs → ArePartFiles told files texts
-    → AreLogTexts texts logs → Agree logs
+    → AreLogTexts texts logs → AreParts logs
     → ((first : GradeLog) (later : List GradeLog) → logs ≡ first ∷ later
     → EndsAs held faults (Ended Done) (merged_text first later) result held' faults')
     → AnswersAs (MergeWants told before now files) held faults result held' faults'

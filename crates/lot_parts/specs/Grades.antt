@@ -1,5 +1,5 @@
 -- What `grade` and `merge-grade` answer.
-use Rattle.std.specs.Prelude.{◌≡◌, ℕ, ◌<◌, List, [], ◌∷◌, ◌++◌, Option, None, length, slice_index_or}
+use Rattle.std.specs.Prelude.{◌≡◌, ℕ, ◌<◌, Bool, true, false, List, [], ◌∷◌, ◌++◌, Option, None, length, slice_index_or}
 use Rattle.tester_types.specs.Outside.{Files}
 use Rattle.plan_rows.specs.Rows.{sites_of}
 use Rattle.lot_plan.specs.Bound.{Bound}
@@ -15,8 +15,9 @@ use Rattle.tool_inputs.specs.Inputs.{Inputs, AreInputs, bound_of, IsGradeRefused
 use Rattle.tool_inputs.specs.Refusals as refusals
 use Rattle.part_lines.specs.LineFault.{IsLineFault}
 use Rattle.grade_parts.specs.Part.{part_grade}
-use Rattle.grade_parts.specs.Log.{GradeLog, IsLog, IsLogOf, IsLogWith}
-use Rattle.grade_parts.specs.Merged.{AgreeWith, merged_text}
+use Rattle.grade_parts.specs.Log.{GradeLog, Stuck, IsLog}
+use Rattle.grade_parts.specs.Turns.{IsPartOf, AreTold, good_of}
+use Rattle.grade_parts.specs.Merged.{AgreeWith, AreParts, merged_text}
 use Rattle.lot_parts.specs.declared.outcome.Outcome.{Outcome}
 use Rattle.lot_parts.specs.declared.outcome.Outcome.TheVariants.{Ended}
 use Rattle.lot_parts.specs.declared.refusal.PartRefusal.{PartRefusal}
@@ -55,18 +56,18 @@ AreLogTexts [] (log ∷ logs) = ⊥
 AreLogTexts (text ∷ texts) [] = ⊥
 AreLogTexts (text ∷ texts) (log ∷ logs) = IsLog text log × AreLogTexts texts logs
 
--- the fault of the first text, or of a later one behind these, which must say of the good die what the first says
-abbrev pub IsFaultBehind : List GradeLog → List ℕ → ℕ → Type 0
-IsFaultBehind [] text line = IsLineFault IsLogOf text line
-IsFaultBehind (first ∷ logs) text line = IsLineFault (IsLogWith first.good) text line
-
 -- all say of the good die what the first says
 abbrev pub Agree : List GradeLog → Type 0
 Agree [] = Unit {0}
 Agree (first ∷ logs) = AgreeWith first.good logs
 
--- A text is that of no grade, or says otherwise of the good die than those before it, which are grades: the file's
--- name, and the first line up to which none begins so.
+-- whether no text is left
+abbrev pub are_none : List (List ℕ) → Bool
+are_none [] = true
+are_none (text ∷ texts) = false
+
+-- A text isn't that of the next part behind those before it, which are parts of a grade: the file's name, and the first
+-- line up to which none begins so. Behind the last part no net lacks its fault at 1.
 pub record IsNoLog (files texts : List (List ℕ)) (file : List ℕ) (line : ℕ) : Type 0 where
   pub front : List (List ℕ)
   pub text : List ℕ
@@ -76,7 +77,9 @@ pub record IsNoLog (files texts : List (List ℕ)) (file : List ℕ) (line : ℕ
   pub logs : List GradeLog
   pub before : AreLogTexts front logs
   pub agree : Agree logs
-  pub fault : IsFaultBehind logs text line
+  pub told : List Stuck
+  pub in_turn : AreTold logs told
+  pub fault : IsLineFault (IsPartOf (good_of logs) told (are_none later)) text line
 
 -- why the texts of these files aren't taken: one of them isn't, or there is no memory
 pub data IsTextRefused (files texts : List (List ℕ)) (r : PartRefusal) : Type 0 where
@@ -95,7 +98,7 @@ pub data IsMergeRefused (told : Option Files) (before now : ℕ) (files : List (
 pub data MergeWants (told : Option Files) (before now : ℕ) (files : List (List ℕ)) (outcome : Outcome) (text : List ℕ) :
     Type 0 where
   are_merged : outcome ≡ Ended Done → (texts : List (List ℕ)) → ArePartFiles told files texts
-      → (log : GradeLog) (logs : List GradeLog) → AreLogTexts texts (log ∷ logs) → Agree (log ∷ logs)
+      → (log : GradeLog) (logs : List GradeLog) → AreLogTexts texts (log ∷ logs) → AreParts (log ∷ logs)
       → text ≡ merged_text log logs → MergeWants told before now files outcome text
   is_refused : (r : PartRefusal) → IsMergeRefused told before now files r → outcome ≡ outcome_of r → text ≡ line_of r
       → MergeWants told before now files outcome text

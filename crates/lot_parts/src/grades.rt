@@ -1,47 +1,72 @@
 //! `merge-grade`: the grade, of the texts of its parts.
 
-ghost use Rattle.std.specs.Prelude.{◌≡◌, ◌≤◌, ◌<◌, ◌++◌, ◌∷◌, [], ℕ, length, MatchResult};
-ghost use Rattle.part_lines.specs.declared.fault.LineFault.TheVariants as fault;
-ghost use Rattle.grade_parts.specs.Log.{IsLog};
+ghost use Rattle.std.specs.Prelude.{◌≡◌, ◌+◌, ◌==◌, ◌≤◌, ◌<◌, List, length, MatchResult};
+ghost use Rattle.grade_parts.specs.Log.{Stuck};
+ghost use Rattle.grade_parts.specs.Turns.{good_of};
+ghost use Rattle.grade_parts.specs.Merged.{AreParts};
+ghost use Rattle.grade_parts.specs.Step.{Knows};
+ghost use Rattle.grade_parts.specs.Reads.{said_good, IsGoodSaid, ReadsPart};
 ghost use Rattle.lot_parts.specs.Words.{words_seen};
 ghost use Rattle.lot_parts.specs.Files.{texts_seen};
 ghost use Rattle.lot_parts.specs.Endings.{AnswersAs};
-ghost use Rattle.lot_parts.specs.Grades.{Agree, AreLogTexts, IsFaultBehind, IsTextRefused, MergeWants};
+ghost use Rattle.lot_parts.specs.Grades.{AreLogTexts, IsTextRefused, MergeWants};
 
 use crate::load::load_parts;
 use crate::outcome::Outcome;
 use crate::refusal::{PartRefusal, part_refusal, put_part_refusal};
-use grade_parts::{GradeLog, put_merged_grade};
+use grade_parts::{GradeLog, Told, put_merged_grade};
 use part_lines::LineFault;
 use std::alloc::Global;
 use tester_types::{Shelf, Sink};
 use tool_inputs::{Refusal, Status};
 
-/// Reads the text of a grade behind these, which must say of the good die what the first of them says.
-fn read_log<'a>(text: &'a [u8], logs: &[GradeLog<'a>]) -> Result<GradeLog<'a>, LineFault>
-    requires { Agree logs.now }
-    ensures { MatchResult result (λ log. IsLog text.now log × Agree (logs.now ++ log ∷ []))
-        (λ e. (n : ℕ) × (e ≡ fault.Line n) × IsFaultBehind logs.now text.now n) }
+/// What the first of these says of the good die.
+fn good_of<'a>(logs: &[GradeLog<'a>]) -> Option<&'a [u8]>
+    ensures good { said_good result ≡ good_of logs.now }
+    ensures said { IsGoodSaid (said_good result) }
 {
     match logs.first() {
-        None => GradeLog::read(text),
-        Some(first) => GradeLog::read_with(text, first.good()),
+        Some(first) => Some(first.good()),
+        None => None,
     }
 }
 
-/// Reads the texts of parts, one after another.
+/// Reads the text of the part behind these, which told of these faults.
+fn read_log<'a>(
+    text: &'a [u8],
+    logs: &[GradeLog<'a>],
+    told: &mut Told<'a>,
+    last: bool,
+) -> Result<GradeLog<'a>, LineFault>
+    ensures { (before : List Stuck) → Knows told.old before
+        → ReadsPart (good_of logs.now) before last text.now told.new result }
+{
+    GradeLog::read(text, good_of(logs), told, last)
+}
+
+/// Whether the part of this number, from 0, is the last of so many.
+fn is_last(at: usize, count: usize) -> bool
+    requires { at < count }
+    ensures { result ≡ (at + 1 == count) }
+{
+    at + 1 == count
+}
+
+/// Reads the texts of all parts, one after another.
 fn read_logs<'a>(
     alloc: Global,
     files: &[String],
     texts: &'a [Vec<u8>],
 ) -> Result<Vec<GradeLog<'a>>, PartRefusal>
     requires { length files.now ≡ length texts.now }
-    ensures { MatchResult result (λ logs. AreLogTexts (texts_seen texts.now) logs.items × Agree logs.items)
+    ensures { MatchResult result (λ logs. AreLogTexts (texts_seen texts.now) logs.items × AreParts logs.items)
         (IsTextRefused (words_seen files.now) (texts_seen texts.now)) }
 {
     let mut logs = Vec::new(alloc);
+    let mut told = Told::new(alloc);
     for (at, text) in texts.iter().enumerate() {
-        match read_log(text.as_slice(), logs.as_slice()) {
+        let last = is_last(at, texts.len());
+        match read_log(text.as_slice(), logs.as_slice(), &mut told, last) {
             Ok(log) => match logs.push(log) {
                 Ok(()) => {}
                 Err(_) => return Err(PartRefusal::Of(Refusal::NoMemory)),

@@ -3,3 +3,4 @@ pub mod ReadingLemmas
 pub mod FaultLemmas
 pub mod PrintedLemmas
 pub mod HasReadLemmas
+pub mod WordLemmas

@@ -4,7 +4,9 @@
 mod fault;
 mod lines;
 mod printed;
+mod words;
 
 pub use fault::LineFault;
 pub use lines::Lines;
 pub use printed::is_printed;
+pub use words::{is_named, last_word};

@@ -1,19 +1,13 @@
-use Rattle.std.proofs.Common.{ap}
-use Rattle.part_lines.specs.declared.fault.LineFault.TheVariants.{Line}
-use Rattle.part_lines.proofs.FaultLemmas.{one_fault}
-use Rattle.grade_parts.specs.Log.{IsLogOf}
-use Rattle.grade_parts.proofs.LogLemmas.{one_log}
-use Rattle.grade_parts.proofs.ReadLemmas.{no_fault}
+use Rattle.grade_parts.specs.Reads.{said_good}
+use Rattle.grade_parts.proofs.ReadLemmas.{reads_only, reads_refused}
 use Rattle.grade_parts.proofs.log.GradeLog.read.Goals as goal
 
-pub returns-in-Ok-clause-only : goal.returns-in-Ok-clause-only
-returns-in-Ok-clause-only c = λ log is. one_log c.args.text.now c.in-Ok.log log c.in-Ok.ensures is
+pub returns-clause-only : goal.returns-clause-only
+returns-clause-only c = λ before told log knows is has.
+    reads_only (said_good c.args.good) before told c.args.last c.args.text.now log c.read_text.new.told c.read_text.result
+    (c.read_text.ensures before knows) is has
 
-pub returns-in-Ok-clause-refused : goal.returns-in-Ok-clause-refused
-returns-in-Ok-clause-refused c = λ n at. no_fault c.args.text.now c.in-Ok.log n c.in-Ok.ensures at
-
-pub returns-in-Err-clause-only : goal.returns-in-Err-clause-only
-returns-in-Err-clause-only c = λ log is. no_fault c.args.text.now log c.in-Err.line is c.in-Err.ensures
-
-pub returns-in-Err-clause-refused : goal.returns-in-Err-clause-refused
-returns-in-Err-clause-refused c = λ n at. ap Line (one_fault IsLogOf c.args.text.now c.in-Err.line n c.in-Err.ensures at)
+pub returns-clause-refused : goal.returns-clause-refused
+returns-clause-refused c = λ before n knows at.
+    reads_refused (said_good c.args.good) before c.args.last c.args.text.now n c.read_text.new.told c.read_text.result
+    (c.read_text.ensures before knows) at
