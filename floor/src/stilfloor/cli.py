@@ -2,13 +2,15 @@
 
 import argparse
 import contextlib
+import io
 import os
 import sys
 from collections.abc import Callable, Iterator
 from typing import IO
 
 from stilfloor import __version__
-from stilfloor.faults import REFUSED, STATUSES, UNREADABLE, Fault
+from stilfloor.faults import REFUSED, STATUSES, UNREADABLE, Fault, shown
+from stilfloor.names import replacing
 
 Word = Callable[[argparse.Namespace], int]
 
@@ -156,7 +158,7 @@ def _put(path: str | None, pieces: Iterator[str], encoding: str = "utf-8") -> No
                 sys.stdout.buffer.write(piece.encode(encoding))
             sys.stdout.flush()
             return
-        with open(path, "w", encoding=encoding, newline="") as out:
+        with replacing(path, encoding) as out:
             out.writelines(pieces)
     except BrokenPipeError:
         raise
@@ -246,7 +248,7 @@ def plot_events(words: argparse.Namespace) -> int:
     gathered = waves.gather(waves.cycles_between(words.program, words.first, last))
     if not gathered.starts:
         raise Fault(REFUSED, f"the program has no cycle from {words.first} to {last}", words.program)
-    title = f"{words.program}, cycles {words.first} to {words.first + len(gathered.starts) - 1}"
+    title = f"{shown(words.program)}, cycles {words.first} to {words.first + len(gathered.starts) - 1}"
     drawing.store(waves.wave_figure(gathered, title), words.out)
     return 0
 
@@ -259,7 +261,7 @@ def report(words: argparse.Namespace) -> int:
 
     doctor = Doctor(words.program, words.plan, words.jobs)
     with records.datalog(words.datalog) as dies:
-        path, page = make_report(words.program, doctor, dies, words.folder, words.title or os.path.basename(words.datalog))
+        path, page = make_report(words.program, doctor, dies, words.folder, shown(words.title or os.path.basename(words.datalog)))
     say(f"{page.lot.count} dies, {page.failing} fail, {page.explained} explained")
     print(path)
     return 0
@@ -285,16 +287,16 @@ def _target(path: str | None) -> Iterator[IO[str]]:
         yield sys.stdout
         sys.stdout.flush()
         return
-    try:
-        out = open(path, "w", encoding="utf-8", newline="")
-    except OSError as error:
-        raise Fault(UNREADABLE, f"{error.strerror}", path) from error
-    with out:
+    with replacing(path) as out:
         yield out
 
 
 def main(words: list[str] | None = None) -> int:
     """Runs the command with its words; the exit status."""
+    for stream, errors in ((sys.stdout, "surrogateescape"), (sys.stderr, "backslashreplace")):
+        if isinstance(stream, io.TextIOWrapper):
+            # (a name of any bytes is printed as these bytes, and shown where it is told)
+            stream.reconfigure(encoding="utf-8", errors=errors)
     told = parser_of().parse_args(words)
     try:
         return int(told.does(told))

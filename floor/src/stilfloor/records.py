@@ -106,8 +106,10 @@ class Cycle:
 
 
 def bare(word: str) -> str:
-    """A printed name without its quotes."""
-    return word[1:-1] if len(word) > 1 and word[0] == '"' and word[-1] == '"' else word
+    """A printed name without its quotes, which stand where it is empty or some of its bytes aren't visible."""
+    inner = word[1:-1]
+    is_quoted = len(word) > 1 and word[0] == word[-1] == '"' and not (inner and all(0x21 <= ord(byte) <= 0x7E for byte in inner))
+    return inner if is_quoted else word
 
 
 @contextmanager
@@ -185,7 +187,8 @@ class Datalog(Lines):
             if head == "site" and not self.die:
                 self.site = int(rest)
             elif head == "die" and not self.die and self.site is not None and rest:
-                self.die = Die(self.site, bare(rest))
+                # (its bytes are visible, so it is printed without quotes, whatever quotes are in it)
+                self.die = Die(self.site, rest)
             elif head == "try" and self.die and not self.open_try:
                 self.die.tries.append(self._new_try(rest.split(" ")))
                 self.open_try = True
@@ -240,12 +243,13 @@ class Grade(Lines):
         ended = False
         for number, line in enumerate(self.lines, 1):
             self.number = number
-            parts = WORD.findall(self.whole(line))
+            # (nets are visible bytes, so they are printed without quotes, whatever quotes are in them)
+            parts = self.whole(line).split(" ")
             try:
                 if number == 1 and parts[0] == "good":
                     self.good = self._cycle(parts[1])
                 elif number > 1 and parts[0] == "fault" and not ended:
-                    yield StuckNet(bare(parts[1]), int(parts[2]), self._cycle(parts[3]))
+                    yield StuckNet(parts[1], int(parts[2]), self._cycle(parts[3]))
                 elif number > 1 and parts[0] == "faults" and parts[2] == "found" and not ended:
                     self.count, self.found, ended = int(parts[1]), int(parts[3]), True
                 else:
