@@ -103,7 +103,7 @@ def test_names_within_files_are_names_to_every_word(tmp_path: pathlib.Path, caps
     for words in (["lint", "p.stil", "--plan", "lot.csv"], ["lint", "--plan", "lot.csv"]):
         assert ": error: " not in told(words, capsys)
     table = told(["export", "lot.datalog", "--csv"], capsys)
-    assert {row["signal"] for row in csv.DictReader(io.StringIO(table))} == signals
+    assert {row["signal"].removeprefix("'") for row in csv.DictReader(io.StringIO(table))} == signals
     assert {die["die"] for die in json.loads(told(["export", "lot.datalog", "--json"], capsys))} == set(DIES)
     text = told(["diagnose", "p.stil", "lot.csv", "lot.datalog"], capsys)
     assert all(f" die {name} try 1 " in text for name in DIES)

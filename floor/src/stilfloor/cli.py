@@ -27,7 +27,7 @@ def _add(words: "argparse._SubParsersAction[argparse.ArgumentParser]", name: str
 
 def _number(text: str) -> int:
     """A number that isn't below 0."""
-    if not text.isdigit():
+    if not (text.isascii() and text.isdigit() and len(text) <= 20):
         raise argparse.ArgumentTypeError(f"`{text}` is no number from 0 on")
     return int(text)
 
@@ -299,7 +299,9 @@ def main(words: list[str] | None = None) -> int:
             stream.reconfigure(encoding="utf-8", errors=errors)
     told = parser_of().parse_args(words)
     try:
-        return int(told.does(told))
+        status = int(told.does(told))
+        sys.stdout.flush()
+        return status
     except Fault as fault:
         sys.stdout.flush()
         say(fault.told())
