@@ -6,11 +6,14 @@ import io
 import os
 import sys
 from collections.abc import Callable, Iterator
-from typing import IO
+from typing import IO, TYPE_CHECKING
 
 from stilfloor import __version__
 from stilfloor.faults import REFUSED, STATUSES, UNREADABLE, Fault, shown
 from stilfloor.names import replacing
+
+if TYPE_CHECKING:
+    from stilfloor.diagnose import Diagnosis, Doctor
 
 Word = Callable[[argparse.Namespace], int]
 
@@ -168,17 +171,29 @@ def _put(path: str | None, pieces: Iterator[str], encoding: str = "utf-8") -> No
 
 def diagnose(words: argparse.Namespace) -> int:
     """The word `diagnose`."""
-    from stilfloor import records
+    from stilfloor import records, saved
+    from stilfloor.belonging import Owner
     from stilfloor.diagnose import Doctor, as_json
     from stilfloor.diagnose import diagnose as diagnosed
 
     doctor = Doctor(words.program, words.plan, words.jobs, words.most)
+    owner = Owner(doctor.plan, saved.code_of(words.program))
     with records.datalog(words.datalog) as dies:
-        found = diagnosed(doctor, iter(dies), words.site, words.die)
-        _put(None, as_json(found) if words.json else (diagnosis.text() + "\n" for diagnosis in found))
+        found = diagnosed(doctor, owner.held(dies), words.site, words.die)
+        _put(None, as_json(found) if words.json else _told(found, doctor))
+    for line in doctor.notes if words.json else []:
+        say(line)
     for line in doctor.site_lines():
         print(line, file=sys.stderr if words.json else sys.stdout)
     return 0
+
+
+def _told(found: "Iterator[Diagnosis]", doctor: "Doctor") -> Iterator[str]:
+    """The lines of diagnoses, in front of which stands what is to be known before."""
+    for diagnosis in found:
+        yield from (note + "\n" for note in doctor.notes)
+        doctor.notes.clear()
+        yield diagnosis.text() + "\n"
 
 
 def lint(words: argparse.Namespace) -> int:
@@ -255,13 +270,15 @@ def plot_events(words: argparse.Namespace) -> int:
 
 def report(words: argparse.Namespace) -> int:
     """The word `report`."""
-    from stilfloor import records
+    from stilfloor import records, saved
+    from stilfloor.belonging import Owner
     from stilfloor.diagnose import Doctor
     from stilfloor.report import make_report
 
     doctor = Doctor(words.program, words.plan, words.jobs)
+    owner = Owner(doctor.plan, saved.code_of(words.program))
     with records.datalog(words.datalog) as dies:
-        path, page = make_report(words.program, doctor, dies, words.folder, shown(words.title or os.path.basename(words.datalog)))
+        path, page = make_report(words.program, doctor, owner.held(dies), words.folder, shown(words.title or os.path.basename(words.datalog)))
     say(f"{page.lot.count} dies, {page.failing} fail, {page.explained} explained")
     print(path)
     return 0

@@ -85,6 +85,10 @@ class Dictionary:
             self.kept.append(numbers)
         self.members[place].append(suspect)
 
+    def fails_of(self, suspect: Suspect) -> int:
+        """How many looks fail where a suspect is all that is wrong."""
+        return next((total for members, total in zip(self.members, self.totals) if suspect in members), 0)
+
     def same(self, attempt: records.Try) -> int | None:
         """The class that fails exactly as this try does."""
         numbers = []

@@ -38,6 +38,11 @@ class Plan:
         return int(self.rows[0][3])
 
     @property
+    def tries(self) -> int:
+        """How often a die is tried at most."""
+        return int(self.rows[0][2])
+
+    @property
     def batch(self) -> int:
         """How many cycles a batch has."""
         return int(self.rows[0][1])

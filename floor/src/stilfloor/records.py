@@ -159,13 +159,17 @@ class Lines:
 
 
 class Datalog(Lines):
-    """The dies of a datalog one by one, or of several behind one another; `totals` has the printed totals of bins behind the last one."""
+    """The dies of a datalog one by one, or of several behind one another; `totals` has the printed totals of bins behind the last one.
+
+    `count` is the number of dies so far, and `number` the line of the last one's bin.
+    """
 
     what = "datalog"
 
     def __init__(self, lines: Iterable[str], file: str = "-") -> None:
         super().__init__(lines, file)
         self.totals: dict[int, int] = {}
+        self.count = 0
         self.site: int | None = None
         self.die: Die | None = None
         self.open_try = False
@@ -209,6 +213,7 @@ class Datalog(Lines):
                 self.open_try = False
             elif head == "bin" and self.die and self.die.tries and not self.open_try:
                 self.die.bin, die, self.die = digits(rest), self.die, None
+                self.count += 1
                 return die
             elif head == "total" and not self.die:
                 bin_number, count = rest.split(" ")

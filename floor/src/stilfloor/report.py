@@ -79,7 +79,7 @@ class Page:
                  f"<p>Yield: {self.lot.passing} of {count} dies pass, {share}. {self.failing} dies fail, "
                  f"and for {self.explained} of them something explains the fails exactly.</p>",
                  "<h2>Bins and sites</h2>", self._bins(), self._sites()]
-        lines += [f"<p class=\"none\">{escape(line)}</p>" for line in self.doctor.site_lines()]
+        lines += [f"<p class=\"none\">{escape(line)}</p>" for line in [*self.doctor.notes, *self.doctor.site_lines()]]
         lines.append('<div class="figures">' + drawing.svg_of(drawing.lot_figure(self.lot)))
         if self.gathered.columns:
             lines.append(drawing.svg_of(drawing.pareto_figure(self.gathered)))
