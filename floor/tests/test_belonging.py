@@ -72,12 +72,14 @@ def test_another_lot_is_refused_by_its_first_line(made_alu: Lot, tmp_path: pathl
         assert found == wanted, (old, new)
     wanted, found = changed("site 1", "site 9")
     assert found == wanted + 1
-    number = next(place for place, line in enumerate(lines) if line.startswith("fail ") and line.endswith(tuple("0123456789")) and " c1 " in line)
-    for old, new in ((" c1 ", " c2 "), ("SO1 L", "SO1 H"), ("SO1 H", "SO1 L"), ("SO1 ", "SO2 "), ("SO1", "a[0]"), ("SO1", "none")):
-        if old in lines[number]:
-            file = tmp_path / "changed"
-            file.write_text("\n".join([*lines[:number], lines[number].replace(old, new), *lines[number + 1 :]]))
-            assert first_wrong_line(made_alu.stil, plan, str(file)) == number + 1
+    number = next(place for place, line in enumerate(lines) if len(line.split()) == 8)
+    _, cycle, at, signal, want, seen, chain, cell = lines[number].split()
+    other = {"L": "H", "H": "L"}[want]
+    for fields in ([cycle, at, signal, want, seen, "c9", cell], [cycle, at, signal, want, seen, chain, "none"], [cycle, at, "none", want, seen],
+                   [cycle, at, signal, other, seen, chain, cell], [cycle, at + "1", signal, want, seen, chain, cell], [cycle, at, "a[0]", want, seen]):
+        file = tmp_path / "changed"
+        file.write_text("\n".join([*lines[:number], " ".join(["fail", *fields]), *lines[number + 1 :]]))
+        assert first_wrong_line(made_alu.stil, plan, str(file)) == number + 1, fields
 
 
 def test_a_lot_of_more_or_fewer_dies_is_refused(made_alu: Lot) -> None:
