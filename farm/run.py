@@ -1,16 +1,19 @@
 """Runs a lot or a grade in parts: by GNU parallel here or over ssh, one part after another where it is missing, or by Slurm."""
 import argparse
-import shlex
 import shutil
 import signal
 import subprocess
 import sys
 import time
 import whole
-from work import HERE, MOST_PARTS, Work, made, say, without
+from work import HERE, MOST_PARTS, made, resumed, say, without
 
 # how many seconds a merge is awaited of which Slurm knows nothing any more
 AWAITED = 5
+# the script of a job, which runs the words behind it, and a part with its number
+JOB = """#!/bin/sh
+exec "$@" $SLURM_ARRAY_TASK_ID
+"""
 
 
 def number(least, most):
@@ -54,10 +57,15 @@ def has_parallel():
 
 
 def by_parallel(work, given):
-    asked = ["parallel", "--will-cite", "--quote", "--joblog", work.folder / "joblog", "--resume-failed", "--retries", str(given.retries)]
+    missing = work.missing()
+    if not missing:
+        return
+    asked = ["parallel", "--will-cite", "--null", "--joblog", work.folder / "joblog", "--retries", str(given.retries)]
     asked += ["--jobs", given.jobs] if given.jobs else []
     asked += ["--sshloginfile", given.sshloginfile] if given.sshloginfile else []
-    ran = subprocess.Popen([*asked, HERE / "part", work.folder, "{}", ":::", *map(str, range(1, work.parts + 1))], stdin=subprocess.DEVNULL)
+    # (names stand in no template, where parallel would run what they say; it quotes values, but none that a command begins with)
+    asked += ["exec", "{1}", "{2}", "{3}", ":::", HERE / "part", ":::", work.folder, ":::"]
+    ran = subprocess.Popen([*asked, *map(str, missing)], stdin=subprocess.DEVNULL)
     try:
         ran.wait()
     finally:
@@ -82,21 +90,22 @@ def submitted(asked):
 
 
 def by_slurm(work, given):
-    """Submits the parts as an array of jobs and the merge behind them, and waits for it; its text and status are in the working folder."""
-    folder, missing = shlex.quote(str(work.folder)), work.missing()
-    common = ["sbatch", "--parsable", f"--chdir={work.start}", *given.sbatch]
+    """Submits the parts as an array of jobs and the merge behind them, and waits for it; its text and status are in the working folder.
+
+    What a job runs are words behind its script, and what it says goes to a plain name: names are no part of either."""
+    missing, job_script = work.missing(), work.folder / "job"
+    job_script.write_text(JOB)
+    common = ["sbatch", "--parsable", f"--chdir={work.folder}", *given.sbatch]
     behind = []
     for name in "whole", "ended":
         (work.folder / name).unlink(missing_ok=True)
     if missing:
-        part = f"exec {shlex.quote(str(HERE / 'part'))} --retries {given.retries} {folder} $SLURM_ARRAY_TASK_ID"
         array = "1-%d" % work.parts if len(missing) == work.parts else ",".join(map(str, missing))
-        asked = [*common, f"--array={array}", "--requeue", "--job-name=farm", f"--output={work.folder}/slurm.%a", f"--wrap={part}"]
-        job = submitted(asked)
+        asked = [*common, f"--array={array}", "--requeue", "--job-name=farm", "--output=slurm.%a", job_script]
+        job = submitted([*asked, HERE / "part", "--retries", str(given.retries), work.folder])
         say(f"the parts are the array {job}")
         behind = [f"--dependency=afterok:{job}", "--kill-on-invalid-dep=yes"]
-    merge = f"{shlex.quote(str(HERE / 'merged'))} {folder}"
-    job = submitted([*common, *behind, "--job-name=farm-merge", f"--output={work.folder}/slurm.merge", f"--wrap={merge}"])
+    job = submitted([*common, *behind, "--job-name=farm-merge", "--output=slurm.merge", job_script, HERE / "merged", work.folder])
     # (what is on its way through the file system when the job is gone has some seconds to come)
     left = AWAITED
     while left and not (work.folder / "ended").exists():
@@ -112,7 +121,7 @@ def main(kind, is_slurm=False):
     if not is_slurm and given.sshloginfile and not has_parallel():
         without("parallel", "--sshloginfile")
     signal.signal(signal.SIGTERM, lambda number, frame: sys.exit(128 + number))
-    work = Work(given.resume) if given.resume else made(kind, given.program, given.plan, given.parts)
+    work = resumed(given.resume) if given.resume else made(kind, given.program, given.plan, given.parts)
     try:
         if is_slurm:
             by_slurm(work, given)

@@ -1,8 +1,10 @@
 """What is said of a lot or a grade whose parts have run."""
+import os
+import re
 import shutil
 import subprocess
 import sys
-from work import FINAL, LAST_SITE, NO_DIE, READ_FAULT, Plan, answer, end_with, say
+from work import FINAL, LAST_SITE, NO_DIE, NOT_RUN, READ_FAULT, REFUSED_PART, Plan, answer, end_with, say
 
 
 def in_plan(plan, work, k, line):
@@ -27,7 +29,8 @@ def place(plan, line):
 def asked(work, plan):
     """What the program says of the whole plan, which it refuses."""
     free = [site for site in range(LAST_SITE + 1) if site not in plan.sites]
-    words = ["dump", work.program, work.plan, str(free[0])] if free else ["lot", work.program, work.plan]
+    files = [os.path.relpath(file, work.start) for file in (work.program, work.plan)]
+    words = ["dump", *files, str(free[0])] if free else ["lot", *files]
     return answer([work.stil, *words], cwd=work.start)
 
 
@@ -56,9 +59,21 @@ def told(work):
     if missing:
         say(f"parts without a text: {' '.join(map(str, missing))}; --resume {work.folder} runs them again")
         k, status, line = next(it for it in ends if it[0] == missing[0])
-        return end_with(status or 70, line)
-    words = ["merge", work.plan] if work.kind == "lot" else ["merge-grade"]
-    return subprocess.run([work.lots, *words, *(work.of(k, "text") for k in every)], restore_signals=False).returncode
+        return end_with(status or NOT_RUN, line)
+    words = [work.lots, *(["merge", "plan.csv"] if work.kind == "lot" else ["merge-grade"]), *(f"{k}/text" for k in every)]
+    status = subprocess.run(words, cwd=work.folder, restore_signals=False).returncode
+    if status == REFUSED_PART:
+        undo(work, answer(words, cwd=work.folder)[1])
+    return status
+
+
+def undo(work, line):
+    """Takes the part whose text can't be merged, by the line that refuses it, for one that failed."""
+    found = re.match(rb"refused part (\d+)/text ", line)
+    if found:
+        k = int(found[1])
+        work.undo(k)
+        say(f"the text of part {k} is none; --resume {work.folder} runs it again")
 
 
 def merged(work):
@@ -78,6 +93,6 @@ def end(work):
     if status == 0:
         # (a run of a part that was given up may be there still)
         shutil.rmtree(work.folder, ignore_errors=True)
-    else:
+    elif work.folder.exists():
         say(f"the working folder stays: {work.folder}")
     raise SystemExit(status)

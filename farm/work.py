@@ -1,8 +1,9 @@
 """The working folder of a lot or a grade that runs in parts, and what is known of its plan.
 
 It holds `program` and `plan.csv` (the program, saved, and the plan), `said` (how it was started, in JSON), a folder for each part by its
-number, with its `text` and the `status` that the program ended with, or `failed` where it gave no answer, and `joblog`."""
+number, with its `text` and the `status` that the program ended with, or `failed` where it gave no answer, `joblog` and `lock`."""
 import csv
+import fcntl
 import json
 import os
 import pathlib
@@ -16,7 +17,9 @@ SAVED = b"\xd7STP"
 LONGEST = 16777216
 MOST_PARTS = 4096
 LAST_SITE = 63
-DONE, READ_FAULT, REFUSED_PLAN, TOO_LONG, NO_DIE = 0, 2, 6, 9, 12
+DONE, READ_FAULT, HALF, REFUSED_NET, REFUSED_PLAN, TOO_LONG, NO_DIE, REFUSED_PART = 0, 2, 3, 5, 6, 9, 12, 14
+# that of the scripts themselves, where a program is missing or another run is at work
+NOT_RUN = 70
 # statuses behind which another try would end alike: done, refused, too few sockets, too long, no die
 FINAL = {0, 4, 5, 6, 7, 9, 10, 12}
 # the rows that name a site
@@ -24,13 +27,15 @@ SITED = {"die", "fault", "stop", "skew"}
 
 
 def say(text):
-    print(f"farm: {text}", file=sys.stderr, flush=True)
+    """Says a line; what a name in it has of line feeds and the like is shown by its number."""
+    shown = "".join(it if it.isprintable() else f"\\x{ord(it):02x}" for it in text)
+    print(f"farm: {shown}", file=sys.stderr, flush=True)
 
 
 def without(what, wants):
     """Ends where a program is missing that is wanted."""
     say(f"{what} is missing, which {wants} needs")
-    sys.exit(70)
+    sys.exit(NOT_RUN)
 
 
 def program_of(name):
@@ -68,19 +73,17 @@ class Plan:
         mine = set(self.part(k, n))
         return [i for i, row in enumerate(self.rows, 1) if row[0] not in SITED or int(row[1]) in mine]
 
-    def netlists(self, k, n):
-        mine = set(self.part(k, n))
-        return list(dict.fromkeys(row[3] for row in self.rows if row[0] == "die" and int(row[1]) in mine))
-
 
 class Work:
     """A working folder that is there."""
 
+    # what keeps other runs away, where this one has it
+    lock = None
+
     def __init__(self, folder):
         self.folder = pathlib.Path(folder).absolute()
         if not (self.folder / "said").exists():
-            say(f"{folder} is no working folder")
-            sys.exit(1)
+            no_work(folder)
         self.said = json.loads((self.folder / "said").read_text())
         self.kind, self.parts, self.start = self.said["kind"], self.said["parts"], self.said["start"]
         self.stil, self.lots = self.said["stil"], self.said["lots"]
@@ -103,6 +106,41 @@ class Work:
         status = int(kept.read_text()) if kept.exists() else None
         text = self.of(k, "text" if kept.name == "status" else "failed.text")
         return status, text.read_bytes() if text.exists() else b""
+
+    def undo(self, k):
+        """Takes a part for one that failed, so that it is run again."""
+        for name, other in ("text", "failed.text"), ("status", "failed"):
+            os.replace(self.of(k, name), self.of(k, other))
+
+
+def no_work(folder):
+    """Ends where a folder is no working folder."""
+    say(f"{folder} is no working folder")
+    sys.exit(1)
+
+
+def locked(folder):
+    """Keeps other runs from a working folder until this one ends; ends where one is at work there. The lock goes with its run."""
+    lock = open(pathlib.Path(folder, "lock"), "w")
+    try:
+        fcntl.flock(lock, fcntl.LOCK_EX | fcntl.LOCK_NB)
+    except BlockingIOError:
+        say(f"another run is at work in {folder}; let it end")
+        sys.exit(NOT_RUN)
+    except OSError as fault:
+        say(f"no lock can be had in {folder}: {fault.strerror}; see that no other run is at work there")
+    return lock
+
+
+def resumed(folder):
+    """The working folder of a run that was broken off."""
+    if not pathlib.Path(folder, "said").exists():
+        no_work(folder)
+    lock = locked(folder)
+    # (another run may have ended the lot and taken the folder away meanwhile)
+    work = Work(folder)
+    work.lock = lock
+    return work
 
 
 def saved(stil, program, to):
@@ -137,6 +175,7 @@ def made(kind, program, plan, parts):
     """A new working folder in the folder where one stands; ends as the program does where it refuses the program or the plan."""
     stil, lots = program_of("stil"), program_of("lots")
     folder = tempfile.mkdtemp(prefix="farm.", dir=os.getcwd())
+    lock = locked(folder)
     try:
         refused = saved(stil, program, f"{folder}/program")
         if not refused:
@@ -151,4 +190,6 @@ def made(kind, program, plan, parts):
         shutil.rmtree(folder, ignore_errors=True)
         raise
     say(f"the working folder is {folder}, and the parts are {said['parts']}")
-    return Work(folder)
+    work = Work(folder)
+    work.lock = lock
+    return work

@@ -3,5 +3,5 @@ if exists('current_compiler')
   finish
 endif
 let current_compiler = 'stilfloor'
-CompilerSet makeprg=stilfloor\ lint\ %:S
+CompilerSet makeprg=stilfloor\ lint\ --\ %:S
 CompilerSet errorformat=%f:%l:%c:\ %trror:\ %m,%f:%l:%c:\ %tarning:\ %m

@@ -97,7 +97,7 @@ def test_other_looks_that_fail_are_told(s27: Lot) -> None:
 def test_a_text_without_a_look_and_a_saved_program_are_refused(s27: Lot) -> None:
     with pytest.raises(Fault, match="nothing to learn"):
         learnt(s27, S27.replace('"_po"=L', '"_po"=X').replace("HHL", "XXX"))
-    with pytest.raises(Fault, match="nothing to learn|saved program"):
+    with pytest.raises(Fault, match="nothing to learn|saved program|isn't ended"):
         learn.learn(str(s27.folder / "s27scan.bench"), s27.plan)
     with pytest.raises(Fault, match="no character H"):
         learnt(s27, S27.replace("""'"_po" + "SO"' { LHX { '40ns' L/H/X; } }""", """'"_po" + "SO"' { LX { '40ns' L/X; } }""").replace("HHL", "LLL"))

@@ -155,8 +155,9 @@ def test_the_lines_are_read_by_vim(tmp_path: pathlib.Path) -> None:
     assert (tmp_path / "out").read_text() == "a.stil12esome words\nb.stil3wothers\n"
 
 
-def test_the_hooks_call_the_command() -> None:
+def test_the_hooks_call_the_command_and_take_no_file_for_an_option() -> None:
     for name in ("pre-commit-config.yaml", "github-workflow.yml"):
-        assert "floor/stilfloor lint" in (EDITORS / name).read_text()
+        assert "floor/stilfloor lint --\n" in (EDITORS / name).read_text()
+    assert "sed -z 's,^,./,'" in (EDITORS / "github-workflow.yml").read_text()
     done = subprocess.run([str(TOP / "floor" / "stilfloor"), "lint", "examples/p1.stil"], cwd=TOP, check=False, capture_output=True)
     assert (done.returncode, done.stdout) == (0, b"")

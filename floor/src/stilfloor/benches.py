@@ -4,6 +4,7 @@ import re
 from dataclasses import dataclass, field
 
 from stilfloor.faults import REFUSED, Fault
+from stilfloor.names import remark
 from stilfloor.verilog import Bit, Design, Module, bit_names, indexed
 
 GATES = {
@@ -55,7 +56,7 @@ class Bench:
             inputs.insert(0, self.clock)
         ends = [chain.cells[-1] for chain in self.chains]
         outputs = [*self.outputs, *(end for end in dict.fromkeys(ends) if end not in self.outputs)]
-        lines = [f"# {self.name}, made from {source}"]
+        lines = [f"# {remark(self.name)}, made from {source}"]
         lines += [f"INPUT({net})" for net in inputs] + [f"OUTPUT({net})" for net in outputs]
         return "\n".join([*lines, *map(str, self.gates)]) + "\n"
 

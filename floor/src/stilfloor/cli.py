@@ -2,13 +2,18 @@
 
 import argparse
 import contextlib
+import io
 import os
 import sys
 from collections.abc import Callable, Iterator
-from typing import IO
+from typing import IO, TYPE_CHECKING
 
 from stilfloor import __version__
-from stilfloor.faults import REFUSED, STATUSES, UNREADABLE, Fault
+from stilfloor.faults import REFUSED, STATUSES, UNREADABLE, Fault, shown
+from stilfloor.names import replacing
+
+if TYPE_CHECKING:
+    from stilfloor.diagnose import Diagnosis, Doctor
 
 Word = Callable[[argparse.Namespace], int]
 
@@ -25,7 +30,7 @@ def _add(words: "argparse._SubParsersAction[argparse.ArgumentParser]", name: str
 
 def _number(text: str) -> int:
     """A number that isn't below 0."""
-    if not text.isdigit():
+    if not (text.isascii() and text.isdigit() and len(text) <= 20):
         raise argparse.ArgumentTypeError(f"`{text}` is no number from 0 on")
     return int(text)
 
@@ -156,7 +161,7 @@ def _put(path: str | None, pieces: Iterator[str], encoding: str = "utf-8") -> No
                 sys.stdout.buffer.write(piece.encode(encoding))
             sys.stdout.flush()
             return
-        with open(path, "w", encoding=encoding, newline="") as out:
+        with replacing(path, encoding) as out:
             out.writelines(pieces)
     except BrokenPipeError:
         raise
@@ -166,17 +171,29 @@ def _put(path: str | None, pieces: Iterator[str], encoding: str = "utf-8") -> No
 
 def diagnose(words: argparse.Namespace) -> int:
     """The word `diagnose`."""
-    from stilfloor import records
+    from stilfloor import records, saved
+    from stilfloor.belonging import Owner
     from stilfloor.diagnose import Doctor, as_json
     from stilfloor.diagnose import diagnose as diagnosed
 
     doctor = Doctor(words.program, words.plan, words.jobs, words.most)
+    owner = Owner(doctor.plan, saved.code_of(words.program))
     with records.datalog(words.datalog) as dies:
-        found = diagnosed(doctor, iter(dies), words.site, words.die)
-        _put(None, as_json(found) if words.json else (diagnosis.text() + "\n" for diagnosis in found))
+        found = diagnosed(doctor, owner.held(dies), words.site, words.die)
+        _put(None, as_json(found) if words.json else _told(found, doctor))
+    for line in doctor.notes if words.json else []:
+        say(line)
     for line in doctor.site_lines():
         print(line, file=sys.stderr if words.json else sys.stdout)
     return 0
+
+
+def _told(found: "Iterator[Diagnosis]", doctor: "Doctor") -> Iterator[str]:
+    """The lines of diagnoses, in front of which stands what is to be known before."""
+    for diagnosis in found:
+        yield from (note + "\n" for note in doctor.notes)
+        doctor.notes.clear()
+        yield diagnosis.text() + "\n"
 
 
 def lint(words: argparse.Namespace) -> int:
@@ -246,20 +263,22 @@ def plot_events(words: argparse.Namespace) -> int:
     gathered = waves.gather(waves.cycles_between(words.program, words.first, last))
     if not gathered.starts:
         raise Fault(REFUSED, f"the program has no cycle from {words.first} to {last}", words.program)
-    title = f"{words.program}, cycles {words.first} to {words.first + len(gathered.starts) - 1}"
+    title = f"{shown(words.program)}, cycles {words.first} to {words.first + len(gathered.starts) - 1}"
     drawing.store(waves.wave_figure(gathered, title), words.out)
     return 0
 
 
 def report(words: argparse.Namespace) -> int:
     """The word `report`."""
-    from stilfloor import records
+    from stilfloor import records, saved
+    from stilfloor.belonging import Owner
     from stilfloor.diagnose import Doctor
     from stilfloor.report import make_report
 
     doctor = Doctor(words.program, words.plan, words.jobs)
+    owner = Owner(doctor.plan, saved.code_of(words.program))
     with records.datalog(words.datalog) as dies:
-        path, page = make_report(words.program, doctor, dies, words.folder, words.title or os.path.basename(words.datalog))
+        path, page = make_report(words.program, doctor, owner.held(dies), words.folder, shown(words.title or os.path.basename(words.datalog)))
     say(f"{page.lot.count} dies, {page.failing} fail, {page.explained} explained")
     print(path)
     return 0
@@ -285,19 +304,21 @@ def _target(path: str | None) -> Iterator[IO[str]]:
         yield sys.stdout
         sys.stdout.flush()
         return
-    try:
-        out = open(path, "w", encoding="utf-8", newline="")
-    except OSError as error:
-        raise Fault(UNREADABLE, f"{error.strerror}", path) from error
-    with out:
+    with replacing(path) as out:
         yield out
 
 
 def main(words: list[str] | None = None) -> int:
     """Runs the command with its words; the exit status."""
+    for stream, errors in ((sys.stdout, "surrogateescape"), (sys.stderr, "backslashreplace")):
+        if isinstance(stream, io.TextIOWrapper):
+            # (a name of any bytes is printed as these bytes, and shown where it is told)
+            stream.reconfigure(encoding="utf-8", errors=errors)
     told = parser_of().parse_args(words)
     try:
-        return int(told.does(told))
+        status = int(told.does(told))
+        sys.stdout.flush()
+        return status
     except Fault as fault:
         sys.stdout.flush()
         say(fault.told())

@@ -79,6 +79,7 @@ class Doctor:
         self.netlists = {die.site: die.netlist for die in reversed(self.plan.dies)}
         self.dictionaries: dict[tuple[str, tuple[tuple[str, int], ...]], Dictionary] = {}
         self.sites: dict[int, SiteCount] = {}
+        self.notes: list[str] = []
         self.answers: dict[int, tuple[bool, list[Ranked], str]] = {}
         if self.plan.kept == 0:
             raise Fault(REFUSED, "the plan keeps no fails, so there is nothing to diagnose by: raise the last number of its first row", plan_file, 1)
@@ -94,7 +95,16 @@ class Doctor:
         if key not in self.dictionaries:
             kind = Die(self.program, netlist, self.plan, list(skews), self.plan.kept)
             self.dictionaries[key] = dictionary_of(kind, self.jobs)
+            self._note_good(self.dictionaries[key], site, netlist)
         return self.dictionaries[key]
+
+    def _note_good(self, made: Dictionary, site: int, netlist: str) -> None:
+        """Notes where the good die of the program fails, since then fails needn't come of a die."""
+        fails = made.fails_of(Suspect())
+        if fails:
+            at = f" at site {site}, by its skews," if self.plan.skews(site) else ""
+            self.notes.append(f"the good die of this program ({netlist}, without a stuck net) fails{at} with {fails} fails: look at the program, "
+                              "its netlist and the plan first; what is said of dies is in addition to that")
 
     def see(self, die: records.Die) -> Diagnosis | None:
         """Counts a die, and diagnoses it by its last try where this one fails."""

@@ -17,7 +17,8 @@ from zipfile import BadZipFile
 import numpy
 
 from stilfloor import plans, records, saved, tester
-from stilfloor.faults import REFUSED, Fault
+from stilfloor.faults import REFUSED, Fault, shown
+from stilfloor.names import replacing
 from stilfloor.sentences import refusal
 from stilfloor.skews import Moved, moved_signals
 
@@ -84,6 +85,10 @@ class Dictionary:
             self.kept.append(numbers)
         self.members[place].append(suspect)
 
+    def fails_of(self, suspect: Suspect) -> int:
+        """How many looks fail where a suspect is all that is wrong."""
+        return next((total for members, total in zip(self.members, self.totals) if suspect in members), 0)
+
     def same(self, attempt: records.Try) -> int | None:
         """The class that fails exactly as this try does."""
         numbers = []
@@ -139,7 +144,7 @@ def dictionary_of(die: Die, jobs: int) -> Dictionary:
         try:
             return _load(path)
         except (OSError, ValueError, KeyError, EOFError, BadZipFile):
-            print(f"stilfloor: the dictionary {path} can't be read, so it is made again", file=sys.stderr)
+            print(f"stilfloor: the dictionary {shown(path)} can't be read, so it is made again", file=sys.stderr)
     made = _make(die, jobs)
     _save(made, path)
     return made
@@ -164,7 +169,7 @@ def _save(made: Dictionary, path: str) -> None:
     signals = {signal: number for number, signal in enumerate(dict.fromkeys(signal for _, signal, _ in made.fails))}
     pairs = [(suspect, place) for place, members in enumerate(made.members) for suspect in members]
     try:
-        with open(path + ".new", "wb") as out:
+        with replacing(path, None) as out:
             numpy.savez_compressed(
                 out,
                 signals=numpy.array(list(signals), dtype=str),
@@ -179,9 +184,8 @@ def _save(made: Dictionary, path: str) -> None:
                 moved=numpy.array([suspect.moved for suspect, _ in pairs], dtype=bool),
                 classes=numpy.array([place for _, place in pairs], dtype=numpy.int64),
             )
-        os.replace(path + ".new", path)
-    except OSError as error:
-        print(f"stilfloor: the dictionary can't be kept at {path}: {error.strerror}", file=sys.stderr)
+    except Fault as fault:
+        print(f"stilfloor: the dictionary can't be kept at {shown(path)}: {fault.text}", file=sys.stderr)
 
 
 def _make(die: Die, jobs: int) -> Dictionary:
@@ -263,7 +267,9 @@ def _run_parts(names: list[str], room: str, jobs: int) -> None:
     """Runs the lots of the parts, by GNU parallel where it is there and there are several."""
     program = tester.find_program()
     if len(names) > 1 and jobs > 1 and has_parallel():
-        words = ["parallel", "--will-cite", "-j", str(jobs), "--quote", "sh", "-c", '"$0" lot program "$1.csv" > "$1.datalog"', program, "{}"]
+        # (the program's name is a value: it stands in no template, where parallel would run what it says)
+        script = '"$1" lot program "$2.csv" > "$2.datalog"'
+        words = ["parallel", "--will-cite", "-j", str(jobs), "--null", "sh", "-c", f"'{script}'", "sh", "{1}", "{2}", ":::", program]
         if sys.stderr.isatty():
             words.insert(2, "--bar")
         subprocess.run([*words, ":::", *names], cwd=room, stdout=subprocess.DEVNULL, check=False)
@@ -281,6 +287,8 @@ def _tries(die: Die, path: str) -> Iterator[records.Try]:
     """The tries of a part, die by die; what refuses the lot is told of the files that were given."""
     with open(path, encoding="latin-1") as lines:
         first = lines.readline()
+        # (a refusal may go on behind a line feed in a name)
+        first += "" if first.startswith("site ") else lines.read()
     if first and not first.startswith("site "):
         fault = refusal(first, 1, die.program, die.plan.file)
         if fault.file == "die.bench":

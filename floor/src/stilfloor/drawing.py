@@ -1,11 +1,13 @@
 """Pictures of what the program prints, as figures of matplotlib."""
 
 import io
+import warnings
 from collections import Counter
 from collections.abc import Iterable
 from dataclasses import dataclass, field
-from typing import Any
+from typing import IO, Any
 
+import matplotlib
 import numpy
 from matplotlib.figure import Figure
 from matplotlib.patches import Patch
@@ -13,7 +15,11 @@ from matplotlib.ticker import MaxNLocator
 
 from stilfloor import records
 from stilfloor.failmaps import Gathered, name_of
-from stilfloor.faults import UNREADABLE, Fault
+from stilfloor.faults import UNREADABLE, Fault, shown
+from stilfloor.names import replacing
+
+# a name with dollars is a name, and no formula
+matplotlib.rcParams["text.parse_math"] = False
 
 COLOURS = ("#4c9f70", "#d1495b", "#edae49", "#30638e", "#7768ae", "#8d6a4f", "#5bc0be", "#9a9a9a")
 FORMATS = ("png", "svg", "pdf")
@@ -24,16 +30,23 @@ def store(figure: Figure, path: str) -> None:
     kind = path.rsplit(".", 1)[-1].lower()
     if kind not in FORMATS:
         raise Fault(UNREADABLE, "a picture's file ends with .png, .svg or .pdf", path)
-    try:
-        figure.savefig(path, format=kind, dpi=120)
-    except OSError as error:
-        raise Fault(UNREADABLE, f"{error.strerror}", path) from error
+    out = io.BytesIO()
+    _draw_into(figure, out, kind)
+    with replacing(path, None) as file:
+        file.write(out.getvalue())
+
+
+def _draw_into(figure: Figure, out: IO, kind: str) -> None:
+    """Draws a figure; a character that the font lacks is drawn as a box, which isn't told."""
+    with warnings.catch_warnings():
+        warnings.filterwarnings("ignore", "Glyph .* missing", UserWarning)
+        figure.savefig(out, format=kind, dpi=120)
 
 
 def svg_of(figure: Figure) -> str:
     """A figure as an SVG element that can stand in a page."""
     out = io.StringIO()
-    figure.savefig(out, format="svg")
+    _draw_into(figure, out, "svg")
     text = out.getvalue()
     return text[text.index("<svg"):]
 
@@ -96,7 +109,8 @@ def lot_figure(lot: LotCounts) -> Figure:
 def pareto_on(axes: Any, bars: list[tuple[str, int]]) -> None:
     """Draws the columns at which most dies fail."""
     names, counts = [name for name, _ in bars][::-1], [count for _, count in bars][::-1]
-    axes.barh(names, counts, color=COLOURS[1])
+    axes.barh(range(len(names)), counts, color=COLOURS[1])
+    axes.set_yticks(range(len(names)), names)
     axes.set(xlabel="dies that fail there", title="failing cells and outputs")
     axes.xaxis.set_major_locator(MaxNLocator(integer=True))
     axes.tick_params(axis="y", labelsize=8)
@@ -157,6 +171,6 @@ def grade_figure(faults: Iterable[records.StuckNet], name: str) -> Figure:
     axes.step(cycles, found, where="post", color=COLOURS[3])
     axes.fill_between(cycles, found, step="post", color=COLOURS[3], alpha=0.2)
     axes.set(xlabel="cycles run", ylabel="stuck-at faults found, percent", ylim=(0, 100), xlim=(0, max(cycles) or 1),
-             title=f"{name}: {total} of {count} faults found")
+             title=f"{shown(name)}: {total} of {count} faults found")
     axes.grid(alpha=0.3)
     return figure

@@ -17,19 +17,29 @@ COLUMNS = {
 FAIL = [part.name for part in fields(Fail)]
 
 
+# what a spreadsheet runs, and the sign that keeps it from doing so
+RUN = ("=", "+", "-", "@", "\t", "\r", "'")
+
+
+def guarded(name: str | None) -> str | None:
+    """A name as a spreadsheet takes it for one: with ' in front where it would run it, and where it begins with ' itself."""
+    return "'" + name if name and name.startswith(RUN) else name
+
+
 def rows_of(die: Die, table: str) -> Iterator[tuple[Any, ...]]:
     """The rows of a die in one of the tables."""
     if table == "dies":
-        yield (die.site, die.name, die.bin, len(die.tries), die.verdict.kind, die.tries[-1].fails)
+        yield (die.site, guarded(die.name), die.bin, len(die.tries), die.verdict.kind, die.tries[-1].fails)
         return
     for attempt in die.tries:
         if table == "tries":
             end = attempt.verdict
-            yield (die.site, die.name, attempt.number, attempt.cycles, attempt.fails, len(attempt.kept), end.kind, end.executive, end.batch,
+            yield (die.site, guarded(die.name), attempt.number, attempt.cycles, attempt.fails, len(attempt.kept), end.kind, end.executive, end.batch,
                    end.by, end.word, end.at)
             continue
         for fail in attempt.kept:
-            yield (die.site, die.name, attempt.number, fail.cycle, fail.at, fail.signal, fail.want, fail.seen, fail.chain, fail.cell)
+            yield (die.site, guarded(die.name), attempt.number, fail.cycle, fail.at, guarded(fail.signal), fail.want, fail.seen,
+                   guarded(fail.chain), guarded(fail.cell))
 
 
 def write_csv(dies: Iterable[Die], out: IO[str], table: str) -> None:

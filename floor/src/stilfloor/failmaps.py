@@ -7,7 +7,7 @@ from dataclasses import dataclass
 import numpy
 
 from stilfloor import records
-from stilfloor.faults import Fault
+from stilfloor.faults import Fault, shown
 from stilfloor.saved import Code, Loads
 
 MOST_ROWS = 256
@@ -52,7 +52,7 @@ def key_of(fail: records.Fail) -> tuple[str, str]:
 
 def name_of(key: tuple[str, str]) -> str:
     """A column's name."""
-    return f"{key[0]} {key[1]}" if key[0] else key[1]
+    return shown(f"{key[0]} {key[1]}" if key[0] else key[1])
 
 
 def axes_of(code: Code | None) -> Axes:

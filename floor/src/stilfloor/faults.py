@@ -13,6 +13,18 @@ STATUSES = """exit status:
   4  a program that is needed is missing, or ended otherwise than it should"""
 
 
+def shown(text: str) -> str:
+    """A text on one line: a character that isn't printed (a line feed, an escape, a byte that is no text) is shown by its number."""
+    if text.isprintable():
+        return text
+    return "".join(character if character.isprintable() else _number(ord(character)) for character in text)
+
+
+def _number(code: int) -> str:
+    byte = code - 0xDC00 if 0xDC80 <= code <= 0xDCFF else code
+    return f"\\x{byte:02x}" if byte < 0x100 else f"\\u{byte:04x}"
+
+
 class Fault(Exception):
     """An end of the command: an exit status and lines of what is told, each with its file and line where they are known."""
 
@@ -29,8 +41,8 @@ class Fault(Exception):
     def told(self) -> str:
         """The line that is printed, in the form that editors read."""
         if not self.file:
-            return f"stilfloor: error: {self.text}"
-        return f"{self.file}:{max(self.line, 1)}:1: error: {self.text}"
+            return f"stilfloor: error: {shown(self.text)}"
+        return f"{shown(self.file)}:{max(self.line, 1)}:1: error: {shown(self.text)}"
 
 
 class Faults(Fault):

@@ -26,6 +26,7 @@ def learn(program: str, plan_file: str) -> Learnt:
     text = plans.read_text(program)
     if text.encode("latin-1")[:4] == saved.MAGIC:
         raise Fault(REFUSED, "this is a saved program: values are learnt for a STIL text", program)
+    compiled(text, program)
     text = spelled_out(text, "L")
     looks = written(text, "L")
     _refuse_elsewhere([look for look in looks if look.around], program)
@@ -43,7 +44,6 @@ def learn(program: str, plan_file: str) -> Learnt:
 
 def _traced(text: str, program: str, looks: list[Look]) -> saved.Code:
     """The code of the text, and the cells of its looks; where an H can't stand in place of an L, it says so."""
-    compiled(text, program)
     try:
         return trace(text, program, looks, {"L": "H"})
     except Fault as fault:

@@ -142,7 +142,7 @@ def _stand_in(plan: plans.Plan) -> str:
         name = row[1] if row[0] in ("clock", "bind") and len(row) > 1 else row[2] if row[0] == "skew" and len(row) > 2 else ""
         if name and '"' not in name and re.fullmatch(r"[\x20-\x7e]{1,1024}", name):
             names[name] = None
-        if row[:2] == ["bin", "fail"] and len(row) > 2 and row[2].isdigit():
+        if row[:2] == ["bin", "fail"] and len(row) > 2 and plans.NUMBER.fullmatch(row[2]):
             executives = max(executives, min(int(row[2]) + 1, 64))
     signals = "".join(f'"{name}" Pseudo;' for name in names) or "a Pseudo;"
     runs = "".join(f"PatternExec e{number} {{ PatternBurst b; }}\n" for number in range(executives))

@@ -8,6 +8,7 @@ from dataclasses import dataclass
 from stilfloor import tester
 from stilfloor.benches import Bench, make_bench
 from stilfloor.faults import REFUSED, UNREADABLE, Fault
+from stilfloor.names import remark, replacing
 from stilfloor.plans import write_rows
 from stilfloor.sentences import refusal
 from stilfloor.verilog import read_design
@@ -29,24 +30,32 @@ class Start:
 def make(start: Start, folder: str, force: bool = False) -> tuple[Bench, list[str]]:
     """Writes TOP.bench, TOP.stil and TOP.csv into the folder; the netlist, and the files' names."""
     design = read_design(start.files, start.top)
+    if "/" in design.name:
+        raise Fault(REFUSED, f"the module `{design.name}` can't name files, as it has a slash: rename it", start.files[0])
     bench = make_bench(design, start.files[0], start.chains)
-    paths = [os.path.normpath(os.path.join(folder, bench.name + end)) for end in (".bench", ".stil", ".csv")]
+    paths = [_path(folder, bench.name + end) for end in (".bench", ".stil", ".csv")]
     if any(not 0x21 <= ord(character) <= 0x7E for character in paths[0]) or len(paths[0]) > 255:
         raise Fault(REFUSED, "a plan can't name this file, which has blanks or is too long: choose another folder", paths[0])
-    taken = [path for path in paths if os.path.exists(path)]
+    taken = [path for path in paths if os.path.lexists(path)]
     if taken and not force:
         raise Fault(UNREADABLE, "this file is there already; --force writes over it", taken[0])
-    source = " ".join(start.files)
+    source = remark(" ".join(start.files))
     texts = [bench.text(source), stil_text(bench, source, start), plan_text(bench, paths[0])]
     _try_out(bench, texts, start.files[0])
     try:
         os.makedirs(folder, exist_ok=True)
-        for path, text in zip(paths, texts):
-            with open(path, "w", encoding="latin-1") as out:
-                out.write(text)
     except OSError as error:
-        raise Fault(UNREADABLE, f"{error.strerror}", str(error.filename)) from error
+        raise Fault(UNREADABLE, f"{error.strerror}", folder) from error
+    for path, text in zip(paths, texts):
+        with replacing(path, "latin-1") as out:
+            out.write(text)
     return bench, paths
+
+
+def _path(folder: str, name: str) -> str:
+    """The path of a file, which no command takes for an option."""
+    path = os.path.normpath(os.path.join(folder, name))
+    return os.path.join(".", path) if path.startswith("-") else path
 
 
 def _try_out(bench: Bench, texts: list[str], file: str) -> None:
@@ -70,7 +79,7 @@ def quoted(names: list[str]) -> str:
 
 def stil_text(bench: Bench, source: str, start: Start) -> str:
     """A STIL text to begin with: signals, one timing, the procedures of its chains, and a pattern of random vectors whose looks are L."""
-    parts = ['STIL 1.0 { Design 2005; }', f'Header {{ Title "{bench.name}, made from {source}"; }}'.replace("\\", "/")]
+    parts = ['STIL 1.0 { Design 2005; }', f'Header {{ Title "{remark(bench.name)}, made from {source}"; }}']
     parts += [_signals(bench), _structures(bench), _timing(bench)]
     if bench.chains:
         parts.append(_procedures(bench))

@@ -2,13 +2,17 @@
 
 import csv
 import io
+import re
 from dataclasses import dataclass
 
 from stilfloor.faults import REFUSED, UNREADABLE, Fault
 
+NUMBER = re.compile(r"-?[0-9]{1,20}")
 MOST_FAILS = 1 << 20
 MOST_DIES = 4096
 MOST_KEPT = 1024
+# (a plan has at most 16 MiB, and a field of it at most as many)
+csv.field_size_limit(1 << 25)
 
 
 @dataclass(slots=True)
@@ -32,6 +36,11 @@ class Plan:
     def kept(self) -> int:
         """How many fails of a try are kept."""
         return int(self.rows[0][3])
+
+    @property
+    def tries(self) -> int:
+        """How often a die is tried at most."""
+        return int(self.rows[0][2])
 
     @property
     def batch(self) -> int:
@@ -62,11 +71,14 @@ def read_rows(text: str, file: str) -> Plan:
     """The records of a plan's text, as the program reads them: without empty lines, counted from 1."""
     reader = csv.reader(io.StringIO(text.removeprefix("\ufeff"), newline=""))
     rows, lines, before = [], [], 0
-    for row in reader:
-        if row:
-            rows.append(row)
-            lines.append(before + 1)
-        before = reader.line_num
+    try:
+        for row in reader:
+            if row:
+                rows.append(row)
+                lines.append(before + 1)
+            before = reader.line_num
+    except csv.Error as error:
+        raise Fault(REFUSED, f"this is no plan: {error}", file, before + 1) from error
     return Plan(file, rows, lines)
 
 
@@ -99,7 +111,7 @@ def _judge(row: list[str], line: int, file: str) -> None:
     if len(row) != 6:
         raise Fault(REFUSED, f"a row of a plan has six fields, and this one has {len(row)}", file, line)
     for place in numbers:
-        if not row[place].removeprefix("-").isdigit():
+        if not NUMBER.fullmatch(row[place]):
             raise Fault(REFUSED, f"field {place + 1} of this row is `{row[place]}`, where a number is wanted", file, line)
 
 

@@ -14,6 +14,8 @@ from typing import IO
 from stilfloor.faults import UNREADABLE, Fault
 
 WORD = re.compile(r'"[^"]*"|\S+')
+WANTS = ("L", "H", "T", "l", "h", "t")
+LEVELS = ("0", "1", "X", "Z")
 ACTION = re.compile(r'("[^"]*"|\S+?)([=?])(\w)(?: |$)')
 
 
@@ -105,9 +107,18 @@ class Cycle:
     moments: list[Moment] = field(default_factory=list)
 
 
+def digits(word: str) -> int:
+    """A number as the program prints it: decimal digits, and at most 39 of them, which 128 bits have."""
+    if not (word.isascii() and word.isdigit() and len(word) <= 39):
+        raise ValueError(word)
+    return int(word)
+
+
 def bare(word: str) -> str:
-    """A printed name without its quotes."""
-    return word[1:-1] if len(word) > 1 and word[0] == '"' and word[-1] == '"' else word
+    """A printed name without its quotes, which stand where it is empty or some of its bytes aren't visible."""
+    inner = word[1:-1]
+    is_quoted = len(word) > 1 and word[0] == word[-1] == '"' and not (inner and all(0x21 <= ord(byte) <= 0x7E for byte in inner))
+    return inner if is_quoted else word
 
 
 @contextmanager
@@ -119,6 +130,9 @@ def opened(path: str) -> Iterator[IO[str]]:
     try:
         with open(path, encoding="latin-1", newline="\n") as lines:
             yield lines
+    except BrokenPipeError:
+        # (it is of what is written meanwhile)
+        raise
     except OSError as error:
         raise Fault(UNREADABLE, f"{error.strerror}", path) from error
 
@@ -145,13 +159,17 @@ class Lines:
 
 
 class Datalog(Lines):
-    """The dies of a datalog one by one, or of several behind one another; `totals` has the printed totals of bins behind the last one."""
+    """The dies of a datalog one by one, or of several behind one another; `totals` has the printed totals of bins behind the last one.
+
+    `count` is the number of dies so far, and `number` the line of the last one's bin.
+    """
 
     what = "datalog"
 
     def __init__(self, lines: Iterable[str], file: str = "-") -> None:
         super().__init__(lines, file)
         self.totals: dict[int, int] = {}
+        self.count = 0
         self.site: int | None = None
         self.die: Die | None = None
         self.open_try = False
@@ -164,8 +182,8 @@ class Datalog(Lines):
             if line.startswith("fail ") and self.open_try:
                 parts = line.split() if '"' not in line else [bare(word) for word in WORD.findall(line)]
                 try:
-                    kept.append(Fail(int(parts[1]), int(parts[2]), parts[3], parts[4], parts[5], *parts[6:]))
-                except (ValueError, IndexError, TypeError):
+                    kept.append(self._fail(*parts))
+                except (ValueError, TypeError):
                     self.number = number
                     raise self.refuse(f"`{line.rstrip()}`") from None
                 continue
@@ -183,9 +201,10 @@ class Datalog(Lines):
         head, _, rest = line.partition(" ")
         try:
             if head == "site" and not self.die:
-                self.site = int(rest)
+                self.site = digits(rest)
             elif head == "die" and not self.die and self.site is not None and rest:
-                self.die = Die(self.site, bare(rest))
+                # (its bytes are visible, so it is printed without quotes, whatever quotes are in it)
+                self.die = Die(self.site, rest)
             elif head == "try" and self.die and not self.open_try:
                 self.die.tries.append(self._new_try(rest.split(" ")))
                 self.open_try = True
@@ -193,11 +212,12 @@ class Datalog(Lines):
                 self.die.tries[-1].verdict = self._verdict(rest.split(" "))
                 self.open_try = False
             elif head == "bin" and self.die and self.die.tries and not self.open_try:
-                self.die.bin, die, self.die = int(rest), self.die, None
+                self.die.bin, die, self.die = digits(rest), self.die, None
+                self.count += 1
                 return die
             elif head == "total" and not self.die:
                 bin_number, count = rest.split(" ")
-                self.totals[int(bin_number)] = self.totals.get(int(bin_number), 0) + int(count)
+                self.totals[digits(bin_number)] = self.totals.get(digits(bin_number), 0) + digits(count)
             else:
                 raise ValueError
         except (ValueError, IndexError):
@@ -205,11 +225,17 @@ class Datalog(Lines):
         return None
 
     @staticmethod
+    def _fail(_: str, cycle: str, at: str, signal: str, want: str, seen: str, *cell: str) -> Fail:
+        if want not in WANTS or seen not in LEVELS or len(cell) not in (0, 2):
+            raise ValueError
+        return Fail(digits(cycle), digits(at), signal, want, seen, *cell)
+
+    @staticmethod
     def _new_try(parts: list[str]) -> Try:
         number, cycles, count, fails, looks = parts
         if (cycles, fails) != ("cycles", "fails"):
             raise ValueError
-        return Try(int(number), int(count), int(looks))
+        return Try(digits(number), digits(count), digits(looks))
 
     @staticmethod
     def _verdict(parts: list[str]) -> Verdict:
@@ -217,11 +243,11 @@ class Datalog(Lines):
         if kind == "pass" and not rest:
             return Verdict(kind)
         if kind == "fail":
-            return Verdict(kind, executive=int(rest[0]))
+            return Verdict(kind, executive=digits(rest[0]))
         if kind == "stopped":
-            return Verdict(kind, batch=int(rest[0]), by=rest[1], word=int(rest[2]) if len(rest) > 2 else None)
+            return Verdict(kind, batch=digits(rest[0]), by=rest[1], word=digits(rest[2]) if len(rest) > 2 else None)
         if kind == "contact":
-            return Verdict(kind, at=int(rest[0]))
+            return Verdict(kind, at=digits(rest[0]))
         raise ValueError
 
 
@@ -240,14 +266,15 @@ class Grade(Lines):
         ended = False
         for number, line in enumerate(self.lines, 1):
             self.number = number
-            parts = WORD.findall(self.whole(line))
+            # (nets are visible bytes, so they are printed without quotes, whatever quotes are in them)
+            parts = self.whole(line).split(" ")
             try:
                 if number == 1 and parts[0] == "good":
                     self.good = self._cycle(parts[1])
                 elif number > 1 and parts[0] == "fault" and not ended:
-                    yield StuckNet(bare(parts[1]), int(parts[2]), self._cycle(parts[3]))
+                    yield StuckNet(parts[1], digits(parts[2]), self._cycle(parts[3]))
                 elif number > 1 and parts[0] == "faults" and parts[2] == "found" and not ended:
-                    self.count, self.found, ended = int(parts[1]), int(parts[3]), True
+                    self.count, self.found, ended = digits(parts[1]), digits(parts[3]), True
                 else:
                     raise ValueError
             except (ValueError, IndexError):
@@ -257,7 +284,7 @@ class Grade(Lines):
 
     @staticmethod
     def _cycle(word: str) -> int | None:
-        return None if word == "none" else int(word)
+        return None if word == "none" else digits(word)
 
 
 class Events(Lines):
@@ -295,9 +322,9 @@ class Events(Lines):
         if head == "exec":
             self.executives.append(bare(parts[1]))
         elif head == "cycle" and self.executives:
-            return Cycle(len(self.executives) - 1, int(parts[0]), int(parts[1]), bare(parts[2]))
+            return Cycle(len(self.executives) - 1, digits(parts[0]), digits(parts[1]), bare(parts[2]))
         elif head == "end":
-            self.cycles, self.time = int(parts[0]), int(parts[1])
+            self.cycles, self.time = digits(parts[0]), digits(parts[1])
         else:
             raise ValueError
         return None
@@ -305,7 +332,7 @@ class Events(Lines):
     @staticmethod
     def _moment(rest: str) -> Moment:
         at, _, acts = rest.partition(" ")
-        moment = Moment(int(at), [], [])
+        moment = Moment(digits(at), [], [])
         for name, mark, act in ACTION.findall(acts):
             (moment.drives if mark == "=" else moment.looks).append((bare(name), act))
         return moment

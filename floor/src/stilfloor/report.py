@@ -13,6 +13,7 @@ from stilfloor import drawing, records, saved
 from stilfloor.diagnose import Diagnosis, Doctor
 from stilfloor.failmaps import Gathered, axes_of, picture
 from stilfloor.faults import UNREADABLE, Fault
+from stilfloor.names import replacing
 
 STYLE = """
 body { font: 15px/1.45 system-ui, sans-serif; margin: 2rem auto; max-width: 70rem; padding: 0 1rem; color: #222; }
@@ -78,7 +79,7 @@ class Page:
                  f"<p>Yield: {self.lot.passing} of {count} dies pass, {share}. {self.failing} dies fail, "
                  f"and for {self.explained} of them something explains the fails exactly.</p>",
                  "<h2>Bins and sites</h2>", self._bins(), self._sites()]
-        lines += [f"<p class=\"none\">{escape(line)}</p>" for line in self.doctor.site_lines()]
+        lines += [f"<p class=\"none\">{escape(line)}</p>" for line in [*self.doctor.notes, *self.doctor.site_lines()]]
         lines.append('<div class="figures">' + drawing.svg_of(drawing.lot_figure(self.lot)))
         if self.gathered.columns:
             lines.append(drawing.svg_of(drawing.pareto_figure(self.gathered)))
@@ -123,11 +124,11 @@ def make_report(program: str, doctor: Doctor, dies: Iterable[records.Die], folde
             page.add(die)
         try:
             os.makedirs(folder, exist_ok=True)
-            with open(path, "w", encoding="utf-8") as out:
-                out.write(page.head(title))
-                parts.seek(0)
-                shutil.copyfileobj(parts, out)
-                out.write("</body></html>\n" if page.failing else "<p>No die fails.</p></body></html>\n")
         except OSError as error:
-            raise Fault(UNREADABLE, f"{error.strerror}", path) from error
+            raise Fault(UNREADABLE, f"{error.strerror}", folder) from error
+        with replacing(path) as out:
+            out.write(page.head(title))
+            parts.seek(0)
+            shutil.copyfileobj(parts, out)
+            out.write("</body></html>\n" if page.failing else "<p>No die fails.</p></body></html>\n")
     return path, page

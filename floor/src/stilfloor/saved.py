@@ -3,6 +3,7 @@
 This reads what `stil save` writes (docs/formats.md), so that signals, tables, rows, chains and cycles are those of the program.
 """
 
+import os
 import struct
 from bisect import bisect_right
 from collections.abc import Iterator
@@ -219,6 +220,15 @@ class Loads:
         return bisect_right(self.starts, cycle)
 
 
+def _judge(program: str) -> None:
+    """Refuses a saved program that the program refuses: behind one that it takes it refuses a plan without rows."""
+    status, output = tester.run(["lot", program, os.devnull])
+    if not output.startswith(b"refused plan "):
+        from stilfloor.sentences import refusal
+
+        raise refusal(output.decode("latin-1"), status, program)
+
+
 def bytes_of(program: str) -> bytes:
     """The saved form of a program: of a STIL text as `stil save` writes it, of a saved program itself."""
     try:
@@ -227,6 +237,7 @@ def bytes_of(program: str) -> bytes:
     except OSError as error:
         raise Fault(UNREADABLE, f"{error.strerror}", program) from error
     if data[:4] == MAGIC:
+        _judge(program)
         return data
     status, output = tester.run(["save", program])
     if status:

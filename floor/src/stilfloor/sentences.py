@@ -4,7 +4,11 @@ import re
 
 from stilfloor.faults import REFUSED, TOOL, UNREADABLE, Fault
 from stilfloor.plans import Plan, read_plan, read_rows, read_text
-from stilfloor.records import WORD, bare
+from stilfloor.records import bare
+
+# a refusal is all that the program prints, and its line ends with the first line feed outside quotes: a name in quotes may have some
+WORDS = re.compile(r"""(?:"[^"]*"|'[^']*')(?= |$)|\S+""")
+OF_STIL = re.compile(r"refused stil (\w+) (.*) (\d+)", re.DOTALL)
 
 STIL = {
     "BadByte": "this byte can stand in no token; write it inside quotes or a comment, or take it out (is the file compressed?)",
@@ -72,9 +76,11 @@ BARE = {
 
 def refusal(output: str, status: int, program: str, plan: str = "") -> Fault:
     """The fault that a refused command's output and status stand for, at the file and line that it is about."""
-    words = [bare(word) for word in WORD.findall(output.split("\n", 1)[0])]
-    if words[:2] == ["refused", "stil"]:
-        return _of_stil(words[2:], program)
+    line = output.removesuffix("\n")
+    words = [bare(word) for word in WORDS.findall(line)]
+    of_stil = OF_STIL.fullmatch(line)
+    if of_stil:
+        return _of_stil(of_stil[1], [bare(word) for word in WORDS.findall(of_stil[2])], int(of_stil[3]), program)
     if words[:2] == ["refused", "net"]:
         return _of_net(words[2:])
     if words[:2] == ["refused", "plan"]:
@@ -83,20 +89,27 @@ def refusal(output: str, status: int, program: str, plan: str = "") -> Fault:
         text = SAVED.get(words[2], words[2]).format(words[3])
         return Fault(REFUSED, f"{text} ({words[2]})", program)
     if words[:2] == ["read", "fault"]:
-        return Fault(UNREADABLE, "the file can't be read; look at its name and the folder where you stand", " ".join(words[2:]))
+        return Fault(UNREADABLE, "the file can't be read; look at its name and the folder where you stand", _file_of(output))
     if words[:2] == ["too", "long"]:
-        return Fault(REFUSED, "this has more than 16,777,216 bytes, which is the limit; split it", " ".join(words[2:]))
+        return Fault(REFUSED, "this has more than 16,777,216 bytes, which is the limit; split it", _file_of(output))
     if words[:2] == ["too", "few"]:
         return Fault(REFUSED, f"the plan uses site {int(words[3]) - 1}, and there are {words[4]} sites, from 0 on", plan)
     text = BARE.get(words[0] if words else "", "")
     return Fault(REFUSED if text else TOOL, text or f"the program ended with status {status}", plan or program)
 
 
-def _of_stil(words: list[str], program: str) -> Fault:
-    kind, block, name, line = words
+def _file_of(output: str) -> str:
+    """The file of a refusal that is its two words and the name of a file, of any bytes."""
+    printed = output.removesuffix("\n").split(" ", 2)[-1]
+    name = bare(printed) or printed
+    return name.encode("latin-1").decode("utf-8", "surrogateescape")
+
+
+def _of_stil(kind: str, around: list[str], line: int, program: str) -> Fault:
+    block, name = around[0], around[-1]
     text = STIL.get(kind, "the program refuses this")
     where = "" if block == "-" else f", in {block}" + ("" if name == "-" else f" `{name}`")
-    return Fault(REFUSED, f"{text} ({kind}{where})", program, int(line))
+    return Fault(REFUSED, f"{text} ({kind}{where})", program, line)
 
 
 def _of_net(words: list[str]) -> Fault:

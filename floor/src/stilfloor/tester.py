@@ -7,7 +7,7 @@ import shutil
 import subprocess
 from collections.abc import Sequence
 
-from stilfloor.faults import TOOL, Fault
+from stilfloor.faults import TOOL, UNREADABLE, Fault
 
 CHECKOUT = pathlib.Path(__file__).resolve().parents[3]
 
@@ -51,8 +51,16 @@ def find_program() -> str:
     return found
 
 
+def _judge(words: Sequence[str]) -> None:
+    """Refuses words that the program would take for none of its own."""
+    for word in words:
+        if any(0xD800 <= ord(character) <= 0xDFFF for character in word):
+            raise Fault(UNREADABLE, "the program takes names of UTF-8 alone; give the file another name, or a link", word)
+
+
 def run(words: Sequence[str], folder: str | None = None) -> tuple[int, bytes]:
     """The exit status and the output of the program, run with these words in that folder."""
+    _judge(words)
     try:
         done = subprocess.run([find_program(), *words], cwd=folder, capture_output=True, check=False)
     except OSError as error:
@@ -62,4 +70,5 @@ def run(words: Sequence[str], folder: str | None = None) -> tuple[int, bytes]:
 
 def open_output(words: Sequence[str]) -> "subprocess.Popen[str]":
     """The program, running, whose output is read line by line."""
+    _judge(words)
     return subprocess.Popen([find_program(), *words], stdout=subprocess.PIPE, text=True, encoding="latin-1")

@@ -5,12 +5,12 @@ import os
 import re
 import shutil
 import subprocess
-import tempfile
 from collections import Counter
-from dataclasses import dataclass
+from dataclasses import dataclass, field
 from typing import Any
 
-from stilfloor.faults import REFUSED, TOOL, UNREADABLE, Fault, Faults
+from stilfloor.faults import REFUSED, TOOL, UNREADABLE, USAGE, Fault, Faults
+from stilfloor.names import IDENTIFIER, PLAIN, plain_room
 
 Bit = int | str
 Module = dict[str, Any]
@@ -32,36 +32,77 @@ class Design:
     clock: str | None
 
 
+@dataclass(slots=True)
+class Sources:
+    """Verilog files by links in a folder with a plain name, which is all that a script says of them.
+
+    The link to a file's folder lets it include what lies beside it.
+    """
+
+    room: str
+    files: list[str]
+    reads: list[str] = field(default_factory=list)
+
+    def link(self) -> None:
+        """Makes the links, and the commands that read them."""
+        for number, file in enumerate(self.files):
+            folder, name = os.path.split(file)
+            os.symlink(os.path.abspath(folder or "."), f"{self.room}/d{number}")
+            kind = "-sv " if name.endswith(".sv") else ""
+            if PLAIN.fullmatch(name):
+                self.reads.append(f"read_verilog {kind}{self.room}/d{number}/{name}")
+                continue
+            os.symlink(os.path.abspath(file), f"{self.room}/f{number}.v")
+            self.reads.append(f"read_verilog {kind}-I {self.room}/d{number} {self.room}/f{number}.v")
+
+    def given(self, text: str) -> str:
+        """A text in which the links are the names that were given."""
+        text = re.sub(rf"{self.room}/f(\d+)\.v\b", lambda found: self.files[int(found[1])], text)
+        return re.sub(rf"{self.room}/d(\d+)/", lambda found: os.path.join(os.path.dirname(self.files[int(found[1])]), ""), text)
+
+
 def read_design(files: list[str], top: str | None) -> Design:
     """The design of Verilog files; `top` names its module where there are several that none uses."""
+    if top is not None and not IDENTIFIER.fullmatch(top):
+        raise Fault(USAGE, f"`{top}` is no identifier, and the top module has one")
     for file in files:
         if not os.access(file, os.R_OK):
             raise Fault(UNREADABLE, "the file can't be read", file)
     if not shutil.which("yosys"):
         raise Fault(TOOL, "yosys isn't there, and a netlist needs it: `apt-get install yosys`")
-    with tempfile.TemporaryDirectory() as room:
-        early, late = os.path.join(room, "early.json"), os.path.join(room, "late.json")
-        complaints = _run_yosys(files, f"-top {top}" if top else "-auto-top", early, late)
-        if not os.path.exists(early):
-            raise _complaint(complaints, files[0])
-        name, module = _module(early)
-        clock = judge(module, files[0])
-        if not os.path.exists(late):
-            raise _complaint(complaints, files[0])
-        return Design(name, _module(late)[1], clock)
+    with plain_room() as room:
+        sources = Sources(room, files)
+        sources.link()
+        try:
+            return _read(sources, f"-top {top}" if top else "-auto-top")
+        except Fault as fault:
+            for told in fault.faults if isinstance(fault, Faults) else [fault]:
+                told.file, told.text = sources.given(told.file), sources.given(told.text)
+            raise
 
 
-def _run_yosys(files: list[str], top: str, early: str, late: str) -> str:
+def _read(sources: Sources, top: str) -> Design:
+    """The design, by yosys."""
+    early, late = f"{sources.room}/early.json", f"{sources.room}/late.json"
+    complaints = _run_yosys([*sources.reads, READ.format(top=top, early=early), MAP.format(late=late)])
+    if not os.path.exists(early):
+        raise _complaint(complaints, sources.files[0])
+    name, module = _module(early)
+    clock = judge(module, sources.files[0])
+    if not os.path.exists(late):
+        raise _complaint(complaints, sources.files[0])
+    return Design(name, _module(late)[1], clock)
+
+
+def _run_yosys(commands: list[str]) -> str:
     """Runs yosys, which writes the design before and after it is mapped; what it complained of."""
-    reads = [f'read_verilog {"-sv " if file.endswith(".sv") else ""}"{file}"' for file in files]
-    script = "; ".join([*reads, READ.format(top=top, early=early), MAP.format(late=late)])
-    done = subprocess.run(["yosys", "-q", "-p", script], capture_output=True, text=True, check=False)
+    done = subprocess.run(["yosys", "-q", "-p", "; ".join(commands)], capture_output=True, text=True, errors="replace", check=False)
     return done.stdout + done.stderr
 
 
 def _complaint(complaints: str, file: str) -> Fault:
     """What yosys refused, at its file and line."""
-    for line in complaints.splitlines():
+    for line in complaints.split("\n"):
         found = re.match(r"(?:(.+?):(\d+): )?ERROR: (.*)", line)
         if found:
             return Fault(REFUSED, f"yosys: {found[3]}", found[1] or file, int(found[2] or 0))
@@ -70,11 +111,12 @@ def _complaint(complaints: str, file: str) -> Fault:
 
 def _module(path: str) -> tuple[str, Module]:
     """The top module of a design that yosys wrote."""
-    with open(path, encoding="utf-8") as stream:
-        modules: dict[str, Module] = json.load(stream)["modules"]
+    with open(path, encoding="utf-8", errors="replace") as stream:
+        modules: dict[str, Module] = json.load(stream, strict=False)["modules"]
     tops = [name for name, module in modules.items() if int(module["attributes"].get("top", "0"), 2)]
     name = tops[0] if tops else next(iter(modules))
-    return name, modules[name]
+    # (yosys leaves the backslash of an escaped name before a dollar, a digit and another backslash)
+    return name.removeprefix("\\"), modules[name]
 
 
 def place_of(attributes: dict[str, str], file: str) -> tuple[str, int]:

@@ -7,6 +7,7 @@ from typing import Any
 from matplotlib.figure import Figure
 
 from stilfloor import tester
+from stilfloor.faults import shown
 from stilfloor.records import Cycle, Events
 
 LEVELS = {"D": 0.0, "U": 1.0, "Z": 0.5, "N": 0.5}
@@ -72,7 +73,7 @@ def wave_figure(waves: Waves, title: str) -> Figure:
         _draw(axes, trace, -1.5 * row, waves.end)
     for start in waves.starts:
         axes.axvline(start / NANOSECOND, color="#dddddd", linewidth=0.6, zorder=0)
-    axes.set_yticks([0.5 - 1.5 * row for row in range(len(waves.traces))], list(waves.traces))
+    axes.set_yticks([0.5 - 1.5 * row for row in range(len(waves.traces))], [shown(signal) for signal in waves.traces])
     axes.set(xlabel="time, ns", title=title, xlim=(waves.starts[0] / NANOSECOND if waves.starts else 0, waves.end / NANOSECOND or 1))
     axes.spines[["top", "right", "left"]].set_visible(False)
     return figure
