@@ -5,7 +5,7 @@ from collections.abc import Iterator
 from fractions import Fraction
 
 from stilfloor.fit.tokens import is_name, is_word, plain
-from stilfloor.fit.tree import Statement, all_of
+from stilfloor.fit.tree import Statement
 from stilfloor.fit.work import Work
 
 LEVELS = "levels alone are simulated, and no look depends on a load or a supply"
@@ -45,6 +45,14 @@ def _told(work: Work, statement: Statement) -> bool:
     if statement.kids:
         statement.kids = [kid for kid in statement.kids if not _told(work, kid)]
     return False
+
+
+def fit_blocks(work: Work) -> None:
+    """All blocks but Spec, Timing, bursts and those with patterns."""
+    fit_top(work)
+    fit_signals(work)
+    fit_chains(work)
+    fit_execs(work)
 
 
 def fit_top(work: Work) -> None:

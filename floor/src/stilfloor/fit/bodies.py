@@ -113,7 +113,7 @@ def _fit_list(work: Work, statements: list[Statement], constants: dict[str, str]
 def _drop(work: Work, statement: Statement, keyword: str) -> None:
     reasons = {"TimeUnit": "it is the unit of raw events, and none stands in the text", "SignalGroups": "all groups of a text are known everywhere",
                "Variables": "constants are written where they are used, and nothing that is left uses the others"}
-    work.drop(statement, reasons.get(keyword) or TOP.get(keyword, REMARK))
+    work.drop(statement, reasons.get(keyword, TOP.get(keyword, REMARK)))
 
 
 def _fit_kept(work: Work, statement: Statement, keyword: str, constants: dict[str, str]) -> bool:

@@ -19,7 +19,7 @@ from stilfloor.sentences import refusal
 
 # refusals behind which there are no tokens or statements to be read
 UNREAD = ("BadByte", "OpenQuote", "OpenComment", "OpenBlock", "OpenStatement", "StrayClose", "TooDeep")
-STEPS = 12
+STEPS = 14
 
 
 @dataclass(slots=True)
@@ -52,15 +52,14 @@ class Fitted:
 
 def _rules(work: Work) -> Iterator[tuple[str, Callable[[], None]]]:
     """The rules in their order, each with what it is about."""
-    found: dict[str, object] = {}
     yield "keywords", lambda: blocks.gather_keywords(work)
     names = signals.names_of(work)
     spec = timing.fit_spec(work)
     constants = blocks.constants_of(work)
-    yield "blocks", lambda: (blocks.fit_top(work), blocks.fit_signals(work), blocks.fit_chains(work), blocks.fit_execs(work))[0]
+    yield "blocks", lambda: blocks.fit_blocks(work)
     yield "times", lambda: timing.fit_times(work, spec)
     yield "tables", lambda: tables.fit_tables(work, names)
-    found["bodies"] = all_bodies = bodies.bodies_of(work)
+    all_bodies = bodies.bodies_of(work)
     yield "callers", lambda: bodies.link(work, all_bodies)
     waves = timing.waves_of(work, names)
     rules = data.rules_of(work, names, waves)
@@ -70,7 +69,7 @@ def _rules(work: Work) -> Iterator[tuple[str, Callable[[], None]]]:
     yield "data", lambda: data.fit_data(work, all_bodies, rules)
     yield "fixed signals", lambda: fixed.fit_fixed(work, names, all_bodies)
     yield "tied signals", lambda: fixed.fit_tied(work, names, all_bodies)
-    found["scan"] = chains = scan.Scan(work, names, waves, all_bodies, rules.lengths)
+    chains = scan.Scan(work, names, waves, all_bodies, rules.lengths)
     yield "chains", lambda: scan.fit_active(chains)
     yield "pins", lambda: scan.fit_shared(chains)
     yield "loads", lambda: scan.fit_loads(chains)
@@ -84,7 +83,7 @@ def fitted(file: str, text: str, folders: list[str], unit: str = "", bar: Bar | 
         work = Work(file, tokens_of(text, lambda place: shown.show("reading", 0.4 * place / size)), unit)
         include.inline(work, folders)
         for number, (what, rule) in enumerate(_rules(work)):
-            shown.show(what, 0.4 + 0.5 * number / 14)
+            shown.show(what, 0.4 + 0.5 * number / STEPS)
             rule()
         stops = sorted(work.stops.values(), key=lambda fault: (fault.file != file, fault.file, fault.line))
         changes = sorted(work.changes, key=lambda change: (change.file != file, change.file, change.line))

@@ -35,7 +35,7 @@ class Rules:
     lengths: dict[str, int] = field(default_factory=dict)
     letters: set[str] = field(default_factory=set)
     based: bool = False
-    memory: "dict[tuple[object, ...], Piece]" = field(default_factory=dict)
+    memory: "dict[tuple[tuple[str, ...], str, str, bool], Piece]" = field(default_factory=dict)
     late: "list[tuple[Body, int, tuple[str, ...], dict[str, str]]]" = field(default_factory=list)
 
 
@@ -193,7 +193,7 @@ def _fit_part(work: Work, rules: Rules, body: Body, statement: Statement, parts:
     is_argument = work.texts[statement.key] in CALLS
     reference = tuple(work.texts[part.start : part.equals])
     tokens, gaps = work.texts[part.equals + 1 : part.end], work.tokens.gaps[part.equals + 1 : part.end]
-    key = (reference, tuple(tokens), tuple(bool(gap) for gap in gaps), is_argument)
+    key = (reference, " ".join(tokens), "".join(gaps), is_argument)
     piece = rules.memory.get(key)
     if piece is None:
         piece = rules.memory[key] = _piece(rules, reference, tokens, gaps, is_argument)

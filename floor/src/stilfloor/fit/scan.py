@@ -133,7 +133,7 @@ def _chains(work: Work) -> dict[str, set[int]]:
 
 def _active(work: Work, chains: dict[str, set[int]], statement: Statement) -> Active:
     """What a statement says of chains; where a chain's length isn't known, it stops."""
-    lengths = []
+    lengths: list[int] = []
     for text in work.head(statement):
         known = chains.get(plain(text), set())
         if len(known) != 1:

@@ -47,7 +47,7 @@ def _pieces(text: str) -> Iterator[tuple[list[str], list[str], int]]:
         if not pairs:
             size *= 2
             continue
-        gaps, texts = map(list, zip(*pairs))
+        gaps, texts = [gap for gap, _ in pairs], [token for _, token in pairs]
         place = end if end == len(text) else place + sum(map(len, gaps)) + sum(map(len, texts))
         size = PIECE
         yield gaps, texts, place

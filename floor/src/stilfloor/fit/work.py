@@ -2,6 +2,7 @@
 
 import bisect
 from dataclasses import dataclass, field
+from typing import NamedTuple
 
 from stilfloor.faults import REFUSED, Fault
 from stilfloor.fit.tokens import Tokens
@@ -10,8 +11,7 @@ from stilfloor.fit.tree import Assignment, Statement, Tree, assignments, tree_of
 UNITS = ("s", "ms", "us", "ns", "ps", "fs")
 
 
-@dataclass(frozen=True, slots=True)
-class Change:
+class Change(NamedTuple):
     """An edit: the file and line, what was changed, and why the test is the same."""
 
     file: str
@@ -64,6 +64,8 @@ class Work:
     def where(self, place: int) -> tuple[str, int]:
         """The file and line of a token."""
         line = self.tokens.lines[place]
+        if not self.inlined:
+            return self.file, line
         number = bisect.bisect_right(self.inlined, place, key=lambda part: part.start) - 1
         if number >= 0 and place < self.inlined[number].end:
             return self.inlined[number].file, line
@@ -85,9 +87,8 @@ class Work:
 
     def blank(self, start: int, end: int) -> None:
         """Takes the tokens from `start` up to `end` out; line feeds inside them stay."""
-        texts = self.texts
-        for place in range(start, end):
-            texts[place] = "\n" * texts[place].count("\n") if "\n" in texts[place] else ""
+        texts = self.tokens.texts
+        texts[start:end] = ["\n" * text.count("\n") if "\n" in text else "" for text in texts[start:end]]
 
     def put(self, start: int, end: int, text: str) -> None:
         """Puts a text in place of the tokens from `start` up to `end`."""
