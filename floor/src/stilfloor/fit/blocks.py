@@ -40,7 +40,8 @@ def gather_keywords(work: Work) -> None:
 def _told(work: Work, statement: Statement) -> bool:
     """Whether a statement is skipped, which is told; those of its block that are skipped leave the tree."""
     if work.is_skipped(statement.start):
-        work.change(statement.start, f"{work.shown(statement)} skipped by `stil`", "its first word is one of UserKeywords: see that it has no vectors")
+        work.change(statement.start, f"{work.shown(statement)} skipped by `stil`", "its first word is one of UserKeywords: see that it has no vectors",
+                    False)
         return True
     if statement.kids:
         statement.kids = [kid for kid in statement.kids if not _told(work, kid)]

@@ -4,7 +4,7 @@ from collections.abc import Iterator
 from dataclasses import dataclass, field
 
 from stilfloor.fit.blocks import KNOWN, TOP
-from stilfloor.fit.bodies import ASSIGNING, CALLS, TABLES, VECTORS, Bodies, Body
+from stilfloor.fit.bodies import ASSIGNING, CALLS, CONDITIONS, FIXED, TABLES, TIED, VECTORS, Bodies, Body
 from stilfloor.fit.items import runs_of
 from stilfloor.fit.signals import Names
 from stilfloor.fit.tokens import plain
@@ -15,6 +15,8 @@ NAMED = ("SignalGroups", "MacroDefs", "Procedures", "ScanStructures")
 # statements that neither make a vector nor change a state
 INERT = frozenset(("BreakPoint", "IddqTestPoint", "IDDQTestPoint", "X", "TimeUnit", "Environment", "ActiveScanChains", "ScanChain", "DCLevels",
                    "DCSets", "DCSequence", "Termination"))
+# those that stay where what stands in front of a label is cut off: they make no vector, and what they set lasts
+LASTING = INERT | {*TABLES, *CONDITIONS, *FIXED, *TIED}
 
 
 @dataclass(slots=True)
@@ -157,7 +159,8 @@ def _fit_ends(bursts: Bursts) -> None:
         elif sum(other.name == entry.name for other in bursts.entries) > 1:
             bursts.work.stop(place, f"the pattern `{entry.name}` runs elsewhere too, so it can't be cut")
         else:
-            _cut(bursts, patterns[0], ends, number + 1 < len(bursts.entries))
+            others = [other for other in bursts.entries[:number] if other.burst is not entry.burst] + bursts.entries[number + 1 :]
+            _cut(bursts, patterns[0], ends, bool(others))
 
 
 def _cut(bursts: Bursts, pattern: Body, ends: Ends, is_followed: bool) -> None:
@@ -170,7 +173,8 @@ def _cut(bursts: Bursts, pattern: Body, ends: Ends, is_followed: bool) -> None:
     if stop < start:
         work.stop(ends.stop_place, f"the label `{ends.stop}` stands in front of `{ends.start}`")
         return
-    before, behind = kids[:start], kids[stop + 1 :]
+    before = [one for one in kids[:start] if work.keyword(one) not in LASTING]
+    behind = [one for one in kids[stop + 1 :] if work.keyword(one) not in INERT]
     if why := _lost(bursts, before, kids[start : stop + 1]):
         work.stop(ends.start_place, f"what stands in front of the label `{ends.start}` {why}, so it can't be cut off")
         return
@@ -181,20 +185,20 @@ def _cut(bursts: Bursts, pattern: Body, ends: Ends, is_followed: bool) -> None:
     _say(work, "Stop", ends.stop, ends.stop_place, behind)
     for statement in before + behind:
         work.blank(statement.start, statement.end + 1)
-    kids[:] = kids[start : stop + 1]
+    gone = {id(statement) for statement in before + behind}
+    kids[:] = [statement for statement in kids if id(statement) not in gone]
 
 
 def _say(work: Work, keyword: str, label: str, place: int, cut: list[Statement]) -> None:
     """Tells what became of a Start or Stop."""
     if place < 0:
         return
-    live = [statement for statement in cut if work.keyword(statement) not in INERT]
     side = "in front of" if keyword == "Start" else "behind"
-    if not live:
+    if not cut:
         work.change(place, f"`{keyword} {label};` dropped", f"no vector stands {side} that label")
         return
     work.change(place, f"`{keyword} {label};` done: what stands {side} the label is cut off", "it doesn't run, and no state is lost with it")
-    work.change(live[0].start, f"{len(live)} statements {side} the label `{label}` cut off", f"the burst's {keyword} leaves them out")
+    work.change(cut[0].start, f"{len(cut)} statements {side} the label `{label}` cut off", f"the burst's {keyword} leaves them out")
 
 
 def _place_of(work: Work, pattern: Body, label: str, place: int, keyword: str) -> int | None:
@@ -229,7 +233,7 @@ def _state(bursts: Bursts, statements: list[Statement], deep: int = 0) -> set[st
 def _lost(bursts: Bursts, before: list[Statement], kept: list[Statement]) -> str:
     """Why what is kept needs what stands before it; nothing where it doesn't."""
     work = bursts.work
-    strange = [one for one in before if work.keyword(one) not in INERT | ASSIGNING | set(TABLES) | set(CALLS) | {"Loop"}]
+    strange = [one for one in before if work.keyword(one) not in (*VECTORS, *CALLS, "Loop")]
     if strange:
         return f"has {work.shown(strange[0])}"
     needed = _state(bursts, before)

@@ -56,6 +56,7 @@ def _rules(work: Work) -> Iterator[tuple[str, Callable[[], None]]]:
     names = signals.names_of(work)
     spec = timing.fit_spec(work)
     constants = blocks.constants_of(work)
+    lengths = scan.chains_of(work)
     yield "blocks", lambda: blocks.fit_blocks(work)
     yield "times", lambda: timing.fit_times(work, spec)
     yield "tables", lambda: tables.fit_tables(work, names)
@@ -69,7 +70,7 @@ def _rules(work: Work) -> Iterator[tuple[str, Callable[[], None]]]:
     yield "data", lambda: data.fit_data(work, all_bodies, rules)
     yield "fixed signals", lambda: fixed.fit_fixed(work, names, all_bodies)
     yield "tied signals", lambda: fixed.fit_tied(work, names, all_bodies)
-    chains = scan.Scan(work, names, waves, all_bodies, rules.lengths)
+    chains = scan.Scan(work, names, waves, all_bodies, rules.lengths, lengths)
     yield "chains", lambda: scan.fit_active(chains)
     yield "pins", lambda: scan.fit_shared(chains)
     yield "loads", lambda: scan.fit_loads(chains)
@@ -170,10 +171,11 @@ def places(file: str) -> list[str]:
     if not kind or kind in UNREAD:
         return []
     made = fitted(file, read_text(file), [])
-    lines = [f"{change.file}:{change.line}:1: note: fit can take this away: {change.what}" for change in made.changes]
+    edits = [change for change in made.changes if change.is_edit]
+    lines = [f"{change.file}:{change.line}:1: note: fit can take this away: {change.what}" for change in edits]
     lines += [f"{stop.file}:{max(stop.line, 1)}:1: error: fit stops here: {stop.text}" for stop in made.stops]
     lines.sort(key=lambda line: (line.rsplit(":1: ", 1)[0].rpartition(":")[0] != file, int(line.split(":1: ", 1)[0].rpartition(":")[2])))
-    able, unable = len(made.changes), len(made.stops)
+    able, unable = len(edits), len(made.stops)
     lines.append(f"{file}:1:1: note: {_count(able + unable, 'place')}, {able} that fit can take away, {unable} that "
                  f"change{'s' if unable == 1 else ''} the test or have no rule")
     return lines

@@ -100,7 +100,8 @@ def _lengths(work: Work, names: Names) -> dict[str, int]:
 
 def fit_letters(work: Work, rules: Rules) -> None:
     """Gives characters that the program has no form for another one that the text has nowhere."""
-    strange = sorted(character for character in rules.waves.characters if not (character.isalnum() and character.isascii()))
+    strange = sorted((character for character in rules.waves.characters if not (character.isalnum() and character.isascii())),
+                     key=lambda character: (character != "-", character))
     if not strange:
         return
     used = rules.waves.characters | _characters(work) | set(rules.renamed.values())

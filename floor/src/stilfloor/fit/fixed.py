@@ -23,6 +23,18 @@ class Fixing:
     tracked: frozenset[str] = frozenset()
     open: set[int] = field(default_factory=set)
     macros: dict[int, Given] = field(default_factory=dict)
+    callers: dict[int, Given] = field(default_factory=dict)
+
+    def of_callers(self, body: Body) -> Given:
+        """The characters that the callers of a body give its signals."""
+        if id(body) not in self.callers:
+            given: Given = {}
+            for _, call in body.callers:
+                for signal, text, place in runs_of(self.work, self.names, call, self.tracked):
+                    for character in set(text):
+                        given.setdefault(signal, {}).setdefault(character, place)
+            self.callers[id(body)] = given
+        return self.callers[id(body)]
 
 
 def fit_fixed(work: Work, names: Names, bodies: Bodies) -> None:
@@ -69,10 +81,7 @@ def _give(fixing: Fixing, body: Body, statement: Statement, behind: Given) -> No
         characters = behind.setdefault(signal, {})
         for character in set(text):
             if character in "#%":
-                for _, call in body.callers:
-                    data = call_data(fixing.work, fixing.names, call).get(signal)
-                    for given in set(data[0]) if data else ():
-                        characters.setdefault(given, data[1] if data else place)
+                _merge(behind, {signal: fixing.of_callers(body).get(signal, {})})
             else:
                 characters.setdefault(character, place)
 

@@ -34,6 +34,7 @@ class Scan:
     waves: Waves
     bodies: Bodies
     lengths: dict[str, int]
+    chains: dict[str, set[int]]
     shifts: dict[int, list[Shift]] = field(default_factory=dict)
     nested: dict[int, list[Statement]] = field(default_factory=dict)
 
@@ -74,10 +75,9 @@ class Scan:
 
 def fit_active(scan: Scan) -> None:
     """Takes ActiveScanChains and ScanChain out where each Shift behind them passes as often as the longest chain is long."""
-    chains = _chains(scan.work)
     for body in scan.bodies.all:
         if any(scan.work.keyword(statement) in ACTIVE for statement in all_of(body.kids)):
-            _fit_active_list(scan, chains, body, body.kids, [])
+            _fit_active_list(scan, body, body.kids, [])
 
 
 @dataclass(slots=True)
@@ -89,17 +89,17 @@ class Active:
     is_stopped: bool = False
 
 
-def _fit_active_list(scan: Scan, chains: dict[str, set[int]], body: Body, statements: list[Statement], now: list[Active]) -> None:
+def _fit_active_list(scan: Scan, body: Body, statements: list[Statement], now: list[Active]) -> None:
     """The statements of one list; `now` holds the last one that names chains."""
     work = scan.work
     own: list[Active] = []
     for statement in statements:
         keyword = work.keyword(statement)
         if keyword in ACTIVE:
-            own.append(_active(work, chains, statement))
+            own.append(_active(scan, statement))
             now[:] = own[-1:]
         elif keyword == "Loop" and statement.kids is not None:
-            _fit_active_list(scan, chains, body, statement.kids, now)
+            _fit_active_list(scan, body, statement.kids, now)
             # (what stands in front of it in the Loop runs behind it in the next pass)
             for inner in all_of(statement.kids):
                 _check_active(scan, body, inner, now)
@@ -111,33 +111,33 @@ def _fit_active_list(scan: Scan, chains: dict[str, set[int]], body: Body, statem
         statements.remove(active.statement)
 
 
-def _chains(work: Work) -> dict[str, set[int]]:
+def chains_of(work: Work) -> dict[str, set[int]]:
     """The lengths of the chains of each name; groups of chains have those of their longest chain."""
     found: dict[str, set[int]] = {}
     groups: list[tuple[str, list[str]]] = []
     for block in work.statements:
         for statement in block.kids or [] if work.keyword(block) == "ScanStructures" else []:
-            name = plain(" ".join(work.head(statement)[:1]))
-            for part in statement.kids or []:
-                if work.keyword(statement) == "ScanChain" and work.keyword(part) == "ScanLength" and work.head(part)[:1]:
-                    found.setdefault(name, set()).update([int(work.head(part)[0])] if work.head(part)[0].isdigit() else [])
-    for block in work.statements:
-        for statement in block.kids or [] if work.keyword(block) == "ScanChainGroups" else []:
-            groups.append((plain(work.texts[statement.start]), [plain(work.texts[kid.start]) for kid in statement.kids or []]))
+            if work.keyword(statement) == "ScanChain":
+                lengths = [work.head(part)[0] for part in statement.kids or [] if work.keyword(part) == "ScanLength" and work.head(part)]
+                known = found.setdefault(plain(" ".join(work.head(statement)[:1])), set())
+                known.update(int(length[:9]) for length in lengths if length.isdigit())
+            elif work.keyword(statement) == "ScanChainGroups":
+                groups += [(plain(work.texts[group.start]), [plain(work.texts[kid.start]) for kid in group.kids or []])
+                           for group in statement.kids or []]
     for name, members in groups:
-        lengths = [max(found[member]) for member in members if found.get(member)]
-        if len(lengths) == len(members) and lengths:
-            found[name] = {max(lengths)}
+        longest = [max(found[member]) for member in members if found.get(member)]
+        if len(longest) == len(members) and longest:
+            found.setdefault(name, set()).add(max(longest))
     return found
 
 
-def _active(work: Work, chains: dict[str, set[int]], statement: Statement) -> Active:
+def _active(scan: Scan, statement: Statement) -> Active:
     """What a statement says of chains; where a chain's length isn't known, it stops."""
     lengths: list[int] = []
-    for text in work.head(statement):
-        known = chains.get(plain(text), set())
+    for text in scan.work.head(statement):
+        known = scan.chains.get(plain(text), set())
         if len(known) != 1:
-            work.stop(statement.key, f"the chain `{plain(text)}` that is named here has no one ScanLength, so how far a Shift goes isn't known")
+            scan.work.stop(statement.key, f"the chain `{plain(text)}` that is named here has no one ScanLength, so how far a Shift goes isn't known")
             return Active(statement, 0, True)
         lengths += known
     return Active(statement, max(lengths, default=0))

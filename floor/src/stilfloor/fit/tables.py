@@ -29,13 +29,19 @@ def fit_tables(work: Work, names: Names) -> None:
             continue
         for statement in [kid for kid in block.kids or [] if not work.is_skipped(kid.start)]:
             keyword = work.keyword(statement)
-            if keyword == "SignalGroups" and statement.open < 0:
+            if keyword == "SignalGroups" and statement.open < 0 and _has_groups(work, statement):
                 work.drop(statement, KNOWN)
             elif keyword == "WaveformTable" and statement.kids is not None:
                 _fit_table(work, statement)
             elif keyword != "WaveformTable":
                 work.stop(statement.key, f"fit has no rule for {work.shown(statement)} in a Timing")
     _inherit(work, names)
+
+
+def _has_groups(work: Work, statement: Statement) -> bool:
+    """Whether the groups that a statement names are there; it may name none."""
+    named = [plain(" ".join(work.head(block)[:1])) for block in work.statements if work.keyword(block) == "SignalGroups"]
+    return all(plain(name) in ("", *named) for name in work.head(statement))
 
 
 def _fit_table(work: Work, table: Statement) -> None:
@@ -133,13 +139,9 @@ def _events_of(text: str) -> list[Event]:
 
 def _target(work: Work, tables: list[Table], table: Table, head: list[str]) -> tuple[Table, list[str]] | None:
     """The table that an InheritWaveform names, and what stands behind its name."""
-    rest = [plain(text) for text in head if text != "."]
-    if rest[1:3] == [":", ":"]:
-        timing, name, rest = rest[0], rest[3] if len(rest) > 3 else "", rest[4:]
-    elif rest:
-        timing, name, rest = table.timing, rest[0], rest[1:]
-    else:
-        return None
+    first, *rest = "".join(map(plain, head)).split(".")
+    timing, _, name = first.rpartition("::")
+    timing = timing or table.timing
     found = [one for one in tables if one.timing == timing and one.name == name]
     return (found[0], rest) if found and found[0] is not table else None
 

@@ -18,6 +18,7 @@ class Change(NamedTuple):
     line: int
     what: str
     why: str
+    is_edit: bool = True
 
     def told(self) -> str:
         """The line that is printed."""
@@ -76,9 +77,9 @@ class Work:
         file, line = self.where(place)
         return f"line {line}" if file == self.file else f"{file}:{line}"
 
-    def change(self, place: int, what: str, why: str) -> None:
-        """Notes an edit."""
-        self.changes[Change(*self.where(place), what, why)] = None
+    def change(self, place: int, what: str, why: str, is_edit: bool = True) -> None:
+        """Notes an edit, or what is told though it stays."""
+        self.changes[Change(*self.where(place), what, why, is_edit)] = None
 
     def stop(self, place: int, text: str) -> None:
         """Notes a place at which the test would change, or for which there is no rule."""
