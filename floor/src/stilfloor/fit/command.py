@@ -9,7 +9,7 @@ from collections.abc import Callable, Iterator
 from dataclasses import dataclass, field
 
 from stilfloor import saved, tester
-from stilfloor.faults import REFUSED, UNREADABLE, Fault, Faults
+from stilfloor.faults import REFUSED, TOOL, UNREADABLE, Fault, Faults
 from stilfloor.fit import blocks, bodies, bursts, data, fixed, include, scan, signals, tables, timing
 from stilfloor.fit.tokens import tokens_of
 from stilfloor.fit.work import Change, Work
@@ -20,6 +20,7 @@ from stilfloor.sentences import refusal
 # refusals behind which there are no tokens or statements to be read
 UNREAD = ("BadByte", "OpenQuote", "OpenComment", "OpenBlock", "OpenStatement", "StrayClose", "TooDeep")
 STEPS = 14
+MOST_DEEP = 50000
 
 
 @dataclass(slots=True)
@@ -80,7 +81,7 @@ def fitted(file: str, text: str, folders: list[str], unit: str = "", bar: Bar | 
     """A text by the rules."""
     shown = bar or Bar(False)
     size = max(len(text), 1)
-    with _without_collection():
+    with _room():
         work = Work(file, tokens_of(text, lambda place: shown.show("reading", 0.4 * place / size)), unit)
         include.inline(work, folders)
         for number, (what, rule) in enumerate(_rules(work)):
@@ -92,13 +93,15 @@ def fitted(file: str, text: str, folders: list[str], unit: str = "", bar: Bar | 
 
 
 @contextlib.contextmanager
-def _without_collection() -> Iterator[None]:
-    """No search for rings of objects meanwhile: there are millions of tokens, and none is in a ring."""
-    was = gc.isenabled()
+def _room() -> Iterator[None]:
+    """Room for deep groups and calls, and no search for rings of objects: there are millions of tokens, and none is in a ring."""
+    was, limit = gc.isenabled(), sys.getrecursionlimit()
     gc.disable()
+    sys.setrecursionlimit(max(limit, MOST_DEEP))
     try:
         yield
     finally:
+        sys.setrecursionlimit(limit)
         if was:
             gc.enable()
 
@@ -127,13 +130,13 @@ def fit_file(file: str, out: str, folders: list[str], unit: str) -> list[Change]
         if made.stops:
             raise Faults(made.stops)
         bar.show("asking stil", 0.92)
-        _write(file, out, made.text)
+        _write(file, out, made.text, text.count("\n"))
     finally:
         bar.close()
     return made.changes
 
 
-def _write(file: str, out: str, text: str) -> None:
+def _write(file: str, out: str, text: str, lines: int) -> None:
     """Writes the text where `stil` accepts it."""
     try:
         handle, path = tempfile.mkstemp(prefix=".fit-", suffix=".stil", dir=os.path.dirname(out) or ".")
@@ -142,6 +145,8 @@ def _write(file: str, out: str, text: str) -> None:
     try:
         with os.fdopen(handle, "w", encoding="latin-1", newline="") as put:
             put.write(text)
+        if text.count("\n") != lines:
+            raise Fault(TOOL, "fit would write another number of lines, which it must not", file)
         _ask(file, path)
         mask = os.umask(0)
         os.umask(mask)
@@ -177,7 +182,7 @@ def places(file: str) -> list[str]:
     lines.sort(key=lambda line: (line.rsplit(":1: ", 1)[0].rpartition(":")[0] != file, int(line.split(":1: ", 1)[0].rpartition(":")[2])))
     able, unable = len(edits), len(made.stops)
     lines.append(f"{file}:1:1: note: {_count(able + unable, 'place')}, {able} that fit can take away, {unable} that "
-                 f"change{'s' if unable == 1 else ''} the test or have no rule")
+                 f"{'changes the test or has' if unable == 1 else 'change the test or have'} no rule")
     return lines
 
 

@@ -16,6 +16,7 @@ LEXEME = re.compile(r"""\s*(?:(?P<number>(?:\d+\.?\d*|\.\d+)(?:[eE][-+]?\d+)?)(?
 LABEL = re.compile(r'@\s*("[^"]*"|[A-Za-z_]\w*)?', re.ASCII)
 MOST_DEEP = 64
 MOST_DIGITS = 60
+MOST_BYTES = 1 << 14
 ANY = None
 
 
@@ -270,4 +271,7 @@ def unlabelled(text: str, labels: dict[str, str | None], deep: int = 0) -> str:
             raise TimeStop(f"the label `{name}` is that of no one event of this table, so `@{name}` isn't known")
         return f"({unlabelled(stands, labels, deep + 1)})"
 
-    return LABEL.sub(meant, text)
+    made = LABEL.sub(meant, text)
+    if len(made) > MOST_BYTES:
+        raise TimeStop("the labels that this time names make it longer than 16,384 bytes")
+    return made
