@@ -58,17 +58,18 @@ def fit_blocks(work: Work) -> None:
 
 def fit_top(work: Work) -> None:
     """The statements outside all blocks."""
-    for statement in list(work.statements):
+    for statement in work.statements:
         keyword = work.keyword(statement)
         if keyword in TOP:
-            _gone(work, work.statements, statement, TOP[keyword])
+            work.drop(statement, TOP[keyword])
         elif keyword not in KEPT:
             work.stop(statement.key, f"fit has no rule for {work.shown(statement)} outside blocks")
+    _forget(work)
 
 
-def _gone(work: Work, among: list[Statement], statement: Statement, why: str) -> None:
-    work.drop(statement, why)
-    among.remove(statement)
+def _forget(work: Work) -> None:
+    """Takes statements that are gone out of the tree."""
+    work.tree.statements = [statement for statement in work.statements if work.texts[statement.end]]
 
 
 def fit_signals(work: Work) -> None:
@@ -79,7 +80,7 @@ def fit_signals(work: Work) -> None:
             continue
         for statement in block.kids or []:
             for attribute in [kid for kid in statement.kids or [] if work.keyword(kid) == "Termination"]:
-                _gone(work, statement.kids or [], attribute, LEVELS)
+                work.drop(attribute, LEVELS)
             if keyword == "Signals":
                 quote(work, statement.start, statement.head_end - 1, False)
 
@@ -177,13 +178,14 @@ def fit_execs(work: Work) -> None:
 def constants_of(work: Work) -> dict[str, str]:
     """The expressions of the integer constants that Variables blocks declare; blocks that nothing uses go."""
     found: dict[str, str] = {}
-    for block in list(work.statements):
+    for block in work.statements:
         if work.keyword(block) == "Variables":
             for statement in block.kids or []:
                 head = [text for text in work.head(statement) if text != ":"]
                 if work.keyword(statement) == "IntegerConst" and len(head) > 2 and head[1] == "=" and statement.open < 0:
                     found[plain(head[0])] = plain(" ".join(head[2:]))
-            _gone(work, work.statements, block, "constants are written where they are used, and nothing that is left uses the others")
+            work.drop(block, "constants are written where they are used, and nothing that is left uses the others")
+    _forget(work)
     return found
 
 

@@ -86,8 +86,9 @@ def fit_bodies(work: Work, bodies: Bodies, constants: dict[str, str]) -> None:
     """Rules for single statements of bodies: what goes leaves the tree."""
     for body in bodies.all:
         _fit_list(work, body.kids, constants)
+        own = {id(statement) for statement in body.kids} if body.kind == "pattern" else set()
         for statement in all_of(body.kids):
-            if work.keyword(statement) == "Stop" and (body.kind != "pattern" or all(statement is not kid for kid in body.kids)):
+            if work.keyword(statement) == "Stop" and id(statement) not in own:
                 work.stop(statement.key, "the test ends here in the midst of a block, which the program does at a pattern's own level alone")
 
 

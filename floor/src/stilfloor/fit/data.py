@@ -12,6 +12,7 @@ from stilfloor.fit.work import Work
 
 REPEAT = re.compile(r"r(\d+)")
 HEX = re.compile(r"[0-9A-Fa-f]+")
+DECIMAL = re.compile(r"[0-9]+")
 MOST_REPEATS = 1 << 20
 # tokens that may stand in a block of plain assignments beside words, names and texts
 PLAIN = frozenset("=;[].#%")
@@ -77,7 +78,7 @@ def rules_of(work: Work, names: Names, waves: Waves) -> Rules:
         rules.based = rules.based or bool(made.base)
         members = names.members([f'"{key}"']) if key not in names.ranges else tuple(names.ranges[key])
         automatic = {before: after for before, after in made.single.items() if members and before != after
-                     and not any((member, before) in waves.acts for member in members)}
+                     and not any(before in waves.acts.get(member, ()) for member in members)}
         if automatic:
             rules.mapped[key] = automatic
             rules.letters.update(automatic)
@@ -111,7 +112,9 @@ def fit_letters(work: Work, rules: Rules) -> None:
             _stop_letter(work, character)
             continue
         rules.renamed[character] = free.pop(0)
-        rules.waves.acts.update({(signal, rules.renamed[character]): acts for (signal, one), acts in rules.waves.acts.items() if one == character})
+        for acts in rules.waves.acts.values():
+            if character in acts:
+                acts[rules.renamed[character]] = acts[character]
     for wave in _wave_statements(work):
         head = "".join(work.texts[wave.start : wave.head_end])
         if any(character in rules.renamed for character in head):
@@ -383,19 +386,15 @@ def _base(cursor: Cursor, word: str, behind: int) -> None:
 
 
 def _digits(cursor: Cursor, place: int) -> int:
-    text = cursor.tokens[place]
-    good = HEX.fullmatch(text) if cursor.mode == "h" else text.isdigit() and text.isascii()
-    if not good:
-        raise DataStop(f"`{text}` isn't a number of `\\{cursor.mode}`")
-    cursor.digits += text
+    cursor.digits += cursor.tokens[place]
     return place + 1
 
 
 def _convert(rules: Rules, cursor: Cursor, is_argument: bool) -> None:
     """Writes gathered digits as characters."""
     digits, cursor.digits = "".join(cursor.digits), []
-    if not digits:
-        raise DataStop(f"nothing stands behind `\\{cursor.mode}`")
+    if not (HEX if cursor.mode == "h" else DECIMAL).fullmatch(digits):
+        raise DataStop(f"`{_short(digits)}` isn't a number of `\\{cursor.mode}`")
     if cursor.members is None:
         raise DataStop("how many signals these digits are for isn't known")
     if cursor.pieces and "".join(cursor.pieces).strip():

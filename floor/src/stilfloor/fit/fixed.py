@@ -158,7 +158,7 @@ def fit_tied(work: Work, names: Names, bodies: Bodies) -> None:
                     seen[head] = _fit_tie(work, names, bodies, body, statement)
                 if seen[head]:
                     work.drop(statement, "each statement behind it that gives its first signal a character gives the others theirs too")
-                    statements.remove(statement)
+            statements[:] = [one for one in statements if work.texts[one.end]]
 
 
 def _lists(statements: list[Statement]) -> Iterator[list[Statement]]:

@@ -108,7 +108,8 @@ def _fit_active_list(scan: Scan, body: Body, statements: list[Statement], now: l
     for active in own:
         if not active.is_stopped:
             work.drop(active.statement, "each Shift behind it passes as often as the longest of its chains is long, by the longest of its data")
-        statements.remove(active.statement)
+    gone = {id(active.statement) for active in own}
+    statements[:] = [statement for statement in statements if id(statement) not in gone]
 
 
 def chains_of(work: Work) -> dict[str, set[int]]:

@@ -23,14 +23,14 @@ Definition = tuple[str, str]
 class Waves:
     """The acts of each signal and character, over all tables."""
 
-    acts: dict[tuple[str, str], set[str]] = field(default_factory=dict)
+    acts: dict[str, dict[str, set[str]]] = field(default_factory=dict)
     characters: set[str] = field(default_factory=set)
 
     def quiet(self, signal: str, drives: bool = True) -> str | None:
         """A character at which a signal isn't looked at: X where it can be; without `drives` one that doesn't drive either."""
-        known = sorted(character for name, character in self.acts if name == signal)
-        for character in ["X", *known]:
-            acts = self.acts.get((signal, character))
+        known = self.acts.get(signal, {})
+        for character in ["X", *sorted(known)]:
+            acts = known.get(character)
             if acts is not None and not acts & LOOKS and (drives or not acts & DRIVES):
                 return character
         return None
@@ -246,7 +246,7 @@ def _waves_of_entry(work: Work, names: Names, waves: Waves, entry: Statement) ->
         for number, character in enumerate(characters):
             acts = {act for event in wave.kids if (act := act_of(work, event, number, len(characters)))}
             for member in members:
-                waves.acts.setdefault((member, character), set()).update(acts)
+                waves.acts.setdefault(member, {}).setdefault(character, set()).update(acts)
 
 
 def act_of(work: Work, event: Statement, number: int, count: int) -> str:

@@ -10,7 +10,7 @@ MARKS = frozenset("{};")
 LEAVES = frozenset(("V", "Vector", "C", "Condition", "F", "Fixed", "Call", "Macro"))
 
 
-@dataclass(slots=True)
+@dataclass(slots=True, eq=False)
 class Statement:
     """A statement: the places of its first token, of its keyword behind a label, of its `{` (-1 where it has none), and of its end."""
 
@@ -103,7 +103,7 @@ def all_of(statements: list[Statement]) -> Iterator[Statement]:
             stack.pop()
 
 
-@dataclass(slots=True)
+@dataclass(slots=True, eq=False)
 class Assignment:
     """A `ref = data;` of a block: the places of its first token, its `=` (-1 where there is none), and its end."""
 
