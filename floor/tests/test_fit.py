@@ -6,6 +6,7 @@ import pytest
 
 from conftest import DATA, EXAMPLES, TOP
 from fit_texts import PAIRS, STOPS, V, Program
+from measure_fit import heads, measure
 from stilfloor import tester
 from stilfloor.cli import main
 
@@ -190,3 +191,10 @@ def test_a_bar_is_shown_on_a_terminal(tmp_path: pathlib.Path, capsys: pytest.Cap
     assert fit(tmp_path, Program(pattern=f"X t; {V}").text())[0] == 0
     told = capsys.readouterr().err
     assert "] reading" in told and "] asking stil" in told and "\r[" in told and told.rstrip().rpartition("\r")[2].startswith(str(tmp_path))
+
+
+@pytest.mark.parametrize("kind", heads())
+def test_long_texts_are_fitted_in_little_time_and_memory(tmp_path: pathlib.Path, kind: str) -> None:
+    # (a tenth of what may take twenty seconds and a GiB; measure_fit.py measures the whole)
+    status, _, processor, memory = measure(kind, 1_000_000, str(tmp_path))
+    assert status == 0 and processor < 8 and memory < 256
