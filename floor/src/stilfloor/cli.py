@@ -65,6 +65,12 @@ def _add_making(words: "argparse._SubParsersAction[argparse.ArgumentParser]") ->
     word.add_argument("program", metavar="PROGRAM", help="a STIL text with L where a value is wanted")
     word.add_argument("plan", metavar="PLAN", help="a plan whose first die is good; its faults and stops don't count")
     word.add_argument("-o", dest="out", metavar="FILE", help="where the text goes (standard output)")
+    word = _add(words, "fit", "write a text of an ATPG tool, or of the whole standard, so that stil takes it, or say where the test would change",
+                "stilfloor fit examples/dialects/tetramax.before.stil -o fitted.stil", fit)
+    word.add_argument("file", metavar="FILE.stil", help="a STIL text that the program refuses")
+    word.add_argument("-o", dest="out", required=True, metavar="OUT.stil", help="where the fitted text goes, with as many lines")
+    word.add_argument("--include", action="append", default=[], metavar="DIR", help="a folder in which included files are looked for")
+    word.add_argument("--unit", default="", choices=("s", "ms", "us", "ns", "ps", "fs"), help="the unit of times that are written without one")
 
 
 def _add_finding(words: "argparse._SubParsersAction[argparse.ArgumentParser]") -> None:
@@ -153,6 +159,15 @@ def learn(words: argparse.Namespace) -> int:
     return 0
 
 
+def fit(words: argparse.Namespace) -> int:
+    """The word `fit`."""
+    from stilfloor.fit.command import fit_file
+
+    changes = fit_file(words.file, words.out, words.include, words.unit)
+    sys.stderr.writelines(f"{change.told()}\n" for change in changes)
+    return 0
+
+
 def _put(path: str | None, pieces: Iterator[str], encoding: str = "utf-8") -> None:
     """Writes pieces into a file, or to standard output."""
     try:
@@ -198,13 +213,15 @@ def _told(found: "Iterator[Diagnosis]", doctor: "Doctor") -> Iterator[str]:
 
 def lint(words: argparse.Namespace) -> int:
     """The word `lint`."""
+    from stilfloor.fit.command import places
     from stilfloor.lint import lint_plan, lint_text
 
     if not words.files and not words.plan:
         raise Fault(2, "lint needs a FILE.stil, or --plan PLAN")
     lines: list[str] = []
     for file in words.files:
-        lines += lint_text(file)
+        told = list(lint_text(file))
+        lines += told + (places(file) if lines_refuse(told) else [])
     if words.plan:
         lines += lint_plan(words.plan, words.files[0] if len(words.files) == 1 and not lines_refuse(lines) else None)
     for line in lines:
