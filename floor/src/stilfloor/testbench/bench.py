@@ -146,7 +146,7 @@ def one_bit_unknown() -> str:
 def _ports(job: Job, design: Design) -> Iterator[str]:
     """The ports of one's own design, those that no signal has left open."""
     used = {bind.net for bind in job.binding.binds if bind}
-    drivers = {design.pins[net].port.name: {} for net in used}
+    drivers: dict[str, dict[int, int]] = {design.pins[net].port.name: {} for net in used}
     for net, signal in _drivers(job).items():
         drivers[design.pins[net].port.name][design.pins[net].index] = signal
     connected = [port for port in design.ports if port.name in drivers]

@@ -9,6 +9,7 @@ from stilfloor.faults import REFUSED, UNREADABLE, Fault
 from stilfloor.testbench import memory, simulator
 from stilfloor.testbench.bench import MARK, Job, write_bench
 from stilfloor.testbench.binding import Binding, bind_netlist, bind_ports, check_rows
+from stilfloor.testbench.codes import code_of
 from stilfloor.testbench.die import write_die
 from stilfloor.testbench.lots import Die, Lot, choose, read_lot
 from stilfloor.testbench.nets import read_netlist
@@ -35,7 +36,7 @@ class Wish:
 
 def job_of(wish: Wish) -> Job:
     """What the testbench is made of; what can't be is refused."""
-    code = saved.code_of(wish.program)
+    code = code_of(wish.program)
     lot = read_lot(wish.plan)
     if wish.top is not None:
         die = _die_for_design(lot, wish)

@@ -3,7 +3,7 @@
 from dataclasses import dataclass
 
 from stilfloor.faults import REFUSED
-from stilfloor.testbench import make, simulator, witness
+from stilfloor.testbench import beside, make, simulator
 from stilfloor.testbench.bench import Job
 from stilfloor.testbench.waves import FILE
 
@@ -33,7 +33,7 @@ def answer(wish: make.Wish, folder: str, is_run: bool) -> Answer:
 
 def _of_design(job: Job, lines: list[str]) -> Answer:
     """The fails of one's own design."""
-    fails = witness.fails_of(lines)
+    fails = beside.fails_of(lines)
     told = [line for line in lines if line.startswith("fail ")]
     kept = f", of which the plan keeps {len(told)}" if len(told) != fails else ""
     verdict = next(line for line in reversed(lines) if line.startswith("verdict "))
@@ -43,8 +43,8 @@ def _of_design(job: Job, lines: list[str]) -> Answer:
 
 def _of_die(wish: make.Wish, job: Job, lines: list[str]) -> Answer:
     """Whether the program prints of the die what the simulator prints of it."""
-    found = witness.difference(lines, witness.lot_lines(wish.program, job))
+    found = beside.difference(lines, beside.lot_lines(wish.program, job))
     if found is None:
-        return Answer([f"agree, {witness.fails_of(lines)} fails"])
+        return Answer([f"agree, {beside.fails_of(lines)} fails"])
     ended = "(no more lines)"
     return Answer([f"differ at line {found.line} of the die", f"testbench: {found.simulated or ended}", f"stil lot:  {found.printed or ended}"], REFUSED)

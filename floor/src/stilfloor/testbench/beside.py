@@ -4,7 +4,7 @@ import os
 import tempfile
 from dataclasses import dataclass
 
-from stilfloor import saved, tester
+from stilfloor import tester
 from stilfloor.faults import Fault
 from stilfloor.plans import read_text
 from stilfloor.sentences import refusal
@@ -58,4 +58,4 @@ def fails_of(lines: list[str]) -> int:
     return sum(int(line.rpartition(" ")[2]) for line in lines if line.startswith("try "))
 
 
-__all__ = ["Difference", "difference", "fails_of", "lot_lines", "saved"]
+__all__ = ["Difference", "difference", "fails_of", "lot_lines"]
