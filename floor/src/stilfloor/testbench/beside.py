@@ -20,6 +20,10 @@ class Difference:
     simulated: str | None
     printed: str | None
 
+    def __str__(self) -> str:
+        sides = (f"`{side}`" if side is not None else "no more" for side in (self.simulated, self.printed))
+        return f"differ at line {self.line} of the die: testbench {next(sides)}, stil lot {next(sides)}"
+
 
 def lot_lines(program: str, job: Job) -> list[str]:
     """The lines that `stil lot` prints of the die, from its name to its bin, by a plan that has its rows and no other die's."""

@@ -1,4 +1,4 @@
-"""Runs of dies in the simulator beside the program: of random ones by their seeds, and of whole lots."""
+"""Runs of dies in the simulator beside the program, and what is counted of them."""
 
 import os
 import random
@@ -8,8 +8,6 @@ from collections.abc import Iterable
 from dataclasses import dataclass, field
 
 from stilfloor.testbench import beside, make, simulator
-from stilfloor.testbench.bench import Job
-from stilfloor.testbench.lots import read_lot
 from stilfloor.witness.calm import calm
 from stilfloor.witness.features import features_of
 from stilfloor.witness.nets import random_net
@@ -21,35 +19,53 @@ CALM = 0.45
 
 
 @dataclass(slots=True)
+class Found:
+    """What came of a die: its name, its features, how many looks failed, and what is wrong, if anything; or that it is refused."""
+
+    name: str
+    features: set[str] = field(default_factory=set)
+    fails: int = 0
+    is_refused: bool = False
+    trouble: str = ""
+
+    def __str__(self) -> str:
+        what = self.trouble or ("refused by both" if self.is_refused else f"agree, {self.fails} fails")
+        return f"{self.name}: {what}"
+
+
+@dataclass(slots=True)
 class Tally:
-    """How many dies were run, how many of each feature, and what differed."""
+    """How many dies were run, how many of each feature, how many lots or dies were refused by both, and what differs."""
 
     dies: int = 0
+    refused: int = 0
     features: Counter[str] = field(default_factory=Counter)
-    differing: list[str] = field(default_factory=list)
+    differing: list[Found] = field(default_factory=list)
 
-    def add(self, name: str, found: tuple[set[str], beside.Difference | None]) -> None:
+    def add(self, found: Found) -> None:
         """One more die."""
-        features, difference = found
-        self.dies += 1
-        self.features.update(features)
-        if difference:
-            self.differing.append(f"{name} differs at line {difference.line}: testbench `{difference.simulated}`, stil lot `{difference.printed}`")
+        self.dies += not found.is_refused
+        self.refused += found.is_refused
+        self.features.update(found.features)
+        if found.trouble:
+            self.differing.append(found)
 
     def lines(self) -> Iterable[str]:
         """What is said at the end."""
-        yield from self.differing
-        yield f"{self.dies} dies, {self.features['fails']} fail, {len(self.differing)} differ"
+        yield from (str(found) for found in self.differing)
+        refused = f"; {self.refused} refused" if self.refused else ""
+        yield f"{self.dies} dies, {self.features['fails']} fail, {len(self.differing)} differ{refused}"
         if self.features:
             yield "dies with " + ", ".join(f"{name} {count}" for name, count in sorted(self.features.items()) if name != "fails")
 
 
-def run_die(wish: make.Wish, room: str) -> tuple[Job, list[str], beside.Difference | None]:
+def run_die(name: str, wish: make.Wish, room: str) -> Found:
     """A die in the simulator, and where the program prints something else of it."""
     job = make.job_of(wish)
     make.write(job, room)
     lines = simulator.simulate(room, [make.BENCH, make.DIE], [], [])
-    return job, lines, beside.difference(lines, beside.lot_lines(wish.program, job))
+    difference = beside.difference(lines, beside.lot_lines(wish.program, job))
+    return Found(name, features_of(job, lines), beside.fails_of(lines), False, str(difference or ""))
 
 
 def write_random(seed: int, room: str) -> make.Wish:
@@ -66,16 +82,7 @@ def write_random(seed: int, room: str) -> make.Wish:
     return make.Wish(os.path.join(room, "p.stil"), os.path.join(room, "plan.csv"))
 
 
-def run_seed(seed: int) -> tuple[set[str], beside.Difference | None]:
-    """The features of a random die's run, and where the two differ."""
+def run_seed(seed: int) -> list[Found]:
+    """A random die."""
     with tempfile.TemporaryDirectory() as room:
-        job, lines, difference = run_die(write_random(seed, room), os.path.join(room, "bench"))
-        return features_of(job, lines), difference
-
-
-def run_lot(program: str, plan: str) -> Iterable[tuple[str, tuple[set[str], beside.Difference | None]]]:
-    """All dies of a lot, by their names; files are found from where one stands."""
-    for site, name in read_lot(plan).dies:
-        with tempfile.TemporaryDirectory() as room:
-            job, lines, difference = run_die(make.Wish(program, plan, site, name), room)
-            yield f"{plan} site {site} die {name}", (features_of(job, lines), difference)
+        return [run_die(f"seed {seed}", write_random(seed, room), os.path.join(room, "bench"))]
