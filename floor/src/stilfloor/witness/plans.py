@@ -7,16 +7,16 @@ from stilfloor.witness.nets import Net
 from stilfloor.witness.texts import Program, Signal
 
 
-def random_plan(net: Net, program: Program, file: str, chance: random.Random) -> str:
-    """A plan of one die at some site."""
+def random_plan(net: Net, program: Program, file: str, chance: random.Random, heals: bool) -> str:
+    """A plan of one die at some site; one that heals has nets that are stuck in its first try alone."""
     site, name = str(chance.choice((0, 0, 1, 3, 15))), chance.choice(("d", "die-1", "\"q\"", "x%d", "$&;"))
-    tries = chance.choice((1, 1, 2, 3))
+    tries = chance.choice((2, 3) if heals else (1, 1, 2, 3))
     rows = [["lot", str(chance.choice((1, 2, 3, 7, 256))), str(tries), str(chance.choice((0, 3, 40, 1024, 1024)))]]
     rows += _binding(program, chance)
     rows.append(["die", site, name, file])
-    for stuck in chance.sample(net.nets, min(len(net.nets), chance.choice((0, 0, 1, 1, 2, 4)))):
-        rows.append(["fault", site, name, stuck, chance.choice("01"), chance.choice(("", "", "1", "2"))])
-    if chance.random() < 0.25:
+    for stuck in chance.sample(net.nets, min(len(net.nets), 4 if heals else chance.choice((0, 0, 1, 1, 2, 4)))):
+        rows.append(["fault", site, name, stuck, chance.choice("01"), "1" if heals else chance.choice(("", "", "1", "2"))])
+    if chance.random() < (0.02 if heals else 0.25):
         rows.append(["stop", site, name, str(chance.randint(1, tries)), str(chance.choice((0, 1, 2, 5, 9)))])
     rows += [["bin", ending, "", str(chance.randint(1, 99))] for ending in ("pass", "stopped") if chance.random() < 0.3]
     rows += [["bin", "fail", str(number), str(chance.randint(1, 99))] for number in range(program.executives) if chance.random() < 0.3]

@@ -1,5 +1,6 @@
 """Runs of dies in the simulator beside the program, and what is counted of them."""
 
+import contextlib
 import os
 import random
 import tempfile
@@ -7,15 +8,16 @@ from collections import Counter
 from collections.abc import Iterable
 from dataclasses import dataclass, field
 
+from stilfloor.faults import Fault
+from stilfloor.learn import learn
 from stilfloor.testbench import beside, make, simulator
-from stilfloor.witness.calm import calm
 from stilfloor.witness.features import features_of
 from stilfloor.witness.nets import random_net
 from stilfloor.witness.plans import random_plan
 from stilfloor.witness.texts import Writer
 
-# how many of the random programs pass but for what is stuck
-CALM = 0.45
+# how many of the random programs learn their looks from a good die, and how many of these have nets that are stuck in a first try alone
+LEARNS, HEALS = 0.35, 0.6
 
 
 @dataclass(slots=True)
@@ -72,14 +74,22 @@ def write_random(seed: int, room: str) -> make.Wish:
     """A random netlist, text and plan in a folder."""
     chance = random.Random(seed)
     net = random_net(chance)
-    program = Writer(net, chance).write()
+    learns = chance.random() < LEARNS
+    program = Writer(net, chance, learns).write()
+    wish = make.Wish(os.path.join(room, "p.stil"), os.path.join(room, "plan.csv"))
     bench = os.path.join(room, "n.bench")
-    for name, text in (("n.bench", net.text(chance)), ("p.stil", program.text), ("plan.csv", random_plan(net, program, bench, chance))):
-        with open(os.path.join(room, name), "w", encoding="latin-1", newline="") as out:
-            out.write(text)
-    if chance.random() < CALM:
-        calm(program, room)
-    return make.Wish(os.path.join(room, "p.stil"), os.path.join(room, "plan.csv"))
+    plan = random_plan(net, program, bench, chance, learns and chance.random() < HEALS)
+    for path, text in ((bench, net.text(chance)), (wish.program, program.text), (wish.plan, plan)):
+        _put(path, text)
+    if learns:
+        with contextlib.suppress(Fault):
+            _put(wish.program, learn(wish.program, wish.plan).text)
+    return wish
+
+
+def _put(path: str, text: str) -> None:
+    with open(path, "w", encoding="latin-1", newline="") as out:
+        out.write(text)
 
 
 def run_seed(seed: int) -> list[Found]:

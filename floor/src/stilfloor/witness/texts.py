@@ -1,6 +1,7 @@
 """Random STIL texts for a netlist: tables with all acts, vectors, loops, macros, procedures, shifts and several executives."""
 
 import random
+from collections.abc import Iterator
 from dataclasses import dataclass, field
 
 from stilfloor.witness.nets import Net
@@ -45,11 +46,12 @@ class Program:
 
 
 class Writer:
-    """Writes a program for a netlist."""
+    """Writes a program for a netlist; one that is to learn has its looks in the vectors of patterns, outside loops, all as L."""
 
-    def __init__(self, net: Net, chance: random.Random) -> None:
+    def __init__(self, net: Net, chance: random.Random, learns: bool) -> None:
         self.net = net
         self.chance = chance
+        self.learns = learns
         self.program = Program()
         self.scan: list[Signal] = []
         self.ends: list[Signal] = []
@@ -123,14 +125,22 @@ class Writer:
         tables = []
         for number in range(2):
             period = self.chance.choice(PERIODS)
-            waves = [f"{signal.name} {{ {self._wave(signal, letter, acts, period)} }}" for signal in self.program.signals
-                     for letter, acts in self._letters(signal).items()]
+            waves = [line for signal in self.program.signals for line in self._waves(signal, period)]
             tables.append(f"WaveformTable w{number} {{ Period '{period}'; Waveforms {{\n" + "\n".join(waves) + "\n} }")
         return f"Timing {name} {{\n" + "\n".join(tables) + "\n}"
 
-    def _wave(self, signal: Signal, letter: str, acts: str, period: int) -> str:
-        step = period // FIELDS
-        times = sorted(self.chance.choice((0, 0, 0, 1, 2, 3, 4, 4, 6, 8, FIELDS - 1)) * step + self.chance.choice((0, 0, 0, 0, 1)) for _ in acts)
+    def _waves(self, signal: Signal, period: int) -> Iterator[str]:
+        """The waveforms of a signal; what it is to learn is looked at at one time, whatever it is."""
+        shared = self._times(1, period)
+        for letter, acts in self._letters(signal).items():
+            times = shared if self.learns and letter in "LHTX" else self._times(len(acts), period)
+            yield f"{signal.name} {{ {self._wave(signal, letter, acts, times, period)} }}"
+
+    def _times(self, count: int, period: int) -> list[int]:
+        fields = (0, 0, 0, 1, 2, 3, 4, 4, 6, 8, FIELDS - 1)
+        return sorted(self.chance.choice(fields) * (period // FIELDS) + self.chance.choice((0, 0, 0, 0, 1)) for _ in range(count))
+
+    def _wave(self, signal: Signal, letter: str, acts: str, times: list[int], period: int) -> str:
         chosen = [self.chance.choice("LHTXlht") if act == "*" else act for act in acts]
         for time in times:
             least, most = self.program.rooms.get(signal.name, (-(10**12), 10**12))
@@ -152,21 +162,21 @@ class Writer:
     def _letter(self, signal: Signal, is_quiet: bool = False) -> str:
         """A character of a signal: a quiet one checks nothing."""
         if signal.letters == "looks":
-            return "X" if is_quiet or self.chance.random() < 0.6 else self.chance.choice("LHLHLHTlhtwvusm")
+            return "X" if is_quiet or self.chance.random() < 0.6 else "L" if self.learns else self.chance.choice("LHLHLHTlhtwvusm")
         if signal.letters == "clock":
             return "R" if self.chance.random() < 0.8 else self.chance.choice(list(CLOCK))
         if self.chance.random() < 0.75:
             return self.chance.choice("01")
-        letters = [letter for letter in self._letters(signal) if not (is_quiet and letter in "LHw")]
+        letters = [letter for letter in self._letters(signal) if not ((is_quiet or self.learns) and letter in "LHw")]
         return self.chance.choice(letters)
 
     def _vector(self, is_quiet: bool) -> str:
-        chosen = [signal for signal in self.program.signals if self.chance.random() < 0.6]
+        chosen = [signal for signal in self.program.signals if self.chance.random() < 0.6 or self.learns and signal.letters == "looks"]
         return "V {" + "".join(f" {signal.name}={self._letter(signal, is_quiet)};" for signal in chosen) + " }"
 
     def _body(self, size: int, number: int, depth: int = 0) -> str:
         """Statements; where executives follow, an early one is quiet so that they are reached."""
-        is_quiet = self.shy and number + 1 < self.program.executives
+        is_quiet = self.shy and number + 1 < self.program.executives or self.learns and depth > 0
         lines = []
         for _ in range(self.chance.randint(1, size)):
             kind = self.chance.random()
@@ -185,7 +195,7 @@ class Writer:
     def _load(self, is_quiet: bool) -> str:
         """A load of the chains, whose data may have any lengths."""
         parts = [f"{signal.name}={self._some('01', 6)};" for signal in self.scan if self.chance.random() < 0.9]
-        parts += [f"{signal.name}={self._some('X' if is_quiet else 'LHXLHTl', 6)};" for signal in self.ends if self.chance.random() < 0.9]
+        parts += [f"{signal.name}={self._some('X' if is_quiet else 'LLX' if self.learns else 'LHXLHTl', 6)};" for signal in self.ends if self.chance.random() < 0.9]
         return "Call load { " + " ".join(parts) + " }"
 
     def _some(self, letters: str, most: int) -> str:
@@ -198,7 +208,8 @@ class Writer:
         load = ""
         if self.scan and self.ends and self.program.clock and self.enable:
             ends = " ".join(f"{signal.name}=#;" for signal in [*self.scan, *self.ends])
-            load = f"load {{ C {{ {self.enable.name}=1; {self.program.clock.name}=R; }} Shift {{ V {{ {ends} }} }} C {{ {self.enable.name}=0; }} }}"
+            quiet = "".join(f" {signal.name}=X;" for signal in self.program.signals if self.learns and signal.letters == "looks")
+            load = f"load {{ C {{ {self.enable.name}=1; {self.program.clock.name}=R;{quiet} }} Shift {{ V {{ {ends} }} }} C {{ {self.enable.name}=0; }} }}"
         elif self.scan:
             self.scan = []
         return [*parts, f"Procedures {{ {procedure}\n{load} }}"]
