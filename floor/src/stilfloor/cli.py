@@ -177,6 +177,8 @@ def testbench(words: argparse.Namespace) -> int:
         raise Fault(USAGE, "--net belongs to --waves, and --libs to --rtl")
     wish = Wish(words.program, words.plan, words.site, words.die, words.rtl, words.files, words.libs, words.waves, words.net)
     told = answer(wish, words.folder, words.run)
+    for line in told.notes:
+        say(line)
     for line in told.lines:
         print(line)
     return told.status

@@ -9,6 +9,8 @@ from stilfloor.faults import REFUSED, UNREADABLE, Fault
 MOST_FAILS = 1 << 20
 MOST_DIES = 4096
 MOST_KEPT = 1024
+# a field may be as long as a plan, so that the program judges it
+csv.field_size_limit(1 << 24)
 
 
 @dataclass(slots=True)

@@ -1,7 +1,7 @@
 """How the signals of a program are bound: to the nets of a netlist (docs/formats/plan.md), or to the ports of one's own design."""
 
 from collections.abc import Callable
-from dataclasses import dataclass
+from dataclasses import dataclass, field
 
 from stilfloor.faults import REFUSED, Fault
 from stilfloor.saved import Code
@@ -23,10 +23,11 @@ class Bind:
 
 @dataclass(slots=True)
 class Binding:
-    """The bind of each signal, None for one that has no net; and the number of the clock's signal."""
+    """The bind of each signal, None for one that has no net; the number of the clock's signal; and the signals that a design lacks."""
 
     binds: list[Bind | None]
     clock: int | None
+    lacking: list[str] = field(default_factory=list)
 
     @property
     def driven(self) -> int:
@@ -102,9 +103,10 @@ def bind_ports(code: Code, lot: Lot, design: Design) -> Binding:
 
 
 def _bound(code: Code, lot: Lot, taken: set[str], choose: Callable[[str, str, bool], Bind | None], design: Design | None = None) -> Binding:
-    """Binds signal by signal, in declared order."""
+    """Binds signal by signal, in declared order; a design may lack inputs, as one of which a netlist was made has no ties."""
     binds: list[Bind | None] = []
     clock: int | None = None
+    lacking: list[str] = []
     for signal, (direction, name) in enumerate(code.signals):
         is_clock = name == lot.clock
         clock = signal if is_clock else clock
@@ -114,12 +116,14 @@ def _bound(code: Code, lot: Lot, taken: set[str], choose: Callable[[str, str, bo
             binds.append(None)
             continue
         bind = next((bind for wish in wishes if wish is not None and (bind := choose(direction, wish, is_clock))), None)
-        if bind is None and (not is_clock or design is not None):
+        if bind is None and design is not None and direction == "In" and not is_clock and not design.pins.keys() & set(wishes):
+            lacking.append(name)
+        elif bind is None and (not is_clock or design is not None):
             raise _unbound(lot, name, design)
         if bind is not None and bind.drives:
             taken.add(bind.net)
         binds.append(bind)
-    return Binding(binds, clock)
+    return Binding(binds, clock, lacking)
 
 
 def _unbound(lot: Lot, signal: str, design: Design | None) -> Fault:

@@ -77,10 +77,7 @@ class Lot:
 def read_lot(file: str) -> Lot:
     """The plan of a file, or its first refusal in the program's order."""
     text = bytes_of(file).removeprefix(b"\xef\xbb\xbf").decode("latin-1")
-    try:
-        lot = Lot(read_rows(text, file))
-    except csv.Error as error:
-        raise Fault(REFUSED, f"this is no plan: {error}", file) from error
+    lot = Lot(read_rows(text, file))
     seen: set[tuple[str, ...]] = set()
     for number, row in enumerate(lot.plan.rows, 1):
         subject = _judged(lot, row, number)

@@ -1,5 +1,6 @@
 """Writes a testbench of a program, a plan and a die of it, or one's own design, into a folder."""
 
+import contextlib
 import os
 from collections.abc import Iterable, Iterator
 from dataclasses import dataclass, field
@@ -13,9 +14,11 @@ from stilfloor.testbench.codes import code_of
 from stilfloor.testbench.die import write_die
 from stilfloor.testbench.lots import Die, Lot, choose, read_lot
 from stilfloor.testbench.nets import read_netlist
-from stilfloor.testbench.waves import Waves
+from stilfloor.testbench.waves import FILE, Line, Waves
 
 BENCH, DIE = "testbench.v", "die.v"
+# what a run leaves beside them
+OF_RUNS = (*simulator.MADE, FILE)
 MOST_TIME = 1 << 64
 
 
@@ -96,10 +99,13 @@ def _longest(executive: saved.Executive, code: saved.Code) -> int:
 
 def _waves(job: Job, nets: list[str]) -> Waves:
     """The lines of the waves: all signals that have a net, and the nets that are asked for."""
-    names = [name for _, name in job.code.signals]
     looked = {signal for table in job.code.tables for (signal, _), events in table.waves.items() if any(act in "LHTlht" for _, act in events)}
-    shown = [(signal, names[signal], signal in looked) for signal in range(len(names)) if job.binding.seen >> signal & 1]
-    return Waves(shown, [_net(job, net) for net in nets])
+    lines = []
+    for signal, (_, name) in enumerate(job.code.signals):
+        if job.binding.seen >> signal & 1:
+            drive = "ck" if signal == job.binding.clock else f"drive_{signal}" if job.binding.driven >> signal & 1 else ""
+            lines.append(Line(signal, name, drive, signal in looked))
+    return Waves(lines, [_net(job, net) for net in nets])
 
 
 def _net(job: Job, net: str) -> str:
@@ -124,7 +130,10 @@ def write(job: Job, folder: str) -> list[str]:
         texts[DIE] = _encoded(iter([job.written.text]))
     try:
         os.makedirs(folder, exist_ok=True)
-        _check_folder(folder, [*texts, *simulator.MADE])
+        _check_folder(folder, [*texts, *OF_RUNS])
+        for name in (*OF_RUNS, DIE):
+            with contextlib.suppress(FileNotFoundError):
+                os.unlink(os.path.join(folder, name))
         for name, pieces in texts.items():
             _put(os.path.join(folder, name), pieces)
     except OSError as error:

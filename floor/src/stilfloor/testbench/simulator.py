@@ -11,9 +11,10 @@ from stilfloor.faults import REFUSED, TOOL, UNREADABLE, Fault, Faults
 from stilfloor.testbench.names import HARMLESS, escaped
 from stilfloor.testbench.ports import Design, read_design
 
+PROBE = "probe.v"
 RUN, LOG = "testbench.vvp", "testbench.log"
 MADE = (RUN, LOG)
-COMPLAINT = re.compile(r"(?:\./)?([\w./]+):(\d+): (?:(syntax error|error|sorry)(?:: )?(.*)|(?!warning)(.*))")
+COMPLAINT = re.compile(r"(?:\./)?([\w./]+):(\d+): (?!warning)(?:error: |sorry: )?(.*)")
 # a design without a timescale of its own has this one
 TIMESCALE = "`timescale 1ns / 1ps\n"
 
@@ -68,11 +69,20 @@ def _complaints(text: str, sources: Sources) -> Fault:
     faults = []
     for line in text.splitlines():
         found = COMPLAINT.match(line)
-        if found and (said := " ".join(part for part in found.groups()[2:] if part)):
-            faults.append(Fault(REFUSED, f"iverilog: {said}", _named(found[1], sources), int(found[2])))
+        if found:
+            faults.append(_complaint(_named(found[1], sources), int(found[2]), found[3], sources))
     if not faults:
         return Fault(TOOL, "iverilog ended without a simulation: " + " ".join(text.split())[-300:])
     return Faults(faults[:20])
+
+
+def _complaint(file: str, line: int, said: str, sources: Sources) -> Fault:
+    """One complaint; what is said of the file that asks for the module is about that module."""
+    if file == PROBE:
+        top = said.rpartition(" ")[2]
+        return Fault(REFUSED, f"there is no module `{top}` in these files" if said.startswith("Unknown module") else f"iverilog: {said}",
+                     next(iter(sources.names.values()), ""))
+    return Fault(REFUSED, f"iverilog: {said}", file, line)
 
 
 def _named(path: str, sources: Sources) -> str:
@@ -87,9 +97,9 @@ def design_of(top: str, files: list[str], libraries: list[str]) -> Design:
         raise Fault(REFUSED, f"`{top}` can't be the name of a module here: it may have letters, digits and _$.:<>[]+-")
     with tempfile.TemporaryDirectory() as room:
         sources = link(files, libraries, room)
-        with open(os.path.join(room, "probe.v"), "w", encoding="ascii") as out:
+        with open(os.path.join(room, PROBE), "w", encoding="ascii") as out:
             out.write(f"module testbench;\n    {escaped(top)} dut();\nendmodule\n")
-        compile_in(sources, ["probe.v"], "probe")
+        compile_in(sources, [PROBE], "probe")
         with open(os.path.join(room, "probe"), encoding="latin-1") as code:
             return read_design(code.read(), top)
 

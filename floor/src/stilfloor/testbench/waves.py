@@ -9,10 +9,20 @@ FILE = "waves.vcd"
 
 
 @dataclass(slots=True)
-class Waves:
-    """The signals of a program by their names with what is seen of them, and the hierarchical names of further nets."""
+class Line:
+    """A signal in the waves: its number and name, what drives it if something does, and whether it is looked at."""
 
-    signals: list[tuple[int, str, bool]]
+    signal: int
+    name: str
+    drive: str
+    is_looked_at: bool
+
+
+@dataclass(slots=True)
+class Waves:
+    """The signals of a program that have nets, and the hierarchical names of further nets."""
+
+    lines: list[Line]
     nets: list[str] = field(default_factory=list)
 
     def state(self) -> Iterator[str]:
@@ -23,7 +33,7 @@ class Waves:
     def around(self, wants: list[tuple[str, str, str]]) -> tuple[str, str]:
         """What stands before a moment is judged, and behind that."""
         low, high, off = (" | ".join(names) for names in zip(*wants))
-        before = (f"            want_value = {high} | {off};\n            want_vague = ~({low} | {high});\n            fails_then = fails;\n")
+        before = f"            want_value = {high} | {off};\n            want_vague = ~({low} | {high});\n            fails_then = fails;\n"
         return before, "            failing = fails != fails_then;\n"
 
     def begin(self) -> str:
@@ -33,13 +43,15 @@ class Waves:
 
     def module(self) -> Iterator[str]:
         """The module `waves`, whose lines are those of the file."""
-        names = Names(["waves", "fail", "fails", "cycle", "try"])
-        yield "\n// the lines of the waves: each signal as it is seen, what is wanted of it, and the fails\nmodule waves;\n"
-        for signal, name, is_looked_at in self.signals:
-            line = names.new(name)
-            yield f"    wire {line} = testbench.seen[{signal}];\n"
-            if is_looked_at:
-                want = f"testbench.want_vague[{signal}] ? (testbench.want_value[{signal}] ? 1'bz : 1'bx) : testbench.want_value[{signal}]"
-                yield f"    wire {names.new(line[1:-1] + '.want')} = {want};\n"
+        names = Names(["testbench", "waves", "fail", "fails", "cycle"])
+        yield "\n// the lines of the waves: each signal as it is driven or seen, what is wanted of it, and the fails\nmodule waves;\n"
+        for line in self.lines:
+            seen, drive = f"testbench.seen[{line.signal}]", f"testbench.{line.drive}"
+            levels = {"": seen if line.is_looked_at or not line.drive else drive}
+            if line.is_looked_at:
+                levels |= {".drive": drive} if line.drive else {}
+                wants = (f"testbench.want_{what}[{line.signal}]" for what in ("vague", "value", "value"))
+                levels[".want"] = f"{next(wants)} ? ({next(wants)} ? 1'bz : 1'bx) : {next(wants)}"
+            yield "".join(f"    wire {names.new(line.name + end)} = {level};\n" for end, level in levels.items())
         yield "    wire fail = testbench.failing;\n    wire [63:0] fails = testbench.fails;\n    wire [63:0] cycle = testbench.cycles;\n"
         yield "endmodule\n"

@@ -1,6 +1,6 @@
 """The word `testbench`: what it makes, and what it says of a run."""
 
-from dataclasses import dataclass
+from dataclasses import dataclass, field
 
 from stilfloor.faults import REFUSED
 from stilfloor.testbench import beside, make, simulator
@@ -10,10 +10,11 @@ from stilfloor.testbench.waves import FILE
 
 @dataclass(slots=True)
 class Answer:
-    """The lines that are printed, and the exit status."""
+    """The lines that are printed, the exit status, and what is told beside them."""
 
     lines: list[str]
     status: int = 0
+    notes: list[str] = field(default_factory=list)
 
 
 def answer(wish: make.Wish, folder: str, is_run: bool) -> Answer:
@@ -23,12 +24,18 @@ def answer(wish: make.Wish, folder: str, is_run: bool) -> Answer:
     job = make.job_of(wish)
     paths = make.write(job, folder)
     if not is_run and not wish.waves:
-        return Answer(paths)
+        return Answer(paths, 0, _notes(job))
     lines = simulator.simulate(folder, [make.BENCH, *([make.DIE] if job.written else [])], wish.files, wish.libraries)
     told = _of_design(job, lines) if job.design else _of_die(wish, job, lines)
     if wish.waves:
         told.lines.append(f"{folder}/{FILE}")
+    told.notes = _notes(job)
     return told
+
+
+def _notes(job: Job) -> list[str]:
+    """What a design lacks."""
+    return [f"{job.lot.plan.file}:1:1: warning: the design has no port `{name}`, so what drives it is left out" for name in job.binding.lacking]
 
 
 def _of_design(job: Job, lines: list[str]) -> Answer:

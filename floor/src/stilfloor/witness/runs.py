@@ -3,6 +3,7 @@
 import contextlib
 import os
 import random
+import re
 import tempfile
 from collections import Counter
 from collections.abc import Iterable
@@ -17,7 +18,9 @@ from stilfloor.witness.plans import random_plan
 from stilfloor.witness.texts import Writer
 
 # how many of the random programs learn their looks from a good die, and how many of these have nets that are stuck in a first try alone
-LEARNS, HEALS = 0.35, 0.6
+LEARNS, HEALS = 0.55, 0.35
+# how many of the looks that were learnt become windows
+WINDOWS = 0.25
 
 
 @dataclass(slots=True)
@@ -83,8 +86,14 @@ def write_random(seed: int, room: str) -> make.Wish:
         _put(path, text)
     if learns:
         with contextlib.suppress(Fault):
-            _put(wish.program, learn(wish.program, wish.plan).text)
+            _put(wish.program, _with_windows(learn(wish.program, wish.plan).text, chance))
     return wish
+
+
+def _with_windows(text: str, chance: random.Random) -> str:
+    """The text with some of its looks as windows, which mostly are right as long as nothing moves."""
+    head, mark, patterns = text.partition("Pattern p0")
+    return head + mark + re.sub("(?<==)[LH](?=;)", lambda found: found[0].lower() if chance.random() < WINDOWS else found[0], patterns)
 
 
 def _put(path: str, text: str) -> None:

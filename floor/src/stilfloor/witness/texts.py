@@ -57,6 +57,7 @@ class Writer:
         self.ends: list[Signal] = []
         self.enable: Signal | None = None
         self.shy = chance.random() < 0.5
+        self.steady = chance.choice((0.9, 0.9, 0.5))
 
     def write(self) -> Program:
         """The program."""
@@ -164,9 +165,10 @@ class Writer:
         if signal.letters == "looks":
             return "X" if is_quiet or self.chance.random() < 0.6 else "L" if self.learns else self.chance.choice("LHLHLHTlhtwvusm")
         if signal.letters == "clock":
-            return "R" if self.chance.random() < 0.8 else self.chance.choice(list(CLOCK))
-        if self.chance.random() < 0.75:
-            return self.chance.choice("01")
+            return "R" if self.chance.random() < self.steady else self.chance.choice(self.chance.choice(("noqx", list(CLOCK))))
+        kind = self.chance.random()
+        if kind < 0.85:
+            return self.chance.choice("01" if kind < 0.55 else "rf")
         letters = [letter for letter in self._letters(signal) if not ((is_quiet or self.learns) and letter in "LHw")]
         return self.chance.choice(letters)
 
@@ -195,7 +197,8 @@ class Writer:
     def _load(self, is_quiet: bool) -> str:
         """A load of the chains, whose data may have any lengths."""
         parts = [f"{signal.name}={self._some('01', 6)};" for signal in self.scan if self.chance.random() < 0.9]
-        parts += [f"{signal.name}={self._some('X' if is_quiet else 'LLX' if self.learns else 'LHXLHTl', 6)};" for signal in self.ends if self.chance.random() < 0.9]
+        looks = "X" if is_quiet else "LLX" if self.learns else "LHXLHTl"
+        parts += [f"{signal.name}={self._some(looks, 6)};" for signal in self.ends if self.chance.random() < 0.9]
         return "Call load { " + " ".join(parts) + " }"
 
     def _some(self, letters: str, most: int) -> str:
@@ -209,7 +212,8 @@ class Writer:
         if self.scan and self.ends and self.program.clock and self.enable:
             ends = " ".join(f"{signal.name}=#;" for signal in [*self.scan, *self.ends])
             quiet = "".join(f" {signal.name}=X;" for signal in self.program.signals if self.learns and signal.letters == "looks")
-            load = f"load {{ C {{ {self.enable.name}=1; {self.program.clock.name}=R;{quiet} }} Shift {{ V {{ {ends} }} }} C {{ {self.enable.name}=0; }} }}"
+            first = f"C {{ {self.enable.name}=1; {self.program.clock.name}=R;{quiet} }}"
+            load = f"load {{ {first} Shift {{ V {{ {ends} }} }} C {{ {self.enable.name}=0; }} }}"
         elif self.scan:
             self.scan = []
         return [*parts, f"Procedures {{ {procedure}\n{load} }}"]
