@@ -9,7 +9,7 @@ from collections.abc import Callable, Iterator
 from typing import IO, TYPE_CHECKING
 
 from stilfloor import __version__
-from stilfloor.faults import REFUSED, STATUSES, UNREADABLE, Fault, shown
+from stilfloor.faults import REFUSED, STATUSES, UNREADABLE, USAGE, Fault, shown
 from stilfloor.names import replacing
 
 if TYPE_CHECKING:
@@ -71,6 +71,24 @@ def _add_making(words: "argparse._SubParsersAction[argparse.ArgumentParser]") ->
     word.add_argument("-o", dest="out", required=True, metavar="OUT.stil", help="where the fitted text goes, with as many lines")
     word.add_argument("--include", action="append", default=[], metavar="DIR", help="a folder in which included files are looked for")
     word.add_argument("--unit", default="", choices=("s", "ms", "us", "ns", "ps", "fs"), help="the unit of times that are written without one")
+    _add_testbench(words)
+
+
+def _add_testbench(words: "argparse._SubParsersAction[argparse.ArgumentParser]") -> None:
+    word = _add(words, "testbench", "write a program as a Verilog testbench round a die of the plan, or round a design of your own",
+                "stilfloor testbench examples/s27scan/s27scan.stil examples/s27scan/lot.csv --die c --run -o bench\n"
+                "  stilfloor testbench alu.stil alu.csv --rtl alu --files alu.v --run -o bench", testbench)
+    word.add_argument("program", metavar="PROGRAM", help="the STIL text or saved program")
+    word.add_argument("plan", metavar="PLAN", help="the plan of the lot")
+    word.add_argument("--site", type=_number, metavar="S", help="the site whose die it is (that of the first die that fits)")
+    word.add_argument("--die", metavar="D", help="the die's name (the first one that fits)")
+    word.add_argument("--rtl", metavar="TOP", help="this module of your own in the die's place")
+    word.add_argument("--files", nargs="+", default=[], metavar="F.v", help="the files of that module, SystemVerilog where a name ends with .sv")
+    word.add_argument("--libs", nargs="+", default=[], metavar="L.v", help="files of which only the modules that are used are taken")
+    word.add_argument("--run", action="store_true", help="run it by iverilog: beside `stil lot`, or for the fails of your own module")
+    word.add_argument("--waves", action="store_true", help="run it, and write DIR/waves.vcd")
+    word.add_argument("--net", action="append", default=[], metavar="NET", help="a net that is in the waves, too; may come again")
+    word.add_argument("-o", dest="folder", required=True, metavar="DIR", help="the folder to write into")
 
 
 def _add_finding(words: "argparse._SubParsersAction[argparse.ArgumentParser]") -> None:
@@ -166,6 +184,24 @@ def fit(words: argparse.Namespace) -> int:
     changes = fit_file(words.file, words.out, words.include, words.unit)
     sys.stderr.writelines(f"{change.told()}\n" for change in changes)
     return 0
+
+
+def testbench(words: argparse.Namespace) -> int:
+    """The word `testbench`."""
+    from stilfloor.testbench.make import Wish
+    from stilfloor.testbench.word import answer
+
+    if bool(words.files) != bool(words.rtl):
+        raise Fault(USAGE, "--rtl TOP and --files F.v .. belong together")
+    if words.net and not words.waves or words.libs and not words.rtl:
+        raise Fault(USAGE, "--net belongs to --waves, and --libs to --rtl")
+    wish = Wish(words.program, words.plan, words.site, words.die, words.rtl, words.files, words.libs, words.waves, words.net)
+    told = answer(wish, words.folder, words.run)
+    for line in told.notes:
+        say(line)
+    for line in told.lines:
+        print(line)
+    return told.status
 
 
 def _put(path: str | None, pieces: Iterator[str], encoding: str = "utf-8") -> None:
