@@ -6,7 +6,7 @@ use Rattle.std.specs.Option.{option_map_or}
 use Rattle.tester_types.specs.Outside.{Files, file_of}
 use Rattle.tester_types.specs.declared.record.Trial.{Trial}
 use Rattle.packed_code.specs.declared.parts.CodeSignal.{CodeSignal}
-use Rattle.bench_net.specs.Circuit.{Net, Circuit}
+use Rattle.bench_net.specs.Circuit.{Circuit}
 use Rattle.die_sim.specs.Die.{is_clock, is_input, bind_at}
 use Rattle.die_sim.specs.declared.image.Bind.{Bind}
 use Rattle.plan_rows.specs.declared.row.Row.{Row}
@@ -14,9 +14,9 @@ use Rattle.plan_rows.specs.Rows.{dies_at}
 use Rattle.lot_plan.specs.Needs.{needs_of, clock_of}
 use Rattle.lot_plan.specs.Binds.{binds_of, list_of}
 use Rattle.lot_plan.specs.Bound.{Bound, circuit_of}
-use Rattle.site_meaning.specs.Part.{Part, part_of, dies_in, circuit_in}
+use Rattle.site_meaning.specs.Part.{Part, part_of, dies_in}
 use Rattle.site_meaning.specs.Trials.{uncut, trial}
-use Rattle.site_meaning.specs.Alike.{AreCircuitsAlike, ArePartsAlike}
+use Rattle.site_meaning.specs.Alike.{ArePartsAlike}
 use Rattle.site_meaning.proofs.AlikeLemmas.{binds_alike, trials_alike}
 use Rattle.site_meaning.proofs.PartLemmas.{dies_in-part_of, circuit_in-part_of}
 use Rattle.site_run.specs.Taped.{calls_of_try}

@@ -1,6 +1,6 @@
 -- Parts that are alike have one grade, of whole lists and of runs of neighbours: `grade_alike`, `run_alike`; so have files
 -- of the same bytes: `first_parts`.
-use Rattle.std.proofs.Common.{◌≡◌, ℕ, ◌-◌, ◌<◌, ℤ, List, [], ◌∷◌, length, map, Option, Some, None, refl, sym, ap, ◌∙◌, subst, arith}
+use Rattle.std.proofs.Common.{◌≡◌, ℕ, ◌-◌, ◌<◌, List, [], ◌∷◌, length, map, Option, Some, None, refl, sym, ap, ◌∙◌, subst, arith}
 use Rattle.std.specs.Prelude.{Result}
 use Rattle.std.specs.List.{flat_map, range_with_len}
 use Rattle.std.specs.Option.{option_map_or}
@@ -14,7 +14,7 @@ use Rattle.die_sim.specs.Die.{Device, fixed_of}
 use Rattle.die_sim.specs.declared.image.Bind.{Bind}
 use Rattle.die_sim.specs.declared.image.StuckAt.{StuckAt}
 use Rattle.plan_rows.specs.declared.row.Row.{Row}
-use Rattle.plan_rows.specs.Rows.{dies_at, sites_of, skews_at, lot_of}
+use Rattle.plan_rows.specs.Rows.{sites_of, skews_at, lot_of}
 use Rattle.lot_plan.specs.Needs.{needs_of, clock_of}
 use Rattle.lot_plan.specs.Binds.{binds_of, list_of}
 use Rattle.lot_plan.specs.Bound.{Bound}

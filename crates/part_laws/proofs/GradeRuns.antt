@@ -1,6 +1,6 @@
 -- The texts of runs of the parts of a grade are read, and merge to the grade of the same bytes: `grades_are_read`,
 -- `runs_of_grade_parts`, `runs_of_grade_are_one`.
-use Rattle.std.proofs.Common.{◌≡◌, ℕ, zero, suc, ◌+◌, ◌*◌, ◌<◌, List, [], ◌∷◌, length, map, get_or, Some, refl, sym, ap, ◌∙◌, subst, arith}
+use Rattle.std.proofs.Common.{◌≡◌, ℕ, zero, suc, ◌+◌, ◌*◌, ◌<◌, List, [], ◌∷◌, length, map, Some, refl, sym, ap, ◌∙◌, subst, arith}
 use Rattle.std.specs.Prelude.{slice_get}
 use Rattle.std.specs.List.{range_with_len}
 use Rattle.std.proofs.lemmas.List.{length-map}
@@ -23,7 +23,6 @@ use Rattle.tool_inputs.specs.Inputs.{Inputs, AreInputs, bound_of}
 use Rattle.lot_laws.proofs.SiteLemmas.{die_net}
 use Rattle.lot_laws.proofs.LotLemmas.{same_places, rows_are}
 use Rattle.lot_laws.proofs.GradeAlike.{good_alike, names_alike, nets_alike, run_alike, first_parts, first_there}
-use Rattle.stil_tool.specs.OneText.{GradeRun}
 use Rattle.stil_tool.proofs.OneTextLemmas.{never_done, graded_so}
 use Rattle.grade_parts.specs.Part.{part_grade}
 use Rattle.grade_parts.specs.Printed.{AreOneLine, said_by, AreLogs, part_texts}
@@ -34,7 +33,7 @@ use Rattle.grade_parts.proofs.PartLemmas.{merged_is_whole}
 use Rattle.grade_parts.proofs.PrintedLemmas.{text_is_said}
 use Rattle.lot_parts.specs.Grades.{part_text, GradeWants, AreLogTexts}
 use Rattle.lot_parts.specs.Grades.GradeWants.{is_graded, is_refused}
-use Rattle.part_laws.specs.Grades.{PartRun, IsRunOfGrade, AreRunsOfGrade, texts_of, GradesAreRead, RunsOfGradeParts, RunsOfGradeAreOne}
+use Rattle.part_laws.specs.Grades.{PartRun, AreRunsOfGrade, texts_of, GradesAreRead, RunsOfGradeParts, RunsOfGradeAreOne}
 use Rattle.part_laws.proofs.Joined.{got_at}
 
 -- ---- the run of a part

@@ -1,5 +1,5 @@
 -- Runs of `grade` and of `dump` on the same bytes print one text: `one_grade_text`, `one_dump_text`.
-use Rattle.std.proofs.Common.{◌≡◌, ℕ, ◌<◌, Bool, true, false, List, Some, None, length, refl, sym, ap, ◌∙◌}
+use Rattle.std.proofs.Common.{◌≡◌, ℕ, ◌<◌, Bool, true, false, List, Some, length, refl, sym, ap, ◌∙◌}
 use Rattle.tester_types.specs.Outside.{Files}
 use Rattle.bench_net.specs.declared.fault.NetFault.{NetFault}
 use Rattle.bench_net.specs.declared.fault.NetFault.TheVariants as nets
@@ -28,7 +28,7 @@ use Rattle.stil_tool.specs.Grade.{GradeWants, graded_text}
 use Rattle.stil_tool.specs.Grade.{is_graded, is_refused}
 use Rattle.stil_tool.specs.Dump.{DumpWants, dumped_text}
 use Rattle.stil_tool.specs.Dump as dump
-use Rattle.stil_tool.specs.OneText.{AreSameFiles, GradeRun, DumpRun, OneGradeText, OneDumpText}
+use Rattle.stil_tool.specs.OneText.{AreSameFiles, OneGradeText, OneDumpText}
 
 -- ---- no refusal is done
 

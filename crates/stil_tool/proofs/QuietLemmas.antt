@@ -13,21 +13,19 @@ use Rattle.tester_types.specs.declared.record.Trial.{Trial}
 use Rattle.tester_types.specs.declared.record.Verdict.{Verdict}
 use Rattle.tester_types.specs.declared.record.Verdict.TheVariants as verdict
 use Rattle.die_sim.specs.Socket.{Told}
-use Rattle.plan_rows.specs.Rows.{dies_at, sites_of}
+use Rattle.plan_rows.specs.Rows.{dies_at}
 use Rattle.lot_plan.specs.Bound.{Bound}
-use Rattle.site_meaning.specs.Part.{part_of, dies_in}
 use Rattle.site_meaning.specs.Trials.{uncut, cut_of, cut_of_verdict}
 use Rattle.site_meaning.specs.Polls.{live_number, live_numbers, Climbs}
 use Rattle.site_meaning.proofs.PartLemmas.{dies_in-part_of}
-use Rattle.floor_core.specs.Book.{at_site, empty_site}
+use Rattle.floor_core.specs.Book.{empty_site}
 use Rattle.tester_run.specs.Work.{is_contact, contacts_of, contacts_in}
 use Rattle.tester_run.specs.Lot.{AreOfSite, said_since}
 use Rattle.tool_inputs.specs.Inputs.{bound_of}
 use Rattle.lot_laws.specs.Alone.{AreUncut}
 use Rattle.lot_laws.proofs.LotLemmas.{uncut_lot}
-use Rattle.stil_tool.specs.Lot.{Floor, IsBook}
 use Rattle.stil_tool.specs.Alone.{LotRun, said, sites_in, records_at}
-use Rattle.stil_tool.specs.Quiet.{IsQuietAt, IsQuiet, QuietIsUncut, UncutText, QuietText, OneQuietText}
+use Rattle.stil_tool.specs.Quiet.{IsQuiet, QuietIsUncut, UncutText, QuietText, OneQuietText}
 use Rattle.stil_tool.proofs.RunLemmas.{some_item}
 use Rattle.stil_tool.proofs.AloneLemmas.{all_at, one_text}
 
