@@ -1,5 +1,5 @@
 -- The texts of runs of the parts of a grade are read, and merge to the grade of the same bytes: `grades_are_read`,
--- `runs_of_grade_parts`, `runs_of_grade_are_one`.
+-- `runs_of_grade_parts`, `runs_of_grade_are_one`, `merge_grade_writes_grade`.
 use Rattle.std.proofs.Common.{◌≡◌, ℕ, zero, suc, ◌+◌, ◌*◌, ◌<◌, List, [], ◌∷◌, length, map, Some, refl, sym, ap, ◌∙◌, subst, arith}
 use Rattle.std.specs.Prelude.{slice_get}
 use Rattle.std.specs.List.{range_with_len}
@@ -23,6 +23,7 @@ use Rattle.tool_inputs.specs.Inputs.{Inputs, AreInputs, bound_of}
 use Rattle.lot_laws.proofs.SiteLemmas.{die_net}
 use Rattle.lot_laws.proofs.LotLemmas.{same_places, rows_are}
 use Rattle.lot_laws.proofs.GradeAlike.{good_alike, names_alike, nets_alike, run_alike, first_parts, first_there}
+use Rattle.stil_tool.specs.OneText.{GradeRun}
 use Rattle.stil_tool.proofs.OneTextLemmas.{never_done, graded_so}
 use Rattle.grade_parts.specs.Part.{part_grade}
 use Rattle.grade_parts.specs.Printed.{AreOneLine, said_by, AreLogs, part_texts}
@@ -31,10 +32,14 @@ use Rattle.grade_parts.specs.Merged.{AgreeWith, merged_text}
 use Rattle.grade_parts.proofs.NameLemmas.{net_names_plain}
 use Rattle.grade_parts.proofs.PartLemmas.{merged_is_whole}
 use Rattle.grade_parts.proofs.PrintedLemmas.{text_is_said}
-use Rattle.lot_parts.specs.Grades.{part_text, GradeWants, AreLogTexts}
+use Rattle.lot_parts.specs.declared.outcome.Outcome.TheVariants.{Ended}
+use Rattle.lot_parts.specs.Files.{ArePartFiles}
+use Rattle.lot_parts.specs.Grades.{part_text, GradeWants, AreLogTexts, Agree, MergeWants}
+use Rattle.lot_parts.specs.Grades.MergeWants.{are_merged, is_refused as not_merged}
 use Rattle.lot_parts.specs.Grades.GradeWants.{is_graded, is_refused}
-use Rattle.part_laws.specs.Grades.{PartRun, AreRunsOfGrade, texts_of, GradesAreRead, RunsOfGradeParts, RunsOfGradeAreOne}
+use Rattle.part_laws.specs.Grades.{PartRun, AreRunsOfGrade, texts_of, GradesAreRead, RunsOfGradeParts, RunsOfGradeAreOne, MergeGradeWritesGrade}
 use Rattle.part_laws.proofs.Joined.{got_at}
+use Rattle.part_laws.proofs.MergeWritten.{files_one, never_merged}
 
 -- ---- the run of a part
 
@@ -153,13 +158,13 @@ module _ (files : Files) (program plan : List ℕ) (inputs : Inputs) (are : AreI
   own_good (part ∷ parts) = (refl, own_good parts)
 
   all_read : (first : GradeLog) × (later : List GradeLog) × AreLogTexts (texts_of runs) (first ∷ later)
-      × AgreeWith first.good later
+      × Agree (first ∷ later)
   unfolding own_text
   all_read = by (length runs) refl given.some
     where
       by : (count : ℕ) → count ≡ length runs → 0 < count
           → (first : GradeLog) × (later : List GradeLog) × AreLogTexts (texts_of runs) (first ∷ later)
-          × AgreeWith first.good later
+          × Agree (first ∷ later)
       by zero is some = absurd (omega (arith, some))
       by (suc more) is some = (
         own_log 0,
@@ -198,3 +203,19 @@ pub runs_of_grade_are_one : RunsOfGradeAreOne
 runs_of_grade_are_one whole runs given first later say =
     let a = graded_so whole.files whole.before whole.now whole.program whole.plan whole.text whole.is in
     runs_of_grade_parts whole.files whole.program whole.plan a.inputs runs a.are given first later say ∙ sym a.written
+
+-- what `merge-grade` writes
+written_so : (whole : GradeRun) (runs : List PartRun) → AreRunsOfGrade whole.files whole.program whole.plan runs
+    → (told : Files) (before now : ℕ) (names : List (List ℕ)) (text : List ℕ)
+    → ArePartFiles (Some told) names (texts_of runs) → MergeWants (Some told) before now names (Ended Done) text
+    → text ≡ whole.text
+written_so whole runs given told before now names text have (not_merged r cause answer line) =
+    absurd (never_merged r answer)
+written_so whole runs given told before now names text have (are_merged done texts read first later say agree written) =
+    written
+    ∙ runs_of_grade_are_one whole runs given first later
+    (subst (λ (l : List (List ℕ)). AreLogTexts l (first ∷ later)) (files_one told names texts (texts_of runs) read have) say)
+
+pub merge_grade_writes_grade : MergeGradeWritesGrade
+merge_grade_writes_grade whole runs given text is =
+    written_so whole runs given is.told is.before is.now is.names text is.texts is.is

@@ -16,5 +16,6 @@ pub mod Joined
 pub mod WholeBook
 pub mod WholeFloor
 pub mod MergedLaws
+pub mod MergeWritten
 pub mod GradeRuns
 mod StandardFacts

@@ -89,7 +89,7 @@ module _ {S : Type 0} (tells : S → Told) where
   -- ---- seen from outside
 
   -- quiet runs are uncut
-  quiet_are_uncut : (runs : List (LotRun tells)) → AreAllQuiet runs → AreAllUncut runs
+  pub quiet_are_uncut : (runs : List (LotRun tells)) → AreAllQuiet runs → AreAllUncut runs
   quiet_are_uncut runs quiet part run got = all_uncut tells run (quiet part run got)
 
   pub merged_is_quiet_text : MergedIsQuietText tells

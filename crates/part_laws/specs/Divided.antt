@@ -1,6 +1,6 @@
 -- What the merged text of the parts of a plan is where neither a live stop nor a lost contact cuts a try: without a run
 -- of the whole plan, and however many parts there are.
-use Rattle.std.specs.Prelude.{◌≡◌, ℕ, Some, List, slice_get}
+use Rattle.std.specs.Prelude.{◌≡◌, ℕ, Some, List, map, slice_get}
 use Rattle.tester_types.specs.Outside.{Files, file_of}
 use Rattle.die_sim.specs.Socket.{Told}
 use Rattle.tool_inputs.specs.Inputs.{Inputs, bound_of}
@@ -10,6 +10,10 @@ use Rattle.stil_tool.specs.Alone.{LotRun, records_at}
 use Rattle.stil_tool.specs.Quiet.{IsQuiet}
 use Rattle.log_parts.specs.Log.{DieLog}
 use Rattle.log_parts.specs.Merged.{merged_text}
+use Rattle.tool_inputs.specs.declared.status.Status.TheVariants.{Done}
+use Rattle.lot_parts.specs.declared.outcome.Outcome.TheVariants.{Ended}
+use Rattle.lot_parts.specs.Files.{ArePartFiles}
+use Rattle.lot_parts.specs.Merging.{MergeWants}
 use Rattle.part_laws.specs.Runs.{AreRunsOfParts}
 use Rattle.part_laws.specs.Laws.{AreLogsOf}
 
@@ -67,3 +71,30 @@ OneQuietDivision tells =
     (inputs inputs' : Inputs) (runs runs' : List (LotRun tells)) (logs logs' : List (List (List DieLog)))
     → AreTwoDivisions tells inputs inputs' runs runs' logs logs' → AreAllQuiet runs → AreAllQuiet runs'
     → merged_text inputs.rows logs ≡ merged_text inputs'.rows logs'
+
+-- `merge` of `lots` was done on a plan with the bytes of this one and on files with the texts of these runs, and wrote
+-- this text.
+pub record MergesRuns {S : Type 0} (tells : S → Told) (files : Files) (plan : List ℕ) (runs : List (LotRun tells))
+    (text : List ℕ) : Type 0 where
+  pub told : Files
+  pub before : ℕ
+  pub now : ℕ
+  pub name : List ℕ
+  pub names : List (List ℕ)
+  pub one_plan : file_of files plan ≡ file_of told name
+  pub texts : ArePartFiles (Some told) names (map (λ (run : LotRun tells). run.text) runs)
+  pub is : MergeWants (Some told) before now name names (Ended Done) text
+
+-- So what `merge` writes of runs of all parts is the text of the bound plan without cuts, where nothing cuts a try.
+abbrev pub MergeWritesUncutText : {S : Type 0} → (S → Told) → Type 0
+MergeWritesUncutText tells =
+    (files : Files) (program plan : List ℕ) (inputs : Inputs) (runs : List (LotRun tells))
+    → AreRunsOfParts tells files program plan inputs runs → (text : List ℕ) → MergesRuns tells files plan runs text
+    → AreAllUncut runs → text ≡ uncut_text (bound_of inputs)
+
+-- So it is where no stop was said and no fault was counted.
+abbrev pub MergeWritesQuietText : {S : Type 0} → (S → Told) → Type 0
+MergeWritesQuietText tells =
+    (files : Files) (program plan : List ℕ) (inputs : Inputs) (runs : List (LotRun tells))
+    → AreRunsOfParts tells files program plan inputs runs → (text : List ℕ) → MergesRuns tells files plan runs text
+    → AreAllQuiet runs → text ≡ uncut_text (bound_of inputs)

@@ -1,8 +1,20 @@
 //! The laws.
 
 ghost use Rattle.part_laws.specs.Laws.{MergedIsLot, MergedIsOneText, RunsAreRead};
-ghost use Rattle.part_laws.specs.Grades.{GradesAreRead, RunsOfGradeAreOne, RunsOfGradeParts};
-ghost use Rattle.part_laws.specs.Divided.{MergedIsQuietText, MergedIsUncutText, OneDivision, OneQuietDivision};
+ghost use Rattle.part_laws.specs.Grades.{
+  GradesAreRead,
+  MergeGradeWritesGrade,
+  RunsOfGradeAreOne,
+  RunsOfGradeParts,
+};
+ghost use Rattle.part_laws.specs.Divided.{
+  MergedIsQuietText,
+  MergedIsUncutText,
+  MergeWritesQuietText,
+  MergeWritesUncutText,
+  OneDivision,
+  OneQuietDivision,
+};
 
 use die_sim::Socket;
 
@@ -30,13 +42,20 @@ pub fn merged_without_cuts<K: Socket>()
     ensures quiet { MergedIsQuietText K.told }
 {}
 
+/// So what `merge` writes of the texts of these runs is that text.
+pub fn merge_of_runs<K: Socket>()
+    ensures uncut { MergeWritesUncutText K.told }
+    ensures quiet { MergeWritesQuietText K.told }
+{}
+
 /// Two divisions of one plan, on files of their own with the same bytes, merge to one text under the same conditions.
 pub fn one_division<K: Socket>()
     ensures uncut { OneDivision K.told }
     ensures quiet { OneQuietDivision K.told }
 {}
 
-/// The texts of runs of all parts of a grade, each on files of its own with the same bytes, are grades, which are read.
+/// The texts of runs of all parts of a grade, each on files of its own with the same bytes, are grades that say the same of
+/// the good die.
 pub fn grades_are_read()
     ensures { GradesAreRead }
 {}
@@ -45,4 +64,9 @@ pub fn grades_are_read()
 pub fn runs_of_grade_parts()
     ensures graded { RunsOfGradeParts }
     ensures one { RunsOfGradeAreOne }
+{}
+
+/// So what `merge-grade` writes of these texts is what `grade` prints on these bytes.
+pub fn merge_grade_of_runs()
+    ensures { MergeGradeWritesGrade }
 {}
