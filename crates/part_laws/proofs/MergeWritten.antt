@@ -11,7 +11,7 @@ use Rattle.plan_rows.specs.Plan.{IsPlan}
 use Rattle.plan_rows.proofs.PlanLemmas.{one_plan}
 use Rattle.tool_inputs.specs.declared.status.Status.{Status}
 use Rattle.tool_inputs.specs.declared.status.Status.TheVariants.{Done}
-use Rattle.tool_inputs.specs.Inputs.{Inputs, IsPlanFile, bound_of}
+use Rattle.tool_inputs.specs.Inputs.{Inputs, bound_of}
 use Rattle.lot_laws.specs.Uncut.{uncut_text}
 use Rattle.stil_tool.specs.Alone.{LotRun}
 use Rattle.stil_tool.proofs.OneTextLemmas.{never_done}
