@@ -26,15 +26,15 @@ use Rattle.lot_laws.proofs.GradeAlike.{good_alike, names_alike, nets_alike, run_
 use Rattle.stil_tool.specs.OneText.{GradeRun}
 use Rattle.stil_tool.proofs.OneTextLemmas.{never_done, graded_so}
 use Rattle.grade_parts.specs.Part.{part_grade}
-use Rattle.grade_parts.specs.Printed.{AreOneLine, said_by, AreLogs, part_texts}
+use Rattle.grade_parts.specs.Printed.{AreOneLine, AreNames, said_by, AreLogs, part_texts}
 use Rattle.grade_parts.specs.Log.{GradeLog}
-use Rattle.grade_parts.specs.Merged.{AgreeWith, merged_text}
-use Rattle.grade_parts.proofs.NameLemmas.{net_names_plain}
-use Rattle.grade_parts.proofs.PartLemmas.{merged_is_whole}
+use Rattle.grade_parts.specs.Merged.{AreParts, merged_text}
+use Rattle.grade_parts.proofs.NameLemmas.{net_names_are}
+use Rattle.grade_parts.proofs.PartLemmas.{merged_is_whole, parts_are_taken}
 use Rattle.grade_parts.proofs.PrintedLemmas.{text_is_said}
 use Rattle.lot_parts.specs.declared.outcome.Outcome.TheVariants.{Ended}
 use Rattle.lot_parts.specs.Files.{ArePartFiles}
-use Rattle.lot_parts.specs.Grades.{part_text, GradeWants, AreLogTexts, Agree, MergeWants}
+use Rattle.lot_parts.specs.Grades.{part_text, GradeWants, AreLogTexts, MergeWants}
 use Rattle.lot_parts.specs.Grades.MergeWants.{are_merged, is_refused as not_merged}
 use Rattle.lot_parts.specs.Grades.GradeWants.{is_graded, is_refused}
 use Rattle.part_laws.specs.Grades.{PartRun, AreRunsOfGrade, texts_of, GradesAreRead, RunsOfGradeParts, RunsOfGradeAreOne, MergeGradeWritesGrade}
@@ -131,13 +131,16 @@ module _ (files : Files) (program plan : List ℕ) (inputs : Inputs) (are : AreI
       ∙ same_text k found.0 found.1
       ∙ sym (get_or-map-range_with_len own_text 0 (length runs) k k [] less (omega arith)))
 
-  -- no name of a net has a line feed
-  one_line : AreOneLine (names_of bound)
-  one_line =
+  -- the names of its nets have no line feed, are printed as themselves and stand once
+  are_names : AreNames (names_of bound)
+  are_names =
       let planned = first-die bound some_die in
       let net = die_net files program plan inputs are (first_site bound) 0 planned in
-      subst (λ (c : Circuit). AreOneLine c.net.names) (sym (circuit_in-part_of bound (first_site bound) 0 planned))
-      (net_names_plain net.bytes _ net.net)
+      subst (λ (c : Circuit). AreNames c.net.names) (sym (circuit_in-part_of bound (first_site bound) 0 planned))
+      (net_names_are net.bytes _ net.net)
+
+  one_line : AreOneLine (names_of bound)
+  one_line = are_names.one
 
   -- ---- they are read
 
@@ -151,38 +154,37 @@ module _ (files : Files) (program plan : List ℕ) (inputs : Inputs) (are : AreI
   own_logs (part ∷ parts) =
       (text_is_said (names_of bound) (part_grade bound (length runs) part) one_line, own_logs parts)
 
-  -- all say the same of the good die
-  own_good : (parts : List ℕ) → AgreeWith (own_log 0).good (map own_log parts)
-  unfolding part_grade
-  own_good [] = tt
-  own_good (part ∷ parts) = (refl, own_good parts)
-
-  all_read : (first : GradeLog) × (later : List GradeLog) × AreLogTexts (texts_of runs) (first ∷ later)
-      × Agree (first ∷ later)
-  unfolding own_text
-  all_read = by (length runs) refl given.some
-    where
-      by : (count : ℕ) → count ≡ length runs → 0 < count
-          → (first : GradeLog) × (later : List GradeLog) × AreLogTexts (texts_of runs) (first ∷ later)
-          × Agree (first ∷ later)
-      by zero is some = absurd (omega (arith, some))
-      by (suc more) is some = (
-        own_log 0,
-        map own_log (range_with_len 1 more),
-        subst (λ (texts : List (List ℕ)). AreLogTexts texts (own_log 0 ∷ map own_log (range_with_len 1 more)))
-            (ap (λ (n : ℕ). map own_text (range_with_len 0 n)) is ∙ sym texts_are)
-            (own_logs (range_with_len 0 (suc more))),
-        own_good (range_with_len 1 more),
-      )
-
-  -- ---- they are merged
-
   -- what texts say, in the words of the law on one bound plan
   are_logs : (texts : List (List ℕ)) (logs : List GradeLog) → AreLogTexts texts logs → AreLogs texts logs
   are_logs [] [] say = tt
   are_logs [] (log ∷ logs) say = absurd say
   are_logs (text ∷ texts) [] say = absurd say
   are_logs (text ∷ texts) (log ∷ logs) say = (say.0, are_logs texts logs say.1)
+
+  all_read : (first : GradeLog) × (later : List GradeLog) × AreLogTexts (texts_of runs) (first ∷ later)
+      × AreParts (first ∷ later)
+  unfolding own_text
+  all_read = by (length runs) refl given.some
+    where
+      by : (count : ℕ) → count ≡ length runs → 0 < count
+          → (first : GradeLog) × (later : List GradeLog) × AreLogTexts (texts_of runs) (first ∷ later)
+          × AreParts (first ∷ later)
+      by zero is some = absurd (omega (arith, some))
+      by (suc more) is some =
+          let logs = own_log 0 ∷ map own_log (range_with_len 1 more) in
+          let say : AreLogTexts (texts_of runs) logs =
+          subst (λ (texts : List (List ℕ)). AreLogTexts texts logs)
+          (ap (λ (n : ℕ). map own_text (range_with_len 0 n)) is ∙ sym texts_are)
+          (own_logs (range_with_len 0 (suc more))) in
+          (
+            own_log 0,
+            map own_log (range_with_len 1 more),
+            say,
+            parts_are_taken (names_of bound) bound (length runs) logs are_names refl (omega (arith, given.some))
+                (subst (λ (texts : List (List ℕ)). AreLogs texts logs) texts_are (are_logs (texts_of runs) logs say)),
+          )
+
+  -- ---- they are merged
 
   merged : (first : GradeLog) (later : List GradeLog) → AreLogTexts (texts_of runs) (first ∷ later)
       → merged_text first later ≡ grade_text (names_of bound) (grade_of bound)

@@ -6,10 +6,10 @@ use Rattle.tool_inputs.specs.Inputs.{Inputs, AreInputs, bound_of}
 use Rattle.stil_tool.specs.Grade.{graded_text}
 use Rattle.stil_tool.specs.OneText.{AreSameFiles, GradeRun}
 use Rattle.grade_parts.specs.Log.{GradeLog}
-use Rattle.grade_parts.specs.Merged.{merged_text}
+use Rattle.grade_parts.specs.Merged.{AreParts, merged_text}
 use Rattle.lot_parts.specs.declared.outcome.Outcome.TheVariants.{Ended}
 use Rattle.lot_parts.specs.Files.{ArePartFiles}
-use Rattle.lot_parts.specs.Grades.{GradeWants, AreLogTexts, Agree, MergeWants}
+use Rattle.lot_parts.specs.Grades.{GradeWants, AreLogTexts, MergeWants}
 
 -- what a run of `grade` of `lots` read and wrote: its files, the names of its program and its plan there, the counts of
 -- faults of its shelf, and its text
@@ -36,13 +36,13 @@ pub record AreRunsOfGrade (files : Files) (program plan : List ℕ) (runs : List
 abbrev pub texts_of : List PartRun → List (List ℕ)
 texts_of runs = map (λ (run : PartRun). run.text) runs
 
--- The texts of the runs of all parts are grades, and say the same of the good die.
+-- The texts of the runs of all parts are those of the parts of one grade, so they are taken.
 abbrev pub GradesAreRead : Type 0
 GradesAreRead =
     (files : Files) (program plan : List ℕ) (inputs : Inputs) (runs : List PartRun)
     → AreInputs (Some files) program plan inputs → AreRunsOfGrade files program plan runs
     → (first : GradeLog) × (later : List GradeLog) × AreLogTexts (texts_of runs) (first ∷ later)
-    × Agree (first ∷ later)
+    × AreParts (first ∷ later)
 
 -- What the texts of the runs of all parts say is merged to the grade of what the files say.
 abbrev pub RunsOfGradeParts : Type 0

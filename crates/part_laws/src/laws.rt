@@ -54,8 +54,8 @@ pub fn one_division<K: Socket>()
     ensures quiet { OneQuietDivision K.told }
 {}
 
-/// The texts of runs of all parts of a grade, each on files of its own with the same bytes, are grades that say the same of
-/// the good die.
+/// The texts of runs of all parts of a grade, each on files of its own with the same bytes, are those of the parts of one
+/// grade, so they are taken where they are merged.
 pub fn grades_are_read()
     ensures { GradesAreRead }
 {}
