@@ -175,8 +175,7 @@ module _ (files : Files) (program plan : List ℕ) (inputs : Inputs) (are : AreI
           let say : AreLogTexts (texts_of runs) logs =
           subst (λ (texts : List (List ℕ)). AreLogTexts texts logs)
           (ap (λ (n : ℕ). map own_text (range_with_len 0 n)) is ∙ sym texts_are)
-          (own_logs (range_with_len 0 (suc more))) in
-          (
+          (own_logs (range_with_len 0 (suc more))) in (
             own_log 0,
             map own_log (range_with_len 1 more),
             say,
