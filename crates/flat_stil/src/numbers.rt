@@ -1,6 +1,6 @@
 //! Numbers in the order in which they first come, each with its place.
 
-ghost use Rattle.std.specs.Prelude.{◌≡◌, ◌++◌, ◌∷◌, [], IfOk, OnOk, if◌then◌else◌};
+ghost use Rattle.std.specs.Prelude.{◌≡◌, ◌<◌, ◌++◌, ◌∷◌, [], ℕ, None, IfOk, OnOk, length, slice_index_or, if◌then◌else◌};
 ghost use Rattle.flat_parts.specs.Order.{is_in, number_in};
 ghost use Rattle.flat_stil.specs.Working.{IsPlace};
 
@@ -12,7 +12,7 @@ use tester_types::NoMemory;
 #[derive(Drop)]
 pub(crate) struct Numbers {
     order: Vec<u32>,
-    places: Vec<Option<u32>>,
+    places: Vec<Option<usize>>,
 }
 
 impl Model for Numbers {
@@ -49,7 +49,7 @@ impl Numbers {
         ensures { result ≡ number_in self.now number }
     {
         match self.known(number) {
-            Some(place) => u64::from(place),
+            Some(place) => place as u64,
             None => self.order.len() as u64,
         }
     }
@@ -62,7 +62,7 @@ impl Numbers {
     }
 
     /// The place of a number that is among them.
-    fn known(&self, number: u32) -> Option<u32>
+    fn known(&self, number: u32) -> Option<usize>
         ensures { IsPlace self.now number result }
     {
         let number = number as usize;
@@ -73,23 +73,29 @@ impl Numbers {
         }
     }
 
-    /// Puts a number at the end, unless it is among them. One that isn't below the bound has no place, and is answered as
-    /// want of memory; tables and rows that a code's Runs name are below it.
+    /// Puts a number at the end, unless it is among them.
     pub fn add(&mut self, number: u32) -> Result<(), NoMemory>
         ensures { OnOk result (self.new ≡ (if is_in self.old number then self.old else self.old ++ number ∷ [])) }
     {
         if self.has(number) {
             return Ok(());
         }
-        let place = number as usize;
-        if place >= self.places.len() {
-            return Err(NoMemory);
-        }
-        let Ok(last) = u32::try_from(self.order.len()) else {
-            return Err(NoMemory);
-        };
+        let last = self.order.len();
+        reach(&mut self.places, number)?;
         self.order.push(number)?;
-        self.places[place] = Some(last);
+        self.places[number as usize] = Some(last);
         Ok(())
     }
+}
+
+/// Makes room for the place of a number, where there is none. All places stay.
+fn reach(places: &mut Vec<Option<usize>>, number: u32) -> Result<(), NoMemory>
+    ensures room { OnOk result (number < length places.new.items) }
+    ensures kept { (n : ℕ) → slice_index_or places.new.items n None ≡ slice_index_or places.old.items n None }
+{
+    let many = number as usize + 1;
+    if places.len() < many {
+        places.resize(many, None)?;
+    }
+    Ok(())
 }

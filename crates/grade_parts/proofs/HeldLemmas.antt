@@ -127,13 +127,12 @@ pub known_so : (text rest line : List ℕ) (end all hits : ℕ) (known before no
     → rest ≡ drop end text → IsNextFault rest line before now
     → (told : List Stuck) × AreMore known (lines_of (take end text)) told before
     → (told : List Stuck) × AreMore known (lines_of (take (end + (length line + 1)) text)) told now
-known_so text rest line end all hits known before now held is has so_far =
-    (
-      so_far.0 ++ has.stuck ∷ [],
-      subst (λ (l : List (List ℕ)). AreMore known l (so_far.0 ++ has.stuck ∷ []) now)
-          (sym (lines_push text end all hits line held (subst (λ (l : List ℕ). IsFirst l line) is has.is_first)))
-          (more_push (lines_of (take end text)) known before now so_far.0 line has.stuck so_far.1 has.tells has.next has.more),
-    )
+known_so text rest line end all hits known before now held is has so_far = (
+  so_far.0 ++ has.stuck ∷ [],
+  subst (λ (l : List (List ℕ)). AreMore known l (so_far.0 ++ has.stuck ∷ []) now)
+      (sym (lines_push text end all hits line held (subst (λ (l : List ℕ). IsFirst l line) is has.is_first)))
+      (more_push (lines_of (take end text)) known before now so_far.0 line has.stuck so_far.1 has.tells has.next has.more),
+)
 
 -- it is whole within the text
 pub fits_so : (text rest line : List ℕ) (end : ℕ) → end ≤ length text → rest ≡ drop end text → IsFirst rest line

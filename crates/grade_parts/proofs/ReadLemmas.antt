@@ -55,17 +55,16 @@ has_good (Some line) good xs e = sym ((bytes_eq-Decides line good).0 e)
 pub part_of : (said : Option (List ℕ)) (before : List Stuck) (last : Bool) (good : List ℕ) (xs : List (List ℕ)) (told : List Stuck)
     → IsFrontOf said before last good xs told → AreEnded last (before ++ told)
     → IsPartOf said before last (front_of good xs ++ counts_line xs)
-part_of said before last good xs told front done =
-    (
-      record { good = good; faults = xs },
-      told,
-      record {
-        is_log = log_of good xs front.fits (turn_faults before xs told front.turn);
-        in_turn = front.turn;
-        ended = done;
-      },
-      has_good said good xs front.same,
-    )
+part_of said before last good xs told front done = (
+  record { good = good; faults = xs },
+  told,
+  record {
+    is_log = log_of good xs front.fits (turn_faults before xs told front.turn);
+    in_turn = front.turn;
+    ended = done;
+  },
+  has_good said good xs front.same,
+)
 
 -- some text of a part begins so
 some_back : (said : Option (List ℕ)) (before : List Stuck) (last : Bool) (good : List ℕ) (xs : List (List ℕ)) (told : List Stuck)
@@ -80,20 +79,18 @@ some_back said before last good xs told front =
     let text : front_of good lines ++ counts_line lines ≡ front_of good xs ++ (flat_map ended more.lines ++ counts_line lines) =
     ap (λ (l : List ℕ). (ended good ++ l) ++ counts_line lines) (flat_map-append ended xs more.lines)
     ∙ ap (λ (l : List ℕ). l ++ counts_line lines) (sym (append_assoc (ended good) (flat_map ended xs) (flat_map ended more.lines)))
-    ∙ append_assoc (front_of good xs) (flat_map ended more.lines) (counts_line lines) in
-    (
+    ∙ append_assoc (front_of good xs) (flat_map ended more.lines) (counts_line lines) in (
       flat_map ended more.lines ++ counts_line lines,
-      subst (IsPartOf said before last) text
-          (
-            record { good = good; faults = lines },
-            all,
-            record {
-              is_log = log_of good lines front.fits (turn_faults before lines all turn);
-              in_turn = turn;
-              ended = done;
-            },
-            has_good said good lines front.same,
-          ),
+      subst (IsPartOf said before last) text (
+        record { good = good; faults = lines },
+        all,
+        record {
+          is_log = log_of good lines front.fits (turn_faults before lines all turn);
+          in_turn = turn;
+          ended = done;
+        },
+        has_good said good lines front.same,
+      ),
     )
 
 -- behind the lines of faults a text of a part goes on so

@@ -64,12 +64,6 @@ told_parts line stuck front word tells last =
     (cycle_no_gap tells.cycle tells.is_cycle) e in
     (ap is_cycle both.1 ∙ tells.is_cycle, record { one = level_no_gap stuck.value; is = both.0 })
 
--- a line without a blank tells of none
-pub told_blank : (line : List ℕ) → list_any is_gap line ≡ false → (stuck : Stuck) → Tells line stuck → ⊥
-told_blank line none stuck tells =
-    no_last_word line ((codes "fault " ++ stuck.net) ++ 32 ∷ level_digit stuck.value) tells.cycle none
-    (tells.is ∙ value-digit (codes "fault " ++ stuck.net) tells.cycle stuck.value)
-
 -- a line whose last word is no cycle
 pub told_cycle : (line front word : List ℕ) → IsLastWord line front word → is_cycle word ≡ false → (stuck : Stuck)
     → Tells line stuck → ⊥

@@ -73,16 +73,25 @@ first_text = refl
 -- the text is that of the part
 first_read : IsLog (codes "good none\nfault a 0 1\nfault a 1 none\nfaults 2 found 1\n") first_part
 unfolding log_text digits is_digit
-first_read = record { are = record { good = refl; faults = (
+first_read = record {
+  are = record {
+    good = refl;
+    faults = (
+      (
+        record { net = codes "a"; value = false },
+        record { one = refl; is_net = refl; cycle = codes "1"; is_cycle = refl; is = refl },
+      ),
+      (
         (
-          record { net = codes "a"; value = false },
-          record { one = refl; is_net = refl; cycle = codes "1"; is_cycle = refl; is = refl },
+          record { net = codes "a"; value = true },
+          record { one = refl; is_net = refl; cycle = codes "none"; is_cycle = refl; is = refl },
         ),
-        ((
-            record { net = codes "a"; value = true },
-            record { one = refl; is_net = refl; cycle = codes "none"; is_cycle = refl; is = refl },
-          ), tt),
-      ) }; is = refl }
+        tt,
+      ),
+    );
+  };
+  is = refl;
+}
 
 -- a part without a fault
 empty_text : log_text (record { good = codes "good 7"; faults = [] }) ≡ codes "good 7\nfaults 0 found 0\n"

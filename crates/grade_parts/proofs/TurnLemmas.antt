@@ -36,8 +36,7 @@ turn_split [] ys before all turn =
     ([], all, refl, tt, subst (λ (b : List Stuck). AreInTurn b ys all) (sym (append-nil before)) turn)
 turn_split (x ∷ xs) ys before [] turn = absurd turn
 turn_split (x ∷ xs) ys before (stuck ∷ all) turn =
-    let rest = turn_split xs ys (before ++ stuck ∷ []) all turn.2 in
-    (
+    let rest = turn_split xs ys (before ++ stuck ∷ []) all turn.2 in (
       stuck ∷ rest.0,
       rest.1,
       ap (λ (l : List Stuck). stuck ∷ l) rest.2,
@@ -50,13 +49,12 @@ pub turn_join : (xs ys : List (List ℕ)) (before told later : List Stuck) → A
 turn_join [] ys before [] later turn more = subst (λ (b : List Stuck). AreInTurn b ys later) (append-nil before) more
 turn_join [] ys before (stuck ∷ told) later turn more = absurd turn
 turn_join (x ∷ xs) ys before [] later turn more = absurd turn
-turn_join (x ∷ xs) ys before (stuck ∷ told) later turn more =
-    (
-      turn.0,
-      turn.1,
-      turn_join xs ys (before ++ stuck ∷ []) told later turn.2
-          (subst (λ (b : List Stuck). AreInTurn b ys later) (sym (append_assoc before (stuck ∷ []) told)) more),
-    )
+turn_join (x ∷ xs) ys before (stuck ∷ told) later turn more = (
+  turn.0,
+  turn.1,
+  turn_join xs ys (before ++ stuck ∷ []) told later turn.2
+      (subst (λ (b : List Stuck). AreInTurn b ys later) (sym (append_assoc before (stuck ∷ []) told)) more),
+)
 
 -- lines tell of one list of faults
 pub one_turn : (lines : List (List ℕ)) (before told other : List Stuck) → AreInTurn before lines told
@@ -167,8 +165,7 @@ turn_known [] known now before (stuck ∷ told) knows more = absurd more
 turn_known (line ∷ lines) known now before [] knows more = absurd more
 turn_known (line ∷ lines) known now before (stuck ∷ told) knows more =
     let rest = turn_known lines more.0 now (before ++ stuck ∷ []) told
-    (knows_more known more.0 before line stuck knows more.1 more.3) more.4 in
-    (
+    (knows_more known more.0 before line stuck knows more.1 more.3) more.4 in (
       (more.1, sym (next_same known before stuck knows) ∙ more.2, rest.0),
       subst (λ (b : List Stuck). Knows now b) (append_assoc before (stuck ∷ []) told) rest.1,
     )
@@ -177,14 +174,13 @@ turn_known (line ∷ lines) known now before (stuck ∷ told) knows more =
 pub more_push : (lines : List (List ℕ)) (known next now : Known) (told : List Stuck) (line : List ℕ) (stuck : Stuck)
     → AreMore known lines told next → Tells line stuck → next_by next.waiting next stuck ≡ true → IsMore next now stuck
     → AreMore known (lines ++ line ∷ []) (told ++ stuck ∷ []) now
-more_push [] known next now [] line stuck more tells comes is =
-    (
-      now,
-      tells,
-      ap (λ (k : Known). next_by k.waiting k stuck) (sym more) ∙ comes,
-      subst (λ (k : Known). IsMore k now stuck) more is,
-      refl,
-    )
+more_push [] known next now [] line stuck more tells comes is = (
+  now,
+  tells,
+  ap (λ (k : Known). next_by k.waiting k stuck) (sym more) ∙ comes,
+  subst (λ (k : Known). IsMore k now stuck) more is,
+  refl,
+)
 more_push [] known next now (s ∷ told) line stuck more tells comes is = absurd more
 more_push (l ∷ lines) known next now [] line stuck more tells comes is = absurd more
 more_push (l ∷ lines) known next now (s ∷ told) line stuck more tells comes is =

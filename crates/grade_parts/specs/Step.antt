@@ -90,7 +90,7 @@ abbrev pub FindsFault : List ℕ → Known → Known → Option (Bor (List ℕ))
 FindsFault text before now found =
     MatchOption found ((now ≡ before) × LacksNext before text) (λ line. IsNextFault text line.now before now)
 
--- So many bytes of a text are the lines of the faults that come next, which are known now; and behind them none comes next.
+-- So many bytes of a text are the lines of the faults that come next, which are known now; and behind them none does.
 pub record AreFront (text : List ℕ) (end all hits : ℕ) (before now : Known) : Type 0 where
   pub held : AreHeld (take end text) all hits
   pub told : List Stuck

@@ -1,5 +1,5 @@
--- The faults of a grade, part after part: of each net the one that is stuck at 0 and then the one that is stuck at 1, and
--- no net twice.
+-- The faults of a grade, part after part: of each net the one that is stuck at 0 and then the one that is stuck at 1,
+-- and no net twice.
 use Rattle.std.specs.Prelude.{◌≡◌, ℕ, ◌&&◌, Bool, true, not, Option, Some, None, List, [], ◌∷◌, ◌++◌, if◌then◌else◌}
 use Rattle.std.specs.List.{flat_map, list_any}
 use Rattle.std.specs.Str.{bytes_eq}
@@ -33,7 +33,8 @@ AreInTurn before (line ∷ lines) (stuck ∷ later) =
 abbrev pub AreEnded : Bool → List Stuck → Type 0
 AreEnded last all = last ≡ true → open_net all ≡ None
 
--- The text is that of a part of a grade, which may be the last, behind parts that told of these; its lines tell of those.
+-- The text is that of a part of a grade, which may be the last, behind parts that told of these; its lines tell of
+-- those.
 pub record IsPartBehind (before : List Stuck) (last : Bool) (text : List ℕ) (log : GradeLog) (told : List Stuck) :
     Type 0 where
   pub is_log : IsLog text log

@@ -29,7 +29,8 @@ pub fn part_text_is_log()
 /// is with the names of an accepted netlist.
 pub fn parts_are_taken()
     ensures parts { (names : List (List ℕ)) (plan : Bound) (parts : ℕ) (logs : List Said) → AreNames names
-        → nets_in (first_part plan) ≡ length names → 1 ≤ parts → AreLogs (part_texts names plan parts) logs → AreParts logs }
+        → nets_in (first_part plan) ≡ length names → 1 ≤ parts → AreLogs (part_texts names plan parts) logs
+        → AreParts logs }
     ensures names { (bytes : List ℕ) (net : Net) → IsNet bytes net → AreNames net.names }
 {}
 

@@ -37,7 +37,8 @@ pub(crate) fn told_fault(line: &[u8]) -> Option<(&[u8], bool)>
 
 /// The level that a word tells: whether it is 1.
 fn told_value(word: &[u8]) -> Option<bool>
-    ensures { MatchOption result ((value : Bool) → word.now ≡ level_digit value → ⊥) (λ value. word.now ≡ level_digit value) }
+    ensures { MatchOption result ((value : Bool) → word.now ≡ level_digit value → ⊥)
+        (λ value. word.now ≡ level_digit value) }
 {
     match word {
         b"0" => Some(false),

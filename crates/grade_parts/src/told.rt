@@ -24,7 +24,10 @@ impl<'a> Model for Told<'a> {
 
     ghost Value = { Known };
 
-    ghost view = { λ t. record { nets = map (λ net. net.now) (keys t.nets); waiting = option_map (λ net. net.now) t.waiting } };
+    ghost view = { λ t. record {
+      nets = map (λ net. net.now) (keys t.nets);
+      waiting = option_map (λ net. net.now) t.waiting;
+    } };
 }
 
 impl<'a> Told<'a> {
@@ -67,7 +70,8 @@ impl<'a> Told<'a> {
 
 /// Keeps a net.
 fn add_net<'a>(nets: &mut IndexSet<&'a [u8]>, net: &'a [u8]) -> Result<(), AllocError>
-    ensures { OnOk result ((other : List ℕ) → has_in nets.new other ≡ (has_in nets.old other || bytes_eq net.now other)) }
+    ensures { OnOk result ((other : List ℕ) → has_in nets.new other
+        ≡ (has_in nets.old other || bytes_eq net.now other)) }
 {
     nets.insert(net)?;
     Ok(())

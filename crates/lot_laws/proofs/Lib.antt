@@ -6,3 +6,6 @@ pub mod SumLemmas
 pub mod MovedRows
 pub mod MovedLemmas
 pub mod OtherSite
+pub mod CallsAlike
+pub mod GradeAlike
+pub mod DumpAlike

@@ -3,6 +3,7 @@
 use Rattle.std.proofs.Common.{◌≡◌, ℕ, suc, ◌+◌, ◌<◌, List, [], ◌∷◌, ◌++◌, length, map, get_or, Some, refl, sym, ap, ◌∙◌, subst, arith}
 use Rattle.std.specs.List.{AllByRecursion, flat_map, range_with_len}
 use Rattle.std.proofs.lemmas.List.{get_or-map, length-map}
+use Rattle.std.proofs.lemmas.List.FromFn.{length-map-range_with_len, get_or-map-range_with_len}
 use Rattle.std.proofs.lemmas.Option.{same_Some}
 use Rattle.tester_types.specs.Outside.{Files, file_of}
 use Rattle.tester_types.specs.Records.{SiteRecords, records_of}
@@ -14,7 +15,7 @@ use Rattle.plan_rows.specs.Plan.{IsPlan}
 use Rattle.plan_rows.proofs.PlanLemmas.{one_plan}
 use Rattle.lot_plan.specs.Bound.{Bound}
 use Rattle.lot_plan.specs.Readings.{bin_of}
-use Rattle.site_meaning.specs.Part.{Part, rows_for, part_of}
+use Rattle.site_meaning.specs.Part.{Part, rows_for, part_of, dies_in}
 use Rattle.site_meaning.specs.Records.{Sound, AreInOrder, touchdown, records, cuts_of}
 use Rattle.site_meaning.specs.Alike.{AreCodesAlike}
 use Rattle.site_meaning.proofs.AlikeLemmas.{records_alike}
@@ -23,6 +24,7 @@ use Rattle.floor_core.specs.Book.{at_site, empty_site}
 use Rattle.tester_run.specs.Work.{AreRecords}
 use Rattle.datalog.specs.DatalogText.{final_verdict, site_text, numbered, bins_of, totals_text, lot_text}
 use Rattle.tool_inputs.specs.Inputs.{Inputs, AreInputs, bound_of}
+use Rattle.lot_laws.specs.Uncut.{uncut_sites, uncut_text}
 use Rattle.lot_laws.specs.Alone.{lines_of, IsOneProgram, AreOneNets, SayTheSame, AreUncut}
 use Rattle.lot_laws.proofs.SiteLemmas.{one_code, parts_alike, code_is, site_texts, sound_own}
 
@@ -63,7 +65,7 @@ uncut_records part entries are none =
     uncut_from part 0 entries are.each are.order none ∙ ap (λ (n : ℕ). map (touchdown part []) (range_with_len 0 n)) are.all
 
 -- lists that have the same at each place
-same_places : {X : Type 0} (none : X) (xs ys : List X) → length xs ≡ length ys
+pub same_places : {X : Type 0} (none : X) (xs ys : List X) → length xs ≡ length ys
     → ((k : ℕ) → k < length xs → get_or xs k none ≡ get_or ys k none) → xs ≡ ys
 same_places none [] [] size each = refl
 same_places none [] (y ∷ ys) size each = absurd (omega (arith, size))
@@ -91,53 +93,97 @@ numbered_texts code other plan plan' alike rows from (entries ∷ sites) own =
     (λ k within. subst (λ (n : ℕ). AllByRecursion (λ (entry : Record). entry.site ≡ n) (get_or sites k [])) (omega arith)
     (own (suc k) (omega (arith, within)))))
 
+-- ---- the records of a plan without cuts
+
+-- those of a part are of its site
+planned_own : (part : Part) (dies : List ℕ)
+    → AllByRecursion (λ (entry : Record). entry.site ≡ part.site) (map (touchdown part []) dies)
+planned_own part [] = tt
+planned_own part (die ∷ dies) = (refl, planned_own part dies)
+
+module _ (plan : Bound) where
+  -- those of a site
+  abbrev at_number : ℕ → List Record
+  at_number site = records (part_of plan site) []
+
+  -- each site has its own
+  sites_long : length (uncut_sites plan) ≡ sites_of plan.rows
+  sites_long = length-map-range_with_len at_number 0 (sites_of plan.rows)
+
+  sites_at : (site : ℕ) → site < sites_of plan.rows → get_or (uncut_sites plan) site [] ≡ at_number site
+  sites_at site within = get_or-map-range_with_len at_number 0 (sites_of plan.rows) site site [] within (omega arith)
+
+  -- and they are of it
+  sites_own : (k : ℕ) → k < length (uncut_sites plan)
+      → AllByRecursion (λ (entry : Record). entry.site ≡ 0 + k) (get_or (uncut_sites plan) k [])
+  sites_own k within =
+      subst (λ (l : List Record). AllByRecursion (λ (entry : Record). entry.site ≡ 0 + k) l)
+      (sym (sites_at k (omega (arith, within, sites_long))))
+      (subst (λ (n : ℕ). AllByRecursion (λ (entry : Record). entry.site ≡ n) (at_number k)) (omega arith)
+      (planned_own (part_of plan k) (range_with_len 0 (dies_in (part_of plan k)))))
+
+  module _ (book : List SiteRecords) (all : length book ≡ sites_of plan.rows)
+      (each : (site : ℕ) → site < sites_of plan.rows → AreRecords (part_of plan site) (at_site book site).records)
+      (none : (site : ℕ) → AreUncut (at_site book site).records) where
+    -- a book without cuts has them
+    uncut_book : records_of book ≡ uncut_sites plan
+    uncut_book =
+        same_places [] (records_of book) (uncut_sites plan)
+        (length-map book (λ (s : SiteRecords). s.records) ∙ all ∙ sym sites_long)
+        (λ k within.
+        let here : k < length book = omega (arith, within, length-map book (λ (s : SiteRecords). s.records)) in
+        let there : k < sites_of plan.rows = omega (arith, here, all) in
+        book_at book k here ∙ uncut_records (part_of plan k) (at_site book k).records (each k there) (none k) ∙ sym (sites_at k there))
+
+    -- so its text is theirs
+    pub uncut_lot : lot_text plan.program plan (records_of book) ≡ uncut_text plan
+    uncut_lot = ap (lot_text plan.program plan) uncut_book
+
+-- ---- files of the same bytes
+
 module _ (files others : Files) (program plan program' plan' : List ℕ) (inputs inputs' : Inputs)
     (are : AreInputs (Some files) program plan inputs) (are' : AreInputs (Some others) program' plan' inputs')
     (one : IsOneProgram files others program program') (planned : file_of files plan ≡ file_of others plan')
-    (nets : (site : ℕ) → AreOneNets files others inputs.rows site) (book book' : List SiteRecords)
-    (all : length book ≡ sites_of inputs.rows) (all' : length book' ≡ sites_of inputs'.rows)
-    (each : (site : ℕ) → site < sites_of inputs.rows → AreRecords (part_of (bound_of inputs) site) (at_site book site).records)
-    (each' : (site : ℕ) → site < sites_of inputs'.rows → AreRecords (part_of (bound_of inputs') site) (at_site book' site).records)
-    (none : (site : ℕ) → AreUncut (at_site book site).records) (none' : (site : ℕ) → AreUncut (at_site book' site).records) where
-  rows_are : inputs.rows ≡ inputs'.rows
+    (nets : (site : ℕ) → AreOneNets files others inputs.rows site) where
+  pub rows_are : inputs.rows ≡ inputs'.rows
   rows_are =
       let bytes : are'.rows.bytes ≡ are.rows.bytes = same_Some are'.rows.bytes are.rows.bytes (sym are'.rows.file.are ∙ sym planned ∙ are.rows.file.are) in
       one_plan are.rows.bytes inputs.rows inputs'.rows are.rows.plan (subst (λ (x : List ℕ). IsPlan x inputs'.rows) bytes are'.rows.plan)
 
-  says : (site : ℕ) → SayTheSame files others program program' inputs inputs' site
+  pub says : (site : ℕ) → SayTheSame files others program program' inputs inputs' site
   says site = record { one_program = one; rows = ap (rows_for site) rows_are; nets = nets site }
 
-  sites_are : length book ≡ length book'
-  sites_are = all ∙ ap sites_of rows_are ∙ sym all'
+  -- sites record alike without cuts
+  sites_alike : (sites : List ℕ)
+      → map (at_number (bound_of inputs)) sites ≡ map (at_number (bound_of inputs')) sites
+  sites_alike [] = refl
+  sites_alike (site ∷ sites) =
+      ap (λ (l : List (List Record)). at_number (bound_of inputs) site ∷ l) (sites_alike sites)
+      ∙ ap (λ (l : List Record). l ∷ map (at_number (bound_of inputs')) sites)
+      (records_alike (part_of (bound_of inputs) site) (part_of (bound_of inputs') site)
+      (parts_alike files others program plan program' plan' inputs inputs' are are' site (says site)) [])
 
-  site_records : (site : ℕ) → site < sites_of inputs.rows → (at_site book site).records ≡ (at_site book' site).records
-  site_records site within =
-      uncut_records (part_of (bound_of inputs) site) (at_site book site).records (each site within) (none site)
-      ∙ records_alike (part_of (bound_of inputs) site) (part_of (bound_of inputs') site)
-      (parts_alike files others program plan program' plan' inputs inputs' are are' site (says site)) []
-      ∙ sym (uncut_records (part_of (bound_of inputs') site) (at_site book' site).records
-      (each' site (subst (λ (n : ℕ). site < n) (ap sites_of rows_are) within)) (none' site))
+  all_alike : uncut_sites (bound_of inputs) ≡ uncut_sites (bound_of inputs')
+  all_alike =
+      sites_alike (range_with_len 0 (sites_of inputs.rows))
+      ∙ ap (λ (rows : List Row). map (at_number (bound_of inputs')) (range_with_len 0 (sites_of rows))) rows_are
 
-  books_are : records_of book ≡ records_of book'
-  books_are =
-      same_places [] (records_of book) (records_of book')
-      (length-map book (λ (s : SiteRecords). s.records) ∙ sites_are ∙ sym (length-map book' (λ (s : SiteRecords). s.records)))
-      (λ k within.
-      let here : k < length book = omega (arith, within, length-map book (λ (s : SiteRecords). s.records)) in
-      book_at book k here ∙ site_records k (omega (arith, here, all)) ∙ sym (book_at book' k (omega (arith, here, sites_are))))
-
-  own : (k : ℕ) → k < length (records_of book) → AllByRecursion (λ (entry : Record). entry.site ≡ 0 + k) (get_or (records_of book) k [])
-  own k within =
-      let here : k < length book = omega (arith, within, length-map book (λ (s : SiteRecords). s.records)) in
-      subst (λ (l : List Record). AllByRecursion (λ (entry : Record). entry.site ≡ 0 + k) l) (sym (book_at book k here))
-      (subst (λ (n : ℕ). AllByRecursion (λ (entry : Record). entry.site ≡ n) (at_site book k).records) (omega arith)
-      (sound_own (part_of (bound_of inputs) k) (at_site book k).records (each k (omega (arith, here, all))).each))
-
-  pub same_text : lot_text inputs.code (bound_of inputs) (records_of book) ≡ lot_text inputs'.code (bound_of inputs') (records_of book')
-  same_text =
-      ap (λ (l : List ℕ). l ++ totals_text (bins_of (bound_of inputs) (records_of book)))
+  -- and their text is one
+  pub one_uncut : uncut_text (bound_of inputs) ≡ uncut_text (bound_of inputs')
+  one_uncut =
+      ap (λ (l : List ℕ). l ++ totals_text (bins_of (bound_of inputs) (uncut_sites (bound_of inputs))))
       (numbered_texts inputs.code inputs'.code (bound_of inputs) (bound_of inputs')
-      (one_code files others program program' inputs.code inputs'.code one are.code are'.code) rows_are 0 (records_of book) own)
-      ∙ ap (λ (rows : List Row). numbered (site_text inputs'.code (bound_of inputs')) 0 (records_of book)
-      ++ totals_text (flat_map (map (λ (e : Record). bin_of rows (final_verdict e.trials))) (records_of book))) rows_are
-      ∙ ap (λ (sites : List (List Record)). lot_text inputs'.code (bound_of inputs') sites) books_are
+      (one_code files others program program' inputs.code inputs'.code one are.code are'.code) rows_are 0
+      (uncut_sites (bound_of inputs)) (sites_own (bound_of inputs)))
+      ∙ ap (λ (rows : List Row). numbered (site_text inputs'.code (bound_of inputs')) 0 (uncut_sites (bound_of inputs))
+      ++ totals_text (flat_map (map (λ (e : Record). bin_of rows (final_verdict e.trials))) (uncut_sites (bound_of inputs)))) rows_are
+      ∙ ap (λ (sites : List (List Record)). lot_text inputs'.code (bound_of inputs') sites) all_alike
+
+  -- so is that of books without cuts
+  pub same_text : (book book' : List SiteRecords) → length book ≡ sites_of inputs.rows → length book' ≡ sites_of inputs'.rows
+      → ((site : ℕ) → site < sites_of inputs.rows → AreRecords (part_of (bound_of inputs) site) (at_site book site).records)
+      → ((site : ℕ) → site < sites_of inputs'.rows → AreRecords (part_of (bound_of inputs') site) (at_site book' site).records)
+      → ((site : ℕ) → AreUncut (at_site book site).records) → ((site : ℕ) → AreUncut (at_site book' site).records)
+      → lot_text inputs.code (bound_of inputs) (records_of book) ≡ lot_text inputs'.code (bound_of inputs') (records_of book')
+  same_text book book' all all' each each' none none' =
+      uncut_lot (bound_of inputs) book all each none ∙ one_uncut ∙ sym (uncut_lot (bound_of inputs') book' all' each' none')

@@ -19,6 +19,7 @@ ghost use Rattle.tester_run.specs.Work.{AreRecords};
 ghost use Rattle.datalog.specs.DatalogText.{die_bin, site_text, numbered, bins_of, dies_in, total_line, lot_text};
 ghost use Rattle.stil_program.specs.Program.{IsProgramOf};
 ghost use Rattle.tool_inputs.specs.Inputs.{Inputs, AreInputs, bound_of};
+ghost use Rattle.lot_laws.specs.Uncut.{uncut_text};
 ghost use Rattle.lot_laws.specs.Alone.{lines_of, IsOneProgram, AreOneNets, SayTheSame, AreUncut};
 
 /// Two codes of one text say the same: signals, tables, rows, and of each executive its name, its chains and its cycles,
@@ -49,6 +50,20 @@ pub fn alone_records()
         → SayTheSame files others program program' inputs inputs' site → (entries entries' : List Record)
         → AreRecords (part_of (bound_of inputs) site) entries → entries ≡ entries'
         → lines_of inputs site entries ≡ lines_of inputs' site entries' }
+{}
+
+/// Where neither live stops nor contacts cut a try, the text of a lot is that of its bound plan without cuts, which is one
+/// function of the bytes of the files.
+pub fn uncut_lot_text()
+    ensures book { (plan : Bound) (book : List SiteRecords) → length book ≡ sites_of plan.rows
+        → ((site : ℕ) → site < sites_of plan.rows → AreRecords (part_of plan site) (at_site book site).records)
+        → ((site : ℕ) → AreUncut (at_site book site).records)
+        → lot_text plan.program plan (records_of book) ≡ uncut_text plan }
+    ensures one { (files others : Files) (program plan program' plan' : List ℕ) (inputs inputs' : Inputs)
+        → AreInputs (Some files) program plan inputs → AreInputs (Some others) program' plan' inputs'
+        → IsOneProgram files others program program' → file_of files plan ≡ file_of others plan'
+        → ((site : ℕ) → AreOneNets files others inputs.rows site)
+        → uncut_text (bound_of inputs) ≡ uncut_text (bound_of inputs') }
 {}
 
 /// Where neither live stops nor contacts cut a try, the text of a lot is one function of the bytes of its files.

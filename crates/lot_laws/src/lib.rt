@@ -3,4 +3,6 @@
 
 mod laws;
 
-pub use laws::{alone_records, circuits_agree, codes_agree, one_lot_text, totals_are_sums};
+pub use laws::{
+    alone_records, circuits_agree, codes_agree, one_lot_text, totals_are_sums, uncut_lot_text,
+};

@@ -114,19 +114,6 @@ known_more logs logs' seen log text known now number all last same is_last known
       ended = λ e. read.is_part.ended (is_last ∙ eq-eqb (number + 1) all e);
     })
 
--- all parts are those of one grade
-pub parts_so : (logs : List GradeLog) (known : Known) (number all : ℕ) → number ≡ all → AreKnown logs known number all → AreParts logs
-parts_so logs known number all e are = record {
-  good = λ log later is. agree_first logs log later is are.agree;
-  told = are.told;
-  in_turn = are.in_turn;
-  none_open = are.ended e;
-}
-  where
-    agree_first : (logs : List GradeLog) (log : GradeLog) (later : List GradeLog) → logs ≡ log ∷ later → Agree logs
-        → AgreeWith log.good later
-    agree_first logs log later is agree = subst Agree is agree
-
 -- behind the last text none is left
 last_left : (texts : List (List ℕ)) (number : ℕ) → number < length texts → (number + 1 == length texts) ≡ are_none (drop (number + 1) texts)
 last_left texts number within =

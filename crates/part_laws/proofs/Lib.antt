@@ -4,7 +4,6 @@ pub mod LogLines
 pub mod LogSites
 pub mod OneLog
 pub mod Ranks
-pub mod CallsAlike
 pub mod StandMoved
 pub mod MovedBack
 pub mod SiteBack
@@ -17,4 +16,6 @@ pub mod Joined
 pub mod WholeBook
 pub mod WholeFloor
 pub mod MergedLaws
+pub mod MergeWritten
+pub mod GradeRuns
 mod StandardFacts

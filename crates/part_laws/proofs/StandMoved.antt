@@ -6,15 +6,15 @@ use Rattle.tester_types.specs.declared.record.Trial.{Trial}
 use Rattle.die_sim.specs.Socket.{Calls}
 use Rattle.plan_rows.specs.Rows.{dies_at, lot_of}
 use Rattle.site_meaning.specs.Playing.{Stand, starting}
-use Rattle.site_meaning.specs.Part.{Part, lot_in, dies_in, skews_in, circuit_in, image_in}
+use Rattle.site_meaning.specs.Part.{Part, lot_in, dies_in}
 use Rattle.site_meaning.specs.Trials.{Cut, trial}
 use Rattle.site_meaning.specs.Alike.{ArePartsAlike}
 use Rattle.site_meaning.proofs.AlikeLemmas.{trials_alike}
 use Rattle.cycle_run.specs.Batch.{calls_of_cycles}
 use Rattle.site_run.specs.Taped.{all_cycles, calls_of_try, calls_of_trial, calls_of_trials, calls_of}
+use Rattle.lot_laws.proofs.CallsAlike.{try_calls_alike}
 use Rattle.lot_laws.proofs.MovedRows.{AreOf}
 use Rattle.lot_laws.proofs.MovedLemmas.{there, dies_is, lot_is, stand_is, trial_is}
-use Rattle.part_laws.proofs.CallsAlike.{calls_of_first}
 
 -- ---- a part under another number
 
@@ -26,22 +26,6 @@ module _ (part : Part) (place : ℕ) (of_site : AreOf part.site part.rows) where
   -- ---- and a part that is alike
 
   module _ (other : Part) (alike : ArePartsAlike moved_part other) where
-    -- it, of the same site and with the same rows by what they are
-    abbrev placed : Part
-    placed = record { site = moved_part.site; code = other.code; rows = moved_part.rows; circuits = other.circuits }
-
-    -- which it is
-    placed_is : placed ≡ other
-    placed_is = λ i. record { site = alike.site i; code = other.code; rows = alike.rows i; circuits = other.circuits }
-
-    -- the calls of a try on alike dies
-    alike_calls : (die number count : ℕ) → die < dies_in moved_part
-        → calls_of_try moved_part die number count ≡ calls_of_try placed die number count
-    unfolding calls_of_try all_cycles skews_in image_in
-    alike_calls die number count planned =
-        calls_of_first moved_part.rows place die number part.code other.code (circuit_in moved_part die) (circuit_in other die)
-        alike.code (alike.circuits die planned) count
-
     -- and under the number
     own_calls : (die number count : ℕ)
         → calls_of_try moved_part die number count ≡ calls_of_try part die number count
@@ -54,8 +38,7 @@ module _ (part : Part) (place : ℕ) (of_site : AreOf part.site part.rows) where
         → calls_of_try part die number count ≡ calls_of_try other die number count
     try_calls die number count planned =
         sym (own_calls die number count)
-        ∙ alike_calls die number count (subst (λ (n : ℕ). die < n) (sym (dies_is part place of_site)) planned)
-        ∙ ap (λ (p : Part). calls_of_try p die number count) placed_is
+        ∙ try_calls_alike moved_part other alike die number count (subst (λ (n : ℕ). die < n) (sym (dies_is part place of_site)) planned)
 
     -- the numbers of the lot, the dies, and a try
     pub other_lot : lot_in other ≡ lot_in part

@@ -8,8 +8,8 @@ use Rattle.tester_types.specs.Printing.{is_bare}
 abbrev pub ends_quoted : List ℕ → Bool
 ends_quoted bytes = bytes_eq (drop (length bytes - 1) bytes) (codes "\"")
 
--- whether bytes are a name as it is printed: one byte or more that may all stand bare, or what stands between two double
--- quotes
+-- whether bytes are a name as it is printed: one byte or more that may all stand bare, or what stands between two
+-- double quotes
 abbrev pub is_named : List ℕ → Bool
 is_named [] = false
 is_named (byte ∷ bytes) = list_all is_bare (byte ∷ bytes) || (byte == 34 && ends_quoted bytes)

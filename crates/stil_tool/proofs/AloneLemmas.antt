@@ -38,7 +38,7 @@ numbered_has {X} text from (x ∷ xs) (suc k) none within =
 
 module _ {S : Type 0} (tells : S → Told) where
   -- the whole list of a site
-  all_at : (run : LotRun tells) (site : ℕ) → site < sites_in run → AreRecords (part_of (bound_of (said run)) site) (records_at run site)
+  pub all_at : (run : LotRun tells) (site : ℕ) → site < sites_in run → AreRecords (part_of (bound_of (said run)) site) (records_at run site)
   all_at run site within =
       (run.is.lot.is.records site (some_item run.old.sockets (omega (arith, within, run.is.enough))) within).records_are
 

@@ -7,4 +7,7 @@ pub mod RunLemmas
 pub mod GradeLemmas
 pub mod DumpLemmas
 pub mod AloneLemmas
+pub mod QuietLemmas
+pub mod OneTextLemmas
 pub mod FineDrillLemmas
+mod StandardFacts

@@ -1,4 +1,5 @@
--- Read Offline first (what the commands that need no tester answer), then Lot (what `lot` answers).
+-- Read Offline first (what the commands that need no tester answer), then Lot (what `lot` answers). Alone, Quiet and
+-- OneText say what runs have in common.
 pub mod Offline
 pub mod Dump
 pub mod Lot
@@ -8,3 +9,5 @@ pub mod Tester
 pub mod Jobs
 pub mod FineLot
 pub mod Alone
+pub mod Quiet
+pub mod OneText

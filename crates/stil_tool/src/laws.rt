@@ -1,6 +1,9 @@
-//! Laws of what `lot` prints of a site: that it is the same whatever runs beside it, and how a text is made of sites.
+//! Laws of what commands print: of a site, that it is the same whatever runs beside it, and how a text is made of sites;
+//! and that the text of a lot, a grade and a dump is one for the same bytes.
 
 ghost use Rattle.stil_tool.specs.Alone.{AloneLines, OneText, OtherSite, TextIsSites};
+ghost use Rattle.stil_tool.specs.OneText.{OneDumpText, OneGradeText};
+ghost use Rattle.stil_tool.specs.Quiet.{OneQuietText, QuietIsUncut, QuietText, UncutText};
 
 use die_sim::Socket;
 
@@ -28,4 +31,32 @@ pub fn other_site<K: Socket>()
 /// has in it.
 pub fn text_is_sites<K: Socket>()
     ensures { TextIsSites K.told }
+{}
+
+/// Neither a live stop nor a lost contact cuts a try at a site for which no stop was said and whose socket counted no fault.
+pub fn quiet_is_uncut<K: Socket>()
+    ensures { QuietIsUncut K.told }
+{}
+
+/// A run prints the text of its bound plan without cuts where neither live stops nor contacts cut a try, and so where no stop
+/// was said and no fault was counted.
+pub fn text_without_cuts<K: Socket>()
+    ensures uncut { UncutText K.told }
+    ensures quiet { QuietText K.told }
+{}
+
+/// Any two runs on the same bytes print the same text where no stop was said and no fault was counted.
+pub fn one_quiet_text<K: Socket>()
+    ensures { OneQuietText K.told }
+{}
+
+/// Any two runs of `grade` on the same bytes of program, plan and netlists print the same text, whatever code and circuits
+/// each has.
+pub fn one_grade_text()
+    ensures { OneGradeText }
+{}
+
+/// Any two runs of `dump` of a site on the same bytes of program, plan and netlists print the same text.
+pub fn one_dump_text()
+    ensures { OneDumpText }
 {}

@@ -13,7 +13,10 @@ mod lot;
 mod offline_call;
 mod top_call;
 
-pub use laws::{alone_lines, one_text, other_site, text_is_sites};
+pub use laws::{
+    alone_lines, one_dump_text, one_grade_text, one_quiet_text, one_text, other_site,
+    quiet_is_uncut, text_is_sites, text_without_cuts,
+};
 pub use offline_call::{USAGE, offline};
 pub use stil_program::program;
 pub use text_commands::Command;

@@ -10,13 +10,13 @@ returns-then-is_short c =
     rest_next said before c.args.last c.args.text.now c.args.good.now _ front.end front.count front.found (front.count + 2)
     c.args.told.now c.fault_front.new.told
     (record {
-          knows = knows;
-          fits = c.requires.good;
-          same = same;
-          is_first = c.requires.front;
-          rest_is = take_rest c.args.text.now (length c.args.good.now + 1);
-          front = c.in_ok-front.ensures;
-        })
+      knows = knows;
+      fits = c.requires.good;
+      same = same;
+      is_first = c.requires.front;
+      rest_is = take_rest c.args.text.now (length c.args.good.now + 1);
+      front = c.in_ok-front.ensures;
+    })
     (λ left e done. short_so c.args.last c.fault_front.new.told.waiting (sym c.is_short.ensures ∙ c.if-is_short.true) done) refl
 
 pub returns-in-Some-empty : goal.returns-in-Some-empty
@@ -26,13 +26,13 @@ returns-in-Some-empty c =
     rest_found said before c.args.last c.args.text.now c.args.good.now _ c.in-Some-empty.field-0.now front.end front.count front.found
     c.args.told.now c.fault_front.new.told c.of.result
     (record {
-          knows = knows;
-          fits = c.requires.good;
-          same = same;
-          is_first = c.requires.front;
-          rest_is = take_rest c.args.text.now (length c.args.good.now + 1);
-          front = c.in_ok-front.ensures;
-        })
+      knows = knows;
+      fits = c.requires.good;
+      same = same;
+      is_first = c.requires.front;
+      rest_is = take_rest c.args.text.now (length c.args.good.now + 1);
+      front = c.in_ok-front.ensures;
+    })
     (not_short c.args.last c.fault_front.new.told.waiting (sym c.is_short.ensures ∙ c.if-is_short.false))
     (sym (take_rest _ front.end) ∙ c.in-Some-empty.ensures)
     (nil_from_length c.in-Some-empty.field-0.now (omega (arith, c.in-Some-empty.len_below))) c.of.ensures.line c.of.ensures.faults
@@ -44,13 +44,13 @@ returns-in-Some c =
     rest_behind said before c.args.last c.args.text.now c.args.good.now _ c.in-Some.field-0.now front.end front.count front.found
     (front.count + 3) c.args.told.now c.fault_front.new.told
     (record {
-          knows = knows;
-          fits = c.requires.good;
-          same = same;
-          is_first = c.requires.front;
-          rest_is = take_rest c.args.text.now (length c.args.good.now + 1);
-          front = c.in_ok-front.ensures;
-        })
+      knows = knows;
+      fits = c.requires.good;
+      same = same;
+      is_first = c.requires.front;
+      rest_is = take_rest c.args.text.now (length c.args.good.now + 1);
+      front = c.in_ok-front.ensures;
+    })
     (not_short c.args.last c.fault_front.new.told.waiting (sym c.is_short.ensures ∙ c.if-is_short.false))
     (sym (take_rest _ front.end) ∙ c.in-Some.ensures) (omega (arith, c.in-Some.len_at_least)) refl
 
@@ -61,11 +61,11 @@ returns-in-None c =
     rest_next said before c.args.last c.args.text.now c.args.good.now _ front.end front.count front.found (front.count + 2)
     c.args.told.now c.fault_front.new.told
     (record {
-          knows = knows;
-          fits = c.requires.good;
-          same = same;
-          is_first = c.requires.front;
-          rest_is = take_rest c.args.text.now (length c.args.good.now + 1);
-          front = c.in_ok-front.ensures;
-        })
+      knows = knows;
+      fits = c.requires.good;
+      same = same;
+      is_first = c.requires.front;
+      rest_is = take_rest c.args.text.now (length c.args.good.now + 1);
+      front = c.in_ok-front.ensures;
+    })
     (λ left e done. c.in-None.ensures left (take_rest _ front.end ∙ e)) refl

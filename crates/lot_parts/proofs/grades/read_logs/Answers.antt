@@ -2,7 +2,7 @@ use Rattle.std.proofs.Common.{arith, ap, ◌∙◌, ◌+◌, ◌==◌, sym, leng
 use Rattle.lot_parts.specs.Words.{words_seen}
 use Rattle.lot_parts.specs.Files.{texts_seen}
 use Rattle.lot_parts.proofs.LoadLemmas.{text_at, texts_long}
-use Rattle.lot_parts.proofs.GradesLemmas.{file_at, next_read, next_refused, known_more, parts_so, all_read}
+use Rattle.lot_parts.proofs.GradesLemmas.{file_at, next_read, next_refused, known_more}
 use Rattle.lot_parts.proofs.grades.read_logs.Goals as goal
 
 pub returns-in-Err : goal.returns-in-Err

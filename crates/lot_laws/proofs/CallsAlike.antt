@@ -1,5 +1,6 @@
--- Dies of one netlist get the same drive calls, whatever order their gates lie in, in cycles that say the same.
-use Rattle.std.proofs.Common.{◌≡◌, ℕ, zero, suc, ◌+◌, List, [], ◌∷◌, ◌++◌, length, map, take, Option, refl, sym, ap, ◌∙◌, subst, ℤ, slice_get}
+-- Dies of one netlist get the same drive calls, whatever order their gates lie in, in cycles that say the same:
+-- `try_calls_alike`.
+use Rattle.std.proofs.Common.{◌≡◌, ℕ, zero, suc, ◌+◌, ◌<◌, List, [], ◌∷◌, ◌++◌, length, map, take, Option, refl, sym, ap, ◌∙◌, subst, ℤ, slice_get}
 use Rattle.std.specs.Prelude.{Result}
 use Rattle.std.specs.List.{flat_map, range_with_len}
 use Rattle.std.specs.Option.{option_map_or}
@@ -27,11 +28,13 @@ use Rattle.lot_plan.specs.Binds.{binds_of, list_of}
 use Rattle.lot_plan.specs.Bound.{numbered, active_at}
 use Rattle.lot_plan.specs.Skews.{skews_of}
 use Rattle.site_meaning.specs.Playing.{Stand, Going, Along, starting, along_of, driven, after_moment, after_moments, moments_in, after_cycle}
-use Rattle.site_meaning.specs.Alike.{SaidCycle, said_cycles, AreCodesAlike, AreCircuitsAlike}
+use Rattle.site_meaning.specs.Part.{Part, dies_in, skews_in, circuit_in, image_in}
+use Rattle.site_meaning.specs.Alike.{SaidCycle, said_cycles, AreCodesAlike, AreCircuitsAlike, ArePartsAlike}
 use Rattle.site_meaning.proofs.AlikeDies.{Say, SayAll, say_all, one, other, die, twin, twins, starting_alike}
 use Rattle.site_meaning.proofs.AlikeLemmas.{binds_alike, of_net}
 use Rattle.cycle_run.specs.Tape.{call_of, calls_in, calls_of_cycle}
 use Rattle.cycle_run.specs.Batch.{calls_of_cycles}
+use Rattle.site_run.specs.Taped.{all_cycles, calls_of_try}
 
 -- ---- cycles that say the same, in lists
 
@@ -153,7 +156,7 @@ module _ (net : Net) (order order' : List ℕ) (readers readers' : List (List �
             number = going.number + 1;
           }
 
-      pub cycles_call_alike : (going : Going) (cs cs' : List Cycle)
+      cycles_call_alike : (going : Going) (cs cs' : List Cycle)
           → SayAll code.rows code'.rows cs cs'
           → calls_of_cycles ours going cs ≡ calls_of_cycles theirs going cs'
       unfolding calls_of_cycles
@@ -170,7 +173,7 @@ module _ (net : Net) (order order' : List ℕ) (readers readers' : List (List �
 -- ---- a die of a part
 
 -- the die that a circuit gives in a try, by what the rows say of it and by the signals of a code
-abbrev pub device_by : List Row → ℕ → ℕ → ℕ → List CodeSignal → Circuit → Device
+abbrev device_by : List Row → ℕ → ℕ → ℕ → List CodeSignal → Circuit → Device
 device_by rows site die number signals c = record {
   circuit = c;
   clock = clock_of rows signals;
@@ -179,16 +182,16 @@ device_by rows site die number signals c = record {
 }
 
 -- what a try runs on, by the same
-abbrev pub stand_by : List Row → ℕ → ℕ → ℕ → Program → Circuit → Stand
+abbrev stand_by : List Row → ℕ → ℕ → ℕ → Program → Circuit → Stand
 stand_by rows site die number code c =
     record { code = code; skews = skews_of code.signals (skews_at site rows); device = device_by rows site die number code.signals c }
 
 -- the calls of the first so many cycles of a try, by its cycles
-abbrev pub calls_on : Stand → List Cycle → Calls
+abbrev calls_on : Stand → List Cycle → Calls
 calls_on s cycles = calls_of_cycles s (starting s.device) cycles
 
 -- the calls of tries on dies of one netlist, with codes that say the same
-pub calls_on_alike : (rows : List Row) (site die number : ℕ) (code other : Program) (c d : Circuit)
+calls_on_alike : (rows : List Row) (site die number : ℕ) (code other : Program) (c d : Circuit)
     → AreCodesAlike code other
     → AreCircuitsAlike c d → (cs cs' : List Cycle) → SayAll code.rows other.rows cs cs'
     → calls_on (stand_by rows site die number code c) cs
@@ -219,7 +222,7 @@ calls_on_alike rows site die number code other c d codes circuits cs cs' all =
     ∙ ap (λ (s : Stand). calls_on s cs') stand_is
 
 -- and those of the first so many cycles of all
-pub calls_of_first : (rows : List Row) (site die number : ℕ) (code other : Program) (c d : Circuit)
+calls_of_first : (rows : List Row) (site die number : ℕ) (code other : Program) (c d : Circuit)
     → AreCodesAlike code other
     → AreCircuitsAlike c d → (count : ℕ)
     → calls_on (stand_by rows site die number code c)
@@ -232,3 +235,26 @@ calls_of_first rows site die number code other c d codes circuits count =
     (say_take code.rows other.rows count (flat_map (cycles_of code) (range_with_len 0 (length code.execs)))
     (flat_map (cycles_of other) (range_with_len 0 (length code.execs))) (say_flat code other codes.cycles (range_with_len 0 (length code.execs))))
     ∙ ap (λ (n : ℕ). calls_on (stand_by rows site die number other d) (take count (flat_map (cycles_of other) (range_with_len 0 n)))) codes.execs
+
+-- ---- a part
+
+-- the calls of the first so many cycles of a try, by what the rows say, a code and a circuit
+abbrev calls_by : List Row → ℕ → ℕ → ℕ → Program → Circuit → ℕ → Calls
+calls_by rows site die number code c count =
+    calls_on (stand_by rows site die number code c) (take count (flat_map (cycles_of code) (range_with_len 0 (length code.execs))))
+
+calls_of_try-by : (part : Part) (die number count : ℕ)
+    → calls_of_try part die number count
+    ≡ calls_by part.rows part.site die number part.code (circuit_in part die) count
+unfolding calls_of_try all_cycles skews_in image_in
+calls_of_try-by part _ _ _ = refl
+
+-- tries of parts that are alike make the same calls
+pub try_calls_alike : (part other : Part) → ArePartsAlike part other → (die number count : ℕ) → die < dies_in part
+    → calls_of_try part die number count ≡ calls_of_try other die number count
+try_calls_alike part other alike die number count planned =
+    calls_of_try-by part die number count
+    ∙ calls_of_first part.rows part.site die number part.code other.code (circuit_in part die) (circuit_in other die)
+    alike.code (alike.circuits die planned) count
+    ∙ (λ i. calls_by (alike.rows i) (alike.site i) die number other.code (circuit_in other die) count)
+    ∙ sym (calls_of_try-by other die number count)
