@@ -295,6 +295,9 @@ def plot_fails(words: argparse.Namespace) -> int:
                 gathered.add(die)
                 count += die.verdict.kind == "fail"
     drawing.store(drawing.fails_figure(gathered, f"{count} failing {'die' if count == 1 else 'dies'}"), words.out)
+    note = gathered.cut.note(gathered.failing)
+    if note:
+        say(note)
     return 0
 
 

@@ -106,12 +106,14 @@ def lot_figure(lot: LotCounts) -> Figure:
     return figure
 
 
-def pareto_on(axes: Any, bars: list[tuple[str, int]]) -> None:
-    """Draws the columns at which most dies fail."""
+def pareto_on(axes: Any, gathered: Gathered, most: int) -> None:
+    """Draws the columns at which most dies fail, as far as that is known."""
+    bars, basis = gathered.pareto(most), gathered.ranked()[1]
     names, counts = [name for name, _ in bars][::-1], [count for _, count in bars][::-1]
     axes.barh(range(len(names)), counts, color=COLOURS[1])
     axes.set_yticks(range(len(names)), names)
-    axes.set(xlabel="dies that fail there", title="failing cells and outputs")
+    axes.set(xlabel="dies that fail there")
+    axes.set_title("failing cells and outputs" + (f"\nby {basis}" if basis else ""), fontsize=9 if basis else None)
     axes.xaxis.set_major_locator(MaxNLocator(integer=True))
     axes.tick_params(axis="y", labelsize=8)
 
@@ -120,7 +122,7 @@ def pareto_figure(gathered: Gathered, most: int = 20) -> Figure:
     """The Pareto of failing cells and outputs."""
     bars = gathered.pareto(most)
     figure = Figure(figsize=(6, max(2.0, 0.7 + 0.22 * len(bars))), layout="constrained")
-    pareto_on(figure.subplots(), bars)
+    pareto_on(figure.subplots(), gathered, most)
     return figure
 
 
@@ -131,10 +133,23 @@ def map_on(figure: Figure, axes: Any, gathered: Gathered, title: str) -> None:
     shown = axes.imshow(numpy.ma.masked_equal(cells, 0), aspect="auto", interpolation="nearest", cmap="magma_r", vmin=0,
                         vmax=max(cells.max(), 1), extent=(-0.5, max(len(names), 1) - 0.5, gathered.rows() - 0.5, -0.5))
     figure.colorbar(shown, ax=axes, label="dies", ticks=MaxNLocator(integer=True))
-    axes.set(xlabel="scan cell or output", ylabel="load" if gathered.axes.by_load else "cycle", title=title)
+    axes.set(xlabel="scan cell or output", ylabel="load" if gathered.axes.by_load else "cycle")
+    if gathered.cut.count:
+        title += f"\ngrey: behind the last kept fail of {gathered.cut.count} of {gathered.failing} failing dies"
+        grey_on(axes, gathered, len(names))
+    axes.set_title(title)
     axes.yaxis.set_major_locator(MaxNLocator(integer=True))
     if 0 < len(names) <= 64:
         axes.set_xticks(range(len(names)), names, rotation=90, fontsize=7)
+
+
+def grey_on(axes: Any, gathered: Gathered, columns: int) -> None:
+    """Greys the rows behind the last kept fails, the more the more dies are cut off before them."""
+    bands = min(gathered.rows(), 1024)
+    unknown = gathered.unknown(bands)
+    colours = numpy.full((bands, 1, 4), 0.45)
+    colours[:, 0, 3] = numpy.where(unknown > 0, 0.15 + 0.55 * unknown, 0)
+    axes.imshow(colours, aspect="auto", interpolation="nearest", zorder=0, extent=(-0.5, max(columns, 1) - 0.5, gathered.rows() - 0.5, -0.5))
 
 
 def map_figure(gathered: Gathered, title: str) -> Figure:
@@ -149,7 +164,7 @@ def fails_figure(gathered: Gathered, title: str) -> Figure:
     figure = Figure(figsize=(12, 5), layout="constrained")
     left, right = figure.subplots(1, 2, width_ratios=(3, 2))
     map_on(figure, left, gathered, title)
-    pareto_on(right, gathered.pareto(20))
+    pareto_on(right, gathered, 20)
     return figure
 
 

@@ -2,18 +2,20 @@
 
 import io
 from collections import Counter
-from dataclasses import dataclass
+from dataclasses import dataclass, field
 
 import numpy
 
 from stilfloor import records
 from stilfloor.faults import Fault, shown
+from stilfloor.plans import MOST_KEPT
 from stilfloor.saved import Code, Loads
 
 MOST_ROWS = 256
 MOST_COLUMNS = 512
 MOST_PLACES = 1 << 19
 MOST_SIDE = 2048
+GREY = 190
 
 
 @dataclass(slots=True)
@@ -74,16 +76,49 @@ def axes_of(code: Code | None) -> Axes:
     return Axes(columns, loads if loads.starts else None, len(loads.starts) + 1 if loads.starts else loads.cycles)
 
 
+@dataclass(slots=True)
+class Cut:
+    """The dies with more fails than are kept: how many by the row of their last kept fail, how many are kept, and the most that one has."""
+
+    rows: Counter[int] = field(default_factory=Counter)
+    kept: int = 0
+    most: int = 0
+
+    def add(self, attempt: records.Try, row: int) -> None:
+        """Counts a die by its try, and the row of its last kept fail."""
+        self.rows[row] += 1
+        self.kept = max(self.kept, len(attempt.kept))
+        self.most = max(self.most, attempt.fails)
+
+    @property
+    def count(self) -> int:
+        """How many dies there are."""
+        return self.rows.total()
+
+    def note(self, failing: int) -> str:
+        """What is told of them, where there are some, with what to set."""
+        if not self.count:
+            return ""
+        wanted = f"to {self.most}" if self.most <= MOST_KEPT else f"to {MOST_KEPT}, which is the most"
+        return (f"{self.count} of {failing} failing dies have more fails than the {self.kept} that the plan keeps: what lies behind the last kept "
+                f"fail of each of them isn't known (grey); raise the plan's number of kept fails, which is the F of its row lot,B,TRIES,F,,, {wanted}")
+
+
 class Gathered:
     """Fails of many dies: how many dies fail at each place, and at each column.
 
-    Where there are more than half a million places, neighbours are gathered: `down` rows and `right` columns are one place then.
+    Of a die with more fails than are kept the rows up to that of its last kept fail are known. Where there are more than half a million
+    places, neighbours are gathered: `down` rows and `right` columns are one place then.
     """
 
     def __init__(self, axes: Axes) -> None:
         self.axes = axes
         self.places: Counter[tuple[int, int]] = Counter()
         self.columns: Counter[int] = Counter()
+        self.whole: Counter[int] = Counter()
+        self.firsts: Counter[tuple[int, int]] = Counter()
+        self.failing = 0
+        self.cut = Cut()
         self.down = self.right = 1
         self.last_row = 0
 
@@ -96,10 +131,38 @@ class Gathered:
         self.last_row = max(self.last_row, max(rows.values(), default=0))
         whole = self.down == self.right == 1
         self.places.update(places if whole else {(row // self.down, column // self.right) for row, column in places})
-        self.columns.update({column for _, column in places})
+        self._count(die.tries[-1], rows, places)
         while len(self.places) > MOST_PLACES:
             self._gather()
         return places
+
+    def _count(self, attempt: records.Try, rows: dict[int, int], places: set[tuple[int, int]]) -> None:
+        """Counts a die at its columns, and by the first row in which it fails at each of them."""
+        columns = {column for _, column in places}
+        self.failing += attempt.fails > 0
+        self.columns.update(columns)
+        firsts: dict[int, int] = {}
+        for row, column in places:
+            firsts[column] = min(row, firsts.get(column, row))
+        self.firsts.update((row, column) for column, row in firsts.items())
+        if attempt.fails > len(attempt.kept):
+            self.cut.add(attempt, max(rows.values(), default=-1))
+        else:
+            self.whole.update(columns)
+
+    def reach(self, die: records.Die) -> int | None:
+        """The row of the last kept fail of a die that has more fails; none where all are kept."""
+        attempt = die.tries[-1]
+        if attempt.fails == len(attempt.kept):
+            return None
+        return self.axes.row(attempt.kept[-1].cycle) if attempt.kept else -1
+
+    def unknown(self, bands: int) -> numpy.ndarray:
+        """For each of so many bands of rows the share of failing dies whose fails aren't known there."""
+        missing = numpy.zeros(bands)
+        for row, count in self.cut.rows.items():
+            missing[(row + 1) * bands // max(self.rows(), 1) :] += count
+        return missing / max(self.failing, 1)
 
     def _gather(self) -> None:
         """Makes two neighbours one place, in the longer direction."""
@@ -119,10 +182,27 @@ class Gathered:
         """How many dies fail at each place, with rows and columns gathered where there are very many."""
         return spread(self.places, -(-self.rows() // self.down), -(-len(self.axes.columns) // self.right), MOST_SIDE)
 
+    def ranked(self) -> tuple[Counter[int], str]:
+        """How many dies fail at each column, by what is known alike of all that are counted, and the words for what that is.
+
+        Where dies are cut off it is either the rows that all dies reach or the dies of which all fails are kept: what tells more.
+        """
+        if not self.cut.count:
+            return self.columns, ""
+        reached = min(self.cut.rows)
+        early: Counter[int] = Counter()
+        for (row, column), count in self.firsts.items():
+            if row < reached:
+                early[column] += count
+        if early.total() > self.whole.total():
+            return early, f"{'loads' if self.axes.by_load else 'cycles'} up to {reached - 1}, which all dies reach"
+        return self.whole, f"the {self.failing - self.cut.count} failing dies of which all fails are kept"
+
     def pareto(self, most: int) -> list[tuple[str, int]]:
         """The columns at which most dies fail, with their numbers."""
         names = [name_of(key) for key in self.axes.columns]
-        return [(names[column], count) for column, count in sorted(self.columns.items(), key=lambda entry: (-entry[1], entry[0]))[:most]]
+        ranked = sorted(self.ranked()[0].items(), key=lambda entry: (-entry[1], entry[0]))
+        return [(names[column], count) for column, count in ranked[:most]]
 
 
 def spread(places: "Counter[tuple[int, int]]", rows: int, columns: int, most: int) -> numpy.ndarray:
@@ -134,15 +214,17 @@ def spread(places: "Counter[tuple[int, int]]", rows: int, columns: int, most: in
     return cells
 
 
-def picture(places: set[tuple[int, int]], rows: int, columns: int) -> bytes:
-    """A fail map as a small PNG, a black pixel for a place or for gathered neighbours."""
+def picture(places: set[tuple[int, int]], rows: int, columns: int, reach: int | None = None) -> bytes:
+    """A fail map as a small PNG, a black pixel for a place or for gathered neighbours; rows behind the one that is reached are grey."""
     from PIL import Image
 
     down, right = -(-rows // MOST_ROWS) or 1, -(-columns // MOST_COLUMNS) or 1
     cells = numpy.full((-(-rows // down) or 1, -(-columns // right) or 1), 255, dtype=numpy.uint8)
+    if reach is not None:
+        cells[-(-(reach + 1) // down) :] = GREY
     if places:
         found = numpy.array(list(places))
         cells[found[:, 0] // down, found[:, 1] // right] = 0
     out = io.BytesIO()
-    Image.fromarray(cells).convert("1").save(out, "PNG")
+    Image.fromarray(cells).save(out, "PNG", optimize=True)
     return out.getvalue()

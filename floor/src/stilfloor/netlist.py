@@ -9,7 +9,7 @@ from stilfloor import tester
 from stilfloor.benches import Bench, make_bench
 from stilfloor.faults import REFUSED, UNREADABLE, Fault
 from stilfloor.names import remark, replacing
-from stilfloor.plans import write_rows
+from stilfloor.plans import MOST_KEPT, write_rows
 from stilfloor.sentences import refusal
 from stilfloor.verilog import read_design
 
@@ -40,8 +40,8 @@ def make(start: Start, folder: str, force: bool = False) -> tuple[Bench, list[st
     if taken and not force:
         raise Fault(UNREADABLE, "this file is there already; --force writes over it", taken[0])
     source = remark(" ".join(start.files))
-    texts = [bench.text(source), stil_text(bench, source, start), plan_text(bench, paths[0])]
-    _try_out(bench, texts, start.files[0])
+    texts = [bench.text(source), stil_text(bench, source, start), plan_text(bench, paths[0], start)]
+    _try_out(bench, [*texts[:2], plan_text(bench, "n.bench", start)], start.files[0])
     try:
         os.makedirs(folder, exist_ok=True)
     except OSError as error:
@@ -61,7 +61,7 @@ def _path(folder: str, name: str) -> str:
 def _try_out(bench: Bench, texts: list[str], file: str) -> None:
     """Lets the program read what is to be written, and refuses what it refuses."""
     with tempfile.TemporaryDirectory() as room:
-        for name, text in zip(("n.bench", "p.stil", "p.csv"), (texts[0], texts[1], plan_text(bench, "n.bench"))):
+        for name, text in zip(("n.bench", "p.stil", "p.csv"), texts):
             with open(os.path.join(room, name), "w", encoding="latin-1") as out:
                 out.write(text)
         status, output = tester.run(["lot", "p.stil", "p.csv"], room)
@@ -176,9 +176,10 @@ def _load(bench: Bench, bits: random.Random, number: int) -> str:
     return f'  "pattern {number}": Call "load_unload" {{{data} }}'
 
 
-def plan_text(bench: Bench, file: str) -> str:
-    """A plan to begin with: one good die at site 0."""
-    rows = [["lot", "256", "1", "64"]]
+def plan_text(bench: Bench, file: str, start: Start) -> str:
+    """A plan to begin with: one good die at site 0, and as many kept fails as there are looks, so that no die's fails are cut off."""
+    looks = start.vectors * (len(bench.outputs) + sum(len(chain.cells) for chain in bench.chains))
+    rows = [["lot", "256", "1", str(min(max(looks, 1), MOST_KEPT))]]
     if bench.clock:
         rows.append(["clock", bench.clock])
     rows += [["bind", chain.scan_out, chain.cells[-1]] for chain in bench.chains]

@@ -60,7 +60,8 @@ class Page:
 
     def _part(self, die: records.Die, diagnosis: Diagnosis, places: set[tuple[int, int]]) -> str:
         """A failing die: its map, and its suspects."""
-        image = base64.b64encode(picture(places, self.gathered.rows(), len(self.gathered.axes.columns))).decode()
+        reach = self.gathered.reach(die)
+        image = base64.b64encode(picture(places, self.gathered.rows(), len(self.gathered.axes.columns), reach)).decode()
         kept = len(die.tries[-1].kept)
         more = "" if kept == diagnosis.fails else f", of which {kept} are kept"
         suspects = "".join(f"<li><code>{escape(ranked.text())}</code></li>" for ranked in diagnosis.classes)
@@ -78,24 +79,30 @@ class Page:
                  f"<h1>{escape(title)}</h1>",
                  f"<p>Yield: {self.lot.passing} of {count} dies pass, {share}. {self.failing} dies fail, "
                  f"and for {self.explained} of them something explains the fails exactly.</p>",
-                 "<h2>Bins and sites</h2>", self._bins(), self._sites()]
+                 self._cut(), "<h2>Bins and sites</h2>", self._bins(), self._sites()]
         lines += [f"<p class=\"none\">{escape(line)}</p>" for line in [*self.doctor.notes, *self.doctor.site_lines()]]
         lines.append('<div class="figures">' + drawing.svg_of(drawing.lot_figure(self.lot)))
         if self.gathered.columns:
             lines.append(drawing.svg_of(drawing.pareto_figure(self.gathered)))
         lines.append("</div>")
         if self.gathered.columns:
-            lines.append("<h2>All fails</h2><div class=\"all\">"
+            lines.append("<h2>All fails</h2>" + self._cut() + "<div class=\"all\">"
                          + drawing.svg_of(drawing.map_figure(self.gathered, "dies that fail at each place")) + "</div>")
         lines.append("<h2>Failing dies</h2>" + self._legend())
         return "\n".join(lines) + "\n"
+
+    def _cut(self) -> str:
+        """What is said of dies with more fails than are kept."""
+        note = self.gathered.cut.note(self.gathered.failing)
+        return f'<p class="none">{escape(note)}.</p>' if note else ""
 
     def _legend(self) -> str:
         axes = self.gathered.axes
         row = "load" if axes.by_load else "cycle"
         return (f'<p class="note">In a fail map each row is a {row}, from the top down ({self.gathered.rows()}), and each column a scan cell, chain by '
                 f"chain from scan-in to scan-out, then an output ({len(axes.columns)}). A score is the part of fails that a die and a suspect "
-                "have in common; suspects in one line are told apart by no look of this program.</p>")
+                "have in common; suspects in one line are told apart by no look of this program. Grey is what lies behind the last kept fail "
+                "of a die that has more.</p>")
 
     def _bins(self) -> str:
         rows = []
