@@ -14,6 +14,8 @@ REPEAT = re.compile(r"r(\d+)")
 HEX = re.compile(r"[0-9A-Fa-f]+")
 DECIMAL = re.compile(r"[0-9]+")
 MOST_REPEATS = 1 << 20
+# (pieces of data that are kept in case they come again)
+MOST_KNOWN = 1 << 16
 # tokens that may stand in a block of plain assignments beside words, names and texts
 PLAIN = frozenset("=;[].#%")
 ARGUMENT = frozenset("=;[].")
@@ -36,7 +38,7 @@ class Rules:
     lengths: dict[str, int] = field(default_factory=dict)
     letters: set[str] = field(default_factory=set)
     based: bool = False
-    memory: "dict[tuple[tuple[str, ...], str, str, bool], Piece]" = field(default_factory=dict)
+    memory: "dict[tuple[str, str, bool], Piece]" = field(default_factory=dict)
     late: "list[tuple[Body, int, tuple[str, ...], dict[str, str]]]" = field(default_factory=list)
 
 
@@ -168,8 +170,8 @@ def fit_data(work: Work, bodies: Bodies, rules: Rules) -> None:
 
 
 def _fit_block(work: Work, rules: Rules, body: Body, statement: Statement, allowed: frozenset[str]) -> None:
-    texts = work.texts[statement.open + 1 : statement.end]
-    is_plain = all(len(text) > 1 or text.isalnum() or text in allowed for text in set(texts))
+    texts = work.tokens.texts[statement.open + 1 : statement.end]
+    is_plain = "\\" not in texts and all(len(text) > 1 or text.isalnum() or text in allowed for text in set(texts))
     if is_plain and not rules.based and not (rules.letters and rules.letters.intersection("".join(texts))):
         if len(texts) <= 4 * texts.count(";") and not any("_" in text or text[:1] == "'" for text in texts[2::4]):
             return
@@ -194,15 +196,15 @@ def _has_odd_data(texts: list[str]) -> bool:
 
 def _fit_part(work: Work, rules: Rules, body: Body, statement: Statement, parts: list[Assignment], part: Assignment) -> None:
     """One assignment."""
-    is_argument = work.texts[statement.key] in CALLS
-    reference = tuple(work.texts[part.start : part.equals])
-    tokens, gaps = work.texts[part.equals + 1 : part.end], work.tokens.gaps[part.equals + 1 : part.end]
-    key = (reference, " ".join(tokens), "".join(gaps), is_argument)
+    texts, start, behind, end = work.tokens.texts, part.start, part.equals + 1, part.end
+    gaps = work.tokens.gaps[behind:end]
+    is_argument = texts[statement.key] in CALLS
+    key = (" ".join(texts[start:end]), "".join(gaps), is_argument)
     piece = rules.memory.get(key)
     if piece is None:
-        piece = rules.memory[key] = _piece(rules, reference, tokens, gaps, is_argument)
-        if len(rules.memory) > 1 << 16:
+        if len(rules.memory) > MOST_KNOWN:
             rules.memory.clear()
+        piece = rules.memory[key] = _piece(rules, tuple(texts[start : part.equals]), texts[behind:end], gaps, is_argument)
     if piece.stop:
         work.stop(part.start, piece.stop)
         return
@@ -210,12 +212,13 @@ def _fit_part(work: Work, rules: Rules, body: Body, statement: Statement, parts:
         work.stop(part.start, f"`\\j` joins what is assigned twice to the signal `{other}` here, and the program keeps the later character alone")
         return
     if piece.late:
+        reference = tuple(texts[start : part.equals])
         attributes = rules.names.attributes_of(reference)
         rules.late.append((body, part.start, reference, attributes.single if attributes else {}))
     for what, why in piece.notes:
-        work.change(part.start, what, why)
+        work.change(start, what, why)
     if piece.notes:
-        work.put(part.equals + 1, part.end, piece.text)
+        work.put(behind, end, piece.text)
 
 
 def _shared(work: Work, rules: Rules, parts: list[Assignment], part: Assignment) -> str:
