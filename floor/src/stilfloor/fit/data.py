@@ -322,7 +322,7 @@ def _flag(rules: Rules, cursor: Cursor, place: int, is_argument: bool) -> int:
     if repeat := REPEAT.fullmatch(word):
         return _repeat(rules, cursor, place, int(repeat[1][:9]))
     if cursor.mode in "hd" and word[:1] in "hdw":
-        _convert(rules, cursor, is_argument)
+        _convert(rules, cursor, is_argument, place + 2 < len(cursor.tokens))
     behind = place + 2
     if word == "w":
         cursor.mode = "w"
@@ -393,17 +393,19 @@ def _digits(cursor: Cursor, place: int) -> int:
     return place + 1
 
 
-def _convert(rules: Rules, cursor: Cursor, is_argument: bool) -> None:
-    """Writes gathered digits as characters."""
+def _convert(rules: Rules, cursor: Cursor, is_argument: bool, is_mixed: bool = False) -> None:
+    """Writes gathered digits as characters; of mixed data other characters stand beside them."""
+    is_mixed = is_mixed or bool("".join(cursor.pieces).strip())
     digits, cursor.digits = "".join(cursor.digits), []
     if not (HEX if cursor.mode == "h" else DECIMAL).fullmatch(digits):
         raise DataStop(f"`{_short(digits)}` isn't a number of `\\{cursor.mode}`")
     if cursor.members is None:
         raise DataStop("how many signals these digits are for isn't known")
-    if cursor.pieces and "".join(cursor.pieces).strip():
-        raise DataStop(f"`\\{cursor.mode}` stands behind other data here, and fit has no rule for how they fit together")
     width = bits_of(cursor.base)
-    wanted = _wanted(rules, cursor, len(digits) * 4 // width if cursor.mode == "h" else 0, is_argument)
+    have = len(digits) * 4 // width if cursor.mode == "h" else 0
+    wanted = have if is_mixed else _wanted(rules, cursor, have, is_argument)
+    if is_mixed and (not have or have * width != len(digits) * 4):
+        raise DataStop(f"`\\{cursor.mode}` stands beside other data here, and how many characters it is for isn't known")
     bits = _hex_bits(digits, wanted * width, cursor.attributes) if cursor.mode == "h" else _decimal_bits(digits, wanted * width)
     text = _from_bits(bits, width, cursor.base)
     _note(cursor, f"`\\{cursor.mode} {_short(digits)}` written `{_short(text)}`", "the same digits in binary, by Base, Alignment and DataBitCount")
