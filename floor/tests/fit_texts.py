@@ -149,6 +149,8 @@ PAIRS: dict[str, tuple[Program, Program]] = {
         Program(signals="a In; b In; ck In; si In { Base Hex 01; DataBitCount 3; Alignment LSB; } y Out; so Out { Base Hex LH; Alignment MSB; } "
                 "io InOut; bus[0..3] In; q[0..3] Out;", pattern="Call load { si=\\h 5; so=\\h A; }"),
         Program(pattern="Call load { si=101; so=HLH; }")),
+    "digits beside characters": (Program(pattern="V { bus=\\w 01\\w 10; } V { 'bus[0..3] + pi'=\\h A\\w 01; } V { 'pi + bus[0..3]'=01\\h A; }"),
+                                 Program(pattern="V { bus=0110; } V { bus=1010; a=0; b=1; } V { a=0; b=1; bus=1010; }")),
     "characters as they are": (Program(pattern="V { q=\\l LHLH; bus=\\w 01 10; }"), Program(pattern="V { q=LHLH; bus=0110; }")),
     "a character without a form": (
         Program(waves="b { 01-* { '5ns' D/U/Z/D; } }", macros="m { V { b=#; } }", pattern="V { b=-; } V { b=*; } Macro m { b=-; }"),
@@ -239,6 +241,9 @@ STOPS: dict[str, tuple[Program, list[int], str]] = {
     "a character that no table has": (Program(pattern="V { b=-; }"), [18], "character `-`"),
     "a time without a unit": (Program(period="'100'", waves="b { P { '10 + 5ns' U; '0' D; } }", pattern=V), [6, 10], "--unit"),
     "a product of times": (Program(period="'per*per'", pattern=V), [6], "no time"),
+    "a variable that has a unit in one category alone": (
+        Program(spec="Category c { per = '100ns'; } Category d { per = '100'; }", pattern=V), [6], "in one category"),
+    "a Stop in a block": (Program(macros="m { V { }\nStop; }", pattern="Loop 2 { V { }\nStop; }"), [14, 20], "midst"),
     "a label that isn't there": (Program(waves="b { P { '@e1 + 20ns' D; } }", pattern=V), [10], "e1"),
     "a label of several events": (
         Program(waves="b { P { e: '10ns' D; } 1 { e: '20ns' D; '@e + 5ns' U; } }", pattern=V), [10], "no one event"),

@@ -28,7 +28,6 @@ class Bar:
     """A bar on a terminal."""
 
     is_shown: bool = field(default_factory=lambda: sys.stderr.isatty())
-    done: int = 0
 
     def show(self, what: str, share: float) -> None:
         """Shows how far it is."""
@@ -138,8 +137,11 @@ def fit_file(file: str, out: str, folders: list[str], unit: str) -> list[Change]
 
 def _write(file: str, out: str, text: str, lines: int) -> None:
     """Writes the text where `stil` accepts it."""
+    whole = os.path.realpath(out)
+    if os.path.exists(whole) and not os.path.isfile(whole):
+        raise Fault(UNREADABLE, "this is no plain file, which fit would put in its place", out)
     try:
-        handle, path = tempfile.mkstemp(prefix=".fit-", suffix=".stil", dir=os.path.dirname(out) or ".")
+        handle, path = tempfile.mkstemp(prefix=".fit-", suffix=".stil", dir=os.path.dirname(whole))
     except OSError as error:
         raise Fault(UNREADABLE, f"{error.strerror}", out) from error
     try:
@@ -151,7 +153,7 @@ def _write(file: str, out: str, text: str, lines: int) -> None:
         mask = os.umask(0)
         os.umask(mask)
         os.chmod(path, 0o666 & ~mask)
-        os.replace(path, out)
+        os.replace(path, whole)
     except OSError as error:
         raise Fault(UNREADABLE, f"{error.strerror}", out) from error
     finally:

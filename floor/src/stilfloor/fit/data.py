@@ -14,6 +14,8 @@ REPEAT = re.compile(r"r(\d+)")
 HEX = re.compile(r"[0-9A-Fa-f]+")
 DECIMAL = re.compile(r"[0-9]+")
 MOST_REPEATS = 1 << 20
+# (pieces of data that are kept in case they come again)
+MOST_KNOWN = 1 << 16
 # tokens that may stand in a block of plain assignments beside words, names and texts
 PLAIN = frozenset("=;[].#%")
 ARGUMENT = frozenset("=;[].")
@@ -36,7 +38,7 @@ class Rules:
     lengths: dict[str, int] = field(default_factory=dict)
     letters: set[str] = field(default_factory=set)
     based: bool = False
-    memory: "dict[tuple[tuple[str, ...], str, str, bool], Piece]" = field(default_factory=dict)
+    memory: "dict[tuple[str, str, bool], Piece]" = field(default_factory=dict)
     late: "list[tuple[Body, int, tuple[str, ...], dict[str, str]]]" = field(default_factory=list)
 
 
@@ -168,8 +170,8 @@ def fit_data(work: Work, bodies: Bodies, rules: Rules) -> None:
 
 
 def _fit_block(work: Work, rules: Rules, body: Body, statement: Statement, allowed: frozenset[str]) -> None:
-    texts = work.texts[statement.open + 1 : statement.end]
-    is_plain = all(len(text) > 1 or text.isalnum() or text in allowed for text in set(texts))
+    texts = work.tokens.texts[statement.open + 1 : statement.end]
+    is_plain = "\\" not in texts and all(len(text) > 1 or text.isalnum() or text in allowed for text in set(texts))
     if is_plain and not rules.based and not (rules.letters and rules.letters.intersection("".join(texts))):
         if len(texts) <= 4 * texts.count(";") and not any("_" in text or text[:1] == "'" for text in texts[2::4]):
             return
@@ -194,15 +196,15 @@ def _has_odd_data(texts: list[str]) -> bool:
 
 def _fit_part(work: Work, rules: Rules, body: Body, statement: Statement, parts: list[Assignment], part: Assignment) -> None:
     """One assignment."""
-    is_argument = work.texts[statement.key] in CALLS
-    reference = tuple(work.texts[part.start : part.equals])
-    tokens, gaps = work.texts[part.equals + 1 : part.end], work.tokens.gaps[part.equals + 1 : part.end]
-    key = (reference, " ".join(tokens), "".join(gaps), is_argument)
+    texts, start, behind, end = work.tokens.texts, part.start, part.equals + 1, part.end
+    gaps = work.tokens.gaps[behind:end]
+    is_argument = texts[statement.key] in CALLS
+    key = (" ".join(texts[start:end]), "".join(gaps), is_argument)
     piece = rules.memory.get(key)
     if piece is None:
-        piece = rules.memory[key] = _piece(rules, reference, tokens, gaps, is_argument)
-        if len(rules.memory) > 1 << 16:
+        if len(rules.memory) > MOST_KNOWN:
             rules.memory.clear()
+        piece = rules.memory[key] = _piece(rules, tuple(texts[start : part.equals]), texts[behind:end], gaps, is_argument)
     if piece.stop:
         work.stop(part.start, piece.stop)
         return
@@ -210,12 +212,13 @@ def _fit_part(work: Work, rules: Rules, body: Body, statement: Statement, parts:
         work.stop(part.start, f"`\\j` joins what is assigned twice to the signal `{other}` here, and the program keeps the later character alone")
         return
     if piece.late:
+        reference = tuple(texts[start : part.equals])
         attributes = rules.names.attributes_of(reference)
         rules.late.append((body, part.start, reference, attributes.single if attributes else {}))
     for what, why in piece.notes:
-        work.change(part.start, what, why)
+        work.change(start, what, why)
     if piece.notes:
-        work.put(part.equals + 1, part.end, piece.text)
+        work.put(behind, end, piece.text)
 
 
 def _shared(work: Work, rules: Rules, parts: list[Assignment], part: Assignment) -> str:
@@ -319,7 +322,7 @@ def _flag(rules: Rules, cursor: Cursor, place: int, is_argument: bool) -> int:
     if repeat := REPEAT.fullmatch(word):
         return _repeat(rules, cursor, place, int(repeat[1][:9]))
     if cursor.mode in "hd" and word[:1] in "hdw":
-        _convert(rules, cursor, is_argument)
+        _convert(rules, cursor, is_argument, place + 2 < len(cursor.tokens))
     behind = place + 2
     if word == "w":
         cursor.mode = "w"
@@ -390,17 +393,19 @@ def _digits(cursor: Cursor, place: int) -> int:
     return place + 1
 
 
-def _convert(rules: Rules, cursor: Cursor, is_argument: bool) -> None:
-    """Writes gathered digits as characters."""
+def _convert(rules: Rules, cursor: Cursor, is_argument: bool, is_mixed: bool = False) -> None:
+    """Writes gathered digits as characters; of mixed data other characters stand beside them."""
+    is_mixed = is_mixed or bool("".join(cursor.pieces).strip())
     digits, cursor.digits = "".join(cursor.digits), []
     if not (HEX if cursor.mode == "h" else DECIMAL).fullmatch(digits):
         raise DataStop(f"`{_short(digits)}` isn't a number of `\\{cursor.mode}`")
     if cursor.members is None:
         raise DataStop("how many signals these digits are for isn't known")
-    if cursor.pieces and "".join(cursor.pieces).strip():
-        raise DataStop(f"`\\{cursor.mode}` stands behind other data here, and fit has no rule for how they fit together")
     width = bits_of(cursor.base)
-    wanted = _wanted(rules, cursor, len(digits) * 4 // width if cursor.mode == "h" else 0, is_argument)
+    have = len(digits) * 4 // width if cursor.mode == "h" else 0
+    wanted = have if is_mixed else _wanted(rules, cursor, have, is_argument)
+    if is_mixed and (not have or have * width != len(digits) * 4):
+        raise DataStop(f"`\\{cursor.mode}` stands beside other data here, and how many characters it is for isn't known")
     bits = _hex_bits(digits, wanted * width, cursor.attributes) if cursor.mode == "h" else _decimal_bits(digits, wanted * width)
     text = _from_bits(bits, width, cursor.base)
     _note(cursor, f"`\\{cursor.mode} {_short(digits)}` written `{_short(text)}`", "the same digits in binary, by Base, Alignment and DataBitCount")

@@ -37,6 +37,7 @@ class Scan:
     chains: dict[str, set[int]]
     shifts: dict[int, list[Shift]] = field(default_factory=dict)
     nested: dict[int, list[Statement]] = field(default_factory=dict)
+    filled: set[int] = field(default_factory=set)
 
     def of(self, body: Body) -> list[Shift]:
         """The Shifts of a body."""
@@ -104,6 +105,8 @@ def _fit_active_list(scan: Scan, body: Body, statements: list[Statement], now: l
             for inner in all_of(statement.kids):
                 _check_active(scan, body, inner, now)
         else:
+            if keyword == "Shift" and statement.kids is not None:
+                _fit_active_list(scan, body, statement.kids, now)
             _check_active(scan, body, statement, now)
     for active in own:
         if not active.is_stopped:
@@ -209,7 +212,8 @@ def _fill(scan: Scan, body: Body, call: Statement) -> None:
                                 "fit knows no characters without a look for as many cells")
             return
         puts.append(f'"{signal}"=\\r{length} {quiet} ;')
-    if puts:
+    if puts and id(call) not in scan.filled:
+        scan.filled.add(id(call))
         work.change(call.key, f"data `{' '.join(puts)}` put in", "the load has no scan-out data, and these characters look at nothing")
         if call.open >= 0:
             work.insert(call.end, " ".join(puts) + " ")

@@ -18,6 +18,8 @@ MOST_DEEP = 64
 MOST_DIGITS = 60
 MOST_BYTES = 1 << 14
 ANY = None
+# the kind of a variable that is a time in one category and a plain number in another
+BOTH = 99
 
 
 class TimeStop(Exception):
@@ -215,6 +217,8 @@ def with_unit(reader: Reader, value: Value) -> bool:
     if value.kind not in (1, ANY) and value.value != 0:
         lacking += [term for term in value.terms or [value] if term.value != 0 and term.kind != ANY]
     for term in lacking:
+        if term.kind == BOTH:
+            raise TimeStop("a variable here is a time in one category and a number without a unit in another")
         if term.kind != 0:
             raise TimeStop("this is no time: times are multiplied, or divided by each other, here")
         if reader.unit:

@@ -64,7 +64,7 @@ class Spec:
                 return times.ANY
             if value.value != 0:
                 kinds.add(value.kind)
-        return kinds.pop() if len(kinds) == 1 else times.ANY
+        return kinds.pop() if len(kinds) == 1 else times.BOTH if kinds else times.ANY
 
 
 def fit_spec(work: Work) -> Spec:

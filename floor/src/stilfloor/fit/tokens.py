@@ -8,12 +8,13 @@ from dataclasses import dataclass, field
 from itertools import accumulate, chain
 
 # (an open quote or comment reaches to the end of what is looked at, so that a piece of a text is never cut within a token)
-PAIR = re.compile(
-    r"""((?:[ \t\n\f\r]+|//[^\n]*|/\*(?:.*?\*/|.*\Z)|Ann(?!\w)[ \t\n\f\r]*(?:\{\*(?:.*?\*\}|.*\Z)|\{\Z|\Z))*+)
-        (\w+|"[^"]*(?:"|\Z)|'[^']*(?:'|\Z)|.|\Z)""",
-    re.DOTALL | re.VERBOSE | re.ASCII,
-)
-PIECE = 1 << 18
+GAP = r"(?:[ \t\n\f\r]+|//[^\n]*|/\*(?:.*?\*/|.*\Z)|Ann(?!\w)[ \t\n\f\r]*(?:\{\*(?:.*?\*\}|.*\Z)|\{\Z|\Z))*+"
+TOKEN = r"""(?:\w++|"[^"]*+(?:"|\Z)|'[^']*+(?:'|\Z)|.)"""
+LEADING = re.compile(GAP, re.DOTALL | re.ASCII)
+ALONE = re.compile(TOKEN, re.DOTALL | re.ASCII)
+# a token with the gap behind it
+PIECE = re.compile(TOKEN + GAP, re.DOTALL | re.ASCII)
+MOST = 1 << 18
 WORD = re.compile(r"\w+", re.ASCII)
 
 
@@ -31,55 +32,45 @@ class Tokens:
         return "".join(chain.from_iterable(zip(self.gaps, self.texts))) + self.tail
 
 
-def _pieces(text: str) -> Iterator[tuple[list[str], list[str], int]]:
-    """The gaps and the tokens behind them, piece by piece, each with the place where it ends."""
-    place, size = 0, PIECE
+def _pieces(text: str, place: int) -> Iterator[tuple[list[str], int]]:
+    """The tokens with the gaps behind them, part by part, each with the place where it ends."""
+    size = MOST
     while place < len(text):
         end = min(place + size, len(text))
-        pairs = PAIR.findall(text, place, end)
-        while pairs and not pairs[-1][1]:
-            last = pairs.pop()
-            if end == len(text) and last[0]:
-                pairs.append(last)
-                break
+        pieces = PIECE.findall(text, place, end)
         if end < len(text):
-            pairs = pairs[:-1]
-        if not pairs:
-            size *= 2
-            continue
-        gaps, texts = [gap for gap, _ in pairs], [token for _, token in pairs]
-        place = end if end == len(text) else place + sum(map(len, gaps)) + sum(map(len, texts))
-        size = PIECE
-        yield gaps, texts, place
+            # (what is cut off may be the front of a comment, which is of the gap of the token before it)
+            if len(pieces) < 3:
+                size *= 2
+                continue
+            end -= len(pieces.pop()) + len(pieces.pop())
+        place, size = end, MOST
+        yield pieces, place
 
 
 def tokens_of(text: str, at: Callable[[int], None] = lambda place: None) -> Tokens:
     """The tokens of a text; `at` is told how far it is read."""
-    made = Tokens()
-    line = 1
-    for gaps, texts, place in _pieces(text):
-        if not texts[-1]:
-            made.tail = gaps.pop()
-            texts.pop()
-        made.gaps.extend(map(sys.intern, gaps))
-        made.texts.extend(map(sys.intern, texts))
-        line = _add_lines(made.lines, gaps, texts, line)
+    leading = LEADING.match(text)
+    first = leading.group() if leading else ""
+    made = Tokens(gaps=[first])
+    line = 1 + first.count("\n")
+    for pieces, place in _pieces(text, len(first)):
+        known = {piece: _cut(piece) for piece in set(pieces)}
+        made.texts += [known[piece][0] for piece in pieces]
+        made.gaps += [known[piece][1] for piece in pieces]
+        starts = list(accumulate([known[piece][2] for piece in pieces], initial=line))
+        line = starts.pop()
+        made.lines.extend(starts)
         at(place)
+    made.tail = made.gaps.pop()
     return made
 
 
-def _add_lines(lines: "array[int]", gaps: list[str], texts: list[str], line: int) -> int:
-    """Adds the lines of these tokens; the line behind them."""
-    feeds = {gap: gap.count("\n") for gap in set(gaps)}
-    inside = {text: text.count("\n") for text in set(texts) if "\n" in text}
-    steps = [feeds[gap] for gap in gaps]
-    behind = [inside.get(text, 0) for text in texts] if inside else []
-    if behind:
-        for number in range(1, len(steps)):
-            steps[number] += behind[number - 1]
-    starts = list(accumulate(steps, initial=line))
-    lines.extend(starts[1:])
-    return starts[-1] + (behind[-1] if behind else 0)
+def _cut(piece: str) -> tuple[str, str, int]:
+    """A token, the gap behind it, and their line feeds."""
+    found = ALONE.match(piece)
+    end = found.end() if found else 0
+    return sys.intern(piece[:end]), sys.intern(piece[end:]), piece.count("\n")
 
 
 def is_word(text: str) -> bool:

@@ -93,8 +93,9 @@ class Work:
 
     def put(self, start: int, end: int, text: str) -> None:
         """Puts a text in place of the tokens from `start` up to `end`."""
+        texts = self.tokens.texts
         self.blank(start, end)
-        self.texts[start] = text + self.texts[start]
+        texts[start] = text + texts[start]
 
     def insert(self, place: int, text: str) -> None:
         """Puts a text before a token."""
@@ -113,7 +114,7 @@ class Work:
 
     def keyword(self, statement: Statement) -> str:
         """The keyword of a statement."""
-        return self.texts[statement.key]
+        return self.tokens.texts[statement.key]
 
     def label(self, statement: Statement) -> str:
         """The label of a statement, as it is written."""
@@ -125,7 +126,7 @@ class Work:
 
     def assignments(self, statement: Statement) -> list[Assignment]:
         """The assignments of a statement's block that aren't skipped."""
-        found = assignments(self.texts, statement)
+        found = assignments(self.tokens.texts, statement)
         if self.skipped:
             return [part for part in found if not self.is_skipped(part.start)]
         return found
