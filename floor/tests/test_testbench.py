@@ -240,12 +240,17 @@ def test_a_design_of_library_cells_stands_in_the_dies_place(gates: list[str], ca
     (["--rtl", "other"], "rtl/g.v:1:1: error: there is no module `other` in these files"),
     (["--rtl", "a b"], "`a b` can't be the name of a module here"),
     (["--files", "none.v"], "none.v:1:1: error: the file can't be read"),
-    (["--libs", "{here}/rtl/wires.vh"], "rtl/g.v:4:1: error: iverilog: Unknown module type: MUX"),
     (["--waves", "--net", "u.`z"], "is no net of `g`")])
 def test_what_is_wrong_with_a_design_is_told(gates: list[str], words: list[str], told: str, capsys: pytest.CaptureFixture[str]) -> None:
-    here = str(pathlib.Path(gates[1]).parent)
-    assert main([*gates, *(word.format(here=here) for word in words)]) in (1, 3)
+    assert main([*gates, *words]) in (1, 3)
     assert told in capsys.readouterr().err
+
+
+@needs_iverilog
+def test_a_module_that_is_in_no_file_is_told(gates: list[str], capsys: pytest.CaptureFixture[str]) -> None:
+    top = pathlib.Path(gates[1]).parent / "rtl/g.v"
+    assert main(gates[:-2]) == 1
+    assert f"{top}:4:1: error: iverilog: Unknown module type: MUX" in capsys.readouterr().err
 
 
 @needs_iverilog

@@ -83,8 +83,10 @@ def _add_testbench(words: "argparse._SubParsersAction[argparse.ArgumentParser]")
     word.add_argument("--site", type=_number, metavar="S", help="the site whose die it is (that of the first die that fits)")
     word.add_argument("--die", metavar="D", help="the die's name (the first one that fits)")
     word.add_argument("--rtl", metavar="TOP", help="this module of your own in the die's place")
-    word.add_argument("--files", nargs="+", default=[], metavar="F.v", help="the files of that module, SystemVerilog where a name ends with .sv")
-    word.add_argument("--libs", nargs="+", default=[], metavar="L.v", help="files of which only the modules that are used are taken")
+    word.add_argument("--files", nargs="+", action="extend", default=[], metavar="F.v",
+                      help="the files of that module, SystemVerilog where a name ends with .sv")
+    word.add_argument("--libs", nargs="+", action="extend", default=[], metavar="L.v",
+                      help="files of which only the modules that are used are taken")
     word.add_argument("--run", action="store_true", help="run it by iverilog: beside `stil lot`, or for the fails of your own module")
     word.add_argument("--waves", action="store_true", help="run it, and write DIR/waves.vcd")
     word.add_argument("--net", action="append", default=[], metavar="NET", help="a net that is in the waves, too; may come again")

@@ -3,6 +3,7 @@
 from collections.abc import Iterable, Iterator
 from dataclasses import dataclass, field
 
+from stilfloor.plans import MOST_KEPT
 from stilfloor.saved import Code
 from stilfloor.testbench import engine, memory
 from stilfloor.testbench.binding import Binding
@@ -95,7 +96,7 @@ def _head(job: Job) -> str:
 
 def _sizes(job: Job) -> list[tuple[str, int]]:
     """The numbers that the testbench has by name."""
-    keep = job.lot.keep
+    keep = MOST_KEPT if job.design else job.lot.keep
     return [("SIGNALS", job.width), ("PLANES", job.letters.planes), ("ROWS", max(1, len(job.code.rows))), ("STEP", sum(job.steps.widths)),
             ("STEPS", len(job.steps.fields)), ("TEXTS", max(1, len(job.texts.heap))), ("PLACES", len(job.texts.places)),
             ("CHAINS", max(1, len(job.texts.chains))), ("KEEP", keep), ("KEPT", max(1, keep)), ("EXECUTIVES", len(job.code.executives)),

@@ -14,6 +14,8 @@ from stilfloor.testbench.ports import Design, read_design
 PROBE = "probe.v"
 RUN, LOG = "testbench.vvp", "testbench.log"
 MADE = (RUN, LOG)
+# so much of what a simulation says is told where it ends too early
+MOST_TOLD = 300
 COMPLAINT = re.compile(r"(?:\./)?([\w./]+):(\d+): (?!warning)(?:error: |sorry: )?(.*)")
 # a design without a timescale of its own has this one
 TIMESCALE = "`timescale 1ns / 1ps\n"
@@ -115,11 +117,13 @@ def simulate(folder: str, wanted: list[str], files: list[str], libraries: list[s
     log = os.path.join(folder, LOG)
     if os.path.lexists(log):
         os.unlink(log)
-    done = subprocess.run(["vvp", "-n", RUN], cwd=folder, stdin=subprocess.DEVNULL, capture_output=True, check=False)
-    said = (done.stderr + done.stdout).decode("utf-8", "replace")
+    with tempfile.TemporaryFile() as output:
+        done = subprocess.run(["vvp", "-n", RUN], cwd=folder, stdin=subprocess.DEVNULL, stdout=output, stderr=subprocess.STDOUT, check=False)
+        output.seek(-min(output.tell(), MOST_TOLD), os.SEEK_END)
+        said = output.read().decode("utf-8", "replace")
     lines = _log_lines(log)
     if done.returncode or not lines or not lines[-1].startswith("bin "):
-        raise Fault(TOOL, "the simulation ended before the test did: " + " ".join(said.split())[-300:], os.path.join(folder, RUN))
+        raise Fault(TOOL, "the simulation ended before the test did: " + " ".join(said.split()), os.path.join(folder, RUN))
     return lines
 
 

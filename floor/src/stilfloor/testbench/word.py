@@ -42,7 +42,7 @@ def _of_design(job: Job, lines: list[str]) -> Answer:
     """The fails of one's own design."""
     fails = beside.fails_of(lines)
     told = [line for line in lines if line.startswith("fail ")]
-    kept = f", of which the plan keeps {len(told)}" if len(told) != fails else ""
+    kept = f", of which the first {len(told)} are told" if len(told) != fails else ""
     verdict = next(line for line in reversed(lines) if line.startswith("verdict "))
     assert job.design is not None
     return Answer([*told, f"{job.design.top}: {fails} fails{kept}, {verdict}"], REFUSED if fails else 0)

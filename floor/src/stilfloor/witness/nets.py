@@ -61,7 +61,8 @@ def random_net(chance: random.Random) -> Net:
         net.gates.append(_random_gate(names.new(), known[-40:] + net.inputs, chance))
         known.append(net.gates[-1].net)
     _put_registers(net, cells, known, names, chance)
-    net.outputs = list(dict.fromkeys(chance.choice(net.nets) for _ in range(chance.randint(1, 7))))
+    shown = [chance.choice(net.nets) for _ in range(chance.randint(1, 7))] + [chance.choice(net.inputs) for _ in range(chance.randint(0, 2))]
+    net.outputs = list(dict.fromkeys(shown))
     net.outputs += [chain[-1] for chain in net.chains if chain[-1] not in net.outputs]
     return net
 

@@ -10,7 +10,8 @@ PERIODS = (10**8, 4 * 10**7, 33000001, 10**9, 25)
 FIELDS = 12
 # by what a signal does: its characters, each with how many events of which acts; `*` stands for any look
 DATA = {"0": "D", "1": "U", "N": "N", "Z": "Z", "P": "P", "r": "DU", "f": "UD", "e": "", "y": "UPD", "z": "ZP"}
-CLOCK = {"0": "D", "1": "U", "P": "DU", "R": "DUD", "n": "DNU", "o": "DZ", "q": "UN", "x": "NU", "y": "PDU", "z": "UDUD"}
+CLOCK = {"0": "D", "1": "U", "P": "DU", "R": "DUD", "n": "DNU", "o": "DZ", "q": "UN", "x": "NU", "y": "PDU", "z": "UDUD",
+         "c": "ZT", "d": "NT", "h": "DUH"}
 LOOKS = {"L": "L", "H": "H", "T": "T", "X": "X", "l": "lX", "h": "hX", "t": "tX", "w": "h", "v": "l", "u": "*", "s": "**", "m": "****"}
 
 
@@ -165,12 +166,12 @@ class Writer:
         if signal.letters == "looks":
             return "X" if is_quiet or self.chance.random() < 0.6 else "L" if self.learns else self.chance.choice("LHLHLHTlhtwvusm")
         if signal.letters == "clock":
-            return "R" if self.chance.random() < self.steady else self.chance.choice(self.chance.choice(("noqx", list(CLOCK))))
+            return "R" if self.chance.random() < self.steady else self.chance.choice(self.chance.choice(("noqxc", list(CLOCK))))
         kind = self.chance.random()
         if kind < 0.85:
             return self.chance.choice("01" if kind < 0.55 else "rf")
-        letters = [letter for letter in self._letters(signal) if not ((is_quiet or self.learns) and letter in "LHw")]
-        return self.chance.choice(letters)
+        looks = "LHw" if signal.letters == "both" and not is_quiet and not self.learns else ""
+        return self.chance.choice("PPPyyzNZe" + looks)
 
     def _vector(self, is_quiet: bool) -> str:
         chosen = [signal for signal in self.program.signals if self.chance.random() < 0.6 or self.learns and signal.letters == "looks"]
