@@ -1,5 +1,6 @@
 """Runs a lot or a grade in parts: by GNU parallel here or over ssh, one part after another where it is missing, or by Slurm."""
 import argparse
+import os
 import shlex
 import shutil
 import signal
@@ -57,7 +58,8 @@ def by_parallel(work, given):
     asked = ["parallel", "--will-cite", "--quote", "--joblog", work.folder / "joblog", "--resume-failed", "--retries", str(given.retries)]
     asked += ["--jobs", given.jobs] if given.jobs else []
     asked += ["--sshloginfile", given.sshloginfile] if given.sshloginfile else []
-    ran = subprocess.Popen([*asked, HERE / "part", work.folder, "{}", ":::", *map(str, range(1, work.parts + 1))], stdin=subprocess.DEVNULL)
+    ran = subprocess.Popen([*asked, HERE / "part", work.folder, "{}", ":::", *map(str, range(1, work.parts + 1))], stdin=subprocess.DEVNULL,
+                           env={"HOME": str(work.folder), "PATH": os.defpath, **os.environ})
     try:
         ran.wait()
     finally:

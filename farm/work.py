@@ -34,8 +34,11 @@ def without(what, wants):
 
 
 def program_of(name):
-    """Where a program is: as the variable of its name in capitals says, in release/ or built beside this folder, or on the path."""
+    """Where a program is: as the variable of its name in capitals says, in release/ or built beside this folder, installed above it, or
+    on the path."""
     tool, found = HERE.parent / "tools/program", os.environ.get(name.upper())
+    if not found and not tool.exists() and (HERE.parent / name).is_file():
+        found = HERE.parent / name
     if not found and tool.exists():
         said = subprocess.run([tool, name], stdout=subprocess.PIPE, text=True).stdout.strip()
         found = HERE.parent / (said or name)
