@@ -34,7 +34,7 @@ install:
 	install -m 755 "$(program)" "$(place)/lib/stil/stil"
 	install -m 644 tools/help "$(place)/lib/stil/help"
 	./stil --version > "$(place)/lib/stil/version"
-	cat tools/installed tools/launch > "$(place)/bin/stil"
+	cat tools/installed tools/words tools/launch > "$(place)/bin/stil"
 	chmod 755 "$(place)/bin/stil"
 	tools/man > "$(place)/share/man/man1/stil.1"
 	@test -n "$(lots)" || echo "no lots of these sources is here, so it is left out: ./lots --prove builds it"

@@ -16,6 +16,7 @@ from conftest import TOP
 COMMANDS = ("stil", "lots", "stilfloor", "farm-lot", "farm-grade")
 SCAN = ("share/stil/examples/s27scan/s27scan.stil", "share/stil/examples/s27scan/lot.csv")
 NOBODY = 65534
+EMPTY: dict[str, str] = {}
 ADMINISTRATOR = os.getuid() == 0
 needs_root = pytest.mark.skipif(not ADMINISTRATOR, reason="this user may not become another one: that is left out")
 
@@ -29,7 +30,7 @@ def made(target: str, *words: str) -> None:
 def ran(folder: pathlib.Path, *words: str | pathlib.Path) -> subprocess.CompletedProcess[str]:
     """Runs a command in an empty environment, as nobody where that may be done."""
     user = NOBODY if ADMINISTRATOR else None
-    return subprocess.run(list(map(str, words)), cwd=folder, env={}, user=user, group=user, extra_groups=[] if ADMINISTRATOR else None,
+    return subprocess.run(list(map(str, words)), cwd=folder, env=EMPTY, user=user, group=user, extra_groups=[] if ADMINISTRATOR else None,
                           capture_output=True, text=True, check=False)
 
 
