@@ -44,6 +44,7 @@ install:
 	install -D -m 644 completions/stil.zsh "$(place)/share/zsh/site-functions/_stil"
 	install -D -m 644 completions/stil.fish "$(place)/share/fish/vendor_completions.d/stil.fish"
 	for file in $$(cd editors/vim && find . -name '*.vim'); do install -D -m 644 "editors/vim/$$file" "$(place)/share/vim/vimfiles/$$file"; done
+	install -D -m 644 floor/editors/stilfloor.vim "$(place)/share/vim/vimfiles/compiler/stilfloor.vim"
 	for file in $(samples) $(pages); do install -D -m 644 "$$file" "$(place)/share/stil/$$file"; done
 
 install-lots:
@@ -79,6 +80,7 @@ uninstall:
 	    "$(place)/share/bash-completion/completions/$$name" "$(place)/share/zsh/site-functions/_$$name" \
 	    "$(place)/share/fish/vendor_completions.d/$$name.fish"; done
 	for file in $$(cd editors/vim && find . -name '*.vim'); do rm -f "$(place)/share/vim/vimfiles/$$file"; done
+	rm -f "$(place)/share/vim/vimfiles/compiler/stilfloor.vim"
 	rm -rf "$(place)/lib/stil" "$(place)/share/stil"
 
 dist:

@@ -9,6 +9,7 @@ from typing import IO
 
 from stilfloor import __version__
 from stilfloor.faults import REFUSED, STATUSES, UNREADABLE, Fault
+from stilfloor.more_words import add_words
 
 Word = Callable[[argparse.Namespace], int]
 
@@ -42,6 +43,7 @@ def parser_of() -> argparse.ArgumentParser:
     _add_making(words)
     _add_finding(words)
     _add_showing(words)
+    add_words(words, _add)
     return parser
 
 
