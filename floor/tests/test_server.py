@@ -6,6 +6,7 @@ import pathlib
 import queue
 import shutil
 import subprocess
+import sys
 import threading
 import time
 from typing import Any
@@ -13,7 +14,7 @@ from typing import Any
 import pytest
 
 from conftest import EXAMPLES, TOP
-from stilfloor import declared
+from stilfloor import declared, tester
 from stilfloor.document import Document
 
 P1 = (EXAMPLES / "p1.stil").read_text()
@@ -26,7 +27,8 @@ class Client:
     """An editor that has a text open."""
 
     def __init__(self) -> None:
-        self.run = subprocess.Popen(SERVER, stdin=subprocess.PIPE, stdout=subprocess.PIPE)
+        self.run = subprocess.Popen([sys.executable, "-m", "stilfloor", "server"], stdin=subprocess.PIPE, stdout=subprocess.PIPE,
+                                    env={**os.environ, "PYTHONPATH": str(TOP / "floor" / "src"), "STIL": tester.find_program()})
         self.told: "queue.Queue[dict[str, Any]]" = queue.Queue()
         self.kept: list[dict[str, Any]] = []
         self.number = self.version = 0
@@ -110,7 +112,8 @@ def test_a_text_is_judged_while_it_is_typed(client: Client) -> None:
     client.change({"range": span(10, 4, 5), "text": "nobody"})
     found, = client.diagnostics()
     assert found["range"] == span(10, 0, len("V { nobody=0; y=H; }")) and found["severity"] == 1 and "(UnknownName, in Pattern `p`)" in found["message"]
-    client.change({"range": span(10, 4, 10), "text": "a"}, {"range": span(6, 14, 18), "text": "40"})
+    column = P1.splitlines()[6].index("40ns")
+    client.change({"range": span(10, 4, 10), "text": "a"}, {"range": span(6, column, column + 4), "text": "40"})
     assert client.diagnostics() == []
     found, = client.diagnostics()
     assert found["severity"] == 2 and found["message"].startswith("the time '40' has a number without a unit")

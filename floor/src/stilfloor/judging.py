@@ -116,11 +116,12 @@ class Judge:
 
     def _lint(self, name: str, file: str) -> list[str]:
         """The lines of `lint`, or none where the text has changed meanwhile."""
+        # (the program is found once)
         folder = os.path.dirname(os.path.dirname(os.path.abspath(__file__)))
         paths = [folder, *filter(None, [os.environ.get("PYTHONPATH")])]
+        more = {"PYTHONPATH": os.pathsep.join(paths), "PYTHONIOENCODING": "latin-1:replace", "STIL": tester.find_program()}
         run = subprocess.Popen([sys.executable, "-m", "stilfloor", "lint", "--", file], stdin=subprocess.DEVNULL, stdout=subprocess.PIPE,
-                               stderr=subprocess.DEVNULL, encoding="latin-1",
-                               env={**os.environ, "PYTHONPATH": os.pathsep.join(paths), "PYTHONIOENCODING": "latin-1:replace"})
+                               stderr=subprocess.DEVNULL, encoding="latin-1", env={**os.environ, **more})
         while True:
             try:
                 return str(run.communicate(timeout=PAUSE)[0]).splitlines()
