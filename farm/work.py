@@ -138,6 +138,8 @@ def end_with(status, line):
 
 def made(kind, program, plan, parts):
     """A new working folder in the folder where one stands; ends as the program does where it refuses the program or the plan."""
+    from good_parts import good_parts
+
     stil, lots = program_of("stil"), program_of("lots")
     folder = tempfile.mkdtemp(prefix="farm.", dir=os.getcwd())
     try:
@@ -148,6 +150,8 @@ def made(kind, program, plan, parts):
         if refused:
             end_with(*refused)
         shutil.copyfile(plan, f"{folder}/plan.csv")
+        if not parts and kind == "grade":
+            parts = good_parts(lots, f"{folder}/program", f"{folder}/plan.csv")
         said = {"kind": kind, "parts": parts or int(line), "start": os.getcwd(), "stil": stil, "lots": lots}
         pathlib.Path(folder, "said").write_text(json.dumps(said) + "\n")
     except BaseException:
