@@ -1,22 +1,29 @@
-# Installs the programs, their pages of the manual, completions, editors' files, the scripts of farm/, examples and docs.
+# Installs the programs, the package in floor/, the scripts of farm/, their pages of the manual, completions, editors' files, examples
+# and docs.
 #
 #     make install PREFIX=$HOME/.local      into bin, lib/stil and share of a folder; DESTDIR goes before it
 #     make uninstall PREFIX=$HOME/.local    takes them away again
 #     make dist                             makes an archive of them in dist/, which runs where there is a C library
+#     make deb                              makes a Debian package of them in dist/
+#     make vsix                             makes the extension for VS Code in dist/
 #
-# A program is the one in release/ where it is of these sources, else the one that was built and proved here; `lots` is left out where
-# neither is there.
+# DIST=DIR names another folder than dist/. A program is the one in release/ where it is of these sources, else the one that was built and
+# proved here; `lots` is left out where neither is there, and what is made of stilfloor's help where there is no python3.
 
 PREFIX ?= /usr/local
+DIST ?= dist
 place = $(DESTDIR)$(PREFIX)
 program = $(shell tools/program)
 lots = $(shell tools/program lots)
 archive = stil-x86_64-linux-gnu
 # what runs lots in parts
 farm = $(shell find farm -maxdepth 1 -type f)
+# the package in floor/, and what prints its page of the manual and its completions
+floor = $(shell cd floor && find stilfloor src editors -name '__pycache__' -prune -o -type f -print)
+manual = PYTHONDONTWRITEBYTECODE=1 PYTHONPATH=floor/src python3 -m stilfloor.manual
 # the folders of examples and docs, with what a user reads of them
-pages = README.md $(shell find docs -name '*.md' -o -name '*.png')
-samples = $(shell find examples editors/textmate editors/vscode -type f)
+pages = README.md $(wildcard CHANGELOG.md LICENSE-APACHE LICENSE-MIT VERSION) $(shell find docs -name '*.md' -o -name '*.png' -o -name '*.ipynb')
+samples = $(shell find examples editors/textmate editors/vscode editors/emacs editors/neovim -type f 2> /dev/null)
 
 all:
 	@echo "nothing is to be made: ./stil runs at once. make install PREFIX=.. installs it; ./stil --prove proves and builds it"
@@ -27,15 +34,17 @@ install:
 	install -m 755 "$(program)" "$(place)/lib/stil/stil"
 	install -m 644 tools/help "$(place)/lib/stil/help"
 	./stil --version > "$(place)/lib/stil/version"
-	{ cat tools/installed; sed -n '/^# A limit on the size of files/,$$p' tools/start; } > "$(place)/bin/stil"
+	cat tools/installed tools/words tools/launch > "$(place)/bin/stil"
 	chmod 755 "$(place)/bin/stil"
 	tools/man > "$(place)/share/man/man1/stil.1"
 	@test -n "$(lots)" || echo "no lots of these sources is here, so it is left out: ./lots --prove builds it"
 	test -z "$(lots)" || $(MAKE) --no-print-directory install-lots
+	$(MAKE) --no-print-directory install-floor
 	install -D -m 644 completions/stil.bash "$(place)/share/bash-completion/completions/stil"
 	install -D -m 644 completions/stil.zsh "$(place)/share/zsh/site-functions/_stil"
 	install -D -m 644 completions/stil.fish "$(place)/share/fish/vendor_completions.d/stil.fish"
 	for file in $$(cd editors/vim && find . -name '*.vim'); do install -D -m 644 "editors/vim/$$file" "$(place)/share/vim/vimfiles/$$file"; done
+	install -D -m 644 floor/editors/stilfloor.vim "$(place)/share/vim/vimfiles/compiler/stilfloor.vim"
 	for file in $(samples) $(pages); do install -D -m 644 "$$file" "$(place)/share/stil/$$file"; done
 
 install-lots:
@@ -51,20 +60,45 @@ install-lots:
 	install -d "$(place)/lib/stil/farm"
 	install -m 755 $(filter-out %.py,$(farm)) "$(place)/lib/stil/farm"
 	install -m 644 $(filter %.py,$(farm)) "$(place)/lib/stil/farm"
+	for name in lot grade; do ln -sf "../lib/stil/farm/$$name" "$(place)/bin/farm-$$name"; done
+	tools/man farm > "$(place)/share/man/man1/farm-lot.1"
+	echo ".so man1/farm-lot.1" > "$(place)/share/man/man1/farm-grade.1"
+
+install-floor:
+	for file in $(floor); do install -D -m 644 "floor/$$file" "$(place)/lib/stil/floor/$$file"; done
+	chmod 755 "$(place)/lib/stil/floor/stilfloor"
+	ln -sf ../lib/stil/floor/stilfloor "$(place)/bin/stilfloor"
+	@command -v python3 > /dev/null || echo "python3 is missing, so the page of the manual and the completions of stilfloor are left out"
+	command -v python3 > /dev/null || exit 0; $(manual) man > "$(place)/share/man/man1/stilfloor.1" && \
+	    install -d "$(place)/share/bash-completion/completions" "$(place)/share/zsh/site-functions" "$(place)/share/fish/vendor_completions.d" && \
+	    $(manual) bash > "$(place)/share/bash-completion/completions/stilfloor" && \
+	    $(manual) zsh > "$(place)/share/zsh/site-functions/_stilfloor" && \
+	    $(manual) fish > "$(place)/share/fish/vendor_completions.d/stilfloor.fish"
 
 uninstall:
-	rm -f "$(place)/bin/stil" "$(place)/share/man/man1/stil.1" "$(place)/share/bash-completion/completions/stil"
-	rm -f "$(place)/bin/lots" "$(place)/share/man/man1/lots.1" "$(place)/share/bash-completion/completions/lots"
-	rm -f "$(place)/share/zsh/site-functions/_lots" "$(place)/share/fish/vendor_completions.d/lots.fish"
-	rm -f "$(place)/share/zsh/site-functions/_stil" "$(place)/share/fish/vendor_completions.d/stil.fish"
+	for name in stil lots stilfloor farm-lot farm-grade; do rm -f "$(place)/bin/$$name" "$(place)/share/man/man1/$$name.1" \
+	    "$(place)/share/bash-completion/completions/$$name" "$(place)/share/zsh/site-functions/_$$name" \
+	    "$(place)/share/fish/vendor_completions.d/$$name.fish"; done
 	for file in $$(cd editors/vim && find . -name '*.vim'); do rm -f "$(place)/share/vim/vimfiles/$$file"; done
+	rm -f "$(place)/share/vim/vimfiles/compiler/stilfloor.vim"
 	rm -rf "$(place)/lib/stil" "$(place)/share/stil"
 
 dist:
-	rm -rf dist/$(archive)
-	$(MAKE) --no-print-directory install DESTDIR= PREFIX="$(CURDIR)/dist/$(archive)"
-	tar -C dist --sort=name --owner=0 --group=0 --numeric-owner --mtime="@$$(git log -1 --format=%ct 2> /dev/null || echo 0)" \
-	    -cf - $(archive) | gzip -n > dist/$(archive).tar.gz
-	cd dist && sha256sum $(archive).tar.gz > $(archive).tar.gz.sha256
+	rm -rf "$(DIST)/$(archive)"
+	mkdir -p "$(DIST)"
+	$(MAKE) --no-print-directory install DESTDIR= PREFIX="$$(cd "$(DIST)" && pwd)/$(archive)"
+	tar -C "$(DIST)" --sort=name --owner=0 --group=0 --numeric-owner --mtime="@$$(git log -1 --format=%ct 2> /dev/null || echo 0)" \
+	    -cf - $(archive) | gzip -n > "$(DIST)/$(archive).tar.gz"
+	cd "$(DIST)" && sha256sum $(archive).tar.gz > $(archive).tar.gz.sha256
 
-.PHONY: all install install-lots uninstall dist
+deb:
+	rm -rf "$(DIST)/deb"
+	mkdir -p "$(DIST)/deb"
+	$(MAKE) --no-print-directory install DESTDIR="$$(cd "$(DIST)/deb" && pwd)" PREFIX=/usr
+	tools/deb "$(DIST)/deb" "$(DIST)"
+
+vsix:
+	mkdir -p "$(DIST)"
+	tools/vsix "$(DIST)"
+
+.PHONY: all install install-lots install-floor uninstall dist deb vsix

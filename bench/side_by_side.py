@@ -122,7 +122,7 @@ class Bench:
 
     def __init__(self, words, folder):
         self.folder, self.times = folder, max(1, words.times)
-        heap = re.search(r"heap=(\S+)", (top / "tools/start").read_text())[1]
+        heap = re.search(r"heap=(\S+)", (top / "tools/launch").read_text())[1]
         self.tools = {"program": (program(words.program), {"GLIBC_TUNABLES": f"glibc.malloc.hugetlb=1:{heap}", **os.environ})}
         places = [Path(words.inputs).resolve()] if words.inputs else []
         if words.yardstick:

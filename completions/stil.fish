@@ -19,6 +19,8 @@ complete -c stil -n $first -a lot -d 'test the dies of a plan, and print their d
 complete -c stil -n $first -a grade -d 'print the first cycle that finds each stuck-at fault'
 complete -c stil -n $first -a dump -d 'print what is driven at a site, as a value change dump'
 complete -c stil -n $first -a drill -d 'test vectors of its own'
+complete -c stil -n $first -a help -d 'print what the help has of a command'
+complete -c stil -n '__stil_at 2 help' -a 'check cycles events save flat lot grade dump drill'
 complete -c stil -n $first -l help -d 'print the help'
 complete -c stil -n $first -l version -d 'print the commit, the kit and the sum of the program'
 complete -c stil -n $first -l prove -d 'build the program from the sources, which proves it'

@@ -12,6 +12,7 @@ _stil() {
         'grade:print the first cycle that finds each stuck-at fault'
         'dump:print what is driven at a site, as a value change dump'
         'drill:test vectors of its own'
+        'help:print what the help has of a command'
         '--help:print the help'
         '--version:print the commit, the kit and the sum of the program'
         '--prove:build the program from the sources, which proves it'
@@ -21,6 +22,7 @@ _stil() {
         return
     fi
     case $words[2]:$CURRENT in
+        (help:3) compadd check cycles events save flat lot grade dump drill ;;
         (check:3|cycles:3|events:3|save:3|flat:3) _files -g '*.stil(-.)' ;;
         (lot:3|grade:3|dump:3) _files -g '*.(stil|saved)(-.)' ;;
         (lot:4|grade:4|dump:4) _files -g '*.csv(-.)' ;;

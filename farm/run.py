@@ -1,11 +1,13 @@
 """Runs a lot or a grade in parts: by GNU parallel here or over ssh, one part after another where it is missing, or by Slurm."""
 import argparse
+import os
 import shutil
 import signal
 import subprocess
 import sys
 import time
 import whole
+from progress import Progress, watched
 from work import HERE, MOST_PARTS, made, resumed, say, without
 
 # how many seconds a merge is awaited of which Slurm knows nothing any more
@@ -28,8 +30,7 @@ def number(least, most):
 def words(kind, is_slurm):
     """The words of the command: a working folder to go on with, or a program, a plan and a number of parts."""
     name = f"farm/{kind}.slurm" if is_slurm else f"farm/{kind}"
-    parts = "N" if kind == "grade" else "[N]"
-    reader = argparse.ArgumentParser(prog=name, usage=f"{name} [OPTION ..] PROGRAM PLAN {parts} | {name} [OPTION ..] --resume FOLDER")
+    reader = argparse.ArgumentParser(prog=name, usage=f"{name} [OPTION ..] PROGRAM PLAN [N] | {name} [OPTION ..] --resume FOLDER")
     reader.add_argument("--retries", type=number(1, 99), default=3, metavar="R", help="how often a part is run at most; 3 times")
     reader.add_argument("--resume", metavar="FOLDER", help="runs the parts that are missing in this working folder")
     if is_slurm:
@@ -42,8 +43,7 @@ def words(kind, is_slurm):
     reader.add_argument("parts", nargs="?", type=number(1, MOST_PARTS), metavar="N")
     reader.error = lambda fault: sys.exit(f"{name}: {fault}")
     given = reader.parse_args()
-    wants = [given.program] if given.resume else [not given.plan, kind == "grade" and given.parts is None]
-    if any(wants):
+    if given.program if given.resume else not given.plan:
         reader.print_usage(sys.stderr)
         sys.exit(1)
     return given
@@ -56,7 +56,7 @@ def has_parallel():
     return b"GNU" in subprocess.run(["parallel", "--version"], stdout=subprocess.PIPE, stderr=subprocess.DEVNULL).stdout
 
 
-def by_parallel(work, given):
+def by_parallel(work, given, progress):
     missing = work.missing()
     if not missing:
         return
@@ -65,9 +65,10 @@ def by_parallel(work, given):
     asked += ["--sshloginfile", given.sshloginfile] if given.sshloginfile else []
     # (names stand in no template, where parallel would run what they say; it quotes values, but none that a command begins with)
     asked += ["exec", "{1}", "{2}", "{3}", ":::", HERE / "part", ":::", work.folder, ":::"]
-    ran = subprocess.Popen([*asked, *map(str, missing)], stdin=subprocess.DEVNULL)
+    ran = subprocess.Popen([*asked, *map(str, missing)], stdin=subprocess.DEVNULL,
+                           env={"HOME": str(work.folder), "PATH": os.defpath, **os.environ})
     try:
-        ran.wait()
+        watched(progress, ran)
     finally:
         if ran.poll() is None:
             # (at the first of these it waits for what runs, at the second it ends that)
@@ -76,9 +77,9 @@ def by_parallel(work, given):
             ran.wait()
 
 
-def one_by_one(work, given):
+def one_by_one(work, given, progress):
     for k in work.missing():
-        subprocess.run([HERE / "part", "--retries", str(given.retries), work.folder, str(k)], stdin=subprocess.DEVNULL)
+        watched(progress, subprocess.Popen([HERE / "part", "--retries", str(given.retries), work.folder, str(k)], stdin=subprocess.DEVNULL))
 
 
 def submitted(asked):
@@ -89,7 +90,7 @@ def submitted(asked):
     return ran.stdout.strip().split(";")[0]
 
 
-def by_slurm(work, given):
+def by_slurm(work, given, progress):
     """Submits the parts as an array of jobs and the merge behind them, and waits for it; its text and status are in the working folder.
 
     What a job runs are words behind its script, and what it says goes to a plain name: names are no part of either."""
@@ -110,6 +111,7 @@ def by_slurm(work, given):
     left = AWAITED
     while left and not (work.folder / "ended").exists():
         time.sleep(1)
+        progress.look()
         known = subprocess.run(["squeue", "-h", "-j", job], stdout=subprocess.PIPE, stderr=subprocess.DEVNULL).stdout
         left = AWAITED if known else left - 1
 
@@ -122,15 +124,18 @@ def main(kind, is_slurm=False):
         without("parallel", "--sshloginfile")
     signal.signal(signal.SIGTERM, lambda number, frame: sys.exit(128 + number))
     work = resumed(given.resume) if given.resume else made(kind, given.program, given.plan, given.parts)
+    progress = Progress(work)
     try:
         if is_slurm:
-            by_slurm(work, given)
+            by_slurm(work, given, progress)
         elif has_parallel():
-            by_parallel(work, given)
+            by_parallel(work, given, progress)
         else:
             say("parallel is missing, so the parts run one after another")
-            one_by_one(work, given)
+            one_by_one(work, given, progress)
+        progress.end()
     except (KeyboardInterrupt, SystemExit) as ended:
+        progress.end()
         say(f"broken off; --resume {work.folder} goes on")
         sys.exit(130 if isinstance(ended, KeyboardInterrupt) else ended.code)
     whole.end(work)

@@ -39,8 +39,11 @@ def without(what, wants):
 
 
 def program_of(name):
-    """Where a program is: as the variable of its name in capitals says, in release/ or built beside this folder, or on the path."""
+    """Where a program is: as the variable of its name in capitals says, in release/ or built beside this folder, installed above it, or
+    on the path."""
     tool, found = HERE.parent / "tools/program", os.environ.get(name.upper())
+    if not found and not tool.exists() and (HERE.parent / name).is_file():
+        found = HERE.parent / name
     if not found and tool.exists():
         said = subprocess.run([tool, name], stdout=subprocess.PIPE, text=True).stdout.strip()
         found = HERE.parent / (said or name)
@@ -173,6 +176,8 @@ def end_with(status, line):
 
 def made(kind, program, plan, parts):
     """A new working folder in the folder where one stands; ends as the program does where it refuses the program or the plan."""
+    from good_parts import good_parts
+
     stil, lots = program_of("stil"), program_of("lots")
     folder = tempfile.mkdtemp(prefix="farm.", dir=os.getcwd())
     lock = locked(folder)
@@ -184,6 +189,8 @@ def made(kind, program, plan, parts):
         if refused:
             end_with(*refused)
         shutil.copyfile(plan, f"{folder}/plan.csv")
+        if not parts and kind == "grade":
+            parts = good_parts(lots, f"{folder}/program", f"{folder}/plan.csv")
         said = {"kind": kind, "parts": parts or int(line), "start": os.getcwd(), "stil": stil, "lots": lots}
         pathlib.Path(folder, "said").write_text(json.dumps(said) + "\n")
     except BaseException:

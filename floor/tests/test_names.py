@@ -8,6 +8,7 @@ import pathlib
 import re
 import shutil
 import subprocess
+from typing import Any
 from collections.abc import Iterator
 
 import pytest
@@ -278,9 +279,17 @@ def test_a_fault_of_the_kind_is_read_of_names_with_quotes() -> None:
     assert sentences.refusal('read fault "q"\n', 2, "p").file == '"q"'
 
 
+def check_task() -> dict[str, Any]:
+    """The task of VS Code that asks `stil check`."""
+    lines = (TOP / "editors" / "vscode" / "tasks.json").read_text().splitlines()
+    tasks = json.loads("\n".join(line for line in lines if not line.startswith("//")))["tasks"]
+    found: dict[str, Any] = next(task for task in tasks if task["label"] == "stil check")
+    return found
+
+
 def in_task(name: str) -> str:
     """What the task of VS Code prints of a file."""
-    task, = json.loads((TOP / "editors" / "vscode" / "tasks.json").read_text())["tasks"]
+    task = check_task()
     words = [task["command"], *(word.replace("${file}", name) for word in task["args"])]
     (pathlib.Path("bin")).mkdir(exist_ok=True)
     if not os.path.lexists("bin/stil"):
@@ -290,7 +299,7 @@ def in_task(name: str) -> str:
 
 
 def test_the_task_of_an_editor_reads_each_refusal(tmp_path: pathlib.Path) -> None:
-    task, = json.loads((TOP / "editors" / "vscode" / "tasks.json").read_text())["tasks"]
+    task = check_task()
     pattern = re.compile(task["problemMatcher"]["pattern"]["regexp"])
     for name in UTF8:
         (tmp_path / f"{name}.stil").write_text('STIL 1.0;\n"a\nb" { }\n')

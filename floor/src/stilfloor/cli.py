@@ -10,6 +10,7 @@ from typing import IO, TYPE_CHECKING
 
 from stilfloor import __version__
 from stilfloor.faults import REFUSED, STATUSES, UNREADABLE, USAGE, Fault, shown
+from stilfloor.more_words import add_words
 from stilfloor.names import replacing
 
 if TYPE_CHECKING:
@@ -47,6 +48,7 @@ def parser_of() -> argparse.ArgumentParser:
     _add_making(words)
     _add_finding(words)
     _add_showing(words)
+    add_words(words, _add)
     return parser
 
 

@@ -272,7 +272,9 @@ def _run_parts(names: list[str], room: str, jobs: int) -> None:
         words = ["parallel", "--will-cite", "-j", str(jobs), "--null", "sh", "-c", f"'{script}'", "sh", "{1}", "{2}", ":::", program]
         if sys.stderr.isatty():
             words.insert(2, "--bar")
-        subprocess.run([*words, ":::", *names], cwd=room, stdout=subprocess.DEVNULL, check=False)
+        # (without a home and a path it finds no `echo`, and keeps what it knows of the machine where others read it)
+        subprocess.run([*words, ":::", *names], cwd=room, stdout=subprocess.DEVNULL, check=False,
+                       env={"HOME": room, "PATH": os.defpath, **os.environ})
         return
     for number, name in enumerate(names, 1):
         with open(os.path.join(room, name + ".datalog"), "wb") as out:

@@ -26,7 +26,8 @@ def _first_line(path: pathlib.Path) -> str:
 
 @functools.cache
 def find_program() -> str:
-    """The path of the program: that of the variable STIL, else the checkout's, else the one on the path.
+    """The path of the program: that of the variable STIL, else the checkout's or the one that this
+    package is installed beside, else the one on the path.
 
     In a checkout it is the program that `stil` there would run, found once, since the script sums all sources at each call.
     """
@@ -36,7 +37,7 @@ def find_program() -> str:
         if not found:
             raise Fault(TOOL, f"the variable STIL names `{told}`, which is no program")
         return os.path.abspath(found)
-    if (CHECKOUT / "stil").exists():
+    if (CHECKOUT / "stil").is_file():
         of_sources = _sum_of_sources()
         if of_sources:
             for folder, name in (("release", "stil-x86_64-linux-gnu"), ("crates/stil/out", "stil")):
