@@ -8,8 +8,8 @@ import pathlib
 import re
 import shutil
 import subprocess
-from typing import Any
 from collections.abc import Iterator
+from typing import Any
 
 import pytest
 
