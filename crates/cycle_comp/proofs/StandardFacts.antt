@@ -1,5 +1,5 @@
 -- Known trees: what they run, and instructions that run the same.
-use Rattle.std.proofs.Common.{◌≡◌, ℕ, true, List, [], ◌∷◌, Some, map, refl, arith}
+use Rattle.std.proofs.Common.{◌≡◌, ℕ, zero, suc, ◌+◌, ◌^◌, ◌<◌, true, List, [], ◌∷◌, Some, map, refl, arith}
 use Rattle.stil_ast.specs.Data.Places.{of_pattern, Origin}
 use Rattle.stil_ast.specs.Meaning.State.{start_of}
 use Rattle.stil_ast.specs.Meaning.Running.{Made}
@@ -90,3 +90,18 @@ nest_two = (omega arith, omega arith, (omega arith, omega arith, (omega arith, o
 -- a Loop of one pass round them is none
 nest_once : NestWithin 2 0 (Loop 1 ∷ Run 0 0 0 1 ∷ End ∷ Done ∷ []) → ⊥
 nest_once is = omega (arith, is.0)
+
+-- so many equal vectors in a row
+abbrev vectors : ℕ → Flat
+vectors zero = done
+vectors (suc n) = cycle 0 (line 1) (vectors n)
+
+-- forty of them nest nothing, and their measure lets no code of them nest deeper than four
+forty_depth : depth (vectors 40) ≡ 0
+forty_depth = refl
+
+forty_few : measure_in (tree (vectors 40) ∷ []) + 2 < 2 ^ suc (suc 4)
+forty_few =
+    let measured : measure_in (tree (vectors 40) ∷ []) ≡ 40 = refl in
+    let room : 2 ^ suc (suc 4) ≡ 64 = refl in
+    omega (arith, measured, room)
