@@ -1,5 +1,5 @@
 -- When the blocks of a text say a whole code but for its scan chains.
-use Rattle.std.specs.Prelude.{◌≡◌, ℕ, List, [], map, length, slice_get, Some}
+use Rattle.std.specs.Prelude.{◌≡◌, ℕ, [], map, length, slice_get, Some}
 use Rattle.packed_code.specs.Program.{Program}
 use Rattle.packed_code.specs.Cycles.{exec_of}
 use Rattle.stil_ast.specs.Meaning.Signals.{names_of}

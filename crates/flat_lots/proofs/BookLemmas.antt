@@ -1,14 +1,12 @@
 -- Lots with one plan and the same netlists, on codes with the same signals whose cycles have the same moments, have books that
 -- differ in marks alone, where tries are cut alike: `same_books`.
-use Rattle.std.proofs.Common.{◌≡◌, ℕ, zero, suc, ◌<◌, List, [], ◌∷◌, length, map, get_or, Some, refl, sym, ap, ◌∙◌, subst, arith}
+use Rattle.std.proofs.Common.{◌≡◌, ℕ, suc, ◌<◌, List, [], ◌∷◌, length, map, get_or, Some, refl, sym, ap, ◌∙◌, subst, arith}
 use Rattle.std.proofs.lemmas.List.{get_or-map, length-map}
 use Rattle.std.proofs.lemmas.Option.{same_Some}
 use Rattle.tester_types.specs.Outside.{Files, file_of}
 use Rattle.tester_types.specs.Records.{SiteRecords, records_of}
-use Rattle.tester_types.specs.declared.record.Record.{Record}
 use Rattle.bench_net.specs.Circuit.{Circuit}
 use Rattle.plan_rows.specs.declared.row.Row.{Row}
-use Rattle.plan_rows.specs.declared.row.DieRow.{DieRow}
 use Rattle.plan_rows.specs.Rows.{dies_at, sites_of}
 use Rattle.plan_rows.specs.Plan.{IsPlan}
 use Rattle.plan_rows.proofs.PlanLemmas.{one_plan}

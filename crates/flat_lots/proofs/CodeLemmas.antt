@@ -1,19 +1,16 @@
 -- The code of a flat text has the signals of its source's code, no chains, and cycles with the same moments: `flat_code`.
-use Rattle.std.proofs.Common.{◌≡◌, ℕ, zero, suc, ◌+◌, ◌<◌, ◌≤◌, ℤ, List, [], ◌∷◌, ◌++◌, map, length, take, drop, get_or, Some, None, refl, sym, ap, ◌∙◌, subst, arith, ⊎_elim}
-use Rattle.std.specs.Prelude.{slice_get}
-use Rattle.std.specs.List.{AllZip, AllByRecursion, flat_map, range_with_len}
+use Rattle.std.proofs.Common.{◌≡◌, ℕ, zero, suc, ◌+◌, ◌<◌, ◌≤◌, ℤ, List, [], ◌∷◌, ◌++◌, map, length, take, drop, sym, ap, ◌∙◌, subst, arith, ⊎_elim}
+use Rattle.std.specs.List.{AllByRecursion, flat_map, range_with_len}
 use Rattle.std.proofs.lemmas.Bool.{cases_lt}
 use Rattle.std.proofs.lemmas.Grind.{flat_map-append}
-use Rattle.std.proofs.lemmas.List.{get_or_past, length-take-le}
+use Rattle.std.proofs.lemmas.List.{get_or_past}
 use Rattle.text_bytes.proofs.ListLemmas.{slice_get-there}
-use Rattle.tester_types.specs.declared.wave.Table.{Table}
 use Rattle.tester_types.specs.declared.cycle.Cycle.{Cycle}
 use Rattle.packed_code.specs.Program.{Exec, Program}
-use Rattle.packed_code.specs.Cycles.{exec_of, cycles_of}
-use Rattle.packed_code.specs.declared.parts.CodeChain.{CodeChain}
+use Rattle.packed_code.specs.Cycles.{cycles_of}
 use Rattle.die_sim.specs.Die.{Device}
 use Rattle.stil_ast.specs.Meaning.Chains.{Chain}
-use Rattle.stil_ast.specs.Meaning.Executive.{chain_list, table_list}
+use Rattle.stil_ast.specs.Meaning.Executive.{table_list}
 use Rattle.stil_ast.specs.declared.blocks.Blocks.{Blocks}
 use Rattle.stil_ast.specs.declared.executive.ExecDecl.{ExecDecl}
 use Rattle.time_expr.specs.TimesOf.{times_of}

@@ -1,5 +1,5 @@
 -- Cycles of a text that are those of a code have their moments: `cycles_beside`.
-use Rattle.std.proofs.Common.{◌≡◌, ℕ, ◌+◌, ◌-◌, ◌<◌, ◌≤◌, ℤ, Bool, cond, List, [], ◌∷◌, ◌++◌, map, length, get_or, Option, Some, None, unwrap_or, refl, sym, ap, ◌∙◌, subst, arith, length-append}
+use Rattle.std.proofs.Common.{◌≡◌, ℕ, ◌+◌, ◌-◌, ◌≤◌, ℤ, Bool, cond, List, [], ◌∷◌, ◌++◌, map, length, Option, Some, None, sym, ap, ◌∙◌, subst, arith, length-append}
 use Rattle.std.specs.Prelude.{slice_get}
 use Rattle.std.specs.List.{AllZip, AllByRecursion, enumerate_from}
 use Rattle.std.specs.Option.{option_map_or}
@@ -9,14 +9,12 @@ use Rattle.std.proofs.lemmas.Option.{same_Some, slice_get-get_or, slice_get_with
 use Rattle.tester_types.specs.declared.wave.Table.{Table}
 use Rattle.tester_types.specs.declared.wave.Wave.{Wave}
 use Rattle.tester_types.specs.declared.cycle.Cycle.{Cycle}
-use Rattle.tester_types.specs.declared.cycle.Moment.{Moment}
 use Rattle.packed_code.specs.Program.{Program}
 use Rattle.packed_code.specs.Conditions.{characters_of}
 use Rattle.edge_gen.specs.Moments.{moments_of}
 use Rattle.die_sim.specs.Die.{Device}
 use Rattle.stil_ast.specs.Meaning.Cycles.{Dated}
-use Rattle.stil_ast.specs.Meaning.ExecutiveData.{row_of}
-use Rattle.cycle_comp.specs.Compiled.{character_of, table_in, read_cycle}
+use Rattle.cycle_comp.specs.Compiled.{table_in, read_cycle}
 use Rattle.flat_parts.specs.SameCycles.{IsSameCycle}
 use Rattle.site_meaning.specs.Playing.{moments_in}
 use Rattle.site_meaning.specs.Alike.{SaidCycle, said_by}

@@ -1,28 +1,23 @@
 -- A lot on a flat text prints what one on its source prints but for the names of scan cells: `flat_lot`.
-use Rattle.std.proofs.Common.{◌≡◌, ℕ, ◌<◌, Bool, true, false, List, [], ◌∷◌, map, length, get_or, Some, refl, sym, ap, ◌∙◌, subst, arith, ⊎_elim}
-use Rattle.std.specs.Prelude.{slice_get}
+use Rattle.std.proofs.Common.{◌≡◌, ℕ, ◌<◌, Bool, false, List, [], map, length, Some, refl, sym, ap, ◌∙◌, subst, arith, ⊎_elim}
 use Rattle.std.proofs.lemmas.Bool.{cases_lt}
 use Rattle.std.proofs.lemmas.List.{get_or_past, get_or-map, length-map}
 use Rattle.std.proofs.lemmas.Option.{same_Some}
 use Rattle.tester_types.specs.Outside.{Files, file_of}
 use Rattle.tester_types.specs.Records.{records_of}
 use Rattle.packed_code.specs.Program.{Exec, Program}
-use Rattle.packed_code.specs.Cycles.{exec_of}
 use Rattle.die_sim.specs.Socket.{Told}
 use Rattle.stil_program.specs.Program.{IsProgramOf}
-use Rattle.page_code.specs.Saved.{Saved}
 use Rattle.flat_parts.specs.FlatText.{text_of, flat_text}
 use Rattle.site_meaning.specs.Alike.{AreCodesAlike}
 use Rattle.site_meaning.specs.Part.{part_of}
-use Rattle.floor_core.specs.Book.{at_site}
 use Rattle.tester_run.specs.Work.{AreRecords}
-use Rattle.datalog.specs.DatalogText.{lot_text}
 use Rattle.tool_inputs.specs.Inputs.{is_saved, IsCodeBy, IsProgramFile, bound_of}
 use Rattle.lot_laws.proofs.CodeLemmas.{codes_of_text}
 use Rattle.stil_tool.specs.Alone.{LotRun, said, sites_in, records_at}
 use Rattle.stil_tool.proofs.RunLemmas.{some_item}
 use Rattle.flat_lots.specs.Chains.{unchained, without_chains, HasNoChains}
-use Rattle.flat_lots.specs.FlatLot.{IsFlatOf, FlatLot}
+use Rattle.flat_lots.specs.FlatLot.{FlatLot}
 use Rattle.flat_lots.proofs.TextLemmas.{same_texts}
 use Rattle.flat_lots.proofs.BookLemmas.{rows_are, same_books}
 use Rattle.flat_lots.proofs.CodeLemmas.{signals_are, no_chains, codes_beside}

@@ -12,7 +12,7 @@ use Rattle.die_sim.specs.Die.{Device}
 use Rattle.strobe_check.specs.Entry.{Entry}
 use Rattle.strobe_check.specs.Fails.{fails}
 use Rattle.strobe_check.specs.Sensed.{is_sensed}
-use Rattle.site_meaning.specs.Playing.{Stand, Going, Along, Whose, PlayedMoment, PlayedCycle, along_of, driven, bound_of, after_moment, after_moments, entry_of, entries_in, moments_in, makes_call, played_moment, moments_played, whose_next, played_cycle, after_cycle}
+use Rattle.site_meaning.specs.Playing.{Stand, Going, Along, Whose, PlayedMoment, PlayedCycle, along_of, driven, bound_of, after_moment, after_moments, entry_of, entries_in, moments_in, makes_call, played_moment, moments_played, played_cycle, after_cycle}
 use Rattle.site_meaning.specs.Trials.{Batch, played, after_cycles, fails_in, has_fails, in_first, pieces, of_exec, tried}
 use Rattle.flat_lots.specs.Unmarked.{unmarked}
 use Rattle.flat_lots.proofs.MarkLemmas.{bare, maps_append, fails_bare, sensed_bare}

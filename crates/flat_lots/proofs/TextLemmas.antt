@@ -8,14 +8,12 @@ use Rattle.std.proofs.lemmas.Option.{slice_get-map}
 use Rattle.tester_types.specs.Printing.{printed_name}
 use Rattle.tester_types.specs.Acts.{look_letter}
 use Rattle.tester_types.specs.declared.record.Fail.{Fail}
-use Rattle.tester_types.specs.declared.record.Verdict.{Verdict}
 use Rattle.tester_types.specs.declared.record.Verdict.TheVariants as verdict
 use Rattle.tester_types.specs.declared.record.Record.{Record}
 use Rattle.tester_types.specs.declared.record.Trial.{Trial}
 use Rattle.packed_code.specs.declared.parts.CodeSignal.{CodeSignal}
 use Rattle.packed_code.specs.declared.parts.CodeChain.{CodeChain}
 use Rattle.packed_code.specs.Program.{Program}
-use Rattle.packed_code.specs.Cycles.{exec_of}
 use Rattle.plan_rows.specs.declared.row.Row.{Row}
 use Rattle.lot_plan.specs.Bound.{Bound, die_at}
 use Rattle.lot_plan.specs.Readings.{bin_of}

@@ -11,7 +11,6 @@ use Rattle.tester_types.specs.declared.record.Verdict.TheVariants as verdict
 use Rattle.tester_types.specs.declared.record.Record.{Record}
 use Rattle.tester_types.specs.declared.record.Trial.{Trial}
 use Rattle.packed_code.specs.Program.{Program}
-use Rattle.packed_code.specs.Cycles.{cycles_of}
 use Rattle.packed_code.specs.declared.parts.CodeSignal.{CodeSignal}
 use Rattle.bench_net.specs.Circuit.{Circuit}
 use Rattle.die_sim.specs.Die.{Device, fixed_of}
