@@ -55,12 +55,12 @@ pub record Keeps (setup : Setup) (schedules schedules' : Held) (told told' : Tol
 -- so many of the cycles that are to come are played
 abbrev pub PlaysSome : Setup → ℕ → List Cycle → ℕ → ℕ → Told → Told → Standing → Standing → Type 0
 PlaysSome setup exec coming most count told told' old new =
-    PlaysUpTo (PlaysCycles (stand_in setup) exec) (λ (b : Between). HasEnough setup.until b.point.held) coming most count
-    (between_of told old) (between_of told' new)
+    PlaysUpTo (PlaysCycles (stand_in setup) exec) (λ (b : Between). HasEnough setup.until b.point.held) coming most
+    count (between_of told old) (between_of told' new)
 
 -- one of these cycles stops, which has its cause
-pub record StopsIn (setup : Setup) (exec : ℕ) (cycles : List Cycle) (told told' : Told) (old new : Standing) (why : Stop) :
-    Type 0 where
+pub record StopsIn (setup : Setup) (exec : ℕ) (cycles : List Cycle) (told told' : Told) (old new : Standing)
+    (why : Stop) : Type 0 where
   pub among : StopsAmong (stand_in setup) exec cycles (between_of told old) (between_of told' new) why
   pub cause : HasCause told.count told'.count why
 
@@ -85,7 +85,7 @@ pub record PlaysAt {K : Type 0} (told : K → Told) (setup : Setup) (exec : ℕ)
   pub same : IsSameSeat told setup old new
 
 -- one of them stops
-pub record StopsAt {K : Type 0} (told : K → Told) (setup : Setup) (exec : ℕ) (cycles : List Cycle) (old new : Seat K) (why : Stop) :
-    Type 0 where
+pub record StopsAt {K : Type 0} (told : K → Told) (setup : Setup) (exec : ℕ) (cycles : List Cycle) (old new : Seat K)
+    (why : Stop) : Type 0 where
   pub stops : StopsIn setup exec cycles (told old.socket.now) (told new.socket.now) old.at.now new.at.now why
   pub same : IsSameSeat told setup old new

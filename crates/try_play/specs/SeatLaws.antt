@@ -36,7 +36,8 @@ stops-behind stand exec ones others rest old mid new (stop.Contact instant) firs
     batch.loses-behind stand exec ones others rest old mid new instant first stops
 
 module _ {K : Type 0} (told : K → Told) (setup : Setup) where
-  pub ready_less : (some more : ℕ) (seat : Seat K) → some ≤ more → CanPlayAt told setup more seat → CanPlayAt told setup some seat
+  pub ready_less : (some more : ℕ) (seat : Seat K) → some ≤ more → CanPlayAt told setup more seat
+      → CanPlayAt told setup some seat
   ready_less some more seat less can =
       can_less setup some more seat.schedules.now (told seat.socket.now) seat.at.now less can
 
@@ -70,17 +71,21 @@ module _ {K : Type 0} (told : K → Told) (setup : Setup) where
       → PlaysAt told setup exec others y z → PlaysAt told setup exec (ones ++ others) x z
   plays_more exec ones others x y z first then = record {
     plays = batch.plays-append (stand_in setup) exec ones (between_of (told x.socket.now) x.at.now)
-        (between_of (told y.socket.now) y.at.now) (between_of (told z.socket.now) z.at.now) first.plays others then.plays;
+        (between_of (told y.socket.now) y.at.now) (between_of (told z.socket.now) z.at.now) first.plays others
+        then.plays;
     same = same_on x y z first.same then.same;
   }
 
-  pub stops_more : (exec : ℕ) (ones others rest : List Cycle) (x y z : Seat K) (why : Stop) → PlaysAt told setup exec ones x y
+  pub stops_more : (exec : ℕ) (ones others rest : List Cycle) (x y z : Seat K) (why : Stop)
+      → PlaysAt told setup exec ones x y
       → StopsAt told setup exec others y z why → StopsAt told setup exec (ones ++ (others ++ rest)) x z why
   stops_more exec ones others rest x y z why first then = record {
     stops = record {
       among = stops-behind (stand_in setup) exec ones others rest (between_of (told x.socket.now) x.at.now)
-          (between_of (told y.socket.now) y.at.now) (between_of (told z.socket.now) z.at.now) why first.plays then.stops.among;
-      cause = cause_behind (told x.socket.now).count (told y.socket.now).count (told z.socket.now).count why first.same.keeps.count
+          (between_of (told y.socket.now) y.at.now) (between_of (told z.socket.now) z.at.now) why first.plays
+          then.stops.among;
+      cause = cause_behind (told x.socket.now).count (told y.socket.now).count (told z.socket.now).count why
+          first.same.keeps.count
           then.same.keeps.count then.stops.cause;
     };
     same = same_on x y z first.same then.same;

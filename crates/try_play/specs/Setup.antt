@@ -24,8 +24,8 @@ device_in setup = device_of setup.image.now
 abbrev pub stand_in : Setup → Stand
 stand_in setup = stand_of (code_in setup) setup.skews.now (device_in setup)
 
--- a try can be played so: the die is whole, its signals and the skews are those of the program, and moments that are lent
--- are its own
+-- a try can be played so: the die is whole, its signals and the skews are those of the program, and moments that are
+-- lent are its own
 pub record IsSetUp (setup : Setup) : Type 0 where
   pub whole : IsWhole setup.image.now.circuit
   pub signals : length setup.image.now.binds ≡ length (code_in setup).signals

@@ -38,7 +38,8 @@ pub trait Player {
     fn is_done(&self, until: Until) -> bool
         ensures { done until self.now result };
 
-    ghost ready_less: { (setup : Setup) (some more : ℕ) (x : Self) → some ≤ more → ready setup more x → ready setup some x };
+    ghost ready_less: { (setup : Setup) (some more : ℕ) (x : Self) → some ≤ more
+        → ready setup more x → ready setup some x };
 
     ghost plays_none: { (setup : Setup) (exec : ℕ) (x : Self) → plays setup exec [] x x };
 

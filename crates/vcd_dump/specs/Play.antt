@@ -83,5 +83,6 @@ ComesTo setup most exec order cycles old new after.Ends =
     × (goes_on (stand_in setup) most exec (going_of old) order cycles ≡ false)
 ComesTo setup most exec order cycles old new (after.Goes next) =
     RecordsSo true (calls_here setup most order cycles old) old new
-    × (goes_on (stand_in setup) most exec (going_of old) order cycles ≡ true) × (next ≡ order_behind most order (length cycles))
+    × (goes_on (stand_in setup) most exec (going_of old) order cycles ≡ true)
+    × (next ≡ order_behind most order (length cycles))
     × StandsBefore setup (exec + 1) new × (going_of new ≡ after_cycles (stand_in setup) (going_of old) cycles)
