@@ -164,6 +164,7 @@ made_more signals first rows more e m is = record {
   entries = entries-more first rows more (vectors_of signals e) (Means m.instrs) is.entries;
   size = is.size;
   least = is.least;
+  nest = is.nest;
   few = is.few;
   whole = is.whole;
   inside = is.inside;
@@ -253,6 +254,7 @@ built-push signals first measure before e code rows old new built at sized fine 
       entries = written.entries;
       size = written.size;
       least = written.least (rows-once signals before old.rows built.rows);
+      nest = written.nest (rows-once signals before old.rows built.rows);
       few = omega (arith, written.size, sized.is, sized.few);
       whole =
           written.whole (omega (arith, sized.is, sized.few))

@@ -40,5 +40,6 @@ pub mod ExactLemmas
 pub mod AnswerLemmas
 pub mod TreeStepLemmas
 pub mod LeastLemmas
+pub mod DepthLemmas
 pub mod OneVector
 pub mod WriteLemmas

@@ -25,6 +25,7 @@ use Rattle.packed_code.proofs.Lists.{all_each}
 use Rattle.wave_tables.specs.Waves.{AreInOrder}
 use Rattle.cycle_comp.specs.Entries.{IsEntry}
 use Rattle.cycle_comp.specs.Compiled.{chain_of, least_of, read_cycle, IsExecOf}
+use Rattle.cycle_comp.specs.Depth.{depth_of, NestWithin}
 use Rattle.cycle_comp.specs.Working.{IsInside, IsMade, AreMade}
 use Rattle.cycle_comp.proofs.EachLemmas.{all_map, all_cut, all_both}
 use Rattle.cycle_comp.proofs.TableLemmas.{IsGoodTable}
@@ -290,4 +291,5 @@ exec_at signals code executives before after e are good tables room is =
           (owned signals code.tables code.rows first e m made own (omega (arith, within, room)) within stands));
       size = subst (λ (x : Exec). length x.instrs ≤ measure_of e + 1) (sym found) made.size;
       least = subst (λ (x : Exec). length x.instrs ≤ least_of signals e + 1) (sym found) made.least;
+      nest = subst (λ (x : Exec). NestWithin (depth_of e) 0 x.instrs) (sym found) made.nest;
     }

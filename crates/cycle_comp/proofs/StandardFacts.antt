@@ -1,5 +1,5 @@
 -- Known trees: what they run, and instructions that run the same.
-use Rattle.std.proofs.Common.{◌≡◌, ℕ, true, List, [], ◌∷◌, Some, map, refl}
+use Rattle.std.proofs.Common.{◌≡◌, ℕ, zero, suc, ◌+◌, ◌^◌, ◌<◌, true, List, [], ◌∷◌, Some, map, refl, arith}
 use Rattle.stil_ast.specs.Data.Places.{of_pattern, Origin}
 use Rattle.stil_ast.specs.Meaning.State.{start_of}
 use Rattle.stil_ast.specs.Meaning.Running.{Made}
@@ -13,6 +13,7 @@ use Rattle.packed_code.specs.declared.instr.Instr.{Instr}
 use Rattle.packed_code.specs.declared.instr.Instr.TheVariants.{Run, Loop, End, Done}
 use Rattle.packed_code.specs.Meaning.{bodies, repeated, Means}
 use Rattle.cycle_comp.specs.Counting.{vector_count}
+use Rattle.cycle_comp.specs.Depth.{depth, NestWithin}
 use Rattle.cycle_comp.specs.Entries.{IsEntry}
 use Rattle.cycle_comp.specs.Written.{made_in}
 
@@ -77,3 +78,30 @@ no_table = refl
 -- the second table of an executive whose first one is number 3 in the code
 second_table : (e : Entry) → IsEntry 3 [] (record { table = Some 1; characters = []; mark = 0 }) e → e.table ≡ 4
 second_table e is = is.table 1 refl
+
+-- three Loops deep, of which one has a single pass: two count
+deep_two : depth (repeat 2 (repeat 1 (save true (repeat 3 (cycle 0 (line 1) done) done) done) done) (cycle 0 (line 2) done)) ≡ 2
+deep_two = refl
+
+-- the vectors of two Loops, and no more than two may be open
+nest_two : NestWithin 2 0 (Loop 2 ∷ Loop 3 ∷ Run 0 0 0 1 ∷ End ∷ End ∷ Loop 2 ∷ Run 0 0 0 1 ∷ End ∷ Done ∷ [])
+nest_two = (omega arith, omega arith, (omega arith, omega arith, (omega arith, omega arith, tt)))
+
+-- a Loop of one pass round them is none
+nest_once : NestWithin 2 0 (Loop 1 ∷ Run 0 0 0 1 ∷ End ∷ Done ∷ []) → ⊥
+nest_once is = omega (arith, is.0)
+
+-- so many equal vectors in a row
+abbrev vectors : ℕ → Flat
+vectors zero = done
+vectors (suc n) = cycle 0 (line 1) (vectors n)
+
+-- forty of them nest nothing, and their measure lets no code of them nest deeper than four
+forty_depth : depth (vectors 40) ≡ 0
+forty_depth = refl
+
+forty_few : measure_in (tree (vectors 40) ∷ []) + 2 < 2 ^ suc (suc 4)
+forty_few =
+    let measured : measure_in (tree (vectors 40) ∷ []) ≡ 40 = refl in
+    let room : 2 ^ suc (suc 4) ≡ 64 = refl in
+    omega (arith, measured, room)

@@ -15,6 +15,7 @@ use Rattle.packed_code.specs.declared.instr.Instr.{Instr}
 use Rattle.packed_code.specs.declared.instr.Instr.TheVariants.{Done}
 use Rattle.packed_code.proofs.CountLemmas.{cycle_count-length}
 use Rattle.cycle_comp.specs.Entries.{AreEntries}
+use Rattle.cycle_comp.specs.Depth.{depth_in, NestWithin}
 use Rattle.cycle_comp.specs.Written.{flats_of, made_in, HasEachOnce, IsWritten, IsTold, IsFaulty, IsRefusal}
 use Rattle.cycle_comp.specs.Writing.{row_in, flats_run, flats_measure, Wrote, AreStopped, WriteError}
 use Rattle.cycle_comp.specs.Passes.{entry_in, flats_written, IsExact}
@@ -23,6 +24,7 @@ use Rattle.cycle_comp.proofs.BodyLemmas.{puts-nothing, puts_means}
 use Rattle.cycle_comp.proofs.StandLemmas.{stands-nothing, stands_whole}
 use Rattle.cycle_comp.proofs.NumberLemmas.{distinct_rows-once, goes_on-here}
 use Rattle.cycle_comp.proofs.LeastLemmas.{trees-least}
+use Rattle.cycle_comp.proofs.DepthLemmas.{trees-nest}
 use Rattle.cycle_comp.proofs.TreeLemmas.{trees_flats, measure_flats, fine_trees, first_fault}
 
 -- as many entries as vectors
@@ -33,19 +35,27 @@ entries-length first rows [] (e ∷ entries) are = absurd are
 entries-length first rows (v ∷ vectors) [] are = absurd are
 entries-length first rows (v ∷ vectors) (e ∷ entries) are = ap suc (entries-length first rows vectors entries are.1)
 
--- where no row stands twice they are few
-code-least : (first signals : ℕ) (trees : List Tree) (flats : List Flat) (code : List Instr) (made : List Made)
+-- they are few, and nest no deeper than the trees
+record AreLean (signals : ℕ) (trees : List Tree) (code : List Instr) : Type 0 where
+  few : length code ≤ least_in trees (start_of signals)
+  nest : NestWithin (depth_in trees) 0 (code ++ Done ∷ [])
+
+-- where no row stands twice they are so
+code-lean : (first signals : ℕ) (trees : List Tree) (flats : List Flat) (code : List Instr) (made : List Made)
     (before after : List (List ℕ)) → flats_of trees ≡ flats → after ≡ distinct_rows before (map row_in made)
     → IsExact first (λ entry old. flats_written entry flats (start_of signals) old) [] code after
-    → HasEachOnce before → length code ≤ least_in trees (start_of signals)
-code-least first signals trees flats code made before after same grows exact once =
+    → HasEachOnce before → AreLean signals trees code
+code-lean first signals trees flats code made before after same grows exact once =
     let s = start_of signals in
     let each = subst (λ (rows : List (List ℕ)). HasEachOnce rows) (sym grows)
     (distinct_rows-once before (map row_in made) once) in
     let e = entry_in first after in
     let is = exact after (goes_on-here after each)
     ∙ ap (λ (fs : List Flat). flats_written e fs s []) (sym same) in
-    omega (arith, ap length is, trees-least e trees s [])
+    record {
+      few = omega (arith, ap length is, trees-least e trees s []);
+      nest = subst (λ (instrs : List Instr). NestWithin (depth_in trees) 0 (instrs ++ Done ∷ [])) (sym is) (trees-nest e trees s);
+    }
 
 abbrev vectors_in : ℕ → List Tree → List Vector
 vectors_in signals trees = map (λ (m : Made). m.vector) (made_in signals trees)
@@ -53,9 +63,9 @@ vectors_in signals trees = map (λ (m : Made). m.vector) (made_in signals trees)
 -- what was written, with its Done
 written : (tables : List Table) (first signals : ℕ) (trees : List Tree) (code : List Instr) (before after : List (List ℕ))
     → Wrote tables first (made_in signals trees) (measure_in trees) [] code before after
-    → (HasEachOnce before → length code ≤ least_in trees (start_of signals))
+    → (HasEachOnce before → AreLean signals trees code)
     → IsWritten first signals trees (code ++ Done ∷ []) before after
-written tables first signals trees code before after w few_there =
+written tables first signals trees code before after w lean =
     let means = puts_means code w.entries (w.puts [] puts-nothing) in
     let long = length-append code (Done ∷ []) in
     let many = cycle_count-length (code ++ Done ∷ []) in
@@ -66,7 +76,8 @@ written tables first signals trees code before after w few_there =
       entries = subst (λ (es : List Entry). AreEntries first after (vectors_in signals trees) es) (sym means) w.are;
       distinct = w.rows;
       size = omega (arith, w.short, long);
-      least = λ once. omega (arith, few_there once, long);
+      least = λ once. omega (arith, (lean once).few, long);
+      nest = λ once. (lean once).nest;
       whole =
           λ small few. record {
             rest = stands_whole code (w.stands deepest_loops (omega (arith, small)) few (stands-nothing deepest_loops));
@@ -87,7 +98,7 @@ wrote_trees tables first signals trees flats code before after e w exact =
       written tables first signals trees code before after
           (subst (λ (size : ℕ). Wrote tables first (made_in signals trees) size [] code before after) (sym (measure_flats trees))
           (subst (λ (r : Ran state.State). Wrote tables first r.made (flats_measure (flats_of trees)) [] code before after) run own))
-          (code-least first signals trees flats code (flats_run flats s).made before after e w.rows exact),
+          (code-lean first signals trees flats code (flats_run flats s).made before after e w.rows exact),
     )
 
 -- ---- errors

@@ -15,6 +15,7 @@ use Rattle.tester_types.specs.declared.cycle.Cycle.{Cycle}
 use Rattle.packed_code.specs.Program.{Program}
 use Rattle.packed_code.specs.Conditions.{characters_of}
 use Rattle.packed_code.specs.Cycles.{cycles_of, exec_of}
+use Rattle.cycle_comp.specs.Depth.{depth_of, NestWithin}
 
 -- a signal of a code
 abbrev pub signal_of : Signal → CodeSignal
@@ -56,7 +57,8 @@ least_of signals e = least_in e.trees (start_of signals)
 
 -- An executive of a code is one of a text over so many signals: its name, its chains, and its cycles one by one, which
 -- run in its own tables. No loop is unrolled, since the number of its instructions is that of its measure at most; and
--- a Loop whose passes make equal vectors stands once.
+-- a Loop whose passes make equal vectors stands once. No Loop has a single pass, and Loops nest no deeper than in its
+-- trees.
 pub record IsExecOf (signals first : ℕ) (e : Executive) (code : Program) (number : ℕ) : Type 0 where
   pub name : (exec_of code number).name ≡ e.name
   pub chains : (exec_of code number).chains ≡ map chain_of e.chains
@@ -65,6 +67,7 @@ pub record IsExecOf (signals first : ℕ) (e : Executive) (code : Program) (numb
       (cycles_of code number)
   pub size : length (exec_of code number).instrs ≤ measure_of e + 1
   pub least : length (exec_of code number).instrs ≤ least_of signals e + 1
+  pub nest : NestWithin (depth_of e) 0 (exec_of code number).instrs
 
 -- the code of executives: their signals, their tables one after another, the rows of their vectors, each once, and each
 -- executive under its number

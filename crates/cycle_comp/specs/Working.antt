@@ -17,6 +17,7 @@ use Rattle.packed_code.specs.Whole.{IsWhole}
 use Rattle.packed_code.specs.Program.{Exec}
 use Rattle.cycle_comp.specs.Entries.{AreEntries}
 use Rattle.cycle_comp.specs.Compiled.{chain_of, least_of}
+use Rattle.cycle_comp.specs.Depth.{depth_of, NestWithin}
 use Rattle.cycle_comp.specs.declared.building.Building.{Building}
 
 -- a Run names one of so many tables, and its mark is a number of 32 bits
@@ -34,6 +35,7 @@ pub record IsMade (signals first : ℕ) (rows : List (List ℕ)) (e : Executive)
   pub entries : AreEntries first rows (vectors_of signals e) (Means made.instrs)
   pub size : length made.instrs ≤ measure_of e + 1
   pub least : length made.instrs ≤ least_of signals e + 1
+  pub nest : NestWithin (depth_of e) 0 made.instrs
   pub few : length made.instrs ≤ 4194305
   pub whole : IsWhole made.instrs
   pub inside : AllByRecursion (IsInside (first + length e.tables)) made.instrs

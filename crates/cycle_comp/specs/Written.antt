@@ -13,6 +13,7 @@ use Rattle.packed_code.specs.declared.instr.Instr.{Instr}
 use Rattle.packed_code.specs.Meaning.{Means}
 use Rattle.packed_code.specs.Whole.{IsWhole}
 use Rattle.cycle_comp.specs.Entries.{AreEntries}
+use Rattle.cycle_comp.specs.Depth.{depth_in, NestWithin}
 use Rattle.cycle_comp.specs.declared.fault.VectorFault.{VectorFault}
 use Rattle.cycle_comp.specs.Writing.{WriteError}
 use Rattle.answers.specs.declared.short.Short.TheVariants as errors
@@ -32,13 +33,15 @@ HasEachOnce rows =
 
 -- These instructions are those of trees: their cycles run the trees' vectors, one by one; the rows are those before and
 -- the vectors' own, each once. No loop is unrolled, since the number of instructions doesn't depend on how often loops
--- run; and a Loop whose passes make equal vectors stands once, where none of the rows before stands twice.
+-- run. Where none of the rows before stands twice, a Loop whose passes make equal vectors stands once, no Loop has a
+-- single pass, and Loops nest no deeper than in the trees.
 pub record IsWritten (first signals : ℕ) (trees : List Tree) (code : List Instr) (before rows : List (List ℕ))
     : Type 0 where
   pub entries : AreEntries first rows (map (λ (m : Made). m.vector) (made_in signals trees)) (Means code)
   pub distinct : rows ≡ distinct_rows before (map (λ (m : Made). row_of m.vector) (made_in signals trees))
   pub size : length code ≤ measure_in trees + 1
   pub least : HasEachOnce before → length code ≤ least_in trees (start_of signals) + 1
+  pub nest : HasEachOnce before → NestWithin (depth_in trees) 0 code
   pub whole : measure_in trees ≤ most_measure → length (made_in signals trees) ≤ most_cycles → IsWhole code
 
 -- the fault of a vector, told with the names of the blocks of its tree

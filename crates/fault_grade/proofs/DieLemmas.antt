@@ -18,12 +18,11 @@ use Rattle.lot_plan.specs.Skews.{site_skews}
 use Rattle.lot_plan.specs.Refusal.{IsBound}
 use Rattle.site_meaning.specs.Part.{circuit_in, part_of}
 use Rattle.site_meaning.proofs.PartLemmas.{skews_in-part_of, image_in-part_of, circuit_in-part_of}
-use Rattle.site_meaning.proofs.ImageLemmas.{image-long, image-whole}
 use Rattle.cycle_run.specs.Step.{FitCode}
 use Rattle.cycle_run.proofs.FitLemmas.{skews_fit}
 use Rattle.fault_grade.specs.Grade.{image_with, first, graded, nets_in, first_site}
 use Rattle.fault_grade.specs.Run.{fault_at, run_of}
-use Rattle.fault_grade.specs.Search.{first_on, graded_on, run_on, CanRun}
+use Rattle.fault_grade.specs.Search.{first_on, graded_on, run_on}
 use Rattle.fault_grade.proofs.FirstLemmas.{first-is}
 
 -- ---- the first die record
@@ -62,27 +61,12 @@ site-planned (d ∷ dies) some =
 pub first-die : (plan : Bound) → 0 < sites_of plan.rows → 0 < length (dies_at (first_site plan) plan.rows)
 first-die plan some = site-planned (dies_of plan.rows) some
 
--- ---- what a program can run on
-
 -- the skews of a site fit a code that is the plan's
 pub code-fits : (plan : Bound) (site : ℕ) (code : Program) → IsProgram code → plan.program ≡ code → IsBound plan
     → FitCode code (site_skews plan site)
 code-fits plan site code program same bound =
     subst (λ (p : Program). FitCode p (site_skews plan site)) same
     (skews_fit plan site (subst (λ (p : Program). IsProgram p) (sym same) program) bound)
-
-pub can-run : (plan : Bound) (site : ℕ) (code : Program) → IsProgram code → plan.program ≡ code → IsBound plan
-    → 0 < length (dies_at site plan.rows) → CanRun code (site_skews plan site) (image_of plan site 0 1)
-can-run plan site code program same bound planned = record {
-  whole = image-whole plan site 0 1 bound planned;
-  signals = image-long plan site 0 1 bound planned ∙ ap (λ (p : Program). length p.signals) same;
-  skews_fit = code-fits plan site code program same bound;
-}
-
--- and on the same with other faults
-pub can-with : (code : Program) (skews : List ℤ) (image : Image) (faults : List StuckAt) → CanRun code skews image
-    → CanRun code skews (record image { faults = faults })
-can-with code skews image faults can = record { whole = can.whole; signals = can.signals; skews_fit = can.skews_fit }
 
 -- ---- what the part of the site says
 

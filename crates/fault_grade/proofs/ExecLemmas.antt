@@ -1,44 +1,29 @@
 -- An executive is run up to its first fail.
-use Rattle.std.proofs.Common.{◌≡◌, ℕ, ◌<◌, ◌≤◌, List, [], ◌∷◌, ◌++◌, length, take, drop, refl, sym, ap, ◌∙◌, subst, arith}
-use Rattle.std.proofs.lemmas.List.{append-nil, nil_from_length, take-append-drop}
-use Rattle.std.proofs.Math.Seq.{take-length}
+use Rattle.std.proofs.Common.{◌≡◌, ℕ, ◌+◌, ◌-◌, ◌^◌, ◌<◌, ◌≤◌, Bool, true, false, List, [], ◌∷◌, ◌++◌, length, take, drop, min, refl, sym, ap, ◌∙◌, subst, arith}
+use Rattle.std.specs.Prelude.{nat_lt}
+use Rattle.std.proofs.lemmas.Bool.{ltb-true, ltb-false, false≢true}
+use Rattle.std.proofs.lemmas.List.{nil_from_length, take-append-drop, take_all}
 use Rattle.tester_types.specs.declared.cycle.Cycle.{Cycle}
 use Rattle.tester_types.specs.declared.record.Fail.{Fail}
-use Rattle.strobe_check.specs.History.{Held, HasSeen, Answers, total_of}
-use Rattle.strobe_check.proofs.HistoryLemmas.{fails-none}
-use Rattle.die_sim.specs.Die.{Device}
-use Rattle.site_meaning.specs.Playing.{Stand, bound_of}
+use Rattle.edge_gen.specs.Held.{Held}
+use Rattle.die_sim.specs.Socket.{Told}
+use Rattle.strobe_check.specs.History.{HasSeen, Answers, total_of}
+use Rattle.site_meaning.specs.Playing.{Stand}
 use Rattle.site_meaning.specs.Trials.{played, fails_in}
 use Rattle.site_meaning.proofs.PlayedLemmas.{fails_in-append, played-take}
 use Rattle.cycle_run.specs.Cycle.{closed_with}
 use Rattle.cycle_run.specs.Batch.{Between, going_in, PlaysCycles}
+use Rattle.try_play.specs.declared.setup.Until.{Until}
+use Rattle.try_play.specs.declared.setup.Until.TheVariants as until
+use Rattle.try_play.specs.declared.setup.Setup.{Setup}
+use Rattle.try_play.specs.declared.seat.Standing.{Standing}
+use Rattle.try_play.specs.Setup.{code_in, device_in, stand_in, HasEnough}
+use Rattle.try_play.specs.Play.{PlaysUpTo}
+use Rattle.try_play.specs.Seat.{CanPlay, IsBefore}
+use Rattle.try_play.proofs.PlayLemmas.{all_ran}
+use Rattle.try_play.proofs.SeatLemmas.{before_next, total_is}
 use Rattle.fault_grade.specs.Grade.{first_fail}
-use Rattle.fault_grade.specs.Search.{IsClear, Finds, Passes}
-
--- ---- what a checker has counted
-
--- the fails that a checker has seen, where no cycle is open
-found-all : (device : Device) (found : List Fail) (total : ℕ) (held : Held) → HasSeen (closed_with device 1 found) held
-    → Answers total_of held total → 0 < total → 0 < length found
-found-all device found total held seen answers some =
-    let all = answers (closed_with device 1 found) seen in
-    let same = ap (λ (l : List Fail). length (found ++ l)) (fails-none (bound_of device)) ∙ ap length (append-nil found) in
-    omega (arith, all, same, some)
-
-found-none : (device : Device) (found : List Fail) (total : ℕ) (held : Held) → HasSeen (closed_with device 1 found) held
-    → Answers total_of held total → total ≤ 0 → found ≡ []
-found-none device found total held seen answers none =
-    let all = answers (closed_with device 1 found) seen in
-    let same = ap (λ (l : List Fail). length (found ++ l)) (fails-none (bound_of device)) ∙ ap length (append-nil found) in
-    nil_from_length found (omega (arith, all, same, none))
-
--- a checker that has seen no fail has seen no others
-pub clear-none : (device : Device) (found : List Fail) (held : Held) → HasSeen (closed_with device 1 found) held
-    → HasSeen (closed_with device 1 []) held → found ≡ []
-clear-none device found held seen clear =
-    let same = ap (λ (l : List Fail). length (found ++ l)) (fails-none (bound_of device)) ∙ ap length (append-nil found) in
-    let none = ap (λ (l : List Fail). length l) (fails-none (bound_of device)) in
-    nil_from_length found (omega (arith, seen.count.all, clear.count.all, same, none))
+use Rattle.fault_grade.specs.Search.{Finds, Passes, RunsUpTo, GoesOn}
 
 -- ---- a front of the cycles
 
@@ -57,44 +42,81 @@ front-fails stand exec n old cycles =
 
 -- ---- the end of an executive
 
-module _ (stand : Stand) (exec n : ℕ) (cycles : List Cycle) (old new : Between) (clear : IsClear stand.device old.point)
-    (plays : PlaysCycles stand exec (take n cycles) old new) (total : ℕ) (answers : Answers total_of new.point.held total) where
+-- cycles that were played up to the first fail
+pub up_to_fail : (setup : Setup) (exec most count : ℕ) (coming xs : List Cycle) (old new : Between) → setup.until ≡ until.FirstFail
+    → coming ≡ xs
+    → PlaysUpTo (PlaysCycles (stand_in setup) exec) (λ (b : Between). HasEnough setup.until b.point.held) coming most count old new
+    → PlaysUpTo (PlaysCycles (stand_in setup) exec) (λ (b : Between). HasEnough until.FirstFail b.point.held) xs most count old new
+up_to_fail setup exec most count coming xs old new first same plays =
+    subst (λ (l : List Cycle). PlaysUpTo (PlaysCycles (stand_in setup) exec)
+    (λ (b : Between). HasEnough until.FirstFail b.point.held) l most count old new) same
+    (subst (λ (u : Until). PlaysUpTo (PlaysCycles (stand_in setup) exec) (λ (b : Between). HasEnough u b.point.held) coming most count old new)
+    first plays)
+
+module _ (stand : Stand) (exec most count : ℕ) (cycles : List Cycle) (old new : Between)
+    (plays : PlaysUpTo (PlaysCycles stand exec) (λ (b : Between). HasEnough until.FirstFail b.point.held) cycles most count old new)
+    (all : most ≡ length cycles) (clear : HasSeen (closed_with stand.device 1 []) old.point.held) (total : ℕ)
+    (answers : Answers total_of new.point.held total) where
   -- the fails of the cycles that were run
   abbrev front : List Fail
-  front = fails_in (played stand exec (going_in old) (take n cycles))
+  front = fails_in (played stand exec (going_in old) (take count cycles))
 
   seen_front : HasSeen (closed_with stand.device 1 front) new.point.held
-  seen_front = plays.finds 1 [] clear.seen
+  seen_front = plays.played.finds 1 [] clear
 
-  -- there is a fail
-  pub finds_now : 0 < total → Finds stand exec cycles old new
-  finds_now some =
-      let has = found-all stand.device front total new.point.held seen_front answers some in
+  counted : total ≡ min (length front) (2 ^ 64 - 1)
+  counted = total_is stand.device 1 front new.point.held total seen_front answers
+
+  -- where there is a fail, the first is that of all cycles
+  finds_now : nat_lt 0 total ≡ true → Finds stand exec cycles old new
+  finds_now is =
+      let some : 0 < length front = omega (arith, counted, ltb-true 0 total is) in
       record {
         fails = front;
         seen = seen_front;
-        first = first-front front _ has ∙ ap first_fail (sym (front-fails stand exec n old cycles));
-        some = has;
+        first = first-front front _ some ∙ ap first_fail (sym (front-fails stand exec count old cycles));
+        some = some;
       }
 
-  -- or there is none
-  pub still_clear : total ≤ 0 → HasSeen (closed_with stand.device 1 []) new.point.held
-  still_clear none =
-      subst (λ (l : List Fail). HasSeen (closed_with stand.device 1 l) new.point.held)
-      (found-none stand.device front total new.point.held seen_front answers none) seen_front
+  -- where there is none, all cycles ran
+  all_ran_now : nat_lt 0 total ≡ false → count ≡ most
+  all_ran_now none =
+      let history = closed_with stand.device 1 front in
+      all_ran (PlaysCycles stand exec) (λ (b : Between). HasEnough until.FirstFail b.point.held) cycles most count old new plays
+      (λ e. false≢true (sym none ∙ ap (nat_lt 0) (answers history seen_front ∙ sym (e.1 history seen_front)) ∙ sym e.2))
 
--- all cycles were run without a fail
-pub passes_now : (stand : Stand) (exec : ℕ) (cycles : List Cycle) (old new : Between) → IsClear stand.device old.point
-    → PlaysCycles stand exec cycles old new → IsClear stand.device new.point → Passes stand exec cycles old new
-passes_now stand exec cycles old new before plays clear = record {
-  going = plays.going;
-  none = clear-none stand.device (fails_in (played stand exec (going_in old) cycles)) new.point.held
-      (plays.finds 1 [] before.seen) clear.seen;
-  clear = clear;
-}
+  none_found : nat_lt 0 total ≡ false → front ≡ []
+  none_found none = nil_from_length front (omega (arith, counted, ltb-false 0 total none))
 
--- ---- how many cycles an executive has
+  whole : nat_lt 0 total ≡ false → take count cycles ≡ cycles
+  whole none = take_all count cycles (omega (arith, all_ran_now none, all))
 
--- a front of all items
-pub take-all : {X : Type 0} (n : ℕ) (xs : List X) → n ≡ length xs → take n xs ≡ xs
-take-all n xs is = ap (λ (k : ℕ). take k xs) is ∙ take-length xs
+  passes_now : nat_lt 0 total ≡ false → Passes stand exec cycles old new
+  passes_now none =
+      let plays_all = subst (λ (l : List Cycle). PlaysCycles stand exec l old new) (whole none) plays.played in
+      record {
+        going = plays_all.going;
+        none = ap (λ (l : List Cycle). fails_in (played stand exec (going_in old) l)) (sym (whole none)) ∙ none_found none;
+      }
+
+  runs_so : (found : Bool) → nat_lt 0 total ≡ found → RunsUpTo stand exec cycles old new found
+  runs_so true is = finds_now is
+  runs_so false is = passes_now is
+
+  -- it is run up to its first fail
+  pub runs_now : RunsUpTo stand exec cycles old new (nat_lt 0 total)
+  runs_now = runs_so (nat_lt 0 total) refl
+
+  -- and no fail is found where there is none
+  pub still_clear : nat_lt 0 total ≡ false → HasSeen (closed_with stand.device 1 []) new.point.held
+  still_clear none = subst (λ (l : List Fail). HasSeen (closed_with stand.device 1 l) new.point.held) (none_found none) seen_front
+
+-- a try without a fail so far goes on
+pub goes_so : (setup : Setup) (exec most : ℕ) (schedules schedules' : Held) (told told' : Told) (old new : Standing)
+    → exec < length (code_in setup).execs → most ≤ 281474976710656 → IsBefore setup 1 exec schedules told old
+    → ((more : ℕ) → CanPlay setup (more + most) schedules told old → CanPlay setup more schedules' told' new)
+    → (found : Bool) → (found ≡ false → HasSeen (closed_with (device_in setup) 1 []) new.bench.checker)
+    → GoesOn setup exec schedules' told' new found
+goes_so setup exec most schedules schedules' told told' old new within few before goes true clear = tt
+goes_so setup exec most schedules schedules' told told' old new within few before goes false clear =
+    before_next setup 1 exec most schedules told old within few before schedules' told' new goes (clear refl)

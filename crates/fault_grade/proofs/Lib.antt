@@ -3,7 +3,6 @@ pub mod FirstLemmas
 pub mod RunLemmas
 pub mod ExecLemmas
 pub mod SearchLemmas
-pub mod LentLemmas
 pub mod DieLemmas
 pub mod ImageLemmas
 pub mod CutLemmas

@@ -1,28 +1,21 @@
 -- A try goes from executive to executive up to its first fail.
-use Rattle.std.proofs.Common.{◌≡◌, ℕ, suc, ◌+◌, ◌-◌, ◌<◌, ◌≤◌, ℤ, List, [], ◌∷◌, ◌++◌, length, map, take, replicate, Option, Some, None, refl, sym, ap, ◌∙◌, arith}
+use Rattle.std.proofs.Common.{◌≡◌, ℕ, suc, ◌+◌, ◌-◌, ◌<◌, ◌≤◌, ℤ, List, [], ◌∷◌, ◌++◌, length, map, take, Option, Some, None, refl, sym, ap, ◌∙◌, arith}
 use Rattle.std.specs.List.{range_with_len}
 use Rattle.std.specs.Option.{option_or}
-use Rattle.std.proofs.lemmas.List.{append-nil, length-replicate}
+use Rattle.std.proofs.lemmas.List.{append-nil}
 use Rattle.tester_types.specs.declared.cycle.Cycle.{Cycle}
-use Rattle.tester_types.specs.declared.level.Drive.{Drive}
-use Rattle.tester_types.specs.declared.level.Drive.TheVariants as drive
-use Rattle.tester_types.specs.declared.level.Level.TheVariants.{X}
 use Rattle.tester_types.specs.declared.record.Fail.{Fail}
 use Rattle.packed_code.specs.Program.{Program}
 use Rattle.packed_code.specs.Cycles.{cycles_of}
-use Rattle.bench_net.specs.Circuit.{IsWhole}
-use Rattle.strobe_check.specs.History.{Held, HasSeen, Answers, kept_of}
+use Rattle.strobe_check.specs.History.{HasSeen, Answers, kept_of}
 use Rattle.strobe_check.proofs.HistoryLemmas.{fails-none}
 use Rattle.die_sim.specs.Die.{Image, Device, device_of}
-use Rattle.die_sim.specs.Socket.{Told, IsLoaded}
-use Rattle.die_sim.specs.Stepped.{first_state}
-use Rattle.die_sim.proofs.SteppedLemmas.{fresh_is_first}
 use Rattle.site_meaning.specs.Playing.{Stand, Going, bound_of, starting}
 use Rattle.site_meaning.specs.Trials.{played, after_cycles, fails_in, execs_of}
-use Rattle.cycle_run.specs.Cycle.{Point, point_at, stand_of, closed_with}
+use Rattle.cycle_run.specs.Cycle.{Point, stand_of, closed_with}
 use Rattle.cycle_run.specs.Batch.{Between, going_in}
 use Rattle.fault_grade.specs.Grade.{first_fail}
-use Rattle.fault_grade.specs.Search.{first_from, first_on, HasFirst, StartsSo, Finds, Passes}
+use Rattle.fault_grade.specs.Search.{first_from, first_on, HasFirst, Finds, Passes}
 use Rattle.fault_grade.proofs.FirstLemmas.{first_fail-take}
 
 -- ---- executives from one on
@@ -119,33 +112,7 @@ ends_clear code stand exec now first past rest seen = record {
       ∙ ap (first_from stand exec (going_in now)) (sym (execs-none code exec past)) ∙ rest;
 }
 
--- ---- the beginning and the end of a try
-
-module _ (image : Image) (whole : IsWhole image.circuit) (held : Held) (last : List Drive) (signals : ℕ)
-    (seen : HasSeen (closed_with (device_of image) 1 []) held) (last_is : last ≡ replicate signals drive.Unknown)
-    (count : signals ≡ length image.binds) (told : Told) (loaded : IsLoaded image told) where
-  pub starts_so : StartsSo (device_of image) 0 0 (point_at held last told)
-  starts_so = record {
-    clear = record {
-      between = record {
-        loaded = loaded.loaded;
-        state = record {
-          size = ap (λ l. length l) loaded.fresh.held ∙ length-replicate (length image.circuit.net.drivers) X;
-          settled = loaded.fresh.settled;
-        };
-        keep = 1;
-        found = [];
-        seen = seen;
-      };
-      seen = seen;
-    };
-    going =
-        let die_is : told.state ≡ first_state (device_of image) =
-        (fresh_is_first (device_of image) told.state whole).0 loaded.fresh in
-        let priors_is : last ≡ replicate (length image.binds) drive.Unknown =
-        last_is ∙ ap (λ (n : ℕ). replicate n drive.Unknown) count in
-        λ i. record { die = die_is i; priors = priors_is i; time = 0; number = 0 };
-  }
+-- ---- the end of a try
 
 -- the fails that are kept begin with the first of all
 pub kept_first : (device : Device) (first : Option ℕ) (point : Point) (kept : List Fail) → HasFirst device first point

@@ -1,20 +1,23 @@
 -- What the code goes through to find a first fail. No public clause cites it.
-use Rattle.std.specs.Prelude.{◌≡◌, ℕ, ◌+◌, ◌-◌, ◌*◌, ◌<◌, ◌≤◌, ℤ, Bool, true, false, Option, None, List, [], ◌∷◌, length, map}
+use Rattle.std.specs.Prelude.{◌≡◌, ℕ, ◌+◌, ◌-◌, ◌<◌, ℤ, Bool, true, false, Option, None, List, [], ◌∷◌, length, map}
 use Rattle.std.specs.Option.{option_or}
-use Rattle.std.specs.List.{AllByRecursion, range_with_len}
+use Rattle.std.specs.List.{range_with_len}
 use Rattle.tester_types.specs.declared.cycle.Cycle.{Cycle}
-use Rattle.tester_types.specs.declared.cycle.Moment.{Moment}
 use Rattle.tester_types.specs.declared.record.Fail.{Fail}
 use Rattle.packed_code.specs.Program.{Program}
-use Rattle.bench_net.specs.Circuit.{IsWhole}
+use Rattle.edge_gen.specs.Held.{Held}
 use Rattle.die_sim.specs.Die.{Device, Image, device_of}
+use Rattle.die_sim.specs.Socket.{Told}
 use Rattle.die_sim.specs.declared.image.StuckAt.{StuckAt}
 use Rattle.strobe_check.specs.History.{HasSeen}
 use Rattle.site_meaning.specs.Playing.{Stand, Going, starting}
 use Rattle.site_meaning.specs.Trials.{played, after_cycles, fails_in, execs_of}
-use Rattle.cycle_run.specs.Cycle.{stand_of, closed_with, going_at, Point, IsBetween}
+use Rattle.cycle_run.specs.Cycle.{stand_of, closed_with, Point}
 use Rattle.cycle_run.specs.Batch.{Between, going_in}
-use Rattle.cycle_run.specs.Step.{FitCode, schedule_of}
+use Rattle.try_play.specs.declared.setup.Setup.{Setup}
+use Rattle.try_play.specs.declared.seat.Standing.{Standing}
+use Rattle.try_play.specs.Setup.{code_in}
+use Rattle.try_play.specs.Seat.{IsBefore}
 use Rattle.fault_grade.specs.Grade.{first_fail}
 use Rattle.fault_grade.specs.Run.{fault_at}
 use Rattle.fault_grade.specs.declared.graded.Graded.{Graded}
@@ -45,29 +48,15 @@ graded_on code skews image fault = record {
 unfoldable pub run_on : Program → List ℤ → Image → ℕ → ℕ → List Graded
 run_on code skews image from to = map (λ k. graded_on code skews image (fault_at k)) (range_with_len from (to - from))
 
--- ---- what is handed in
+-- the same of what a try is played with
+abbrev pub first_in : Setup → Option ℕ
+first_in setup = first_on (code_in setup) setup.skews.now setup.image.now
 
--- a program can run on an image: its circuit is whole, it binds each signal, and the skews keep events inside cycles
-pub record CanRun (code : Program) (skews : List ℤ) (image : Image) : Type 0 where
-  pub whole : IsWhole image.circuit
-  pub signals : length image.binds ≡ length code.signals
-  pub skews_fit : FitCode code skews
-
--- moments that are held are those of their numbers
-abbrev pub HoldsMoments : Program → List ℤ → List ((ℕ × ℕ) × List Moment) → Type 0
-HoldsMoments code skews held = AllByRecursion (λ entry. entry.1 ≡ schedule_of code skews entry.0) held
+-- an image without its faults
+abbrev pub bare : Image → Image
+bare image = record image { faults = [] }
 
 -- ---- what the code keeps on its way
-
--- a try has no fail so far, and stands between two cycles
-pub record IsClear (device : Device) (point : Point) : Type 0 where
-  pub between : IsBetween device point
-  pub seen : HasSeen (closed_with device 1 []) point.held
-
--- numbers are small enough to go on with this executive, so many of whose cycles have run
-pub record IsEarly (exec done : ℕ) (number time : ℕ) : Type 0 where
-  pub number_is : number ≤ 281474976710656 * exec + done
-  pub time_is : time ≤ 1000000000000 * number
 
 -- one of the cycles of an executive has a fail: those fails that are found begin with the first of all
 pub record Finds (stand : Stand) (exec : ℕ) (cycles : List Cycle) (old new : Between) : Type 0 where
@@ -80,20 +69,19 @@ pub record Finds (stand : Stand) (exec : ℕ) (cycles : List Cycle) (old new : B
 pub record Passes (stand : Stand) (exec : ℕ) (cycles : List Cycle) (old new : Between) : Type 0 where
   pub going : going_in new ≡ after_cycles stand (going_in old) cycles
   pub none : fails_in (played stand exec (going_in old) cycles) ≡ []
-  pub clear : IsClear stand.device new.point
 
 -- an executive is run up to its first fail
 abbrev pub RunsUpTo : Stand → ℕ → List Cycle → Between → Between → Bool → Type 0
 RunsUpTo stand exec cycles old new true = Finds stand exec cycles old new
 RunsUpTo stand exec cycles old new false = Passes stand exec cycles old new
 
+-- a try without a fail so far goes on with the next executive
+abbrev pub GoesOn : Setup → ℕ → Held → Told → Standing → Bool → Type 0
+GoesOn setup exec schedules told at true = Unit {0}
+GoesOn setup exec schedules told at false = IsBefore setup 1 (exec + 1) schedules told at
+
 -- the fails that are found begin with this one, if there is any
 pub record HasFirst (device : Device) (first : Option ℕ) (point : Point) : Type 0 where
   pub fails : List Fail
   pub seen : HasSeen (closed_with device 1 fails) point.held
   pub is : first_fail fails ≡ first
-
--- a try stands before its first cycle
-pub record StartsSo (device : Device) (number time : ℕ) (point : Point) : Type 0 where
-  pub clear : IsClear device point
-  pub going : going_at point time number ≡ starting device

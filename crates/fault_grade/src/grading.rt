@@ -4,20 +4,24 @@ ghost use Rattle.std.specs.Prelude.{◌≡◌, ◌*◌, ◌≤◌, ◌<◌, IfOk
 ghost use Rattle.plan_rows.specs.Rows.{sites_of};
 ghost use Rattle.fault_grade.specs.Grade.{first, first_part, nets_in};
 ghost use Rattle.fault_grade.specs.Run.{run_of};
-ghost use Rattle.fault_grade.specs.Search.{HoldsMoments};
+ghost use Rattle.lot_plan.specs.Bound.{image_of};
 ghost use Rattle.lot_plan.specs.Skews.{site_skews};
+ghost use Rattle.try_play.specs.declared.setup.Until.TheVariants as until;
+ghost use Rattle.try_play.specs.Lent.{HoldsMoments};
+ghost use Rattle.try_play.specs.Setup.{IsSetUp};
 ghost use Rattle.fault_grade.specs.Grade.{first_site};
+ghost use Rattle.fault_grade.specs.Search.{bare};
 
 use crate::die::{first_image, first_skews};
 use crate::faults::image_with;
 use crate::graded::GradeList;
-use crate::lent::Lent;
 use crate::run::{try_image, try_run};
-use die_sim::StuckAt;
+use die_sim::{DieImage, StuckAt};
 use lot_plan::BoundPlan;
 use packed_code::Code;
 use std::alloc::Global;
 use tester_types::NoMemory;
+use try_play::{Lent, Setup, Until};
 
 /// The moments that the cycles have at the first die's site.
 pub(crate) fn first_lent(alloc: Global, code: &Code, plan: &BoundPlan) -> Result<Lent, NoMemory>
@@ -28,6 +32,29 @@ pub(crate) fn first_lent(alloc: Global, code: &Code, plan: &BoundPlan) -> Result
     let _sites = plan.sites();
     let _signals = code.signals();
     Lent::make(alloc, code, first_skews(plan))
+}
+
+/// What a try of the first die is played with, with the faults of this image in place of its own.
+fn set_up<'a>(code: &'a Code, plan: &'a BoundPlan, lent: &'a Lent, image: &'a DieImage) -> Setup<'a>
+    requires die { 0 < sites_of plan.now.rows }
+    requires one_program { plan.now.program ≡ code.now }
+    requires lent { HoldsMoments code.now (site_skews plan.now (first_site plan.now)) lent.now }
+    requires image { bare image.now ≡ bare (image_of plan.now (first_site plan.now) 0 1) }
+    ensures set_up { IsSetUp result }
+    ensures code { result.code.now ≡ code.now }
+    ensures image { result.image.now ≡ image.now }
+    ensures skews { result.skews.now ≡ site_skews plan.now (first_site plan.now) }
+    ensures until { result.until ≡ until.FirstFail }
+{
+    let _sites = plan.sites();
+    let _signals = code.signals();
+    Setup {
+        code,
+        image,
+        skews: first_skews(plan),
+        until: Until::FirstFail,
+        lent: Some(lent),
+    }
 }
 
 /// The cycle of the first fail of the first die with this fault, if there is one, where moments are lent.
@@ -47,7 +74,8 @@ pub(crate) fn first_with(
     let _sites = plan.sites();
     let _signals = code.signals();
     let image = image_with(alloc, first_image(plan), fault)?;
-    try_image(alloc, lent, code, first_skews(plan), &image)
+    let setup = set_up(code, plan, lent, &image);
+    try_image(alloc, &setup)
 }
 
 /// The grades of the first die's faults with these numbers, the last left out, where moments are lent.
@@ -68,15 +96,8 @@ pub(crate) fn run_with(
 {
     let _sites = plan.sites();
     let _signals = code.signals();
-    try_run(
-        alloc,
-        lent,
-        code,
-        first_skews(plan),
-        first_image(plan),
-        from,
-        to,
-    )
+    let setup = set_up(code, plan, lent, first_image(plan));
+    try_run(alloc, &setup, from, to)
 }
 
 /// The cycle of the first fail of a try of the plan's first die in which this fault alone is active, or no fault; none

@@ -7,8 +7,6 @@ mod faults;
 mod graded;
 mod grading;
 mod laws;
-mod lent;
-mod next;
 mod run;
 mod search;
 mod workers;

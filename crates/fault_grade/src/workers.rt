@@ -6,13 +6,12 @@ ghost use Rattle.plan_rows.specs.Rows.{sites_of};
 ghost use Rattle.lot_plan.specs.Skews.{site_skews};
 ghost use Rattle.fault_grade.specs.Grade.{first_site, first_part, nets_in, grade_of};
 ghost use Rattle.site_meaning.specs.Part.{Part};
+ghost use Rattle.try_play.specs.Lent.{HoldsMoments};
 ghost use Rattle.fault_grade.specs.Run.{cut_at, run_of, IsEachRun};
-ghost use Rattle.fault_grade.specs.Search.{HoldsMoments};
 
 use crate::die::fault_count;
 use crate::graded::{Grade, GradeList};
 use crate::grading::{first_lent, first_with, run_with};
-use crate::lent::Lent;
 use lot_plan::BoundPlan;
 use packed_code::Code;
 use std::alloc::Global;
@@ -20,6 +19,7 @@ use std::sync::Wait;
 use std::thread;
 use std::thread::Threads;
 use tester_types::{Gate, NoMemory};
+use try_play::Lent;
 
 /// Where the run of a worker begins, of so many workers who share so many faults.
 fn cut_at(faults: u32, workers: u8, worker: u32) -> u32

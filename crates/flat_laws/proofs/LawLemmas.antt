@@ -1,4 +1,4 @@
--- The faults and the cycles of the flat text of a code.
+-- The faults of the flat text of a code, and what it says.
 use Rattle.std.proofs.Common.{◌≡◌, ◌⊎◌, Option, Some, None, sym, ap, subst, ◌∙◌, inl, inr}
 use Rattle.stil_ast.specs.Faults.Found.{or_else}
 use Rattle.stil_ast.specs.Faults.ExecutiveFaults.{fifth_fault}
@@ -16,9 +16,9 @@ use Rattle.flat_fine.proofs.NameLemmas.{names_fine}
 use Rattle.flat_fine.proofs.PassLemmas.{executives_fine}
 use Rattle.flat_fine.proofs.TimeLemmas.{time_is}
 use Rattle.flat_cycles.proofs.CompileLemmas.{only_too_large}
-use Rattle.flat_cycles.proofs.EntryLemmas.{same_cycles}
-use Rattle.flat_laws.specs.Laws.{IsLimit, FaultsAreLimits, CyclesAreSame}
+use Rattle.flat_laws.specs.Laws.{IsLimit, FaultsAreLimits, ProgramIsSame}
 use Rattle.flat_laws.proofs.FrontLemmas.{IsFlatFront, front_is}
+use Rattle.flat_laws.proofs.SameLemmas.{same_program}
 
 -- the first of the faults of two passes
 first_of : (a b : Option StilFault) (fault : StilFault) → or_else a b ≡ Some fault → (a ≡ Some fault) ⊎ (b ≡ Some fault)
@@ -47,6 +47,5 @@ pub faults_are_limits : FaultsAreLimits
 faults_are_limits code fault whole plain is =
     by_front code is.0 fault whole (front_is code is.0 whole plain is.1) is.2
 
-pub cycles_are_same : CyclesAreSame
-cycles_are_same code blocks whole plain text =
-    same_cycles times_of time_is code blocks whole (front_is code (read_as blocks) whole plain text.read)
+pub program_is_same : ProgramIsSame
+program_is_same code blocks whole plain text = same_program code blocks whole (front_is code (read_as blocks) whole plain text.read)

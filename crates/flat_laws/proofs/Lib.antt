@@ -1,2 +1,3 @@
 pub mod FrontLemmas
+pub mod SameLemmas
 pub mod LawLemmas

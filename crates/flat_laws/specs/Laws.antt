@@ -1,5 +1,5 @@
--- What holds of the flat text of a code: its cycles are those of the code, and it has no fault but that it is beyond a
--- limit of texts.
+-- What holds of the flat text of a code: it says the whole code but for its chains, and it has no fault but that it is
+-- beyond a limit of texts.
 use Rattle.std.specs.Prelude.{◌≡◌, ◌⊎◌, true, Some}
 use Rattle.stil_ast.specs.declared.blocks.Blocks.{Blocks}
 use Rattle.stil_ast.specs.declared.fault.StilFault.{StilFault}
@@ -10,7 +10,7 @@ use Rattle.packed_code.specs.Conditions.{IsProgram}
 use Rattle.time_expr.specs.TimesOf.{times_of}
 use Rattle.stil_program.specs.Program.{IsTextFault, IsTextOf}
 use Rattle.flat_parts.specs.FlatText.{flat_text, has_plain_names}
-use Rattle.flat_parts.specs.SameCycles.{HasSameCycles}
+use Rattle.flat_laws.specs.SameProgram.{IsSameProgram}
 
 -- a text is beyond a limit: it walks, measures or holds too much; a Timing has too many tables; its loops nest too deep
 abbrev pub IsLimit : StilKind → Type 0
@@ -22,8 +22,8 @@ FaultsAreLimits =
     (code : Program) (fault : StilFault) → IsProgram code → has_plain_names code ≡ true
     → IsTextFault (flat_text code) (Some fault) → IsLimit fault.kind
 
--- where it has none, its cycles are those of the code
-abbrev pub CyclesAreSame : Type 0
-CyclesAreSame =
+-- where it has none, its signals, executives and cycles are those of the code
+abbrev pub ProgramIsSame : Type 0
+ProgramIsSame =
     (code : Program) (blocks : Blocks) → IsProgram code → has_plain_names code ≡ true
-    → IsTextOf (flat_text code) blocks → HasSameCycles times_of code blocks
+    → IsTextOf (flat_text code) blocks → IsSameProgram times_of code blocks

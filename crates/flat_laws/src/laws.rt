@@ -1,13 +1,13 @@
 //! Laws of the flat text of a code.
 
-ghost use Rattle.flat_laws.specs.Laws.{FaultsAreLimits, CyclesAreSame};
+ghost use Rattle.flat_laws.specs.Laws.{FaultsAreLimits, ProgramIsSame};
 
 /// A fault of a flat text is that it is beyond a limit.
 pub fn faults_are_limits()
     ensures { FaultsAreLimits }
 {}
 
-/// Where it has none, its cycles are those of the code.
-pub fn cycles_are_same()
-    ensures { CyclesAreSame }
+/// Where it has none, its signals, executives and cycles are those of the code.
+pub fn program_is_same()
+    ensures { ProgramIsSame }
 {}

@@ -9,7 +9,7 @@ use Rattle.stil_program.specs.Program.{IsTextFault}
 use Rattle.stil_program.proofs.FaultLemmas.{one_text_fault}
 use Rattle.stil_ast.specs.declared.fault.StilFault.{StilFault}
 use Rattle.flat_parts.specs.FlatText.{flat_lines, flat_text, has_plain_names}
-use Rattle.flat_laws.proofs.LawLemmas.{cycles_are_same}
+use Rattle.flat_laws.proofs.LawLemmas.{program_is_same}
 use Rattle.flat_stil.specs.FlatFault.{IsFlat, MeansSame, IsTooLong, IsTooFlat}
 use Rattle.flat_stil.specs.Working.{Written, wrote, prints, IsWritten, Answers}
 use Rattle.flat_stil.specs.declared.fault.FlatFault.{FlatFault}
@@ -79,5 +79,5 @@ only_fine code (Err fault.TooFlat) is flat = absurd (no_two (flat_text code) is.
 pub means_same : (code : Program) (r : Result (List ℕ) FlatFault) → IsProgram code → has_plain_names code ≡ true
     → Answers code r → IfOk r (MeansSame code)
 means_same code (Ok text) whole plain is =
-    subst (MeansSame code) (sym is.is) (λ blocks of. cycles_are_same code blocks whole plain of)
+    subst (MeansSame code) (sym is.is) (λ blocks of. program_is_same code blocks whole plain of)
 means_same code (Err e) whole plain is = tt

@@ -7,7 +7,7 @@ use Rattle.stil_ast.specs.declared.blocks.Blocks.{Blocks}
 use Rattle.time_expr.specs.TimesOf.{times_of}
 use Rattle.stil_program.specs.Program.{IsTextFault, IsTextOf}
 use Rattle.flat_parts.specs.FlatText.{flat_text}
-use Rattle.flat_parts.specs.SameCycles.{HasSameCycles}
+use Rattle.flat_laws.specs.SameProgram.{IsSameProgram}
 use Rattle.flat_laws.specs.Laws.{IsLimit}
 use Rattle.flat_stil.specs.declared.fault.FlatFault.{FlatFault}
 use Rattle.flat_stil.specs.declared.fault.FlatFault.TheVariants as fault
@@ -18,10 +18,11 @@ pub record IsFlat (code : Program) (text : List ℕ) : Type 0 where
   pub short : length text ≤ most_bytes
   pub fine : IsTextFault text None
 
--- where this text is read, its cycles are those of the code: they start when these do and have their characters, and
--- tables of the same period and waves
+-- where this text is read, it says the whole code but for its chains: the same signals, and as many executives of the
+-- same names, whose cycles start when those of the code do and have their characters, and tables of the same period and
+-- waves
 abbrev pub MeansSame : Program → List ℕ → Type 0
-MeansSame code text = (blocks : Blocks) → IsTextOf text blocks → HasSameCycles times_of code blocks
+MeansSame code text = (blocks : Blocks) → IsTextOf text blocks → IsSameProgram times_of code blocks
 
 -- the flat text is longer
 abbrev pub IsTooLong : Program → Type 0

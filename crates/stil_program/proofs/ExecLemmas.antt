@@ -100,7 +100,7 @@ module _ (blocks : Blocks) where
         ap (λ (r : Ran State). map (λ (m : Made). m.vector) r.made)
         (same_trees_serve x.tables x.trees (map tree_of (parts blocks d)) (start_of n) is.trees_are).0
 
-    measure_same : measure_of x ≡ measure_of (own blocks d)
+    pub measure_same : measure_of x ≡ measure_of (own blocks d)
     measure_same = (same_trees_serve x.tables x.trees (map tree_of (parts blocks d)) (start_of 0) is.trees_are).2
 
     pub least_same : (n : ℕ) → least_of n x ≡ least_of n (own blocks d)

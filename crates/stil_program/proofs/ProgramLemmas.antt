@@ -1,5 +1,5 @@
 -- The code of blocks has their executives, each with its name, chains, tables and cycles, and with few instructions.
-use Rattle.std.proofs.Common.{◌≡◌, ℕ, ◌+◌, ◌<◌, ◌≤◌, List, ◌∷◌, ◌++◌, Some, length, map, take, drop, sym, ap, subst, ◌∙◌, arith}
+use Rattle.std.proofs.Common.{◌≡◌, ℕ, suc, ◌+◌, ◌^◌, ◌<◌, ◌≤◌, List, ◌∷◌, ◌++◌, Some, length, map, take, drop, sym, ap, subst, ◌∙◌, arith}
 use Rattle.std.specs.Prelude.{slice_get}
 use Rattle.std.specs.List.{AllByRecursion, flat_map, enumerate_from}
 use Rattle.std.proofs.lemmas.List.{length-map, take-append-drop}
@@ -11,7 +11,7 @@ use Rattle.tester_types.specs.declared.cycle.Cycle.{Cycle}
 use Rattle.stil_ast.specs.Faults.FrontFaults.{cycle_count}
 use Rattle.stil_ast.specs.Meaning.Cycles.{Dated, dated, starts_at}
 use Rattle.stil_ast.specs.Meaning.Executive.{table_list, chain_list, cycles, exec_vectors, executive_of}
-use Rattle.stil_ast.specs.Meaning.ExecutiveData.{tables_of, vector_period}
+use Rattle.stil_ast.specs.Meaning.ExecutiveData.{tables_of, vector_period, measure_of}
 use Rattle.stil_ast.specs.Meaning.Signals.{names_of}
 use Rattle.stil_ast.specs.Meaning.State.{Vector}
 use Rattle.stil_ast.specs.declared.blocks.Blocks.{Blocks}
@@ -23,8 +23,10 @@ use Rattle.time_expr.specs.TimesOf.{times_of}
 use Rattle.wave_tables.proofs.TakenLemmas.{drop_found}
 use Rattle.burst_exec.specs.Executives.{AreExecutives}
 use Rattle.cycle_comp.specs.Compiled.{chain_of, least_of, read_cycle, read_cycles, IsExecOf}
-use Rattle.stil_program.specs.Program.{IsBlocksCode}
-use Rattle.stil_program.proofs.ExecLemmas.{as_many, tables_are as tables_of_all, cut_of, least_same}
+use Rattle.cycle_comp.specs.Depth.{depth_of, NestWithin}
+use Rattle.cycle_comp.proofs.DepthLemmas.{depth_in-few, nest-more}
+use Rattle.stil_program.specs.Program.{IsBlocksCode, CodeIsShallow}
+use Rattle.stil_program.proofs.ExecLemmas.{as_many, tables_are as tables_of_all, cut_of, least_same, measure_same}
 use Rattle.packed_code.proofs.WalkLemmas.{length-timed}
 
 -- what an executive of the code has, where the tables of the code from number `first` on are its own
@@ -37,6 +39,8 @@ pub record HasExec (blocks : Blocks) (code : Program) (first number : ℕ) (d : 
       (cycles_of code number)
   pub least : length (exec_of code number).instrs
       ≤ least_of (length (names_of blocks).signals) (executive_of times_of blocks d) + 1
+  pub nest : (most : ℕ) → measure_of (executive_of times_of blocks d) + 2 < 2 ^ suc (suc most)
+      → NestWithin most 0 (exec_of code number).instrs
 
 -- as many cycles as vectors
 dated_length : (period : Vector → ℕ) (vectors : List Vector) → length (dated period vectors) ≡ length vectors
@@ -46,7 +50,7 @@ dated_length period vectors =
     length-map (enumerate_from 0 vectors) made ∙ length-enumerate_from 0 vectors
 
 -- a list at a place
-at_place : {A : Type 0} (xs : List A) (n : ℕ) (x : A) → slice_get xs n ≡ Some x → xs ≡ take n xs ++ x ∷ drop (n + 1) xs
+pub at_place : {A : Type 0} (xs : List A) (n : ℕ) (x : A) → slice_get xs n ≡ Some x → xs ≡ take n xs ++ x ∷ drop (n + 1) xs
 at_place {A} xs n x at =
     sym (take-append-drop n xs) ∙ ap (λ (l : List A). take n xs ++ l) (drop_found xs n x at)
 
@@ -92,6 +96,9 @@ module _ (blocks : Blocks) (code : Program) (is : IsBlocksCode blocks code) wher
         least =
             subst (λ (n : ℕ). length (exec_of code number).instrs ≤ n + 1)
             (least_same blocks d h.here h.is (length (names_of blocks).signals)) moved.least;
+        nest = λ most few.
+            nest-more (depth_of h.here) most 0 (exec_of code number).instrs
+            (depth_in-few h.here.trees most (omega (arith, few, measure_same blocks d h.here h.is))) moved.nest;
       }
 
   -- the executive of a number
@@ -108,3 +115,7 @@ pub code_keeps_loops : (blocks : Blocks) (code : Program) (number : ℕ) (e : Ex
     → slice_get blocks.executives number ≡ Some e
     → length (exec_of code number).instrs ≤ least_of (length (names_of blocks).signals) (executive_of times_of blocks e) + 1
 code_keeps_loops blocks code number e is at = (exec_at blocks code is number e at).least
+
+-- its loops nest no deeper than the measure of the text's trees allows
+pub code_is_shallow : CodeIsShallow
+code_is_shallow blocks code number e most is at few = (exec_at blocks code is number e at).nest most few

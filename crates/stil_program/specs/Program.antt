@@ -1,10 +1,10 @@
 -- The first fault of a text over all passes, or the code of a text without a fault (IEEE 1450-1999, clauses 6 to 24).
-use Rattle.std.specs.Prelude.{◌≡◌, ℕ, ◌+◌, ◌≤◌, List, map, length, Option, Some, None, slice_get}
+use Rattle.std.specs.Prelude.{◌≡◌, ℕ, suc, ◌+◌, ◌^◌, ◌<◌, ◌≤◌, List, map, length, Option, Some, None, slice_get}
 use Rattle.stil_ast.specs.Faults.FrontFaults.{IsFaultOf}
 use Rattle.stil_ast.specs.Faults.TextFaults.{blocks_fault}
 use Rattle.stil_ast.specs.Meaning.Executive.{executive_of}
 use Rattle.stil_ast.specs.Meaning.Signals.{names_of}
-use Rattle.stil_ast.specs.Meaning.ExecutiveData.{Executive}
+use Rattle.stil_ast.specs.Meaning.ExecutiveData.{Executive, measure_of}
 use Rattle.stil_ast.specs.declared.blocks.Blocks.{Blocks}
 use Rattle.stil_ast.specs.declared.executive.ExecDecl.{ExecDecl}
 use Rattle.stil_ast.specs.declared.fault.StilFault.{StilFault}
@@ -16,6 +16,7 @@ use Rattle.stil_program.specs.Front.{IsReadAs, IsFront}
 use Rattle.time_expr.specs.TimesOf.{times_of}
 use Rattle.burst_exec.specs.Executives.{AreAllOf}
 use Rattle.cycle_comp.specs.Compiled.{least_of, IsCodeOf}
+use Rattle.cycle_comp.specs.Depth.{NestWithin}
 
 -- The first fault of a text, or none: that of its tokens, statements and blocks, which reading finds; else that of its
 -- signals and groups, of its executives, or of what they are compiled to.
@@ -41,6 +42,15 @@ CodeKeepsLoops =
     slice_get blocks.executives number ≡ Some e →
     length (exec_of code number).instrs
     ≤ least_of (length (names_of blocks).signals) (executive_of times_of blocks e) + 1
+
+-- The code of blocks isn't needlessly deep: no Loop has a single pass, and where the measure of the flat trees that the
+-- language defines for an executive is below 2 ^ (n + 2) - 2, its Loops nest n deep at most.
+abbrev pub CodeIsShallow : Type 0
+CodeIsShallow =
+    (blocks : Blocks) (code : Program) (number : ℕ) (e : ExecDecl) (most : ℕ) → IsBlocksCode blocks code →
+    slice_get blocks.executives number ≡ Some e →
+    measure_of (executive_of times_of blocks e) + 2 < 2 ^ suc (suc most) →
+    NestWithin most 0 (exec_of code number).instrs
 
 -- the code is that of a text without a fault
 pub record IsProgramOf (bytes : List ℕ) (code : Program) : Type 0 where

@@ -11,7 +11,7 @@ ghost use Rattle.stil_ast.specs.declared.blocks.Blocks.{Blocks};
 ghost use Rattle.stil_ast.specs.declared.executive.ExecDecl.{ExecDecl};
 ghost use Rattle.stil_ast.specs.declared.fault.StilFault.{StilFault};
 ghost use Rattle.time_expr.specs.TimesOf.{times_of};
-ghost use Rattle.stil_program.specs.Program.{IsTextFault, CodeKeepsLoops};
+ghost use Rattle.stil_program.specs.Program.{IsTextFault, CodeKeepsLoops, CodeIsShallow};
 ghost use Rattle.stil_program.specs.Runs.{runs_fault};
 
 /// A text has one first fault, or none.
@@ -34,4 +34,9 @@ pub fn sixth_pass_is_over_runs()
         (start_of (length (names_of blocks).signals))
         ≡ runs_fault (table_list times_of blocks e) (parts blocks e)
         (outside (start_of (length (names_of blocks).signals))) }
+{}
+
+/// No Loop of an executive has a single pass, and its Loops nest no deeper than the measure of its trees allows.
+pub fn code_is_shallow()
+    ensures { CodeIsShallow }
 {}

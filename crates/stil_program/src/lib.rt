@@ -13,6 +13,6 @@ mod told;
 
 pub use coding::{compiled, program};
 pub use front_laws::one_front;
-pub use laws::{code_keeps_loops, one_text_fault, sixth_pass_is_over_runs};
+pub use laws::{code_is_shallow, code_keeps_loops, one_text_fault, sixth_pass_is_over_runs};
 pub use reading::read_text;
 pub use text::CompiledText;

@@ -33,7 +33,7 @@ byte_again b = by (eqb_tells b 0)
     by (inl none) = ap (λ (t : Bool). unwrap_or (cond t None (Some b)) 0) none.0 ∙ sym none.1
     by (inr some) = ap (λ (t : Bool). unwrap_or (cond t None (Some b)) 0) some.0
 
-bytes_again : (bytes : List ℕ) → map (λ (c : Option ℕ). unwrap_or c 0) (map character_of bytes) ≡ bytes
+pub bytes_again : (bytes : List ℕ) → map (λ (c : Option ℕ). unwrap_or c 0) (map character_of bytes) ≡ bytes
 bytes_again [] = refl
 bytes_again (b ∷ bytes) =
     ap (λ x. x ∷ map (λ (c : Option ℕ). unwrap_or c 0) (map character_of bytes)) (byte_again b) ∙ ap (λ xs. b ∷ xs) (bytes_again bytes)

@@ -12,7 +12,7 @@ use Rattle.lot_plan.specs.Skews.{site_skews}
 use Rattle.site_meaning.specs.Playing.{Going, starting}
 use Rattle.site_meaning.specs.Trials.{execs_of}
 use Rattle.cycle_run.specs.Cycle.{stand_of}
-use Rattle.vcd_dump.specs.declared.play.Way.{Way}
+use Rattle.vcd_dump.specs.declared.execs.Way.{Way}
 use Rattle.vcd_dump.specs.declared.fault.TapeFault.{TapeFault}
 use Rattle.vcd_dump.specs.declared.fault.TapeFault.TheVariants as fault
 use Rattle.vcd_text.specs.Dump.{Var}

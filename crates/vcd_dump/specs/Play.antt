@@ -1,25 +1,17 @@
--- Cycles of an executive that are played while there aren't too many drives; no public clause cites it.
-use Rattle.std.specs.Prelude.{◌≡◌, ℕ, ◌+◌, ◌-◌, ◌*◌, ◌/◌, ◌≤◌, ℤ, min, nat_le, not, ◌&&◌, Bool, true, false, Option, Some, None, List, [], ◌∷◌, ◌++◌, take, length, if◌then◌else◌}
+-- Executives that are played while there aren't too many drives; no public clause cites it.
+use Rattle.std.specs.Prelude.{◌≡◌, ℕ, ◌+◌, ◌-◌, ◌*◌, ◌/◌, min, nat_le, not, ◌&&◌, Bool, true, false, Option, Some, None, List, [], ◌∷◌, ◌++◌, take, length, if◌then◌else◌}
 use Rattle.tester_types.specs.declared.cycle.Cycle.{Cycle}
-use Rattle.packed_code.specs.Program.{Program}
-use Rattle.die_sim.specs.Die.{Image, device_of}
 use Rattle.die_sim.specs.Socket.{Calls}
-use Rattle.strobe_check.specs.History.{HasSeen}
 use Rattle.site_meaning.specs.Playing.{Stand, Going}
 use Rattle.site_meaning.specs.Trials.{played, after_cycles, has_fails}
-use Rattle.cycle_run.specs.Batch.{Between, PlaysCycles, calls_of_cycles}
-use Rattle.cycle_run.specs.Cycle.{closed_with, IsStateOf}
-use Rattle.cycle_run.specs.Step.{FitsBench, HoldsSchedules}
-use Rattle.vcd_dump.specs.declared.play.Way.{Way}
+use Rattle.cycle_run.specs.Batch.{Between, going_in, PlaysCycles, calls_of_cycles}
+use Rattle.try_play.specs.declared.setup.Setup.{Setup}
+use Rattle.try_play.specs.Setup.{stand_in}
+use Rattle.try_play.specs.Seat.{between_of, CanPlay, IsBefore}
+use Rattle.vcd_dump.specs.declared.execs.Way.{Way}
 use Rattle.vcd_dump.specs.declared.execs.After.{After}
 use Rattle.vcd_dump.specs.declared.execs.After.TheVariants as after
 use Rattle.vcd_dump.specs.Recording.{recording_told}
-
--- the first so many cycles are played, or the first of them up to one with which there are too many drives
-abbrev pub PlaysSome : Stand → ℕ → List Cycle → ℕ → Bool → Between → Bool → Between → Type 0
-PlaysSome stand exec cycles count true old over new = PlaysCycles stand exec (take count cycles) old new
-PlaysSome stand exec cycles count false old over new =
-    (some : ℕ) × (some ≤ count) × PlaysCycles stand exec (take some cycles) old new × (over ≡ true)
 
 -- how many of the cycles of an executive, which are so many, run before the order of the plan, if there is one: it
 -- stands before the batch of this number from here on, and a batch has so many cycles at most
@@ -48,45 +40,49 @@ calls_from stand most exec going order (cycles ∷ later) =
 
 -- ---- a try that is under way
 
+-- where it stands between two cycles
+abbrev pub stands_at : Way → Between
+stands_at way = between_of (recording_told way.recorder) way.at
+
 -- what goes along there
 abbrev pub going_of : Way → Going
-going_of way = record {
-  die = (recording_told way.recorder).state;
-  priors = way.bench.last.items;
-  time = way.time;
-  number = way.number;
-}
+going_of way = going_in (stands_at way)
 
--- it stands before an executive, its die is loaded, and no cycle so far had a fail
-pub record IsBefore (code : Program) (skews : List ℤ) (image : Image) (exec : ℕ) (way : Way) : Type 0 where
-  pub held : HoldsSchedules code skews way.schedules
-  pub room : FitsBench (length image.binds) way.bench.last.items way.bench.levels.items
-  pub loaded : (recording_told way.recorder).loaded ≡ Some (device_of image)
-  pub state : IsStateOf (device_of image) (recording_told way.recorder).state
-  pub keep : ℕ
-  pub seen : HasSeen (closed_with (device_of image) keep []) way.bench.checker
-  pub number : way.number ≤ 281474976710656 * exec
-  pub time : way.time ≤ 281474976710656000000000000 * exec
+-- so many more cycles can be played
+abbrev pub CanGoOn : Setup → ℕ → Way → Type 0
+CanGoOn setup more way = CanPlay setup more way.schedules (recording_told way.recorder) way.at
 
--- what comes behind an executive: too many drives with some of its calls, or its calls, and the end of the try, or more
--- of it
-abbrev pub ComesTo : Program → List ℤ → Image → Stand → ℕ → ℕ → Option ℕ → List Cycle → Way → Way → After → Type 0
-ComesTo code skews image stand most exec order cycles old new after.Over =
-    (rest : Calls) × (new.recorder.calls ++ rest
-    ≡ old.recorder.calls ++ calls_of_cycles stand (going_of old) (take (allowed most order (length cycles)) cycles))
-    × (new.recorder.over ≡ true)
-ComesTo code skews image stand most exec order cycles old new after.Ends =
-    (new.recorder.calls
-    ≡ old.recorder.calls ++ calls_of_cycles stand (going_of old) (take (allowed most order (length cycles)) cycles))
-    × (goes_on stand most exec (going_of old) order cycles ≡ false)
-ComesTo code skews image stand most exec order cycles old new (after.Goes next) =
-    (new.recorder.calls
-    ≡ old.recorder.calls ++ calls_of_cycles stand (going_of old) (take (allowed most order (length cycles)) cycles))
-    × (goes_on stand most exec (going_of old) order cycles ≡ true) × (next ≡ order_behind most order (length cycles))
-    × IsBefore code skews image (exec + 1) new × (going_of new ≡ after_cycles stand (going_of old) cycles)
+-- it stands before an executive, and no cycle so far had a fail
+abbrev pub StandsBefore : Setup → ℕ → Way → Type 0
+StandsBefore setup exec way = IsBefore setup 0 exec way.schedules (recording_told way.recorder) way.at
 
 -- all calls were recorded, or some of them with which there are too many drives
 abbrev pub RecordsSo : Bool → Calls → Way → Way → Type 0
 RecordsSo true calls old new = new.recorder.calls ≡ old.recorder.calls ++ calls
 RecordsSo false calls old new =
     (rest : Calls) × (new.recorder.calls ++ rest ≡ old.recorder.calls ++ calls) × (new.recorder.over ≡ true)
+
+-- these cycles are played, or some of their calls are recorded, with which there are too many drives
+abbrev pub PlaysSo : Setup → ℕ → List Cycle → Bool → Way → Way → Type 0
+PlaysSo setup exec cycles true old new = PlaysCycles (stand_in setup) exec cycles (stands_at old) (stands_at new)
+PlaysSo setup exec cycles false old new =
+    RecordsSo false (calls_of_cycles (stand_in setup) (going_of old) cycles) old new
+
+-- the calls of the cycles of an executive that run before the order of the plan
+abbrev pub calls_here : Setup → ℕ → Option ℕ → List Cycle → Way → Calls
+calls_here setup most order cycles way =
+    calls_of_cycles (stand_in setup) (going_of way) (take (allowed most order (length cycles)) cycles)
+
+-- what comes behind an executive: too many drives with some of its calls, or its calls, and the end of the try, or more
+-- of it
+abbrev pub ComesTo : Setup → ℕ → ℕ → Option ℕ → List Cycle → Way → Way → After → Type 0
+ComesTo setup most exec order cycles old new after.Over =
+    RecordsSo false (calls_here setup most order cycles old) old new
+ComesTo setup most exec order cycles old new after.Ends =
+    RecordsSo true (calls_here setup most order cycles old) old new
+    × (goes_on (stand_in setup) most exec (going_of old) order cycles ≡ false)
+ComesTo setup most exec order cycles old new (after.Goes next) =
+    RecordsSo true (calls_here setup most order cycles old) old new
+    × (goes_on (stand_in setup) most exec (going_of old) order cycles ≡ true)
+    × (next ≡ order_behind most order (length cycles))
+    × StandsBefore setup (exec + 1) new × (going_of new ≡ after_cycles (stand_in setup) (going_of old) cycles)

@@ -1,18 +1,26 @@
 //! The executives of a try, one after another, up to the first with a fail or the order of the plan.
 
-ghost use Rattle.std.specs.Prelude.{◌≡◌, ◌+◌, ◌*◌, ◌≤◌, ◌<◌, ◌^◌, length, IfOk};
+ghost use Rattle.std.specs.Prelude.{◌≡◌, ℕ, ◌+◌, ◌≤◌, ◌<◌, true, length, take, IfOk};
 ghost use Rattle.packed_code.specs.Cycles.{cycles_of};
-ghost use Rattle.bench_net.specs.Circuit.{IsWhole};
-ghost use Rattle.die_sim.specs.Die.{device_of};
 ghost use Rattle.site_meaning.specs.Trials.{execs_of};
-ghost use Rattle.cycle_run.specs.Cycle.{stand_of};
-ghost use Rattle.cycle_run.specs.Step.{FitCode};
-ghost use Rattle.vcd_dump.specs.Play.{allowed, order_behind, calls_from, going_of, IsBefore, ComesTo, RecordsSo};
+ghost use Rattle.try_play.specs.declared.setup.Until.TheVariants as until;
+ghost use Rattle.try_play.specs.Setup.{IsSetUp, code_in, stand_in};
+ghost use Rattle.vcd_dump.specs.Play.{allowed, order_behind, calls_from, going_of, CanGoOn, StandsBefore, PlaysSo, ComesTo, RecordsSo};
 
-use crate::play::{Way, play_cycles};
-use die_sim::DieImage;
-use packed_code::{Code, walk};
+use crate::recorder::Recorder;
+use cycle_run::Stop;
+use edge_gen::Schedules;
+use packed_code::walk;
 use tester_types::NoMemory;
+use try_play::{Setup, Standing, play_at};
+
+/// A try whose drives are recorded, between two cycles.
+#[derive(Drop)]
+pub(crate) struct Way {
+    pub at: Standing,
+    pub schedules: Schedules,
+    pub recorder: Recorder,
+}
 
 /// What comes behind an executive.
 #[derive(Clone, Copy)]
@@ -51,37 +59,66 @@ fn order_behind(batch: u32, order: Option<u64>, cycles: u64) -> Option<u64>
     }
 }
 
+/// Plays so many cycles of an executive. Answers whether it did; else there are too many drives.
+fn play_some(setup: &Setup, exec: u16, way: &mut Way, many: u64) -> Result<bool, NoMemory>
+    requires set_up { IsSetUp setup.now }
+    requires until { setup.now.until ≡ until.End }
+    requires exec { exec < length (code_in setup.now).execs }
+    requires some { many ≤ length (cycles_of (code_in setup.now) exec) }
+    requires can { CanGoOn setup.now many way.old }
+    ensures plays { IfOk result (λ whole. PlaysSo setup.now exec (take many (cycles_of (code_in setup.now) exec)) whole
+        way.old way.new) }
+    ensures goes_on { IfOk result (λ whole. whole ≡ true → (more : ℕ) → CanGoOn setup.now (more + many) way.old
+        → CanGoOn setup.now more way.new) }
+{
+    let mut walk = walk(setup.code, exec);
+    match play_at(
+        setup,
+        &mut walk,
+        &mut way.at,
+        &mut way.schedules,
+        &mut way.recorder,
+        exec,
+        many,
+    ) {
+        Ok(_) => Ok(true),
+        Err(Stop::Contact(_)) => {
+            if way.recorder.is_over() {
+                Ok(false)
+            } else {
+                Err(NoMemory)
+            }
+        }
+        Err(Stop::NoMemory) => Err(NoMemory),
+    }
+}
+
 /// Plays an executive.
 fn play_exec(
-    code: &Code,
-    image: &DieImage,
-    skews: &[i64],
+    setup: &Setup,
     exec: u16,
     way: &mut Way,
     batch: u32,
     order: Option<u64>,
 ) -> Result<After, NoMemory>
-    requires whole { IsWhole image.now.circuit }
-    requires signals { length image.now.binds ≡ length code.now.signals }
-    requires skews { FitCode code.now skews.now }
-    requires exec { exec < length code.now.execs }
+    requires set_up { IsSetUp setup.now }
+    requires until { setup.now.until ≡ until.End }
+    requires exec { exec < length (code_in setup.now).execs }
     requires some { 1 ≤ batch }
-    requires before { IsBefore code.now skews.now image.now exec way.old }
-    ensures { IfOk result (λ after. ComesTo code.now skews.now image.now
-        (stand_of code.now skews.now (device_of image.now)) batch exec order (cycles_of code.now exec)
+    requires before { StandsBefore setup.now exec way.old }
+    ensures { IfOk result (λ after. ComesTo setup.now batch exec order (cycles_of (code_in setup.now) exec)
         way.old way.new after) }
 {
-    let _conditions = code.signals();
-    let cycles = code.cycles(exec);
+    let _conditions = setup.code.signals();
+    let cycles = setup.code.cycles(exec);
     let many = allowed(batch, order, cycles);
-    let mut walk = walk(code, exec);
-    if !play_cycles(code, image, skews, exec, &mut walk, way, many)? {
+    if !play_some(setup, exec, way, many)? {
         return Ok(After::Over);
     }
     if many < cycles {
         return Ok(After::Ends);
     }
-    if way.bench.checker.total() > 0 {
+    if way.at.bench.checker.total() > 0 {
         return Ok(After::Ends);
     }
     Ok(After::Goes(order_behind(batch, order, cycles)))
@@ -89,25 +126,22 @@ fn play_exec(
 
 /// Plays the executives of a try. Answers whether all of its drives were recorded; else there are too many.
 pub(crate) fn play_execs(
-    code: &Code,
-    image: &DieImage,
-    skews: &[i64],
+    setup: &Setup,
     way: &mut Way,
     batch: u32,
     order: Option<u64>,
 ) -> Result<bool, NoMemory>
-    requires whole { IsWhole image.now.circuit }
-    requires signals { length image.now.binds ≡ length code.now.signals }
-    requires skews { FitCode code.now skews.now }
+    requires set_up { IsSetUp setup.now }
+    requires until { setup.now.until ≡ until.End }
     requires some { 1 ≤ batch }
-    requires before { IsBefore code.now skews.now image.now 0 way.old }
+    requires before { StandsBefore setup.now 0 way.old }
     ensures { IfOk result (λ whole. RecordsSo whole
-        (calls_from (stand_of code.now skews.now (device_of image.now)) batch 0 (going_of way.old) order
-        (execs_of code.now)) way.old way.new) }
+        (calls_from (stand_in setup.now) batch 0 (going_of way.old) order (execs_of (code_in setup.now)))
+        way.old way.new) }
 {
     let mut order = order;
-    for exec in 0..code.execs() {
-        match play_exec(code, image, skews, exec, way, batch, order) {
+    for exec in 0..setup.code.execs() {
+        match play_exec(setup, exec, way, batch, order) {
             Ok(After::Over) => return Ok(false),
             Ok(After::Ends) => return Ok(true),
             Ok(After::Goes(next)) => order = next,

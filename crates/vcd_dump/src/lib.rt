@@ -4,7 +4,6 @@
 mod execs;
 mod fault;
 mod laws;
-mod play;
 mod recorder;
 mod tape;
 mod write;

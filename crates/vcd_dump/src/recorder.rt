@@ -1,6 +1,6 @@
 //! A socket that records the drives of a simulated die, on a tape that grows in step with them.
 
-ghost use Rattle.std.specs.Prelude.{◌≡◌, ◌++◌, ◌∷◌, [], ◌<◌, ◌≤◌, None, false, IfOk, MatchResult, OnOk, OnErr};
+ghost use Rattle.std.specs.Prelude.{◌≡◌, ◌++◌, ◌∷◌, [], ◌<◌, ◌≤◌, false, IfOk, MatchResult, OnOk, OnErr};
 ghost use Rattle.vcd_dump.specs.Taken.{drives_in, most_drives};
 ghost use Rattle.vcd_dump.specs.declared.fault.TapeFault.TheVariants as fault;
 ghost use Rattle.vcd_dump.specs.Recording.{Recording, recording_told};
@@ -15,7 +15,8 @@ use vcd_text::add_call;
 /// The most drives of a tape.
 const MOST_DRIVES: u32 = 4_194_304;
 
-/// A simulated die whose drives are recorded. It loses contact only where memory for the tape is wanting.
+/// A simulated die whose drives are recorded. It loses contact only where memory for the tape is wanting, and at each drive
+/// once there were too many.
 #[derive(Drop)]
 pub(crate) struct Recorder {
     die: SimSocket,
@@ -37,12 +38,12 @@ impl Model for Recorder {
 }
 
 impl Recorder {
-    /// A recorder in which no die is loaded.
-    pub fn new(alloc: Global) -> Result<Recorder, NoMemory>
-        ensures { IfOk result (λ s. s ≡ record { die = None; calls = []; over = false; count = 0 }) }
+    /// A recorder of a die, before its first drive.
+    pub fn new(alloc: Global, die: SimSocket) -> Result<Recorder, NoMemory>
+        ensures { IfOk result (λ s. s ≡ record { die = die; calls = []; over = false; count = 0 }) }
     {
         Ok(Recorder {
-            die: SimSocket::new(alloc),
+            die,
             tape: Tape::new(alloc, 0)?,
             left: MOST_DRIVES,
             over: false,
@@ -95,6 +96,10 @@ impl Socket for Recorder {
     }
 
     fn drive(&mut self, at: u128, drives: &[(u16, Drive)]) -> Result<(), Contact> {
+        if self.over {
+            self.count = self.count.saturating_add(1);
+            return Err(Contact);
+        }
         match self.record(at, drives) {
             Ok(()) => self.die.drive(at, drives),
             Err(_) => {

@@ -1,56 +1,62 @@
 //! The tape of the first try of a site's first die.
 
-ghost use Rattle.std.specs.Prelude.{◌≡◌, ◌<◌, ◌≤◌, [], ℤ, List, Err, length, IfOk, OnOk};
-ghost use Rattle.bench_net.specs.Circuit.{IsWhole};
-ghost use Rattle.die_sim.specs.Die.{device_of};
-ghost use Rattle.die_sim.specs.Socket.{IsLoaded};
+ghost use Rattle.std.specs.Prelude.{◌≡◌, ◌<◌, ◌≤◌, [], Err, length, IfOk, OnOk};
 ghost use Rattle.plan_rows.specs.Rows.{sites_of, dies_at};
-ghost use Rattle.site_meaning.specs.Playing.{starting};
+ghost use Rattle.lot_plan.specs.Bound.{image_of};
+ghost use Rattle.lot_plan.specs.Skews.{site_skews};
+ghost use Rattle.try_play.specs.declared.setup.Until.TheVariants as until;
+ghost use Rattle.try_play.specs.Setup.{IsSetUp};
+ghost use Rattle.try_play.specs.Seat.{StartsSo};
 ghost use Rattle.vcd_dump.specs.Recording.{recording_told};
-ghost use Rattle.vcd_dump.specs.Play.{going_of, IsBefore};
 ghost use Rattle.vcd_dump.specs.Taken.{tape_of, vars_of, drives_in, most_drives};
 ghost use Rattle.vcd_text.specs.Sound.{IsSound};
 ghost use Rattle.vcd_dump.specs.declared.fault.TapeFault.TheVariants as fault;
 
-use crate::execs::play_execs;
+use crate::execs::{Way, play_execs};
 use crate::fault::TapeFault;
-use crate::play::Way;
 use crate::recorder::Recorder;
-use cycle_run::Bench;
-use die_sim::{DieImage, Socket, Tape};
+use die_sim::Tape;
 use edge_gen::{HELD_SCHEDULES, Schedules};
 use lot_plan::BoundPlan;
 use packed_code::Code;
 use std::alloc::Global;
 use tester_types::NoMemory;
+use try_play::{Setup, Until, first_standing, loaded};
 
-/// A recorder in which a die is loaded.
-fn loaded(alloc: Global, image: &DieImage) -> Result<Recorder, NoMemory>
-    ensures loaded { IfOk result (λ r. IsLoaded image.now (recording_told r)) }
-    ensures calls { IfOk result (λ r. r.calls ≡ []) }
+/// What the first try of a site's first die is played with.
+fn set_up<'a>(code: &'a Code, plan: &'a BoundPlan, site: u8) -> Setup<'a>
+    requires site { site < sites_of plan.now.rows }
+    requires die { 0 < length (dies_at site plan.now.rows) }
+    requires one_program { plan.now.program ≡ code.now }
+    ensures set_up { IsSetUp result }
+    ensures code { result.code.now ≡ code.now }
+    ensures image { result.image.now ≡ image_of plan.now site 0 1 }
+    ensures skews { result.skews.now ≡ site_skews plan.now site }
+    ensures until { result.until ≡ until.End }
 {
-    let mut recorder = Recorder::new(alloc)?;
-    match recorder.load(image) {
-        Ok(()) => Ok(recorder),
-        Err(_) => Err(NoMemory),
+    let _bound = plan.sites();
+    let _conditions = code.signals();
+    Setup {
+        code,
+        image: plan.image(site, 0, 1),
+        skews: plan.skews(site),
+        until: Until::End,
+        lent: None,
     }
 }
 
-/// A try of a die before its first executive.
-fn started(alloc: Global, code: &Code, image: &DieImage) -> Result<Way, NoMemory>
-    requires whole { IsWhole image.now.circuit }
-    requires signals { length image.now.binds ≡ length code.now.signals }
-    ensures before { IfOk result (λ way. (skews : List ℤ) → IsBefore code.now skews image.now 0 way) }
-    ensures going { IfOk result (λ way. going_of way ≡ starting (device_of image.now)) }
+/// A try before its first executive.
+fn started(alloc: Global, setup: &Setup) -> Result<Way, NoMemory>
+    requires { IsSetUp setup.now }
+    ensures starts { IfOk result (λ way. StartsSo setup.now 0 way.schedules (recording_told way.recorder) way.at) }
     ensures calls { IfOk result (λ way. way.recorder.calls ≡ []) }
 {
-    let recorder = loaded(alloc, image)?;
-    let bench = Bench::new(alloc, image, code.signals(), 0)?;
+    let die = loaded(alloc, setup.image)?;
+    let recorder = Recorder::new(alloc, die)?;
     let schedules = Schedules::new(alloc, HELD_SCHEDULES)?;
+    let at = first_standing(alloc, setup, 0)?;
     Ok(Way {
-        number: 0,
-        time: 0,
-        bench,
+        at,
         schedules,
         recorder,
     })
@@ -68,9 +74,9 @@ pub fn tape_of(alloc: Global, code: &Code, plan: &BoundPlan, site: u8) -> Result
 {
     let _bound = plan.sites();
     let _conditions = code.signals();
-    let image = plan.image(site, 0, 1);
-    let mut way = started(alloc, code, image)?;
+    let setup = set_up(code, plan, site);
+    let mut way = started(alloc, &setup)?;
     let order = plan.stop(site, 0, 1);
-    play_execs(code, image, plan.skews(site), &mut way, plan.batch(), order)?;
+    play_execs(&setup, &mut way, plan.batch(), order)?;
     way.recorder.finish()
 }

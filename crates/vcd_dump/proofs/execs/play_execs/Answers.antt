@@ -1,17 +1,16 @@
 use Rattle.std.proofs.Common.{◌∙◌, ◌+◌, ◌<◌, ◌≤◌, ◌++◌, ℕ, Option, length, drop, ap, arith}
 use Rattle.packed_code.specs.Cycles.{cycles_of}
-use Rattle.die_sim.specs.Die.{device_of}
 use Rattle.site_meaning.specs.Playing.{Going}
 use Rattle.site_meaning.specs.Trials.{execs_of, after_cycles}
-use Rattle.cycle_run.specs.Cycle.{stand_of}
+use Rattle.try_play.specs.Setup.{code_in, stand_in}
 use Rattle.vcd_dump.specs.Play.{going_of, calls_from, goes_on}
 use Rattle.vcd_dump.proofs.CallsLemmas.{all_at, execs_none, ends_all, goes_all, over_all, done_all, behind}
 use Rattle.vcd_dump.proofs.execs.play_execs.Goals as goal
 
 pub loop-exec-preserved : goal.loop-exec-preserved
 loop-exec-preserved c =
-    let code = c.args.code.now in
-    let stand = stand_of code c.args.skews.now (device_of c.args.image.now) in
+    let code = code_in c.args.setup.now in
+    let stand = stand_in c.args.setup.now in
     let exec = c.loop-exec.exec in
     let within : exec < length code.execs = omega (arith, c.loop-exec-test.true, c.execs-exec-end.ensures) in
     let later = drop (exec + 1) (execs_of code) in
@@ -28,8 +27,8 @@ loop-exec-preserved c =
 
 pub returns-in-Ok-Over : goal.returns-in-Ok-Over
 returns-in-Ok-Over c =
-    let code = c.args.code.now in
-    let stand = stand_of code c.args.skews.now (device_of c.args.image.now) in
+    let code = code_in c.args.setup.now in
+    let stand = stand_in c.args.setup.now in
     let exec = c.loop-exec.exec in
     let within : exec < length code.execs = omega (arith, c.loop-exec-test.true, c.execs-exec-end.ensures) in
     let later = drop (exec + 1) (execs_of code) in
@@ -46,8 +45,8 @@ returns-in-Ok-Over c =
 
 pub returns-in-Ok-Ends : goal.returns-in-Ok-Ends
 returns-in-Ok-Ends c =
-    let code = c.args.code.now in
-    let stand = stand_of code c.args.skews.now (device_of c.args.image.now) in
+    let code = code_in c.args.setup.now in
+    let stand = stand_in c.args.setup.now in
     let exec = c.loop-exec.exec in
     let within : exec < length code.execs = omega (arith, c.loop-exec-test.true, c.execs-exec-end.ensures) in
     let t = rw c.in-Ok-Ends.field-0-is at c.in-Ok-Ends.ensures in
@@ -57,8 +56,8 @@ returns-in-Ok-Ends c =
 
 pub returns : goal.returns
 returns c =
-    let code = c.args.code.now in
+    let code = code_in c.args.setup.now in
     let exec = c.loop-exec.exec in
     let past : length code.execs ≤ exec = omega (arith, c.loop-exec-test.false, c.execs-exec-end.ensures) in
-    done_all (stand_of code c.args.skews.now (device_of c.args.image.now)) c.args.batch exec (going_of c.loop-exec.way) c.loop-exec.order
+    done_all (stand_in c.args.setup.now) c.args.batch exec (going_of c.loop-exec.way) c.loop-exec.order
     (drop exec (execs_of code)) c.loop-exec.way.recorder.calls _ (execs_none code exec past) c.loop-exec.invariant.all

@@ -1,0 +1,5 @@
+pub mod Lent
+pub mod Setup
+pub mod Play
+pub mod Seat
+pub mod SeatLaws
