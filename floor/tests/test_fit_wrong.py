@@ -6,7 +6,7 @@ from collections.abc import Callable
 import pytest
 
 from fit_texts import PAIRS, STOPS
-from stilfloor.fit import bodies, data, fixed, scan
+from stilfloor.fit import bodies, data, data_rules, fixed, scan
 from stilfloor.fit.bodies import Bodies
 from stilfloor.fit.signals import Names
 from stilfloor.fit.tree import Statement, all_of
@@ -28,7 +28,7 @@ def e_is_dropped(work: Work, names: Names, bodies_: Bodies) -> None:
                 work.drop(statement, "wrong")
 
 
-def repeats_are_doubled(rules: data.Rules, cursor: data.Cursor, place: int, count: int) -> int:
+def repeats_are_doubled(rules: data_rules.Rules, cursor: data_rules.Cursor, place: int, count: int) -> int:
     return RIGHT_REPEAT(rules, cursor, place, 2 * count)
 
 
@@ -49,7 +49,7 @@ def a_block_is_played(work: Work, statement: Statement, keyword: str, constants:
     return RIGHT_KEPT(work, statement, keyword, constants)
 
 
-def it_stops_at_joins(work: Work, rules: data.Rules, parts: object, part: object) -> str:
+def it_stops_at_joins(work: Work, rules: data_rules.Rules, parts: object, part: object) -> str:
     return "a"
 
 

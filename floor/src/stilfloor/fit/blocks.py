@@ -12,6 +12,7 @@ LEVELS = "levels alone are simulated, and no look depends on a load or a supply"
 KNOWN = "all groups of a text are known everywhere"
 DESIGN = "it describes the design, not the vectors"
 REMARK = "it is a remark for tools"
+CONSTANTS = "constants are written where they are used, and nothing that is left uses the others"
 # what goes at the top of a text, and in a PatternExec, a burst and an entry of its list
 TOP = {"DCLevels": LEVELS, "DCSets": LEVELS, "DCSequence": LEVELS, "Termination": LEVELS, "ClockStructures": DESIGN,
        "CompressorStructures": DESIGN, "Environment": "it has no vectors", "PatternFileType": REMARK, "X": REMARK}
@@ -184,7 +185,7 @@ def constants_of(work: Work) -> dict[str, str]:
                 head = [text for text in work.head(statement) if text != ":"]
                 if work.keyword(statement) == "IntegerConst" and len(head) > 2 and head[1] == "=" and statement.open < 0:
                     found[plain(head[0])] = plain(" ".join(head[2:]))
-            work.drop(block, "constants are written where they are used, and nothing that is left uses the others")
+            work.drop(block, CONSTANTS)
     _forget(work)
     return found
 

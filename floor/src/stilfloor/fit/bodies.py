@@ -3,7 +3,7 @@
 from collections.abc import Iterator
 from dataclasses import dataclass, field
 
-from stilfloor.fit.blocks import REMARK, TOP, integer
+from stilfloor.fit.blocks import CONSTANTS, KNOWN, REMARK, TOP, integer
 from stilfloor.fit.tokens import plain
 from stilfloor.fit.tree import Statement, all_of
 from stilfloor.fit.work import Work
@@ -115,8 +115,8 @@ def _fit_list(work: Work, statements: list[Statement], constants: dict[str, str]
 
 
 def _drop(work: Work, statement: Statement, keyword: str) -> None:
-    reasons = {"TimeUnit": "it is the unit of raw events, and none stands in the text", "SignalGroups": "all groups of a text are known everywhere",
-               "Variables": "constants are written where they are used, and nothing that is left uses the others"}
+    reasons = {"TimeUnit": "it is the unit of raw events, and none stands in the text", "SignalGroups": KNOWN,
+               "Variables": CONSTANTS}
     work.drop(statement, reasons.get(keyword, TOP.get(keyword, REMARK)))
 
 

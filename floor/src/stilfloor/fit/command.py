@@ -10,7 +10,7 @@ from dataclasses import dataclass, field
 
 from stilfloor import saved, tester
 from stilfloor.faults import REFUSED, TOOL, UNREADABLE, Fault, Faults
-from stilfloor.fit import blocks, bodies, bursts, data, fixed, include, scan, signals, tables, timing
+from stilfloor.fit import blocks, bodies, bursts, data, data_rules, fixed, include, letters, scan, signals, tables, timing
 from stilfloor.fit.tokens import tokens_of
 from stilfloor.fit.work import Change, Work
 from stilfloor.plans import read_text
@@ -63,8 +63,8 @@ def _rules(work: Work) -> Iterator[tuple[str, Callable[[], None]]]:
     all_bodies = bodies.bodies_of(work)
     yield "callers", lambda: bodies.link(work, all_bodies)
     waves = timing.waves_of(work, names)
-    rules = data.rules_of(work, names, waves)
-    yield "characters", lambda: data.fit_letters(work, rules)
+    rules = data_rules.rules_of(work, names, waves)
+    yield "characters", lambda: letters.fit_letters(work, rules)
     yield "bursts", lambda: bursts.fit_bursts(work, names, all_bodies)
     yield "statements", lambda: bodies.fit_bodies(work, all_bodies, constants)
     yield "data", lambda: data.fit_data(work, all_bodies, rules)

@@ -1,159 +1,22 @@
 """Data of assignments: flags such as `\\h`, `\\l`, `\\m` and `\\r2 01` written out as plain waveform characters."""
 
 import re
-from dataclasses import dataclass, field
 
 from stilfloor.fit.bodies import ASSIGNING, CALLS, Bodies, Body
-from stilfloor.fit.signals import Attributes, Names
-from stilfloor.fit.timing import Waves
+from stilfloor.fit.data_rules import Cursor, DataStop, Piece, Rules, note, short
+from stilfloor.fit.digits import base, by_base, convert, digits_at
 from stilfloor.fit.tokens import is_word, plain
 from stilfloor.fit.tree import Assignment, Statement, all_of
 from stilfloor.fit.work import Work
 
 REPEAT = re.compile(r"r(\d+)")
-HEX = re.compile(r"[0-9A-Fa-f]+")
-DECIMAL = re.compile(r"[0-9]+")
 MOST_REPEATS = 1 << 20
 # (pieces of data that are kept in case they come again)
 MOST_KNOWN = 1 << 16
 # tokens that may stand in a block of plain assignments beside words, names and texts
 PLAIN = frozenset("=;[].#%")
 ARGUMENT = frozenset("=;[].")
-FRESH = "CABDEFGIJKMOQRSWYabcdefgijkmnopqrsuvwyz23456789HLNPTUVXZhltx01"
 ACTION = re.compile(r"[A-Za-z]")
-
-
-class DataStop(Exception):
-    """Data that can't be written so that they mean the same."""
-
-
-@dataclass(slots=True)
-class Rules:
-    """What data rules know of a text: its names, renamed characters, and the length of the chain of each scan signal."""
-
-    names: Names
-    waves: Waves
-    renamed: dict[str, str] = field(default_factory=dict)
-    mapped: dict[str, dict[str, str]] = field(default_factory=dict)
-    lengths: dict[str, int] = field(default_factory=dict)
-    letters: set[str] = field(default_factory=set)
-    based: bool = False
-    memory: "dict[tuple[str, str, bool], Piece]" = field(default_factory=dict)
-    late: "list[tuple[Body, int, tuple[str, ...], dict[str, str]]]" = field(default_factory=list)
-
-
-@dataclass(slots=True)
-class Piece:
-    """Data as they are to be written, what was done, and where they stop; `joined` and `late` are questions that the block answers."""
-
-    text: str = ""
-    notes: list[tuple[str, str]] = field(default_factory=list)
-    stop: str = ""
-    joined: bool = False
-    late: bool = False
-
-
-@dataclass(slots=True)
-class Cursor:
-    """Where the data of an assignment are read, and what is known there."""
-
-    tokens: list[str]
-    gaps: list[str]
-    members: tuple[str, ...] | None
-    attributes: Attributes | None
-    mode: str = "w"
-    base: str = ""
-    automatic: dict[str, str] = field(default_factory=dict)
-    is_mapped: bool = False
-    pieces: list[str] = field(default_factory=list)
-    digits: list[str] = field(default_factory=list)
-    notes: dict[tuple[str, str], None] = field(default_factory=dict)
-    is_changed: bool = False
-    joined: bool = False
-    late: bool = False
-
-
-def rules_of(work: Work, names: Names, waves: Waves) -> Rules:
-    """What the data rules need, before data are read."""
-    rules = Rules(names, waves, lengths=_lengths(work, names))
-    for key, made in names.attributes.items():
-        rules.based = rules.based or bool(made.base)
-        members = names.members([f'"{key}"']) if key not in names.ranges else tuple(names.ranges[key])
-        automatic = {before: after for before, after in made.single.items() if members and before != after
-                     and not any(before in waves.acts.get(member, ()) for member in members)}
-        if automatic:
-            rules.mapped[key] = automatic
-            rules.letters.update(automatic)
-    return rules
-
-
-def _lengths(work: Work, names: Names) -> dict[str, int]:
-    """The chain's length of each signal at a chain's end."""
-    found: dict[str, int] = {}
-    for block in work.statements:
-        for chain in block.kids or [] if work.keyword(block) == "ScanStructures" else []:
-            parts = {work.keyword(part): work.head(part) for part in chain.kids or []}
-            length = parts.get("ScanLength", [""])[0] if parts.get("ScanLength") else ""
-            for end in ("ScanIn", "ScanOut"):
-                name = plain("".join(parts.get(end, [])))
-                if name and length.isdigit():
-                    found[name] = int(length)
-    return found
-
-
-def fit_letters(work: Work, rules: Rules) -> None:
-    """Gives characters that the program has no form for another one that the text has nowhere."""
-    strange = sorted((character for character in rules.waves.characters if not (character.isalnum() and character.isascii())),
-                     key=lambda character: (character != "-", character))
-    if not strange:
-        return
-    used = rules.waves.characters | _characters(work) | set(rules.renamed.values())
-    free = [letter for letter in FRESH if letter not in used]
-    for character in strange:
-        if not free:
-            _stop_letter(work, character)
-            continue
-        rules.renamed[character] = free.pop(0)
-        for acts in rules.waves.acts.values():
-            if character in acts:
-                acts[rules.renamed[character]] = acts[character]
-    for wave in _wave_statements(work):
-        head = "".join(work.texts[wave.start : wave.head_end])
-        if any(character in rules.renamed for character in head):
-            made = "".join(rules.renamed.get(character, character) for character in head)
-            _note_letter(work, wave.start, head, made)
-            work.put(wave.start, wave.head_end, made)
-
-
-def _note_letter(work: Work, place: int, head: str, made: str) -> None:
-    work.change(place, f"characters `{head}` written `{made}`", "a waveform character is only a name of its waveform, and nothing else has this one")
-
-
-def _stop_letter(work: Work, character: str) -> None:
-    for wave in _wave_statements(work):
-        if character in work.texts[wave.start : wave.head_end]:
-            work.stop(wave.start, f"the program has no waveform character `{character}`, and the text uses all letters and digits as others")
-
-
-def _wave_statements(work: Work) -> list[Statement]:
-    found: list[Statement] = []
-    for block in work.statements:
-        for statement in all_of(block.kids or []) if work.keyword(block) == "Timing" else []:
-            if work.keyword(statement) == "Waveforms":
-                found += [wave for entry in statement.kids or [] for wave in entry.kids or [] if wave.open >= 0]
-    return found
-
-
-def _characters(work: Work) -> set[str]:
-    """All characters of words in data."""
-    words: set[str] = set()
-    for block in work.statements:
-        if work.keyword(block) in ("Pattern", "MacroDefs", "Procedures"):
-            for statement in all_of(block.kids or []):
-                for part in work.assignments(statement) if work.texts[statement.key] in ASSIGNING or work.texts[statement.key] in CALLS else []:
-                    if part.equals >= 0:
-                        words.update(work.texts[part.equals + 1 : part.end])
-    return set("".join(words))
 
 
 def fit_data(work: Work, bodies: Bodies, rules: Rules) -> None:
@@ -239,7 +102,7 @@ def _piece(rules: Rules, reference: tuple[str, ...], tokens: list[str], gaps: li
     try:
         _refuse(cursor, is_argument)
         _read(rules, cursor, is_argument)
-        _by_base(rules, cursor, is_argument)
+        by_base(rules, cursor, is_argument)
     except DataStop as stop:
         return Piece(stop=str(stop))
     text = "".join(cursor.pieces)
@@ -269,11 +132,11 @@ def _read(rules: Rules, cursor: Cursor, is_argument: bool) -> None:
         if text == "\\":
             place = _flag(rules, cursor, place, is_argument)
         elif cursor.mode in "hd":
-            place = _digits(cursor, place)
+            place = digits_at(cursor, place)
         else:
             place = _characters_at(rules, cursor, place)
     if cursor.mode in "hd":
-        _convert(rules, cursor, is_argument)
+        convert(rules, cursor, is_argument)
 
 
 def _characters_at(rules: Rules, cursor: Cursor, place: int) -> int:
@@ -296,24 +159,16 @@ def _spelled(rules: Rules, cursor: Cursor, text: str) -> str:
         cursor.late = True
     elif cursor.automatic and any(character in cursor.automatic for character in text):
         mapped = "".join(cursor.automatic.get(character, character) for character in text)
-        _note(cursor, f"characters `{_short(text)}` written `{_short(mapped)}`",
-              "no table has them for these signals, and their WFCMap says what they are")
+        note(cursor, f"characters `{short(text)}` written `{short(mapped)}`",
+             "no table has them for these signals, and their WFCMap says what they are")
         text = mapped
     if rules.renamed and any(character in rules.renamed for character in text):
         made_text = "".join(rules.renamed.get(character, character) for character in text)
-        _note(cursor, f"characters `{_short(text)}` written `{_short(made_text)}`", "a waveform character is only a name of its waveform")
+        note(cursor, f"characters `{short(text)}` written `{short(made_text)}`", "a waveform character is only a name of its waveform")
         return made_text
     if not is_word(text) and text not in "#%" or "_" in text:
         raise DataStop(f"the program has no waveform character `{text}`, and no table of the text has one either")
     return text
-
-
-def _short(text: str) -> str:
-    return text if len(text) <= 24 else text[:21] + ".."
-
-
-def _note(cursor: Cursor, what: str, why: str) -> None:
-    cursor.notes[what, why] = None
 
 
 def _flag(rules: Rules, cursor: Cursor, place: int, is_argument: bool) -> int:
@@ -322,22 +177,22 @@ def _flag(rules: Rules, cursor: Cursor, place: int, is_argument: bool) -> int:
     if repeat := REPEAT.fullmatch(word):
         return _repeat(rules, cursor, place, int(repeat[1][:9]))
     if cursor.mode in "hd" and word[:1] in "hdw":
-        _convert(rules, cursor, is_argument, place + 2 < len(cursor.tokens))
+        convert(rules, cursor, is_argument, place + 2 < len(cursor.tokens))
     behind = place + 2
     if word == "w":
         cursor.mode = "w"
-        _note(cursor, "`\\w` dropped", "characters are read as they are")
+        note(cursor, "`\\w` dropped", "characters are read as they are")
     elif word[:1] in ("h", "d"):
         cursor.mode = word[0]
-        _base(cursor, word, behind)
+        base(cursor, word, behind)
     elif word[:1] == "l":
         _length(cursor, word, behind)
     elif word == "m":
         cursor.is_mapped = True
-        _note(cursor, "`\\m` written out", "the characters that its WFCMap gives")
+        note(cursor, "`\\m` written out", "the characters that its WFCMap gives")
     elif word == "j":
         cursor.joined = True
-        _note(cursor, "`\\j` dropped", "no signal is assigned twice here, so it joins nothing")
+        note(cursor, "`\\j` dropped", "no signal is assigned twice here, so it joins nothing")
     elif word[:1] == "e":
         raise DataStop("`\\e` has events of its own, and fit has no rule for it")
     else:
@@ -350,7 +205,7 @@ def _length(cursor: Cursor, word: str, behind: int) -> None:
     rest = cursor.tokens[behind:]
     if word != "l" or not rest or rest[0].isdigit() and len(rest) > 1:
         raise DataStop("`\\l` with a number is a length, and fit has no rule for it")
-    _note(cursor, "`\\l` dropped", "characters are read as they are")
+    note(cursor, "`\\l` dropped", "characters are read as they are")
 
 
 def _repeat(rules: Rules, cursor: Cursor, place: int, count: int) -> int:
@@ -372,109 +227,9 @@ def _repeat(rules: Rules, cursor: Cursor, place: int, count: int) -> int:
         return end
     if count * len(text) > MOST_REPEATS * 16:
         raise DataStop("this repeat has more characters than a text may have bytes")
-    _note(cursor, f"`\\r{count} {_short(text)}` written out", "the same characters")
+    note(cursor, f"`\\r{count} {short(text)}` written out", "the same characters")
     cursor.pieces.append(text * count)
     return end
-
-
-def _base(cursor: Cursor, word: str, behind: int) -> None:
-    """The characters of a `\\h` or `\\d`: those that stand with it, else those of Base, else 0 and 1."""
-    rest = word[1:]
-    follows = behind < len(cursor.tokens) and cursor.tokens[behind] not in ("\\", "#", "%")
-    cursor.base = cursor.attributes.base if cursor.attributes and cursor.attributes.base else "01"
-    if rest and follows:
-        cursor.base = rest
-    elif rest:
-        cursor.digits += rest
-
-
-def _digits(cursor: Cursor, place: int) -> int:
-    cursor.digits += cursor.tokens[place]
-    return place + 1
-
-
-def _convert(rules: Rules, cursor: Cursor, is_argument: bool, is_mixed: bool = False) -> None:
-    """Writes gathered digits as characters; of mixed data other characters stand beside them."""
-    is_mixed = is_mixed or bool("".join(cursor.pieces).strip())
-    digits, cursor.digits = "".join(cursor.digits), []
-    if not (HEX if cursor.mode == "h" else DECIMAL).fullmatch(digits):
-        raise DataStop(f"`{_short(digits)}` isn't a number of `\\{cursor.mode}`")
-    if cursor.members is None:
-        raise DataStop("how many signals these digits are for isn't known")
-    width = bits_of(cursor.base)
-    have = len(digits) * 4 // width if cursor.mode == "h" else 0
-    wanted = have if is_mixed else _wanted(rules, cursor, have, is_argument)
-    if is_mixed and (not have or have * width != len(digits) * 4):
-        raise DataStop(f"`\\{cursor.mode}` stands beside other data here, and how many characters it is for isn't known")
-    bits = _hex_bits(digits, wanted * width, cursor.attributes) if cursor.mode == "h" else _decimal_bits(digits, wanted * width)
-    text = _from_bits(bits, width, cursor.base)
-    _note(cursor, f"`\\{cursor.mode} {_short(digits)}` written `{_short(text)}`", "the same digits in binary, by Base, Alignment and DataBitCount")
-    cursor.pieces.append("".join(rules.renamed.get(character, character) for character in text))
-
-
-def bits_of(base: str) -> int:
-    """How many bits stand for one of these characters."""
-    if len(base) < 2 or len(set(base)) != len(base):
-        raise DataStop(f"the characters `{base}` of this Base are no two or more different ones")
-    return (len(base) - 1).bit_length()
-
-
-def _wanted(rules: Rules, cursor: Cursor, have: int, is_argument: bool) -> int:
-    """How many characters digits stand for."""
-    members = cursor.members or ()
-    made = cursor.attributes
-    if not is_argument:
-        return len(members)
-    if made and made.bits:
-        return made.bits
-    if len(members) == 1:
-        length = rules.lengths.get(members[0], 0)
-        if not length and cursor.mode == "d" or length and have != length and not (made and made.alignment):
-            raise DataStop("how many characters these digits are for isn't known: the signal has no DataBitCount")
-        return length or have
-    if have and len(members) > 1 and have - len(members) >= 4:
-        if have % len(members):
-            raise DataStop("these digits are for no whole number of characters a signal")
-        return have
-    return len(members)
-
-
-def _hex_bits(digits: str, wanted: int, made: Attributes | None) -> str:
-    """The bits of hexadecimal digits, as many as are wanted; others than zeros are left off only where an Alignment says at which end."""
-    bits = "".join(f"{int(digit, 16):04b}" for digit in digits)
-    if len(bits) == wanted:
-        return bits
-    alignment = made.alignment if made else ""
-    if len(bits) < wanted or alignment not in ("MSB", "LSB"):
-        raise DataStop(f"these {len(digits)} hexadecimal digits are {len(bits)} bits for {wanted}, and no Alignment says which of them count"
-                       if len(bits) > wanted else f"these {len(digits)} hexadecimal digits are {len(bits)} bits, and {wanted} are wanted")
-    return bits[:wanted] if alignment == "MSB" else bits[len(bits) - wanted :]
-
-
-def _decimal_bits(digits: str, wanted: int) -> str:
-    """The bits of a decimal number."""
-    if len(digits) > 4000 or int(digits).bit_length() > wanted:
-        raise DataStop(f"the number {_short(digits)} has more than the {wanted} bits that are wanted")
-    return bin(int(digits))[2:].rjust(wanted, "0")
-
-
-def _from_bits(bits: str, width: int, base: str) -> str:
-    """The characters that bits stand for."""
-    numbers = [int(bits[place : place + width], 2) for place in range(0, len(bits), width)]
-    if max(numbers, default=0) >= len(base):
-        raise DataStop(f"these digits have a value for which Base `{base}` has no character")
-    return "".join(base[number] for number in numbers)
-
-
-def _by_base(rules: Rules, cursor: Cursor, is_argument: bool) -> None:
-    """Data without a flag that fit by the Base of their signals alone."""
-    bare = not any(text == "\\" for text in cursor.tokens)
-    made = cursor.attributes
-    if bare and made and made.base and made.radix in ("Hex", "Dec") and cursor.members and len(cursor.members) > 1 and not is_argument:
-        text = "".join(cursor.tokens)
-        if len(text) != len(cursor.members) and (HEX.fullmatch(text) if made.radix == "Hex" else text.isdigit()):
-            cursor.mode, cursor.base, cursor.digits, cursor.pieces = made.radix[0].lower(), made.base, list(text), []
-            _convert(rules, cursor, is_argument)
 
 
 def _fit_late(work: Work, rules: Rules) -> None:

@@ -2,13 +2,13 @@
 
 from dataclasses import dataclass, field
 
+from stilfloor.fit.blocks import KNOWN
 from stilfloor.fit.signals import Names
 from stilfloor.fit.timing import ACTS, MARKERS, act_of
 from stilfloor.fit.tokens import plain
 from stilfloor.fit.tree import Statement, all_of
 from stilfloor.fit.work import Work
 
-KNOWN = "all groups of a text are known everywhere"
 Event = tuple[str, str]
 
 

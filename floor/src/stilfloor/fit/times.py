@@ -9,7 +9,7 @@ from stilfloor.fit.tokens import plain
 
 UNITS = {"s": Fraction(1), "ms": Fraction(1, 10**3), "us": Fraction(1, 10**6), "ns": Fraction(1, 10**9), "ps": Fraction(1, 10**12),
          "fs": Fraction(1, 10**15)}
-# units of other than times, with the letters of their powers of ten
+# units of other things than times, with the letters of their powers of ten
 OTHERS = re.compile(r"[EPTGMkmunpfa]?(?:V|A|W|Ohm|Hz|F|H|C|Cel|m)")
 LEXEME = re.compile(r"""\s*(?:(?P<number>(?:\d+\.?\d*|\.\d+)(?:[eE][-+]?\d+)?)(?P<unit>\s*[A-Za-z]\w*)?
                         |(?P<name>"[^"]*"|[A-Za-z_][\w.]*)|(?P<sign>[-+*/(),]))""", re.VERBOSE | re.ASCII)

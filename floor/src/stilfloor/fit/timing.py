@@ -3,6 +3,7 @@
 from dataclasses import dataclass, field
 
 from stilfloor.fit import times
+from stilfloor.fit.blocks import LEVELS
 from stilfloor.fit.signals import Names
 from stilfloor.fit.tokens import plain
 from stilfloor.fit.tree import Statement, all_of
@@ -15,8 +16,6 @@ ACTS = frozenset(
 LOOKS = frozenset("L H T l h t CompareLow CompareHigh CompareOff CompareLowWindow CompareHighWindow CompareOffWindow".split())
 DRIVES = frozenset("D U Z N P ForceDown ForceUp ForceOff ForceUnknown ForcePrior".split())
 MARKERS = ("M", "Marker")
-LEVELS = "levels alone are simulated, and no look depends on a load or a supply"
-Definition = tuple[str, str]
 
 
 @dataclass(slots=True)

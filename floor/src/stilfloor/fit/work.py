@@ -8,7 +8,8 @@ from stilfloor.faults import REFUSED, Fault
 from stilfloor.fit.tokens import Tokens
 from stilfloor.fit.tree import Assignment, Statement, Tree, assignments, tree_of
 
-UNITS = ("s", "ms", "us", "ns", "ps", "fs")
+# tokens of a statement's head that a message shows
+MOST_SHOWN = 6
 
 
 class Change(NamedTuple):
@@ -108,9 +109,10 @@ class Work:
 
     def shown(self, statement: Statement) -> str:
         """A statement as a message names it: its head, and dots for a block."""
-        head = self.texts[statement.key : min(statement.head_end, statement.key + 4)]
-        dots = " .." if statement.head_end - statement.key > 4 else ""
-        return f"`{' '.join(' '.join(head).split())}{dots}{' { .. }' if statement.open >= 0 else ';'}`"
+        start, end = statement.key, min(statement.head_end, statement.key + MOST_SHOWN)
+        head = self.texts[start] + "".join((" " if self.tokens.gaps[place] else "") + self.texts[place] for place in range(start + 1, end))
+        dots = " .." if statement.head_end > end else ""
+        return f"`{' '.join(head.split())}{dots}{' { .. }' if statement.open >= 0 else ';'}`"
 
     def keyword(self, statement: Statement) -> str:
         """The keyword of a statement."""
