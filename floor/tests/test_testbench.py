@@ -43,6 +43,8 @@ def test_a_simulation_prints_the_lines_of_the_die(tmp_path: pathlib.Path) -> Non
     shown = subprocess.run(["vvp", "-n", "sim"], cwd=tmp_path, check=True, capture_output=True, text=True).stdout
     assert shown.split("\n")[:-1] == die_lines(tester.run(["lot", *SCAN])[1].decode(), "c")
     assert "fail 5 540000000 SO H 0 c1 f6\n" in shown
+    elsewhere = subprocess.run(["vvp", "-n", str(tmp_path / "sim")], cwd=tmp_path.parent, capture_output=True, text=True, check=False, timeout=60).stdout
+    assert elsewhere.endswith("run this in the folder in which its files testbench.* lie\n")
 
 
 @needs_iverilog
@@ -261,6 +263,31 @@ def test_a_signal_without_a_port_is_refused(gates: list[str], capsys: pytest.Cap
     assert f"{plan}:3:1: error: the signal `end` has no port of the module `g` that it can have" in capsys.readouterr().err
     plan.write_text(plan.read_text().replace("none", "-"))
     assert main(gates) == 0
+
+
+RACES = """module r(input ck, input en, input d, output reg q, output reg g, output reg h, output reg b);
+wire gated = ck & en; reg half = 0;
+always @(posedge ck) begin q <= d; half <= ~half; end
+always @(posedge gated) g <= d;
+always @(posedge half) h <= d;
+always @(posedge ck) b = d;
+endmodule
+"""
+RACING = """STIL 1.0; Signals { d In; en In; ck In; q Out; g Out; h Out; b Out; }
+Timing { WaveformTable w { Period '100ns'; Waveforms { d { r { '0ns' D; '50ns' U; } f { '0ns' U; '50ns' D; } } en { 1 { '0ns' U; } n { '0ns' U; '50ns' D; } }
+ck { P { '0ns' D; '50ns' U; } } 'q+g+h+b' { LHX { '60ns' L/H/X; } } } } }
+Pattern p { W w; V { d=r; en=1; ck=P; q=L; g=L; h=L; b=L; } V { d=f; en=n; q=H; g=H; h=L; b=H; } V { d=r; q=L; g=L; b=L; } }
+PatternBurst b { PatList { p; } } PatternExec { PatternBurst b; }
+"""
+
+
+@needs_iverilog
+def test_a_clock_comes_before_the_data_of_its_instant(tmp_path: pathlib.Path, capsys: pytest.CaptureFixture[str]) -> None:
+    for name, text in (("r.v", RACES), ("p.stil", RACING), ("p.csv", "lot,256,1,64,,\nclock,ck,,,,\n")):
+        (tmp_path / name).write_text(text)
+    words = ["testbench", *(str(tmp_path / name) for name in ("p.stil", "p.csv")), "-o", str(tmp_path / "out"), "--run"]
+    assert main([*words, "--rtl", "r", "--files", str(tmp_path / "r.v")]) == 0
+    assert capsys.readouterr().out == "r: 0 fails, verdict pass\n"
 
 
 @needs_iverilog

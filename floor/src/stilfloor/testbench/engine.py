@@ -306,22 +306,26 @@ LINES = """
         $readmemh("testbench.texts", texts);
         $readmemh("testbench.places", places);
         $readmemh("testbench.chains", chains);
-        file = $fopen("testbench.log");
-        log = file | 1;
-{waves}        $fwrite(log, "die ");
-        put_text(DIE);
-        $fdisplay(log, "");
-        attempt = 0;
-        tick = 0;
-        again = 1;
-        while (again) begin
-            play_try;
-            put_try;
-            again = verdict == 1 && attempt + 1 < TRIES;
-            attempt = attempt + again;
+        if (^steps[STEPS-1] === 1'bx || ^places[PLACES-1] === 1'bx || ^chains[CHAINS-1] === 1'bx)
+            $display("testbench: run this in the folder in which its files testbench.* lie");
+        else begin
+            file = $fopen("testbench.log");
+            log = file | 1;
+{waves}            $fwrite(log, "die ");
+            put_text(DIE);
+            $fdisplay(log, "");
+            attempt = 0;
+            tick = 0;
+            again = 1;
+            while (again) begin
+                play_try;
+                put_try;
+                again = verdict == 1 && attempt + 1 < TRIES;
+                attempt = attempt + again;
+            end
+            put_bin;
+            $fclose(file);
         end
-        put_bin;
-        $fclose(file);
         $finish(0);
     end
 endmodule

@@ -39,7 +39,7 @@ class Waves:
     def begin(self) -> str:
         """What begins the file."""
         lines = [f'$dumpfile("{FILE}");', "$dumpvars(0, waves);", *(f"$dumpvars(0, {net});" for net in self.nets)]
-        return "".join(f"        {line}\n" for line in lines)
+        return "".join(f"            {line}\n" for line in lines)
 
     def module(self) -> Iterator[str]:
         """The module `waves`, whose lines are those of the file."""
