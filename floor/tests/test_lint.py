@@ -48,11 +48,15 @@ def test_each_kind_of_refusal_has_its_sentence_at_its_line(tmp_path: pathlib.Pat
         file = tmp_path / "t.stil"
         file.write_text(text, encoding="latin-1", newline="")
         found = list(lint_text(str(file)))
-        assert len(found) == 1 and found[0].startswith(f"{file}:{line}:1: error: {sentences.STIL[kind]} ({kind}"), title
+        assert len(found) == 1 and re.match(rf"{file}:{line}:\d+: error: .* \({kind}(, in .*)?\)", found[0]), title
+        if kind not in TOLD_MORE:
+            assert sentences.STIL[kind] in found[0], title
         told.add(kind)
     assert told >= set(sentences.STIL) - {"TooManyCycles", "TooLarge", "NoHeader", "OpenComment", "BadByte", "OpenQuote"}
 
 
+# kinds of which more is told than their sentence
+TOLD_MORE = ("LeftOut", "UnknownName", "NoWave", "Shape", "OpenStatement")
 OTHERS = {"NoHeader": "Signals { a In; }\n", "OpenComment": "STIL 1.0;\n/* never", "BadByte": "STIL 1.0;\n\n\x80", "OpenQuote": "STIL 1.0;\n'",
           "TooManyCycles": P1.replace("V { y=X; }", "Loop 281474976710656 { V { y=X; } }"), "OpenBlock": "STIL 1.0;\nSignals {\n",
           "StrayClose": "STIL 1.0;\n}\n", "OpenStatement": "STIL 1.0;\nSignals\n"}

@@ -311,6 +311,8 @@ def plot_grade(words: argparse.Namespace) -> int:
 
     with records.grade(words.grade) as faults:
         figure = drawing.grade_figure(faults, words.grade)
+    if faults.good is not None:
+        say(f"{words.grade}: the good die fails from cycle {faults.good} on: its program, netlist and plan aren't of each other")
     drawing.store(figure, words.out)
     return 0
 

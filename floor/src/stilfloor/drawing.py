@@ -3,7 +3,6 @@
 import io
 import warnings
 from collections import Counter
-from collections.abc import Iterable
 from dataclasses import dataclass, field
 from typing import IO, Any
 
@@ -168,7 +167,7 @@ def fails_figure(gathered: Gathered, title: str) -> Figure:
     return figure
 
 
-def grade_figure(faults: Iterable[records.StuckNet], name: str) -> Figure:
+def grade_figure(faults: records.Grade, name: str) -> Figure:
     """Coverage over cycles: how many of the stuck-at faults are found up to each cycle, in percent."""
     count = 0
     firsts: Counter[int] = Counter()
@@ -181,11 +180,12 @@ def grade_figure(faults: Iterable[records.StuckNet], name: str) -> Figure:
         total += firsts[cycle]
         cycles.append(cycle + 1)
         found.append(100.0 * total / count)
+    good = "" if faults.good is None else f"the good die fails from cycle {faults.good} on, so faults are found that aren't there\n"
     figure = Figure(figsize=(7, 4), layout="constrained")
     axes = figure.subplots()
     axes.step(cycles, found, where="post", color=COLOURS[3])
     axes.fill_between(cycles, found, step="post", color=COLOURS[3], alpha=0.2)
     axes.set(xlabel="cycles run", ylabel="stuck-at faults found, percent", ylim=(0, 100), xlim=(0, max(cycles) or 1),
-             title=f"{shown(name)}: {total} of {count} faults found")
+             title=good + f"{shown(name)}: {total} of {count} faults found")
     axes.grid(alpha=0.3)
     return figure

@@ -34,6 +34,8 @@ class Fault(Exception):
         self.text = text
         self.file = file
         self.line = line
+        self.column = 1
+        self.kind = ""
 
     def __str__(self) -> str:
         return self.text
@@ -42,7 +44,7 @@ class Fault(Exception):
         """The line that is printed, in the form that editors read."""
         if not self.file:
             return f"stilfloor: error: {shown(self.text)}"
-        return f"{shown(self.file)}:{max(self.line, 1)}:1: error: {shown(self.text)}"
+        return f"{shown(self.file)}:{max(self.line, 1)}:{self.column}: error: {shown(self.text)}"
 
 
 class Faults(Fault):

@@ -5,10 +5,11 @@ import re
 import tempfile
 from collections.abc import Iterator
 
-from stilfloor import plans, saved, tester
-from stilfloor.faults import Fault
+from stilfloor import hints, plans, saved, scans, tester
+from stilfloor.dictionary import nets_of
+from stilfloor.faults import UNREADABLE, Fault, shown
 from stilfloor.looks import compiled, trace, written
-from stilfloor.outline import Statement, Token, outline
+from stilfloor.outline import Statement, Token, every, outline
 from stilfloor.sentences import refusal
 
 NUMBER = re.compile(r"\s*(\d+(?:\.\d+)?)\s*")
@@ -20,38 +21,37 @@ def lint_text(file: str) -> Iterator[str]:
     """The lines about a STIL text: its refusal, else warnings in the order of lines."""
     status, output = tester.run(["check", file])
     if status:
-        yield refusal(output.decode("latin-1"), status, file).told()
+        fault = refusal(output.decode("latin-1"), status, file)
+        if fault.status == UNREADABLE:
+            hints.of_file(fault)
+        elif fault.kind:
+            hints.of_text(fault, plans.read_text(file))
+        yield fault.told()
         return
     text = plans.read_text(file)
     if text.encode("latin-1")[:4] == saved.MAGIC:
         return
     code = compiled(text, file)
-    found = [*_lengths(text), *_units(text), *_unseen(text, code), *_unmade(text, file)]
+    found = [*_lengths(text), *_units(text), *scans.scan_data(text), *scans.second_waveforms(text), *_unseen(text, code), *_unmade(text, file)]
     for line, sentence in sorted(set(found)):
-        yield f"{file}:{max(line, 1)}:1: warning: {sentence}"
-
-
-def _all(statements: list[Statement]) -> Iterator[Statement]:
-    for statement in statements:
-        yield statement
-        yield from _all(statement.block or [])
+        yield f"{shown(file)}:{max(line, 1)}:1: warning: {shown(sentence)}"
 
 
 def _lengths(text: str) -> Iterator[tuple[int, str]]:
     """Chains whose ScanLength is another than the number of cells that are listed."""
-    for chain in _all(outline(text)):
+    for chain in every(outline(text)):
         if chain.keyword != "ScanChain" or chain.block is None:
             continue
         parts = {part.keyword: part for part in chain.block}
         if "ScanLength" not in parts or "ScanCells" not in parts:
             continue
-        length, cells = parts["ScanLength"], _cells(parts["ScanCells"])
+        length, cells = parts["ScanLength"], cells_of(parts["ScanCells"])
         if length.name.isdigit() and cells is not None and int(length.name) != cells:
             yield length.line, (f"the chain `{chain.name}` has ScanLength {length.name}, and {cells} cells are listed: "
                                 "fails name the wrong cell or none")
 
 
-def _cells(statement: Statement) -> int | None:
+def cells_of(statement: Statement) -> int | None:
     """How many cells a ScanCells lists."""
     text = " ".join(token.text for token in statement.head[1:] if token.text != "!")
     count = len(re.findall(r"\"[^\"]*\"|\w+", re.sub(r"\[[^\]]*\]", "", text)))
@@ -61,16 +61,21 @@ def _cells(statement: Statement) -> int | None:
 
 
 def _units(text: str) -> Iterator[tuple[int, str]]:
-    """Times that are plain numbers, which stand for femtoseconds."""
+    """What is said of times that are plain numbers."""
+    for line, time, wanted in times_without_units(text):
+        yield line, f"the time '{time}' has a number without a unit, which stands for femtoseconds: write a unit, as {wanted}ns"
+
+
+def times_without_units(text: str) -> Iterator[tuple[int, str, str]]:
+    """Times that are plain numbers, which stand for femtoseconds: the line, the time, and its first number."""
     for block in outline(text):
         if block.keyword not in ("Timing", "Spec"):
             continue
-        for statement in _all([block]):
+        for statement in every([block]):
             for token in _times(statement):
                 plain = [part for part in PARTS.split(token.plain) if NUMBER.fullmatch(part) and float(part)]
                 if plain:
-                    yield token.line, (f"the time '{token.plain}' has a number without a unit, which stands for femtoseconds: "
-                                       f"write a unit, as {plain[0].strip()}ns")
+                    yield token.line, token.plain, plain[0].strip()
 
 
 def _times(statement: Statement) -> list[Token]:
@@ -131,7 +136,46 @@ def lint_plan(file: str, program: str | None) -> Iterator[str]:
         status, output = tester.run(["lot", program or stand_in, file])
     if status:
         fault = refusal(output.decode("latin-1"), status, program or file, file)
-        yield fault.told()
+        yield _explained(fault, plans.read_rows(text, file), program).told()
+        return
+    clockless = scans.without_clock(plans.read_rows(text, file))
+    if clockless:
+        line, sentence = clockless
+        name = f", as clock,{_pulsed(saved.code_of(program))},,,," if program and _pulsed(saved.code_of(program)) else ""
+        yield f"{shown(file)}:{line}:1: warning: {shown(sentence)}: add clock,SIGNAL,,,,{name}"
+
+
+def _pulsed(code: saved.Code) -> str:
+    """A signal that is driven up and down within a cycle, as a clock is."""
+    for (signal, _), events in sorted((key, events) for table in code.tables for key, events in table.waves.items()):
+        if code.signals[signal][0] == "In" and {"D", "U"} <= {act for _, act in events} and len(events) > 1:
+            return code.signals[signal][1]
+    return ""
+
+
+def _explained(fault: Fault, plan: plans.Plan, program: str | None) -> Fault:
+    """A fault with what is wrong with its row, as far as that is known."""
+    if fault.status == UNREADABLE:
+        return hints.of_file(fault)
+    place = plan.lines.index(fault.line) if fault.line in plan.lines else -1
+    said = ""
+    clockless = scans.without_clock(plan) if fault.kind.startswith("Unbound ") else None
+    if clockless:
+        signal = fault.kind.removeprefix("Unbound ")
+        fault.text = (f"the signal `{signal}` has no net that it can have; {clockless[1]}: where it is their clock add clock,{signal},,,,, else "
+                      f"bind,{signal},NET,,, (Unbound)")
+        fault.line = clockless[0]
+        return fault
+    if fault.kind == "Shape" and place >= 0:
+        said = hints.of_row(plan.rows[place], place == 0)
+    elif fault.kind == "UnknownName" and place >= 0:
+        row = plan.rows[place]
+        dies = {other[2]: other[3] for other in plan.rows[:place] if other[0] == "die" and other[1] == row[1]}
+        signals = [name for _, name in saved.code_of(program).signals] if program else []
+        said = hints.of_name(row, signals, nets_of(dies[row[2]]) if row[0] == "fault" and row[2] in dies else [], list(dies))
+    if said:
+        fault.text = f"{said} ({fault.kind})"
+    return fault
 
 
 def _stand_in(plan: plans.Plan) -> str:

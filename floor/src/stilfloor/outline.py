@@ -113,6 +113,13 @@ def _without(statements: list[Statement], skipped: set[str]) -> list[Statement]:
     return kept
 
 
+def every(statements: list[Statement]) -> Iterator[Statement]:
+    """Statements, and those in their blocks, in text order."""
+    for statement in statements:
+        yield statement
+        yield from every(statement.block or [])
+
+
 def data_of(statement: Statement) -> list[Token]:
     """The tokens of the data of an assignment: those behind its `=`."""
     for place, token in enumerate(statement.head):

@@ -52,8 +52,8 @@ NET = {
 }
 
 PLAN = {
-    "Shape": "this row has none of the forms of a plan, or `lot` isn't first and once; see the table of plans in docs/formats.md",
-    "OutOfRange": "a number in this row is beyond its range; see the table of plans in docs/formats.md",
+    "Shape": "this row has none of the forms of a plan, or `lot` isn't first and once; see docs/formats/plan.md",
+    "OutOfRange": "a number in this row is beyond its range; see docs/formats/plan.md",
     "UnknownName": "this row names a die, a signal or a net that isn't there; look for a misspelling, and put a die's row in front of "
                    "rows about it",
     "Twice": "this row says a second time what an earlier row says; take one out",
@@ -109,7 +109,13 @@ def _of_stil(kind: str, around: list[str], line: int, program: str) -> Fault:
     block, name = around[0], around[-1]
     text = STIL.get(kind, "the program refuses this")
     where = "" if block == "-" else f", in {block}" + ("" if name == "-" else f" `{name}`")
-    return Fault(REFUSED, f"{text} ({kind}{where})", program, line)
+    return _of_kind(kind, f"{text} ({kind}{where})", program, line)
+
+
+def _of_kind(kind: str, text: str, file: str, line: int) -> Fault:
+    fault = Fault(REFUSED, text, file, line)
+    fault.kind = kind
+    return fault
 
 
 def _of_net(words: list[str]) -> Fault:
@@ -139,13 +145,13 @@ def _of_plan(words: list[str], file: str) -> Fault:
     kind, argument = words
     if kind == "Unbound":
         text = f"the signal `{argument}` has no net that it can have in some netlist: add `bind,{argument},NET,,,`, or `bind,{argument},-,,,` "
-        return Fault(REFUSED, text + "to leave it free (Unbound)", file, _line_of_bind(file, argument))
+        return _of_kind(f"Unbound {argument}", text + "to leave it free (Unbound)", file, _line_of_bind(file, argument))
     try:
         plan: Plan = read_rows(read_text(file), file)
         line = plan.lines[int(argument) - 1]
     except (Fault, IndexError):
         line = int(argument)
-    return Fault(REFUSED, f"{PLAN.get(kind, 'the program refuses this row')} ({kind})", file, line)
+    return _of_kind(kind, f"{PLAN.get(kind, 'the program refuses this row')} ({kind})", file, line)
 
 
 def _line_of_bind(file: str, signal: str) -> int:
