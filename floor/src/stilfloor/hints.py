@@ -35,9 +35,9 @@ def near(name: str, names: list[str]) -> str:
 
 def of_text(fault: Fault, text: str) -> Fault:
     """The fault with what can be told besides; of kinds for which nothing is known it stays as it is."""
-    helper = {"LeftOut": _left_out, "UnknownName": _unknown_name, "NoWave": _no_wave, "Shape": _shape, "OpenStatement": _shape,
+    teller = {"LeftOut": _left_out, "UnknownName": _unknown_name, "NoWave": _no_wave, "Shape": _shape, "OpenStatement": _shape,
               "EventOutside": _no_unit, "EventOrder": _no_unit, "NotWhole": _no_unit}.get(fault.kind)
-    told = helper(fault, text) if helper else None
+    told = teller(fault, text) if teller else None
     if told:
         place, sentence = told
         fault.text = f"{sentence} ({fault.text.rpartition(' (')[2]}"
