@@ -75,7 +75,7 @@ def test_the_examples_are_accepted_without_a_warning() -> None:
 
 def test_what_is_likely_not_meant_is_warned_of(tmp_path: pathlib.Path) -> None:
     scan = (EXAMPLES / "s27scan" / "s27scan.stil").read_text()
-    line, = lines_of(tmp_path, scan.replace("ScanLength 3", "ScanLength 4"))
+    line, *_ = lines_of(tmp_path, scan.replace("ScanLength 3", "ScanLength 4"))
     assert line.startswith("15:1: warning: the chain `c1` has ScanLength 4, and 3 cells are listed")
     line, = lines_of(tmp_path, P1.replace("'40ns'", "'40'"))
     assert line.startswith("7:1: warning: the time '40' has a number without a unit")
