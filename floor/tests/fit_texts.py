@@ -103,6 +103,11 @@ PAIRS: dict[str, tuple[Program, Program]] = {
         Program(tables="WaveformTable w2 { SubWaveforms { s: Duration '5ns' { '0ns' U; } } InheritWaveformTable w; }", pattern=f"W w2; {V}"),
         Program(tables="WaveformTable w2 { InheritWaveformTable w; }", pattern=f"W w2; {V}")),
     # rewritten word by word
+    "signals that are named as statements": (
+        Program(signals="a In; b In; C In { Termination TerminateHigh; } V In; ck In; si In; y Out; so Out; io InOut; bus[0..3] In; q[0..3] Out;",
+                waves="C { P { '1e-8s' U; } } V { P { e: '5ns' U; '@e + 5ns' D; } }", pattern="V { C=P; V=P; } F { C=P; }"),
+        Program(signals="a In; b In; C In; V In; ck In; si In; y Out; so Out; io InOut; bus[0..3] In; q[0..3] Out;",
+                waves="C { P { '10ns' U; } } V { P { '5ns' U; '10ns' D; } }", pattern="V { C=P; V=P; }")),
     "a BreakPoint's block": (Program(pattern=f"{V} bp: BreakPoint {{ V {{ a=0; y=H; }} }} {V}"), Program(pattern=f"{V} {V}")),
     "a test point": (Program(pattern=f"{V} IDDQTestPoint; {V}"), Program(pattern=f"{V} {V}")),
     "a list of cells": (Program(chain="ScanLength 3; ScanIn si; ScanOut so; ScanCells { f1; u1.f2; u1/f[3]; }", pattern=LOADED),
@@ -240,6 +245,9 @@ STOPS: dict[str, tuple[Program, list[int], str]] = {
         Program(waves="b { 0123456789ABCDEFGHIJKLMNOPQRSTUVWXYZabcdefghijklmnopqrstuvwxyz- { '5ns' D; } }", pattern="V { b=-; }"), [10, 18], "-"),
     "a character that no table has": (Program(pattern="V { b=-; }"), [18], "character `-`"),
     "a time without a unit": (Program(period="'100'", waves="b { P { '10 + 5ns' U; '0' D; } }", pattern=V), [6, 10], "--unit"),
+    "a time without a unit of a signal that is named as a statement": (
+        Program(signals="a In; b In; C In { Termination TerminateHigh; } F In; ck In; si In; y Out; so Out; io InOut; bus[0..3] In; q[0..3] Out;",
+                waves="C { P { '10' U; } }\nF { P { '5' U; } }", pattern=V), [10, 11], "--unit"),
     "a product of times": (Program(period="'per*per'", pattern=V), [6], "no time"),
     "a variable that has a unit in one category alone": (
         Program(spec="Category c { per = '100ns'; } Category d { per = '100'; }", pattern=V), [6], "in one category"),

@@ -9,6 +9,9 @@ MARKS = frozenset("{};")
 # statements whose blocks are assignments: these are cut only where they are looked at
 LEAVES = frozenset(("V", "Vector", "C", "Condition", "F", "Fixed", "Call", "Macro"))
 
+# how many blocks stand round the statements of bodies
+DEPTHS = {"Pattern": 1, "MacroDefs": 2, "Procedures": 2}
+
 
 @dataclass(slots=True, eq=False)
 class Statement:
@@ -73,11 +76,17 @@ def _opened(texts: list[str], start: int, place: int, stack: list[tuple[Statemen
     """Opens a block; the statement, where its block is one of assignments."""
     statement = Statement(start, keyword_place(texts, start, place), place, place)
     stack[-1][1].append(statement)
-    if texts[statement.key] in LEAVES and statement.key < place:
+    if texts[statement.key] in LEAVES and statement.key < place and _is_in_body(texts, stack):
         return statement
     statement.kids = []
     stack.append((statement, statement.kids))
     return None
+
+
+def _is_in_body(texts: list[str], stack: list[tuple[Statement | None, list[Statement]]]) -> bool:
+    """Whether statements of a pattern, macro or procedure stand here: elsewhere `C` and `V` may be signals."""
+    outer = stack[1][0] if len(stack) > 1 else None
+    return outer is not None and len(stack) > DEPTHS.get(texts[outer.key], len(stack))
 
 
 def _closed(stack: list[tuple[Statement | None, list[Statement]]], place: int) -> bool:
