@@ -144,14 +144,20 @@ def test_a_signal_ends_the_program_too(tmp_path: pathlib.Path, number: signal.Si
     with open(tmp_path / "out", "wb") as out:
         ran = subprocess.Popen([STIL, "lot", str(tmp_path / "long.stil"), str(tmp_path / "lot.csv")], cwd=TOP, stdout=out, stderr=slave)
     os.close(slave)
-    time.sleep(0.7)
-    child, = children(ran.pid)
+    child = program_below(ran.pid)
+    time.sleep(0.3)
     ran.send_signal(number)
-    assert ran.wait(30) == -number
+    assert ran.wait(60) == -number
     os.close(master)
     assert not os.path.exists(f"/proc/{child}")
 
 
-def children(parent: int) -> list[int]:
-    """The processes that a process has started."""
-    return [int(word) for word in pathlib.Path(f"/proc/{parent}/task/{parent}/children").read_text().split()]
+def program_below(parent: int) -> int:
+    """The process of the program that a wrapper has started, as soon as it is there."""
+    for _ in range(600):
+        for child in pathlib.Path(f"/proc/{parent}/task/{parent}/children").read_text().split():
+            path = pathlib.Path(f"/proc/{child}/cmdline")
+            if path.exists() and path.read_bytes().split(b"\0")[1:2] == [b"lot"]:
+                return int(child)
+        time.sleep(0.1)
+    raise AssertionError("the wrapper starts no program")

@@ -12,7 +12,7 @@ from stilfloor.outline import Statement, Token, outline
 # the blocks of the top level, and what else ends or hides them
 TOP = "Signals|SignalGroups|Timing|Spec|ScanStructures|MacroDefs|Procedures|PatternBurst|PatternExec|Pattern|UserKeywords|Header"
 MARK = re.compile(r"""//[^\n]*|/\*.*?(?:\*/|\Z)|\bAnn[ \t\n\f\r]*\{\*.*?(?:\*\}|\Z)|"[^"\n]*"|'[^'{};]*'|(?P<brace>[{}])"""
-                  r"|(?:(?<=\n)|\A)(?P<top>(?:" + TOP + r")\b[^{};]*\{)", re.DOTALL)
+                  r"|(?:(?<=\n)|\A)(?P<top>(?:" + TOP + r")\b[^{};]{0,1200}\{)", re.DOTALL)
 HEAD = re.compile(r'(?P<key>\w+)[ \t\n\f\r]*(?P<name>\w+|"[^"]*")?[^{};]*\Z')
 VECTOR = re.compile(r"\b(?:V|Vector)[ \t\n\f\r]*\{")
 

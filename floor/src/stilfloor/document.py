@@ -32,9 +32,12 @@ class Document:
     text: str
     version: int = 0
     starts: list[int] = field(default_factory=list)
+    is_plain: bool = False
 
     def __post_init__(self) -> None:
         self.starts = [0, *(end.end() for end in END_OF_LINE.finditer(self.text))]
+        # (in a text of ASCII a unit is a character, whatever its lines are)
+        self.is_plain = self.text.isascii()
 
     def line(self, number: int) -> str:
         """A line without what ends it."""
@@ -51,6 +54,8 @@ class Document:
     def position(self, place: int) -> Position:
         """An editor's position of a place."""
         number = bisect_right(self.starts, place) - 1
+        if self.is_plain:
+            return {"line": number, "character": place - self.starts[number]}
         return {"line": number, "character": units(self.text[self.starts[number] : place])}
 
     def range(self, start: int, end: int) -> Range:

@@ -114,7 +114,7 @@ class Server:
         """Takes a message, and answers it where it asks."""
         try:
             message = json.loads(body)
-        except ValueError as error:
+        except (ValueError, RecursionError) as error:
             self.send({"id": None, "error": {"code": PARSE, "message": f"this is no JSON: {error}"}})
             return
         if not isinstance(message, dict) or not isinstance(message.get("method"), str):
