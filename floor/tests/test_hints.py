@@ -103,8 +103,8 @@ def test_a_plan_without_a_clock_is_told_to_add_one(s27: Lot) -> None:
     ('"SI"=110;', '"SI"=11010;', "46:1: warning: the data of `SI` have 5 characters, and the chain `c1` has 3 cells"),
     ('"SI"=110;', '"SI"=10;', "46:1: warning: the data of `SI` have 2 characters, and the chain `c1` has 3 cells"),
     ('"SO"=HHL;', '"SO"=\\r5 L ;', "48:1: warning: the data of `SO` have 5 characters, and the chain `c1` has 3 cells"),
-    ('C { "_po"=X; "SO"=X; "CK"=0; "SE"=1; }', 'C { "_po"=X; "CK"=0; "SE"=1; } V { "SO"=#; }',
-     "32:1: warning: this vector takes the first scan character of `SO`, before the Shift does"),
+    ('C { "_po"=X; "SO"=X; "CK"=0; "SE"=1; }', 'C { "_po"=X; "CK"=0; "SE"=1; } V { "SI"=#; "SO"=X; }',
+     "32:1: warning: this vector takes the first scan character of `SI`, before the Shift does"),
     ('"CK" { 0 {', '"CK" { 0 { \'0ns\' D; } } "CK" { 0 {', "23:1: warning: `CK` has a waveform of the character 0 on line 23 already, in the same table"),
 ])
 def test_scan_data_and_waveforms_that_are_likely_not_meant_are_warned_of(tmp_path: pathlib.Path, old: str, new: str, wanted: str) -> None:
