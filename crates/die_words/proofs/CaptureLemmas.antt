@@ -1,8 +1,7 @@
 -- Flip-flops capture one after another, in each lane.
-use Rattle.std.proofs.Common.{◌≡◌, ◌≢◌, ℕ, ◌+◌, ◌<◌, ◌≤◌, ◌++◌, true, false, List, [], ◌∷◌, length, get_or, set, refl, sym, ap, ◌∙◌, subst, arith, inl, inr, length-append}
-use Rattle.std.proofs.lemmas.List.{get_or_append_left, get_or_push}
+use Rattle.std.proofs.Common.{◌≡◌, ◌≢◌, ℕ, ◌+◌, ◌<◌, ◌≤◌, false, List, length, get_or, set, refl, sym, ap, ◌∙◌, subst, arith, inl, inr}
 use Rattle.std.proofs.lemmas.List.FromFn.{length-map-range_with_len, get_or-map-range_with_len}
-use Rattle.std.proofs.lemmas.Bool.{cases_eq, cases_Bool, both_ways}
+use Rattle.std.proofs.lemmas.Bool.{cases_Bool}
 use Rattle.tester_types.specs.declared.level.Level.{Level}
 use Rattle.tester_types.specs.declared.level.Level.TheVariants.{Zero}
 use Rattle.bench_net.specs.declared.gate.Driver.{Driver}
@@ -12,7 +11,7 @@ use Rattle.bench_net.specs.Circuit.{Circuit, IsWhole}
 use Rattle.bench_net.specs.Gates.{level_at}
 use Rattle.die_sim.specs.Moment.{edge, capture, captured}
 use Rattle.die_sim.specs.Stepped.{captured_levels}
-use Rattle.die_sim.specs.Walk.{is_flip_flop, StandsAt}
+use Rattle.die_sim.specs.Walk.{is_flip_flop}
 use Rattle.die_sim.proofs.MomentLemmas.{CapturedTo, CapturedTo-more, flip_flop_within}
 use Rattle.die_words.specs.declared.word.Word.{Word}
 use Rattle.die_words.specs.declared.capture.Rise.{Rise}
@@ -101,57 +100,6 @@ HasCaptured-all drivers was now before own held nets sources i lane registers pa
         | inr other ↦ other
       ]
     ]
-
--- the nets go on behind a net that is none
-pub AreRegisters-other : (drivers : List Driver) (nets sources : List ℕ) (n : ℕ) → is_flip_flop (driver_at drivers n) ≡ false
-    → AreRegisters drivers nets sources n → AreRegisters drivers nets sources (n + 1)
-AreRegisters-other drivers nets sources n e h = record {
-  count = h.count;
-  each = h.each;
-  all = λ m l f. elim (cases_eq m n) [
-    | inl q ↦ absurd (both_ways (is_flip_flop (driver_at drivers n)) e (subst (λ (a : ℕ). is_flip_flop (driver_at drivers a) ≡ true) q f))
-    | inr ne ↦ h.all m (omega (arith, l, ne)) f
-  ];
-}
-
-stands_pushed : (n m : ℕ) (xs : List ℕ) → StandsAt n xs → StandsAt n (xs ++ m ∷ [])
-stands_pushed n m xs s = record {
-  place = s.place;
-  within = let w = s.within in omega (arith, w, length-append xs (m ∷ []));
-  is = get_or_append_left xs (m ∷ []) 0 s.place s.within ∙ s.is;
-}
-
--- and behind one that is
-pub AreRegisters-more : (drivers : List Driver) (nets sources : List ℕ) (n p : ℕ) → driver_at drivers n ≡ Dff p
-    → AreRegisters drivers nets sources n → AreRegisters drivers (nets ++ n ∷ []) (sources ++ p ∷ []) (n + 1)
-AreRegisters-more drivers nets sources n p is h = record {
-  count = length-append sources (p ∷ []) ∙ ap (λ k. k + 1) h.count ∙ sym (length-append nets (n ∷ []));
-  each = λ k l. elim (cases_eq k (length nets)) [
-    | inl q ↦
-        ap (λ (m : ℕ). driver_at drivers m) (get_or_push nets n 0 k (sym q)) ∙ is
-        ∙ ap (λ (m : ℕ). Dff m) (sym (get_or_push sources p 0 k (h.count ∙ sym q)))
-    | inr ne ↦
-        let before : k < length nets = omega (arith, l, ne, length-append nets (n ∷ [])) in
-        ap (λ (m : ℕ). driver_at drivers m) (get_or_append_left nets (n ∷ []) 0 k before) ∙ h.each k before
-        ∙ ap (λ (m : ℕ). Dff m) (sym (get_or_append_left sources (p ∷ []) 0 k (omega (arith, before, h.count))))
-  ];
-  all = λ m l f. elim (cases_eq m n) [
-    | inl q ↦ record {
-      place = length nets;
-      within = omega (arith, length-append nets (n ∷ []));
-      is = get_or_push nets n 0 (length nets) refl ∙ sym q;
-    }
-    | inr ne ↦ stands_pushed m n nets (h.all m (omega (arith, l, ne)) f)
-  ];
-}
-
--- no net is gone through
-pub AreRegisters-none : (drivers : List Driver) → AreRegisters drivers [] [] 0
-AreRegisters-none drivers = record {
-  count = refl;
-  each = λ k l. absurd (omega (arith, l));
-  all = λ n l e. absurd (omega (arith, l));
-}
 
 -- a flip-flop's D net is a net
 pub source_within : (c : Circuit) → IsWhole c → (nets sources : List ℕ) (i : ℕ)

@@ -1,8 +1,7 @@
 -- The gates one after another get their places, with the nets that they read.
 use Rattle.std.proofs.Common.{◌≡◌, ℕ, ◌+◌, ◌-◌, ◌<◌, ◌++◌, List, [], ◌∷◌, length, get_or, take, drop, sym, ap, ◌∙◌, subst, arith, inl, inr, length-append}
-use Rattle.std.proofs.lemmas.List.{get_or_append_left, get_or_push, take_all, append-nil}
+use Rattle.std.proofs.lemmas.List.{get_or_append_left, get_or_push}
 use Rattle.std.proofs.lemmas.Bool.{cases_eq}
-use Rattle.bench_net.specs.declared.gate.GateKind.{GateKind}
 use Rattle.bench_net.specs.declared.gate.Driver.{Driver}
 use Rattle.bench_net.specs.declared.gate.Driver.TheVariants.{Gate}
 use Rattle.bench_net.specs.Wiring.{driver_at}
@@ -12,24 +11,6 @@ use Rattle.die_sim.proofs.CellLemmas.{cut_kept}
 use Rattle.die_words.specs.declared.flat.Flat.{Flat}
 use Rattle.die_words.specs.declared.flat.Flat.TheVariants.{One, Two, Many}
 use Rattle.die_words.specs.Flat.{no_gate, IsFlat, AreFlatTo}
-
--- what was put behind the pins is cut from there
-cut_behind : (pins nets : List ℕ) → take (length (pins ++ nets) - length pins) (drop (length pins) (pins ++ nets)) ≡ nets
-cut_behind [] nets = take_all (length nets - 0) nets (omega arith)
-cut_behind (p ∷ pins) nets =
-    let less : length (p ∷ (pins ++ nets)) - length (p ∷ pins) ≡ length (pins ++ nets) - length pins = omega arith in
-    ap (λ (n : ℕ). take n (drop (length pins) (pins ++ nets))) less ∙ cut_behind pins nets
-
--- a gate whose pins are put behind the others
-pub IsFlat-many : (kind : GateKind) (pins nets whole : List ℕ) (to : ℕ) → whole ≡ pins ++ nets → to ≡ length whole
-    → IsFlat (Gate kind nets) whole (Many kind (length pins) to)
-IsFlat-many kind pins nets whole to is to_is = record {
-  inside = (omega (arith, to_is, ap (λ (l : List ℕ). length l) is, length-append pins nets), omega (arith, to_is));
-  is =
-      ap (λ (n : ℕ). Gate kind (take (n - length pins) (drop (length pins) whole))) to_is
-      ∙ ap (λ (l : List ℕ). Gate kind (take (length l - length pins) (drop (length pins) l))) is
-      ∙ ap (λ (l : List ℕ). Gate kind l) (cut_behind pins nets);
-}
 
 -- a gate stays what it is where pins are put behind the others
 IsFlat-front : (driver : Driver) (pins whole : List ℕ) (more : ℕ) (gate : Flat) → IsFront pins whole more
@@ -65,7 +46,3 @@ AreFlatTo-more c gates pins whole k more gate h f flat = record {
         (IsFlat-front (driver_at c.net.drivers (get_or c.order j 0)) pins whole more (get_or gates j no_gate) f (h.each j before))
   ];
 }
-
--- nothing was put
-pub IsFront-same : (pins : List ℕ) (more : ℕ) → IsFront pins pins more
-IsFront-same pins more = record { rest = []; is = sym (append-nil pins); few = omega arith }

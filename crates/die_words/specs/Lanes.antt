@@ -10,8 +10,8 @@ use Rattle.die_sim.specs.Walk.{is_off}
 use Rattle.die_words.specs.declared.word.Word.{Word}
 use Rattle.die_words.specs.Lane.{IsLane, AreFaults}
 
--- the netlist and the binding of all dies, the levels at which their nets are fixed, the clock's level, which inputs are
--- driven off, what inputs are driven to and flip-flops keep, and the levels of all nets
+-- the netlist and the binding of all dies, the levels at which their nets are fixed, the clock's level, which inputs
+-- are driven off, what inputs are driven to and flip-flops keep, and the levels of all nets
 pub record Lanes : Type 0 where
   pub image : Image
   pub forces : List Word

@@ -101,7 +101,8 @@ fn capture_one(rise: Rise, before: &[Word], held: &mut Vec<Word>, n: u32, source
     ensures here { (k : ℕ) (x d : Level) → Shows (slice_index_or held.old.items n nothing) k x
         → Shows (slice_index_or before.now source nothing) k d
         → Shows (slice_index_or held.new.items n nothing) k (kept_after rise x d) }
-    ensures others { (m : ℕ) → m ≢ n → slice_index_or held.new.items m nothing ≡ slice_index_or held.old.items m nothing }
+    ensures others { (m : ℕ) → m ≢ n
+        → slice_index_or held.new.items m nothing ≡ slice_index_or held.old.items m nothing }
 {
     let own = held[n as usize];
     held[n as usize] = kept_word(rise, own, before[source as usize]);
