@@ -28,6 +28,7 @@ use Rattle.die_sim.specs.Moment.{edge, capture, captured, agreed, clock_after, p
 use Rattle.die_sim.specs.Stepped.{settled_levels, captured_levels, first_state, stepped}
 use Rattle.die_sim.specs.Walk.{is_off}
 use Rattle.die_sim.proofs.SettlingLemmas.{settles}
+use Rattle.die_sim.proofs.SteppedLemmas.{step_is_stepped, length-step}
 use Rattle.die_words.specs.declared.word.Word.{Word}
 use Rattle.die_words.specs.Lane.{bit, nothing, Shows, ShowsFault, IsLane, AreFaults}
 use Rattle.die_words.specs.declared.board.NetWords.{NetWords}
@@ -189,6 +190,7 @@ IsLaneOf-first lanes k device whole net faults clock held offs settles_so =
       levels =
           subst (λ (c : Circuit). IsLane lanes.words k (settled_levels c device.fixed (replicate (length c.net.drivers) X)))
           (sym net.circuit) (settles_so device.fixed own faults lane);
+      size = length-replicate (length device.circuit.net.drivers) X;
       settled = settles device.circuit (subst (λ (c : Circuit). IsWhole c) (sym net.circuit) whole) device.fixed (first_state device).held;
     }
 
@@ -220,6 +222,10 @@ IsLaneOf-stepped old new drives k device state whole image_is forces_are clock_i
       levels =
           subst (λ (c : Circuit). IsLane new.words k (settled_levels c device.fixed (stepped device state drives).held)) (sym h.net.circuit)
           (words device.fixed (stepped device state drives).held h.faults (lane clock));
+      size =
+          length-step device state (stepped device state drives) drives
+          ((step_is_stepped device state (stepped device state drives) drives (subst (λ (c : Circuit). IsWhole c) (sym h.net.circuit) whole) h.size).1 refl)
+          ∙ h.size;
       settled = settles device.circuit (subst (λ (c : Circuit). IsWhole c) (sym h.net.circuit) whole) device.fixed (stepped device state drives).held;
     }
   where

@@ -37,4 +37,5 @@ pub record IsLaneOf (lanes : Lanes) (lane : ℕ) (device : Device) (state : Stat
   pub offs : AreOff lanes.offs state.held
   pub held : IsLane lanes.held lane state.held
   pub levels : IsLane lanes.words lane state.levels
+  pub size : length state.held ≡ length device.circuit.net.drivers
   pub settled : Settled device.circuit.net.drivers device.fixed state.held state.levels
