@@ -1,0 +1,6 @@
+pub mod Lane
+pub mod Pairs
+pub mod Flat
+pub mod Capture
+pub mod Lanes
+pub mod Board
