@@ -1,8 +1,7 @@
-"""Measures a report: 4,096 dies with 1,024 kept fails each, of the ALU with two scan chains.
+"""Measures a report: 4,096 dies at sixteen sites with 256 kept fails each, as many as a plan may keep, of the ALU with two scan chains.
 
 Usage: measure_report.py FOLDER. Each die has a break of a chain and up to two stuck nets more, so that few fail alike and most are
-explained by no single net. A plan keeps 1,024 fails of at most 1,024 dies, so four lots at sites of their own stand behind one
-another in the datalog. Prints seconds and the largest memory.
+explained by no single net. Prints seconds and the largest memory.
 """
 
 import pathlib
@@ -25,18 +24,16 @@ def prepare(folder: pathlib.Path) -> list[str]:
     learnt.write_text(learn.learn(stil, plan_file).text, encoding="latin-1")
     nets, bits = nets_of(bench), random.Random(7)
     binding = plans.read_plan(plan_file).binding()
-    with open(folder / "lot.datalog", "wb") as out:
-        for quarter in range(4):
-            rows = [["lot", "4096", "1", "1024"], *binding]
-            for number in range(1024):
-                site, name = str(4 * quarter + number % 4), f"d{number}"
-                rows.append(["die", site, name, bench])
-                stuck = {bits.choice(["SE", "SI1", "SI2"]): "0"} | {net: bits.choice("01") for net in bits.sample(nets, 2)}
-                rows += [["fault", site, name, net, value] for net, value in stuck.items()]
-            plan = folder / f"lot{quarter}.csv"
-            plan.write_text(plans.write_rows(rows))
-            out.write(tester.run(["lot", str(learnt), str(plan)])[1])
-    return [str(learnt), str(folder / "lot0.csv"), str(folder / "lot.datalog")]
+    rows = [["lot", "4096", "1", "256"], *binding]
+    for number in range(4096):
+        site, name = str(number % 16), f"d{number}"
+        rows.append(["die", site, name, bench])
+        stuck = {bits.choice(["SE", "SI1", "SI2"]): "0"} | {net: bits.choice("01") for net in bits.sample(nets, 2)}
+        rows += [["fault", site, name, net, value] for net, value in stuck.items()]
+    plan, datalog = folder / "lot.csv", folder / "lot.datalog"
+    plan.write_text(plans.write_rows(rows))
+    datalog.write_bytes(tester.run(["lot", str(learnt), str(plan)])[1])
+    return [str(learnt), str(plan), str(datalog)]
 
 
 def main() -> None:
