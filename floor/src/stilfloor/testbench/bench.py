@@ -11,7 +11,7 @@ from stilfloor.testbench.die import Written, describe
 from stilfloor.testbench.lots import Die, Lot
 from stilfloor.testbench.moments import EDGES, PUSHES, WINDOWS, Instant, Masks, instants_of
 from stilfloor.testbench.names import constant, escaped, harmless
-from stilfloor.testbench.ports import Design
+from stilfloor.testbench.ports import Design, Port
 from stilfloor.testbench.waves import Waves
 
 MARK = "// made by stilfloor testbench"
@@ -121,7 +121,8 @@ def _pins(job: Job) -> Iterator[str]:
                 level = "ck"
             yield f"    wire drive_{signal} = {level};    // {harmless(job.code.signals[signal][1])}\n"
     yield from _ports(job, job.design) if job.design else _die(job)
-    shown = [_shown(job, signal) for signal in reversed(range(job.width))]
+    numbers = {port.name: number for number, port in enumerate(_connected(job))}
+    shown = [_shown(job, signal, numbers) for signal in reversed(range(job.width))]
     yield "    assign seen = {\n        " + ",\n        ".join(shown) + "};\n"
 
 
@@ -145,22 +146,29 @@ def one_bit_unknown() -> str:
 
 
 def _ports(job: Job, design: Design) -> Iterator[str]:
-    """The ports of one's own design, those that no signal has left open."""
-    used = {bind.net for bind in job.binding.binds if bind}
-    drivers: dict[str, dict[int, int]] = {design.pins[net].port.name: {} for net in used}
-    for net, signal in _drivers(job).items():
-        drivers[design.pins[net].port.name][design.pins[net].index] = signal
-    connected = [port for port in design.ports if port.name in drivers]
+    """The ports of one's own design that some signal has; the others are left open."""
+    connected = _connected(job)
     for number, port in enumerate(connected):
         yield f"    wire [{port.first}:{port.last}] port_{number};    // {harmless(port.name)}\n"
-        for index, signal in drivers[port.name].items():
-            yield f"    assign port_{number}[{index}] = drive_{signal};\n"
+    numbers = {port.name: number for number, port in enumerate(connected)}
+    for net, signal in _drivers(job).items():
+        pin = design.pins[net]
+        yield f"    assign port_{numbers[pin.port.name]}[{pin.index}] = drive_{signal};\n"
     wires = ", ".join(f".{escaped(port.name)}(port_{number})" for number, port in enumerate(connected))
     yield f"    {escaped(design.top)} dut({wires});\n"
 
 
-def _shown(job: Job, signal: int) -> str:
-    """Where a signal's level is seen."""
+def _connected(job: Job) -> list[Port]:
+    """The ports of one's own design that some signal has, in their order."""
+    design = job.design
+    if design is None:
+        return []
+    used = {design.pins[bind.net].port.name for bind in job.binding.binds if bind}
+    return [port for port in design.ports if port.name in used]
+
+
+def _shown(job: Job, signal: int, numbers: dict[str, int]) -> str:
+    """Where a signal's level is seen; a design's ports have numbers."""
     bind = job.binding.binds[signal] if job.code.signals else None
     if bind is None:
         return "ck" if signal == job.binding.clock else one_bit_unknown()
@@ -168,13 +176,7 @@ def _shown(job: Job, signal: int) -> str:
         assert job.written is not None
         return f"die.{job.written.nets[bind.net]}"
     pin = job.design.pins[bind.net]
-    return f"port_{_port_number(job, pin.port.name)}[{pin.index}]"
-
-
-def _port_number(job: Job, name: str) -> int:
-    assert job.design is not None
-    used = {job.design.pins[bind.net].port.name for bind in job.binding.binds if bind}
-    return [port.name for port in job.design.ports if port.name in used].index(name)
+    return f"port_{numbers[pin.port.name]}[{pin.index}]"
 
 
 def _clock(job: Job) -> str:

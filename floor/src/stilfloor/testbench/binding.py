@@ -96,8 +96,12 @@ def bind_ports(code: Code, lot: Lot, design: Design) -> Binding:
         pin = design.pins.get(net)
         if pin is None or not fits(pin, direction, is_clock):
             return None
-        drives = pin.direction == "input" or pin.direction == "inout" and direction in ("In", "InOut")
-        return None if drives and net in taken else Bind(net, drives or is_clock, pin.direction == "inout")
+        drives = is_clock or pin.direction == "input" or pin.direction == "inout" and direction in ("In", "InOut")
+        bit = f"{pin.port.name} {pin.index}"
+        if drives and bit in taken:
+            return None
+        taken.update([bit] if drives else [])
+        return Bind(net, drives, pin.direction == "inout")
 
     return _bound(code, lot, taken, choose, design)
 

@@ -7,7 +7,7 @@ from collections.abc import Iterator
 from dataclasses import dataclass, field
 
 from stilfloor import tester
-from stilfloor.faults import REFUSED, UNREADABLE, Fault
+from stilfloor.faults import UNREADABLE, Fault
 from stilfloor.testbench.lots import read_lot
 from stilfloor.testbench.make import Wish
 from stilfloor.witness.cases import cases_of
@@ -68,10 +68,8 @@ def _run_one(work: LotWork, site: int, name: str) -> Found:
 
 
 def _refused(work: LotWork, fault: Fault) -> Found:
-    """A refusal, which the program must make, too."""
+    """A refusal, which the program must make, too; anything else that went wrong is trouble as well."""
     status, output = tester.run(["lot", work.program, work.plan])
-    if fault.status not in (REFUSED, UNREADABLE) and not status:
-        raise fault
     printed = output.decode("latin-1").split("\n", 1)[0]
     return Found(work.name, is_refused=True, trouble="" if status else f"refused `{fault.told()}`, stil lot printed `{printed}`")
 

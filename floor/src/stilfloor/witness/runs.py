@@ -102,6 +102,9 @@ def _put(path: str, text: str) -> None:
 
 
 def run_seed(seed: int) -> list[Found]:
-    """A random die."""
+    """A random die; one that can't be run is told, too."""
     with tempfile.TemporaryDirectory() as room:
-        return [run_die(f"seed {seed}", write_random(seed, room), os.path.join(room, "bench"))]
+        try:
+            return [run_die(f"seed {seed}", write_random(seed, room), os.path.join(room, "bench"))]
+        except Fault as fault:
+            return [Found(f"seed {seed}", trouble=fault.told())]
