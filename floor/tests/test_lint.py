@@ -70,7 +70,12 @@ def test_refusals_of_tokens_and_sizes_have_their_sentences(tmp_path: pathlib.Pat
 
 def test_the_examples_are_accepted_without_a_warning() -> None:
     for file in TEXTS:
-        assert list(lint_text(str(file))) == []
+        lines = list(lint_text(str(file)))
+        if file.name == "preshift.after.stil":
+            # (its first scan character is looked at by a vector before the Shift, as in the text that it was made of)
+            assert [line.split(": ")[1] for line in lines] == ["warning"] and "the first scan character of `_so`" in lines[0]
+        else:
+            assert lines == []
 
 
 def test_what_is_likely_not_meant_is_warned_of(tmp_path: pathlib.Path) -> None:
