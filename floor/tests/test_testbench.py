@@ -79,7 +79,8 @@ def test_it_is_made_of_the_saved_program_alone(tmp_path: pathlib.Path, monkeypat
     assert [call[0] for call in calls] == ["save"]
     (tmp_path / "saved").write_bytes(run(["save", SCAN[0]])[1])
     assert main(["testbench", str(tmp_path / "saved"), SCAN[1], "-o", str(tmp_path / "two")]) == 0
-    assert len(calls) == 1
+    # (whether what was saved is a program is asked by a plan without rows, which runs no die)
+    assert calls[1:] == [["lot", str(tmp_path / "saved"), os.devnull]]
     names = sorted(path.name for path in (tmp_path / "one").iterdir())
     assert names == sorted(path.name for path in (tmp_path / "two").iterdir())
     assert all((tmp_path / "one" / name).read_bytes() == (tmp_path / "two" / name).read_bytes() for name in names)
