@@ -142,7 +142,9 @@ def test_a_signal_ends_the_program_too(tmp_path: pathlib.Path, number: signal.Si
     (tmp_path / "n.bench").write_text("INPUT(a)\nOUTPUT(y)\ny = NOT(a)\n")
     master, slave = pty.openpty()
     with open(tmp_path / "out", "wb") as out:
-        ran = subprocess.Popen([STIL, "lot", str(tmp_path / "long.stil"), str(tmp_path / "lot.csv")], cwd=TOP, stdout=out, stderr=slave)
+        # (what runs in the background, or by nohup, is started with signals that are ignored)
+        ran = subprocess.Popen([STIL, "lot", str(tmp_path / "long.stil"), str(tmp_path / "lot.csv")], cwd=TOP, stdout=out, stderr=slave,
+                               preexec_fn=lambda: signal.signal(number, signal.SIG_DFL))
     os.close(slave)
     child = program_below(ran.pid)
     time.sleep(0.3)
