@@ -135,7 +135,16 @@ def test_each_command_has_a_part_of_the_help_with_an_example(command: str, name:
     assert subprocess.run([command, "help"], cwd=TOP, capture_output=True, text=True, check=False).stdout == whole
 
 
-@pytest.mark.parametrize("number", [signal.SIGTERM, signal.SIGINT, signal.SIGHUP])
+SIGNALS = [signal.SIGTERM, signal.SIGINT, signal.SIGHUP]
+
+
+def take_signals() -> None:
+    """Takes signals again that whoever started this process ignores."""
+    for number in SIGNALS:
+        signal.signal(number, signal.SIG_DFL)
+
+
+@pytest.mark.parametrize("number", SIGNALS)
 def test_a_signal_ends_the_program_too(tmp_path: pathlib.Path, number: signal.Signals) -> None:
     (tmp_path / "long.stil").write_text(EXAMPLES.joinpath("p1.stil").read_text().replace("V { y=X; }", "Loop 200000000000 { V { y=X; } }"))
     (tmp_path / "lot.csv").write_text(f"lot,256,1,16,,\nbind,a,-,,,\nbind,y,-,,,\ndie,0,d,{tmp_path}/n.bench,,\n")
@@ -144,7 +153,7 @@ def test_a_signal_ends_the_program_too(tmp_path: pathlib.Path, number: signal.Si
     with open(tmp_path / "out", "wb") as out:
         # (what runs in the background, or by nohup, is started with signals that are ignored)
         ran = subprocess.Popen([STIL, "lot", str(tmp_path / "long.stil"), str(tmp_path / "lot.csv")], cwd=TOP, stdout=out, stderr=slave,
-                               preexec_fn=lambda: signal.signal(number, signal.SIG_DFL))
+                               preexec_fn=take_signals)
     os.close(slave)
     child = program_below(ran.pid)
     time.sleep(0.3)
