@@ -1,8 +1,8 @@
--- Each fail that a try keeps is at a signal of its die's binding.
-use Rattle.std.proofs.Common.{◌≡◌, ℕ, zero, suc, ◌+◌, ◌<◌, Bool, ◌&&◌, cond, not, eqb, ltb, List, [], ◌∷◌, ◌++◌, length, map, take, filter, Option, Some, None, refl, subst, arith, zero-add}
+-- Each fail that a try keeps is at a signal of its die's binding, and what was seen there doesn't meet what was wanted.
+use Rattle.std.proofs.Common.{◌≡◌, ℕ, zero, suc, ◌+◌, ◌<◌, Bool, true, false, ◌&&◌, cond, not, eqb, ltb, List, [], ◌∷◌, ◌++◌, length, map, take, filter, Option, Some, None, refl, subst, zero-add}
 use Rattle.std.specs.List.{AllByRecursion, cons_option, enumerate_from, filter_map, find, flat_map, range_with_len}
 use Rattle.std.specs.Option.{option_map, option_map_or}
-use Rattle.std.proofs.lemmas.Bool.{cond_both}
+use Rattle.std.proofs.lemmas.Bool.{cond_both, false≢true}
 use Rattle.std.proofs.lemmas.List.FromFn.{length-map-range_with_len}
 use Rattle.tester_types.specs.declared.cycle.Cycle.{Cycle}
 use Rattle.tester_types.specs.declared.cycle.Moment.{Moment}
@@ -11,6 +11,7 @@ use Rattle.tester_types.specs.declared.record.By.TheVariants as by
 use Rattle.tester_types.specs.declared.record.Fail.{Fail}
 use Rattle.tester_types.specs.declared.record.Verdict.TheVariants as verdict
 use Rattle.die_sim.specs.Die.{Device}
+use Rattle.strobe_check.specs.Look.{is_met}
 use Rattle.strobe_check.specs.Entry.{Entry, fail_at}
 use Rattle.strobe_check.specs.Extent.{Extent, extents}
 use Rattle.strobe_check.specs.Fails.{meets, fail_of, fails_of, at_place, bound_signals, fails}
@@ -24,21 +25,33 @@ use Rattle.site_meaning.proofs.AllLemmas.{All-take}
 
 -- ---- the fails of a cycle
 
--- a look's fail is at the look's signal
-look_fails : (signal : ℕ) (look : Look) (found : Option (ℕ × Entry)) (later : List (ℕ × Fail))
-    → AllByRecursion (λ (fail : ℕ × Fail). fail.1.signal ≡ signal) later
-    → AllByRecursion (λ (fail : ℕ × Fail). fail.1.signal ≡ signal)
-    (cons_option (option_map (λ entry. (entry.0, fail_at signal look entry.1)) found) later)
-look_fails signal look None later all = all
-look_fails signal look (Some entry) later all = (refl, all)
+-- a fail at one of so many signals, at which what was seen doesn't meet what was wanted
+abbrev pub IsUnmet : ℕ → Fail → Type 0
+IsUnmet signals fail = (fail.signal < signals) × (is_met fail.want fail.seen ≡ false)
+
+-- a look's fail is at the look's signal, and of an entry that doesn't meet it
+look_fails : (signals signal : ℕ) → signal < signals → (look : Look) (inside : List (ℕ × Entry)) (later : List (ℕ × Fail))
+    → AllByRecursion (λ (fail : ℕ × Fail). IsUnmet signals fail.1) later
+    → AllByRecursion (λ (fail : ℕ × Fail). IsUnmet signals fail.1)
+    (cons_option (option_map (λ entry. (entry.0, fail_at signal look entry.1))
+    (find (λ entry. not (meets signal look entry)) inside)) later)
+look_fails signals signal low look [] later all = all
+look_fails signals signal low look (entry ∷ inside) later all =
+    cond_both (not (meets signal look entry)) (Some entry) (find (λ other. not (meets signal look other)) inside)
+    (λ (found : Option (ℕ × Entry)). AllByRecursion (λ (fail : ℕ × Fail). IsUnmet signals fail.1)
+    (cons_option (option_map (λ other. (other.0, fail_at signal look other.1)) found) later))
+    (λ unmet. ((low, not_true (meets signal look entry) unmet), all)) (λ _. look_fails signals signal low look inside later all)
+  where
+    not_true : (b : Bool) → not b ≡ true → b ≡ false
+    not_true false e = refl
+    not_true true e = absurd (false≢true e)
 
 -- so are those of all looks at it
-signal_fails : (signal : ℕ) (looks : List Extent)
-    → AllByRecursion (λ (fail : ℕ × Fail). fail.1.signal ≡ signal) (filter_map (fail_of signal) looks)
-signal_fails signal [] = tt
-signal_fails signal (x ∷ looks) =
-    look_fails signal x.look (find (λ entry. not (meets signal x.look entry)) x.inside) (filter_map (fail_of signal) looks)
-    (signal_fails signal looks)
+signal_fails : (signals signal : ℕ) → signal < signals → (looks : List Extent)
+    → AllByRecursion (λ (fail : ℕ × Fail). IsUnmet signals fail.1) (filter_map (fail_of signal) looks)
+signal_fails signals signal low [] = tt
+signal_fails signals signal low (x ∷ looks) =
+    look_fails signals signal low x.look x.inside (filter_map (fail_of signal) looks) (signal_fails signals signal low looks)
 
 -- what is so of all is so of those at a place
 all_at_place : (P : Fail → Type 0) (place : ℕ) (xs : List (ℕ × Fail)) → AllByRecursion (λ (fail : ℕ × Fail). P fail.1) xs
@@ -51,28 +64,23 @@ all_at_place P place (x ∷ xs) all =
 
 -- the fails at a place of a signal that is one of so many
 place_fails : (signals place signal : ℕ) (entries : List Entry) → signal < signals
-    → AllByRecursion (λ (fail : Fail). fail.signal < signals) (at_place place (fails_of signal entries))
+    → AllByRecursion (IsUnmet signals) (at_place place (fails_of signal entries))
 place_fails signals place signal entries low =
-    all_at_place (λ (fail : Fail). fail.signal < signals) place (fails_of signal entries)
-    (all_from (λ (fail : ℕ × Fail). fail.1.signal ≡ signal) (λ (fail : ℕ × Fail). fail.1.signal < signals)
-    (λ fail is. omega (arith, is, low)) (fails_of signal entries)
-    (signal_fails signal (extents signal (enumerate_from 0 entries))))
+    all_at_place (IsUnmet signals) place (fails_of signal entries)
+    (signal_fails signals signal low (extents signal (enumerate_from 0 entries)))
 
 -- the fails of entries are at signals that are bound
 fails_known : (bound : List Bool) (entries : List Entry)
-    → AllByRecursion (λ (fail : Fail). fail.signal < length bound) (fails bound entries)
+    → AllByRecursion (IsUnmet (length bound)) (fails bound entries)
 unfolding fails
 fails_known bound entries =
-    all_flat IsLow at (range_with_len 0 (length entries))
-    (all_of_any (λ (place : ℕ). AllByRecursion IsLow (at place)) (range_with_len 0 (length entries))
-    (λ place. all_flat IsLow (λ (signal : ℕ). at_place place (fails_of signal entries)) (bound_signals bound)
+    all_flat (IsUnmet (length bound)) at (range_with_len 0 (length entries))
+    (all_of_any (λ (place : ℕ). AllByRecursion (IsUnmet (length bound)) (at place)) (range_with_len 0 (length entries))
+    (λ place. all_flat (IsUnmet (length bound)) (λ (signal : ℕ). at_place place (fails_of signal entries)) (bound_signals bound)
     (all_from (λ (signal : ℕ). signal < length bound)
-    (λ (signal : ℕ). AllByRecursion IsLow (at_place place (fails_of signal entries)))
+    (λ (signal : ℕ). AllByRecursion (IsUnmet (length bound)) (at_place place (fails_of signal entries)))
     (λ signal low. place_fails (length bound) place signal entries low) (bound_signals bound) low_signals)))
   where
-    IsLow : Fail → Type 0
-    IsLow fail = fail.signal < length bound
-
     at : ℕ → List Fail
     at place = flat_map (λ signal. at_place place (fails_of signal entries)) (bound_signals bound)
 
@@ -85,12 +93,12 @@ fails_known bound entries =
 
 -- fails are at signals of a die
 abbrev pub AreKnown : Device → List Fail → Type 0
-AreKnown device fails = AllByRecursion (λ (fail : Fail). fail.signal < length device.binds) fails
+AreKnown device fails = AllByRecursion (IsUnmet (length device.binds)) fails
 
 -- the fails of entries of a die
 entries_known : (device : Device) (entries : List Entry) → AreKnown device (fails (bound_of device) entries)
 entries_known device entries =
-    subst (λ (n : ℕ). AllByRecursion (λ (fail : Fail). fail.signal < n) (fails (bound_of device) entries))
+    subst (λ (n : ℕ). AllByRecursion (IsUnmet n) (fails (bound_of device) entries))
     (length-map-range_with_len (is_bound device) 0 (length device.binds)) (fails_known (bound_of device) entries)
 
 -- the fails of a cycle, and those before each of its moments, are at signals of the die
@@ -195,7 +203,7 @@ ended_known : (device : Device) (batches : List Batch) → AllByRecursion (IsKno
     → AreKnown device (fails_in (cycles_in batches))
 unfolding fails_in
 ended_known device batches all =
-    all_flat (λ (fail : Fail). fail.signal < length device.binds) (λ (cycle : PlayedCycle). cycle.fails) (cycles_in batches)
+    all_flat (IsUnmet (length device.binds)) (λ (cycle : PlayedCycle). cycle.fails) (cycles_in batches)
     (all_from (IsKnownCycle device) (λ (cycle : PlayedCycle). AreKnown device cycle.fails) (λ cycle known. known.fails_are)
     (cycles_in batches) (cycles_known device batches all))
 
@@ -219,7 +227,7 @@ behind_known : (device : Device) (cycle : PlayedCycle) (later : Option Lost) →
     → IsKnownLost device later → IsKnownLost device (behind_cycle cycle later)
 behind_known device cycle None known all = tt
 behind_known device cycle (Some lost) known all =
-    all_append (λ (fail : Fail). fail.signal < length device.binds) cycle.fails lost.fails known.fails_are all
+    all_append (IsUnmet (length device.binds)) cycle.fails lost.fails known.fails_are all
 
 -- those before a contact that was lost in a cycle or behind it
 hit_known : (device : Device) (at : ℕ) (moments : List PlayedMoment) (later : Option Lost)
@@ -271,12 +279,27 @@ with_cut_known device order batches (touch at) all =
     (by_plan_known device order batches all))
 
 -- the fails that a try keeps
-pub known_trial : (part : Part) (die number : ℕ) (cut : Cut)
-    → AllByRecursion (λ (f : Fail). f.signal < length (stand_for part die number).device.binds) (trial part die number cut).kept
+kept_unmet : (part : Part) (die number : ℕ) (cut : Cut)
+    → AllByRecursion (IsUnmet (length (device_in part die number).binds)) (trial part die number cut).kept
 unfolding trial
-known_trial part die number cut =
+kept_unmet part die number cut =
     let device = device_in part die number in
     let batches = batches_of part die number in
     let order = order_in part die number in
-    All-take (λ (f : Fail). f.signal < length device.binds) (lot_in part).keep (with_cut order batches cut).fails
+    All-take (IsUnmet (length device.binds)) (lot_in part).keep (with_cut order batches cut).fails
     (with_cut_known device order batches cut (batches_known part die number))
+
+-- they are at its signals
+pub known_trial : (part : Part) (die number : ℕ) (cut : Cut)
+    → AllByRecursion (λ (f : Fail). f.signal < length (stand_for part die number).device.binds) (trial part die number cut).kept
+known_trial part die number cut =
+    all_from (IsUnmet (length (device_in part die number).binds))
+    (λ (f : Fail). f.signal < length (device_in part die number).binds) (λ f unmet. unmet.0)
+    (trial part die number cut).kept (kept_unmet part die number cut)
+
+-- and what was seen doesn't meet what was wanted
+pub unmet_trial : (part : Part) (die number : ℕ) (cut : Cut)
+    → AllByRecursion (λ (f : Fail). is_met f.want f.seen ≡ false) (trial part die number cut).kept
+unmet_trial part die number cut =
+    all_from (IsUnmet (length (device_in part die number).binds)) (λ (f : Fail). is_met f.want f.seen ≡ false)
+    (λ f unmet. unmet.1) (trial part die number cut).kept (kept_unmet part die number cut)

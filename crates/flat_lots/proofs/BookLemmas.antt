@@ -1,6 +1,6 @@
 -- Lots with one plan and the same netlists, on codes with the same signals whose cycles have the same moments, have books that
 -- differ in marks alone, where tries are cut alike: `same_books`.
-use Rattle.std.proofs.Common.{◌≡◌, ℕ, suc, ◌<◌, List, [], ◌∷◌, length, map, get_or, Some, refl, sym, ap, ◌∙◌, subst, arith}
+use Rattle.std.proofs.Common.{◌≡◌, ℕ, ◌<◌, List, [], length, map, get_or, Some, refl, sym, ap, ◌∙◌, subst, arith}
 use Rattle.std.proofs.lemmas.List.{get_or-map, length-map}
 use Rattle.std.proofs.lemmas.Option.{same_Some}
 use Rattle.tester_types.specs.Outside.{Files, file_of}
@@ -21,19 +21,10 @@ use Rattle.tester_run.specs.Work.{AreRecords}
 use Rattle.tool_inputs.specs.Inputs.{Inputs, AreInputs, bound_of}
 use Rattle.lot_laws.specs.Alone.{AreOneNets}
 use Rattle.lot_laws.proofs.CodeLemmas.{code_alike}
+use Rattle.lot_laws.proofs.LotLemmas.{same_places}
 use Rattle.lot_laws.proofs.SiteLemmas.{one_circuit, die_net}
 use Rattle.flat_lots.specs.Unmarked.{unmarked_record}
 use Rattle.flat_lots.proofs.TryLemmas.{CodesBeside, other, records_beside}
-
--- lists that have the same at each place
-same_places : {X : Type 0} (none : X) (xs ys : List X) → length xs ≡ length ys
-    → ((k : ℕ) → k < length xs → get_or xs k none ≡ get_or ys k none) → xs ≡ ys
-same_places none [] [] size each = refl
-same_places none [] (y ∷ ys) size each = absurd (omega (arith, size))
-same_places none (x ∷ xs) [] size each = absurd (omega (arith, size))
-same_places {X} none (x ∷ xs) (y ∷ ys) size each =
-    ap (λ (z : X). z ∷ xs) (each 0 (omega arith))
-    ∙ ap (λ (l : List X). y ∷ l) (same_places none xs ys (omega (arith, size)) (λ k within. each (suc k) (omega (arith, within))))
 
 -- the records at a place of a book, without their marks
 record_at : (book : List SiteRecords) (k : ℕ) → k < length book

@@ -1,42 +1,27 @@
 -- What a line says of a fault is one thing, and is found from its end.
-use Rattle.std.proofs.Common.{◌≡◌, ℕ, nat_lt, Bool, true, false, ◌||◌, List, [], ◌∷◌, ◌++◌, length, refl, sym, ap, ◌∙◌, inl, inr, append_assoc}
+use Rattle.std.proofs.Common.{◌≡◌, ℕ, Bool, true, false, ◌||◌, List, [], ◌∷◌, ◌++◌, refl, sym, ap, ◌∙◌, inl, inr, append_assoc}
 use Rattle.std.specs.Prelude.{codes}
-use Rattle.std.specs.List.{list_all, list_any}
+use Rattle.std.specs.List.{list_any}
 use Rattle.std.specs.Str.{bytes_eq}
-use Rattle.std.proofs.lemmas.Bool.{cases_Bool, and_parts, eqb-true, false≢true}
+use Rattle.std.proofs.lemmas.Bool.{cases_Bool, false≢true}
 use Rattle.std.proofs.lemmas.List.{append_cancel_left}
 use Rattle.std.proofs.lemmas.Slice.Eq.{bytes_eq-Decides}
-use Rattle.text_bytes.specs.Bytes.{is_digit}
 use Rattle.text_bytes.specs.Numbers.{are_digits}
 use Rattle.part_lines.specs.Lines.{is_one_line}
 use Rattle.part_lines.specs.Words.{is_named, is_gap, IsLastWord}
 use Rattle.part_lines.proofs.LineLemmas.{line_parts, line_more}
-use Rattle.part_lines.proofs.WordLemmas.{no_last_word, one_last_word}
+use Rattle.part_lines.proofs.WordLemmas.{no_last_word, one_last_word, digits_no_gap}
 use Rattle.grade_listing.specs.GradeText.{value_text}
 use Rattle.grade_parts.specs.Log.{is_cycle, Stuck, Tells}
 use Rattle.grade_parts.specs.Step.{level_digit, stuck_of}
 
 -- ---- words without blanks
 
-digit_no_gap : (b : ℕ) → is_digit b ≡ true → is_gap b ≡ false
-unfolding is_digit
-digit_no_gap b e =
-    elim (cases_Bool (is_gap b)) [
-      | inl y ↦ (let wrong : false ≡ true = sym (ap is_digit (eqb-true b 32 y)) ∙ e in cc)
-      | inr n ↦ n
-    ]
-
-digits_no_gap : (bytes : List ℕ) → list_all is_digit bytes ≡ true → list_any is_gap bytes ≡ false
-digits_no_gap [] e = refl
-digits_no_gap (b ∷ bytes) e =
-    let parts = and_parts (is_digit b) (list_all is_digit bytes) e in
-    λ i. digit_no_gap b parts.0 i || digits_no_gap bytes parts.1 i
-
 -- what tells a cycle has none
 cycle_no_gap : (bytes : List ℕ) → is_cycle bytes ≡ true → list_any is_gap bytes ≡ false
 cycle_no_gap bytes e =
     elim (cases_Bool (are_digits bytes)) [
-      | inl y ↦ digits_no_gap bytes (and_parts (nat_lt 0 (length bytes)) (list_all is_digit bytes) y).1
+      | inl y ↦ digits_no_gap bytes y
       | inr n ↦
           let word : bytes ≡ codes "none" = (bytes_eq-Decides bytes (codes "none")).0 (sym (ap (λ (x : Bool). x || bytes_eq bytes (codes "none")) n) ∙ e) in
           ap (list_any is_gap) word

@@ -1,8 +1,13 @@
 pub mod WordLemmas
 pub mod RestLemmas
+pub mod SaidLemmas
+pub mod FailLemmas
+pub mod FitLemmas
+pub mod TryLemmas
 pub mod DieLemmas
 pub mod SiteLemmas
 pub mod TotalLemmas
+pub mod ReadTryLemmas
 pub mod ReadDieLemmas
 pub mod ReadSiteLemmas
 pub mod StandardFacts

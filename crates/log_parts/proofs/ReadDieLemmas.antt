@@ -1,40 +1,25 @@
 -- What was read of a die, and of the dies of a site, and where reading stopped.
-use Rattle.std.proofs.Common.{◌≡◌, ℕ, zero, suc, ◌+◌, ◌<◌, ◌≤◌, true, false, List, [], ◌∷◌, ◌++◌, length, take, drop, get_or, codes, Bor, refl, sym, ap, subst, ◌∙◌, arith, append_assoc, length-append}
+use Rattle.std.proofs.Common.{◌≡◌, ℕ, zero, suc, ◌+◌, ◌<◌, ◌≤◌, true, List, [], ◌∷◌, ◌++◌, length, take, drop, get_or, codes, Bor, refl, sym, ap, subst, ◌∙◌, arith, append_assoc, length-append}
 use Rattle.std.specs.List.{flat_map}
 use Rattle.std.proofs.lemmas.List.{append-nil, map_more}
 use Rattle.text_bytes.proofs.ListLemmas.{all_append}
-use Rattle.text_bytes.proofs.TextLemmas.{lines_behind}
 use Rattle.tester_types.specs.Printing.{printed_name}
 use Rattle.datalog.specs.DatalogText.{die_line, bin_line}
-use Rattle.part_lines.specs.Lines.{is_one_line, ended, lines_in}
+use Rattle.part_lines.specs.Lines.{is_one_line, lines_in}
 use Rattle.part_lines.specs.Reading.{Reading, IsNext, HasRead, FaultFrom}
 use Rattle.part_lines.specs.declared.fault.LineFault.{LineFault}
 use Rattle.part_lines.specs.declared.fault.LineFault.TheVariants.{Line}
 use Rattle.part_lines.proofs.LineLemmas.{lines_more, lines_ended}
-use Rattle.part_lines.proofs.FaultLemmas.{goes_on_more}
 use Rattle.part_lines.proofs.HasReadLemmas.{read_none, read_more, read_as, fault_from_behind, fault_here}
-use Rattle.log_parts.specs.Log.{DieLog, IsDieLog, is_body_line, die_text, dies_text}
+use Rattle.log_parts.specs.Tries.{IsTryLine, try_lines}
+use Rattle.log_parts.specs.Log.{DieLog, IsDieLog, die_text, dies_text}
 use Rattle.log_parts.specs.Slices.{lent}
-use Rattle.log_parts.specs.Step.{die_bins, IsRest, IsDieRest, bin_words, AreBody, AreOneLine, AreRead}
-use Rattle.log_parts.proofs.RestLemmas.{goes_into_die, die_fault}
-use Rattle.log_parts.proofs.DieLemmas.{goes_body, goes_dies, bin_fault, lines_dies}
+use Rattle.log_parts.specs.Step.{die_bins, IsRest, IsTriesRest, bin_words, tries_text, TriesAreRead, AreOneLine, AreRead}
+use Rattle.log_parts.proofs.RestLemmas.{die_fault}
+use Rattle.log_parts.proofs.TryLemmas.{goes_tries, bin_fault}
+use Rattle.log_parts.proofs.DieLemmas.{goes_to_first, goes_dies, lines_dies}
 
 -- ---- a die
-
--- a line more of the body
-pub body_more : (before between now : Reading) (body : List (List ℕ)) (line : List ℕ) → AreBody body → is_body_line line ≡ true →
-    HasRead before between (flat_map ended body) → HasRead between now (ended line) →
-    (more : List (List ℕ)) × AreBody more × HasRead before now (flat_map ended more)
-body_more before between now body line are is first second = (
-  body ++ line ∷ [],
-  all_append (λ l. is_body_line l ≡ true) body (line ∷ []) are (is, tt),
-  read_as before now (flat_map ended body ++ ended line) (flat_map ended (body ++ line ∷ [])) (sym (flat_more body))
-      (read_more before between now (flat_map ended body) (ended line) first second),
-)
-  where
-    flat_more : (body : List (List ℕ)) → flat_map ended (body ++ line ∷ []) ≡ flat_map ended body ++ ended line
-    flat_more [] = append-nil (ended line)
-    flat_more (l ∷ body) = ap (λ t. ended l ++ t) (flat_more body) ∙ sym (append_assoc (ended l) (flat_map ended body) (ended line))
 
 -- the line of the die isn't there
 pub die_stops : (name : List ℕ) (at : Reading) (e : LineFault) → is_one_line name ≡ true → e ≡ Line (lines_in at.front + 1) →
@@ -44,31 +29,42 @@ pub die_stops : (name : List ℕ) (at : Reading) (e : LineFault) → is_one_line
 die_stops name at e one is none names number later before =
     fault_here (IsRest (name ∷ names) number later before) at e is (die_fault name names number later before at.rest one none)
 
--- the line of its bin isn't there
-pub bin_stops : (name : List ℕ) (a b c : Reading) (body : List (List ℕ)) (e : LineFault) → AreBody body →
-    HasRead a b (die_line name) → HasRead b c (flat_map ended body) →
-    ((line : List ℕ) → IsNext c.rest line → is_body_line line ≡ false) → e ≡ Line (lines_in c.front + 1) →
+-- reading stopped in its tries
+pub tries_stop : (name : List ℕ) (a b : Reading) (e : LineFault) → HasRead a b (die_line name) →
+    ((names : List (List ℕ)) (number : ℕ) (later : List (List (List ℕ))) (before : List ℕ)
+    → FaultFrom (IsTriesRest 1 1 names number later before) b e) →
+    (names : List (List ℕ)) (number : ℕ) (later : List (List (List ℕ))) (before : List ℕ) →
+    FaultFrom (IsRest (name ∷ names) number later before) a e
+tries_stop name a b e read stops names number later before =
+    fault_from_behind (IsRest (name ∷ names) number later before) (IsTriesRest 1 1 names number later before) a b
+    (die_line name) e (lines_more [] (codes "die " ++ printed_name name)) read (goes_to_first name names number later before)
+    (stops names number later before)
+
+-- the line of its bin isn't there, nor one more try
+pub bin_stops : (name : List ℕ) (a b c : Reading) (next : ℕ) (e : LineFault) → HasRead a b (die_line name) →
+    TriesAreRead next b c → ((line : List ℕ) → IsNext c.rest line → IsTryLine next line → ⊥) →
+    e ≡ Line (lines_in c.front + 1) →
     ((bin : ℕ) → 1 ≤ bin → bin ≤ 99 → IsNext c.rest (bin_words bin) → ⊥) →
     (names : List (List ℕ)) (number : ℕ) (later : List (List (List ℕ))) (before : List ℕ) →
     FaultFrom (IsRest (name ∷ names) number later before) a e
-bin_stops name a b c body e are first second no_body is no_bin names number later before =
-    let W = IsRest (name ∷ names) number later before in
-    let D = IsDieRest names number later before in
-    fault_from_behind W D a c (die_line name ++ flat_map ended body) e
-    (lines_behind (die_line name) (flat_map ended body) (lines_more [] (codes "die " ++ printed_name name)) (lines_ended body))
-    (read_more a b c (die_line name) (flat_map ended body) first second)
-    (goes_on_more W D D (die_line name) (flat_map ended body) (goes_into_die name names number later before) (goes_body body names number later before are))
-    (fault_here D c e is (bin_fault names number later before c.rest no_body no_bin))
+bin_stops name a b c next e first tries no_try is no_bin names number later before =
+    tries_stop name a b e first
+    (λ ns n l bs.
+    fault_from_behind (IsTriesRest 1 1 ns n l bs) (IsTriesRest 0 next ns n l bs) b c (tries_text tries.tries) e
+    (lines_ended (flat_map try_lines tries.tries)) tries.read
+    (goes_tries ns n l bs next tries.tries tries.number tries.tried tries.are)
+    (fault_here (IsTriesRest 0 next ns n l bs) c e is (bin_fault ns n l bs next c.rest no_try no_bin)))
+    names number later before
 
 -- a die was read
-pub die_read : (name : List ℕ) (a b c d : Reading) (body : List (List ℕ)) (bin : ℕ) (olds news : List ℕ) → AreBody body → 1 ≤ bin →
-    bin ≤ 99 → HasRead a b (die_line name) → HasRead b c (flat_map ended body) → HasRead c d (bin_line bin) → news ≡ olds ++ bin ∷ [] →
+pub die_read : (name : List ℕ) (a b c d : Reading) (next bin : ℕ) (olds news : List ℕ) → 1 ≤ bin → bin ≤ 99 →
+    HasRead a b (die_line name) → TriesAreRead next b c → HasRead c d (bin_line bin) → news ≡ olds ++ bin ∷ [] →
     (log : DieLog) × IsDieLog log × HasRead a d (die_text name log) × (news ≡ olds ++ log.bin ∷ [])
-die_read name a b c d body bin olds news are some last first second third is = (
-  record { body = body; bin = bin },
-  record { lines = are; some = some; last = last },
-  read_more a c d (die_line name ++ flat_map ended body) (bin_line bin)
-      (read_more a b c (die_line name) (flat_map ended body) first second) third,
+die_read name a b c d next bin olds news some last first tries third is = (
+  record { body = flat_map try_lines tries.tries; bin = bin },
+  record { tries = tries.tries; are = tries.are; tried = tries.tried; lines = refl; some = some; last = last },
+  read_more a c d (die_line name ++ tries_text tries.tries) (bin_line bin)
+      (read_more a b c (die_line name) (tries_text tries.tries) first tries.read) third,
   is,
 )
 

@@ -1,27 +1,61 @@
 -- How a datalog goes on, line by line.
-use Rattle.std.proofs.Common.{◌≡◌, ℕ, ◌+◌, ◌≤◌, true, List, [], ◌∷◌, ◌++◌, codes, refl, sym, ap, subst, ◌∙◌, ◌⊎◌, inl, inr, arith, append_assoc}
+use Rattle.std.proofs.Common.{◌≡◌, ℕ, true, List, [], ◌∷◌, ◌++◌, codes, refl, sym, ap, subst, ◌∙◌, arith, append_assoc}
+use Rattle.std.specs.Prelude.{decimal}
 use Rattle.std.specs.List.{flat_map}
 use Rattle.std.proofs.lemmas.List.{append_cancel_left}
-use Rattle.plan_rows.specs.Limits.{last_bin}
+use Rattle.text_bytes.specs.Bytes.{is_digit}
 use Rattle.tester_types.specs.Printing.{printed_name}
 use Rattle.datalog.specs.DatalogText.{die_line, bin_line, totals_text}
 use Rattle.part_lines.specs.Lines.{is_one_line, ended}
 use Rattle.part_lines.specs.LineFault.{Begins, IsLineFault}
 use Rattle.part_lines.specs.Reading.{IsNext, GoesOn}
 use Rattle.part_lines.proofs.FaultLemmas.{first_line_fault}
-use Rattle.log_parts.specs.Log.{DieLog, IsDieLog, is_body_line, die_text, dies_text, sites_text, bins_of, AreDieLogs, AreLogs}
-use Rattle.log_parts.specs.Step.{die_bins, IsRest, IsDieRest, AreBody}
+use Rattle.log_parts.specs.Tries.{TryLog, IsTry, passed, try_lines}
+use Rattle.log_parts.specs.Log.{DieLog, IsDieLog, die_text, dies_text, sites_text, bins_of, AreDieLogs, AreLogs}
+use Rattle.log_parts.specs.Step.{die_bins, IsRest, IsDieRest}
 use Rattle.log_parts.proofs.WordLemmas.{one_die}
 
 -- ---- what stands behind can always be completed
 
+-- the shortest lines of a try
+abbrev pub shortest_try : ℕ → TryLog
+shortest_try number = record {
+  head = codes "try " ++ decimal number ++ codes " cycles 0 fails 0";
+  fails = [];
+  verdict = codes "verdict pass";
+}
+
+-- they are some
+pub shortest_try_is : (number : ℕ) → IsTry number (shortest_try number)
+unfolding is_digit
+shortest_try_is number = record {
+  head = record {
+    cycles = codes "0";
+    fails = codes "0";
+    are_cycles = refl;
+    are_fails = refl;
+    is = sym (append_assoc (codes "try " ++ decimal number ++ codes " cycles " ++ codes "0") (codes " fails ") (codes "0")
+        ∙ append_assoc (codes "try " ++ decimal number ++ codes " cycles ") (codes "0") (codes " fails 0")
+        ∙ append_assoc (codes "try " ++ decimal number) (codes " cycles ") (codes "0 fails 0"));
+  };
+  fails = tt;
+  verdict = passed refl;
+}
+
 -- the shortest log of a die
 abbrev shortest : DieLog
-shortest = record { body = []; bin = 1 }
+shortest = record { body = try_lines (shortest_try 1) ++ []; bin = 1 }
 
 -- it is one
 shortest_is : IsDieLog shortest
-shortest_is = record { lines = tt; some = omega arith; last = omega arith }
+shortest_is = record {
+  tries = shortest_try 1 ∷ [];
+  are = (shortest_try_is 1, tt);
+  tried = omega arith;
+  lines = refl;
+  some = omega arith;
+  last = omega arith;
+}
 
 -- the shortest logs of so many dies
 abbrev shortest_dies : List (List ℕ) → List DieLog
@@ -54,16 +88,6 @@ some_rest names number later bins =
     record {
       back = dies_text names dies ++ (sites_text number later sites ++ totals_text (bins ++ (die_bins dies ++ bins_of sites)));
       whole = record { dies = dies; sites = sites; are_dies = shortest_dies_are names; are_sites = shortest_sites_are later; is = refl };
-    }
-
--- something may stand behind the line of a die
-pub some_die_rest : (names : List (List ℕ)) (number : ℕ) (later : List (List (List ℕ))) (bins : List ℕ) →
-    Begins (IsDieRest names number later bins) []
-some_die_rest names number later bins =
-    let more = some_rest names number later (bins ++ 1 ∷ []) in
-    record {
-      back = bin_line 1 ++ more.back;
-      whole = record { log = shortest; is_die = shortest_is; back = more.back; is = refl; goes_on = more.whole };
     }
 
 -- ---- the line of a die
@@ -150,32 +174,3 @@ die_fault name names number later bins text one none =
     (some_rest (name ∷ names) number later bins)
     (λ whole rest. die_allowed name names number later bins whole one rest)
     (λ line next is. none (subst (λ (l : List ℕ). IsNext text l) is next))
-
--- ---- the lines of a die
-
--- what stands behind the line of a die: a line of its body, or that of its bin
-pub die_rest_cases : (names : List (List ℕ)) (number : ℕ) (later : List (List (List ℕ))) (bins whole : List ℕ) →
-    IsDieRest names number later bins whole →
-    ((line : List ℕ) × (back : List ℕ) × (is_body_line line ≡ true) × (whole ≡ ended line ++ back) × IsDieRest names number later bins back)
-    ⊎ ((bin : ℕ) × (back : List ℕ) × (1 ≤ bin) × (bin ≤ last_bin) × (whole ≡ bin_line bin ++ back) × IsRest names number later (bins ++ bin ∷ []) back)
-die_rest_cases names number later bins whole rest = by_body rest.log.body rest.log.bin rest.is_die.lines rest.is_die.some rest.is_die.last rest.is rest.goes_on
-  where
-    by_body : (body : List (List ℕ)) (bin : ℕ) → AreBody body → 1 ≤ bin → bin ≤ last_bin →
-        whole ≡ flat_map ended body ++ (bin_line bin ++ rest.back) → IsRest names number later (bins ++ bin ∷ []) rest.back →
-        ((line : List ℕ) × (back : List ℕ) × (is_body_line line ≡ true) × (whole ≡ ended line ++ back) × IsDieRest names number later bins back)
-        ⊎ ((bin : ℕ) × (back : List ℕ) × (1 ≤ bin) × (bin ≤ last_bin) × (whole ≡ bin_line bin ++ back) × IsRest names number later (bins ++ bin ∷ []) back)
-    by_body [] bin are some last is goes_on = inr (bin, rest.back, some, last, is, goes_on)
-    by_body (line ∷ body) bin are some last is goes_on =
-        inl (
-          line,
-          flat_map ended body ++ (bin_line bin ++ rest.back),
-          are.0,
-          is ∙ append_assoc (ended line) (flat_map ended body) (bin_line bin ++ rest.back),
-          record {
-            log = record { body = body; bin = bin };
-            is_die = record { lines = are.1; some = some; last = last };
-            back = rest.back;
-            is = refl;
-            goes_on = goes_on;
-          },
-        )

@@ -1,9 +1,10 @@
 -- What a datalog of dies with these names may be, by its lines alone.
-use Rattle.std.specs.Prelude.{◌≡◌, ℕ, ◌+◌, ◌≤◌, ◌&&◌, ◌||◌, Bool, true, List, [], ◌∷◌, ◌++◌, length, map, codes}
+use Rattle.std.specs.Prelude.{◌≡◌, ℕ, ◌+◌, ◌≤◌, List, [], ◌∷◌, ◌++◌, length, map}
 use Rattle.std.specs.List.{flat_map, AllByRecursion}
 use Rattle.plan_rows.specs.Limits.{last_bin}
 use Rattle.datalog.specs.DatalogText.{die_line, bin_line, site_line, totals_text}
-use Rattle.part_lines.specs.Lines.{ended, is_one_line, begins_so}
+use Rattle.part_lines.specs.Lines.{ended}
+use Rattle.log_parts.specs.Tries.{TryLog, try_lines, AreTries}
 
 -- ---- a die
 
@@ -12,15 +13,12 @@ pub record DieLog : Type 0 where
   pub body : List (List ℕ)
   pub bin : ℕ
 
--- whether a line may stand there: it tells of a try, of a fail or of a verdict, and has no line feed
-abbrev pub is_body_line : List ℕ → Bool
-is_body_line line =
-    (begins_so (codes "try") line || begins_so (codes "fail") line || begins_so (codes "verdict") line)
-    && is_one_line line
-
--- a die's lines are of these forms, and its bin is 1 to 99
+-- its lines are those of its tries, which are numbered from 1 on, one at least; and its bin is 1 to 99
 pub record IsDieLog (log : DieLog) : Type 0 where
-  pub lines : AllByRecursion (λ line. is_body_line line ≡ true) log.body
+  pub tries : List TryLog
+  pub are : AreTries 1 tries
+  pub tried : 1 ≤ length tries
+  pub lines : log.body ≡ flat_map try_lines tries
   pub some : 1 ≤ log.bin
   pub last : log.bin ≤ last_bin
 
@@ -62,8 +60,8 @@ AreLogs [] (log ∷ logs) = ⊥
 AreLogs (names ∷ later) [] = ⊥
 AreLogs (names ∷ later) (log ∷ logs) = AreDieLogs names log × AreLogs later logs
 
--- The text is a datalog of dies with these names, site by site, whose lines say this. The numbers and the names within
--- the lines of tries, fails and verdicts are not looked at.
+-- The text is a datalog of dies with these names, site by site, whose lines say this. How many cycles and fails the line of
+-- a try tells, and which executive, batch or time a fail or a verdict, are any numbers.
 pub record IsLog (names : List (List (List ℕ))) (text : List ℕ) (logs : List (List DieLog)) : Type 0 where
   pub are : AreLogs names logs
   pub is : text ≡ log_text names logs

@@ -1,17 +1,17 @@
 //! The lines of a die.
 
-ghost use Rattle.std.specs.Prelude.{◌≡◌, ◌≤◌, ◌+◌, ◌∷◌, ◌++◌, [], ℕ, List, Vec, IsTrue, true, false, codes, MatchResult};
-ghost use Rattle.std.specs.List.{flat_map};
+ghost use Rattle.std.specs.Prelude.{◌≡◌, ◌≤◌, ◌+◌, ◌∷◌, ◌++◌, [], ℕ, List, Vec, true, codes, MatchResult};
 ghost use Rattle.datalog.specs.DatalogText.{bin_line};
 ghost use Rattle.tester_types.specs.Printing.{printed_name};
-ghost use Rattle.part_lines.specs.Lines.{ended, is_one_line, lines_in};
+ghost use Rattle.part_lines.specs.Lines.{is_one_line, lines_in};
 ghost use Rattle.part_lines.specs.Reading.{HasRead, IsNext, FaultFrom};
 ghost use Rattle.part_lines.specs.declared.fault.LineFault.TheVariants as fault;
-ghost use Rattle.log_parts.specs.Log.{DieLog, IsDieLog, is_body_line, die_text};
+ghost use Rattle.log_parts.specs.Log.{DieLog, IsDieLog, die_text};
 ghost use Rattle.log_parts.specs.Slices.{lent};
-ghost use Rattle.log_parts.specs.Step.{AreBody, AreOneLine, AreRead, IsRest, ReadsLine, bin_words};
+ghost use Rattle.log_parts.specs.Step.{AreOneLine, AreRead, IsRest, ReadsLine, bin_words};
 
-use crate::words::{is_body, told_bin};
+use crate::tries::read_tries;
+use crate::words::told_bin;
 use part_lines::{LineFault, Lines};
 use tester_types::Piece;
 
@@ -42,7 +42,7 @@ fn read_die(lines: &mut Lines, name: &[u8], bins: &mut Vec<u8>) -> Result<(), Li
         → FaultFrom (IsRest (name.now ∷ names) number later before) lines.old e) }
 {
     expect_die(lines, name)?;
-    read_body(lines);
+    read_tries(lines)?;
     let bin = read_bin(lines)?;
     bins.push(bin)?;
     Ok(())
@@ -53,31 +53,6 @@ fn expect_die(lines: &mut Lines, name: &[u8]) -> Result<(), LineFault>
     ensures { ReadsLine lines.old lines.new (codes "die " ++ printed_name name.now) result }
 {
     lines.expect(&[Piece::Text(b"die "), Piece::Name(name)])
-}
-
-/// Reads the lines of a die between its name and its bin.
-fn read_body(lines: &mut Lines)
-    ensures { (body : List (List ℕ)) × AreBody body × HasRead lines.old lines.new (flat_map ended body)
-        × ((line : List ℕ) → IsNext lines.new.rest line → is_body_line line ≡ false) }
-{
-    while read_body_line(lines) {}
-}
-
-/// Reads such a line, if it is the next one.
-fn read_body_line(lines: &mut Lines) -> bool
-    ensures read { IsTrue result → (line : List ℕ) × (is_body_line line ≡ true)
-        × HasRead lines.old lines.new (ended line) }
-    ensures none { result ≡ false → (lines.new ≡ lines.old)
-        × ((line : List ℕ) → IsNext lines.new.rest line → is_body_line line ≡ false) }
-{
-    let Some(line) = lines.peek() else {
-        return false;
-    };
-    if !is_body(line) {
-        return false;
-    }
-    lines.pass(line);
-    true
 }
 
 /// Reads the line of a bin.

@@ -3,9 +3,12 @@
 
 mod die;
 mod end;
+mod fails;
 mod merged;
 mod part;
+mod said;
 mod site;
+mod tries;
 mod words;
 
 pub use merged::put_merged;

@@ -1,8 +1,6 @@
-//! What a line of a datalog says.
+//! The bin that a line of a datalog tells.
 
-ghost use Rattle.std.specs.Prelude.{◌≡◌, ◌≤◌, ◌||◌, ℕ, IfSome, IfNone, codes, IsTrue, ◌↔◌, length, take};
-ghost use Rattle.std.specs.Str.{bytes_eq};
-ghost use Rattle.part_lines.specs.Lines.{begins_so};
+ghost use Rattle.std.specs.Prelude.{◌≡◌, ◌≤◌, ℕ, IfSome, IfNone, IsTrue, ◌↔◌};
 ghost use Rattle.log_parts.specs.Step.{bin_words};
 
 use part_lines::is_printed;
@@ -29,19 +27,4 @@ fn tells_bin(line: &[u8], bin: u8) -> bool
         line,
         &[Piece::Text(b"bin "), Piece::Number(u128::from(bin))],
     )
-}
-
-/// Whether a line tells of a try, of a fail or of a verdict.
-pub(crate) fn is_body(line: &[u8]) -> bool
-    ensures { result ≡ (begins_so (codes "try") line.now || begins_so (codes "fail") line.now
-        || begins_so (codes "verdict") line.now) }
-{
-    begins(line, b"try ") || begins(line, b"fail ") || begins(line, b"verdict ")
-}
-
-/// Whether a line begins so.
-fn begins(line: &[u8], front: &[u8]) -> bool
-    ensures { result ≡ bytes_eq (take (length front.now) line.now) front.now }
-{
-    line.starts_with(front)
 }

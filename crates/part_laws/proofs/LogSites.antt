@@ -17,7 +17,7 @@ use Rattle.plan_parts.specs.Cut.{has_dies, sites_with_dies}
 use Rattle.log_parts.specs.Log.{DieLog, IsDieLog, AreDieLogs, AreLogs, die_text, dies_text, sites_text, bins_of, log_text}
 use Rattle.log_parts.specs.Merged.{merged_sites}
 use Rattle.part_laws.proofs.OneLine.{ShowsNames}
-use Rattle.part_laws.proofs.LogLines.{log_of, log_fits, record_is}
+use Rattle.part_laws.proofs.LogLines.{log_of, IsTried, log_fits, record_is}
 use Rattle.part_laws.proofs.Ranks.{nothing_else}
 
 -- ---- numbers in a row
@@ -106,6 +106,7 @@ pub record AreShown (plan : Bound) (names : List (List ℕ)) (site : ℕ) (entri
   pub all : length entries ≡ length (dies_at site plan.rows)
   pub some : 0 < length entries
   pub named : names ≡ names_at site plan.rows
+  pub tried : AllByRecursion IsTried entries
 
 -- no die
 abbrev no_die : DieRow
@@ -141,10 +142,11 @@ log_bins code plan (e ∷ entries) = ap (λ (l : List ℕ). die_bin plan e ∷ l
 
 -- their logs
 site_logs : (code : Program) (plan : Bound) → ShowsNames code → AreKept plan.rows
-    → (entries : List Record)
+    → (entries : List Record) → AllByRecursion IsTried entries
     → AllByRecursion IsDieLog (map (log_of code plan) entries)
-site_logs code plan shows kept [] = tt
-site_logs code plan shows kept (e ∷ entries) = (log_fits code plan shows kept e, site_logs code plan shows kept entries)
+site_logs code plan shows kept [] tried = tt
+site_logs code plan shows kept (e ∷ entries) tried =
+    (log_fits code plan shows kept e tried.0, site_logs code plan shows kept entries tried.1)
 
 -- ---- a datalog of sites that all have dies
 
@@ -187,7 +189,7 @@ module _ (code : Program) (plan : Bound) (names : ℕ → List (List ℕ)) (entr
       (λ k low high.
       let shown = each k (omega (arith, high)) in (
         length-map (entries k) (log_of code plan) ∙ shown.all ∙ sym (ap length shown.named ∙ length-map (dies_at k plan.rows) (λ (d : DieRow). d.name)),
-        site_logs code plan shows kept (entries k),
+        site_logs code plan shows kept (entries k) shown.tried,
       ))
 
 -- ---- a datalog of all sites, by those that have dies

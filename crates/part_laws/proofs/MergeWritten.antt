@@ -22,6 +22,7 @@ use Rattle.lot_parts.specs.declared.refusal.PartRefusal.{PartRefusal}
 use Rattle.lot_parts.specs.declared.refusal.PartRefusal.TheVariants as refusal
 use Rattle.lot_parts.specs.Refusals.{outcome_of}
 use Rattle.lot_parts.specs.Files.{ArePartFiles}
+use Rattle.lot_parts.proofs.LoadLemmas.{files_long}
 use Rattle.lot_parts.specs.Merging.{AreLogTexts, MergeWants, are_merged, is_refused}
 use Rattle.part_laws.specs.Runs.{AreRunsOfParts}
 use Rattle.part_laws.specs.Laws.{AreLogsOf}
@@ -30,15 +31,7 @@ use Rattle.part_laws.proofs.MergedLaws.{merged_uncut, quiet_are_uncut}
 
 -- ---- files of parts
 
--- each file has its text
-files_long : (told : Option Files) (names texts : List (List ℕ)) → ArePartFiles told names texts
-    → length names ≡ length texts
-files_long told [] [] have = refl
-files_long told [] (text ∷ texts) have = absurd have
-files_long told (name ∷ names) [] have = absurd have
-files_long told (name ∷ names) (text ∷ texts) have = ap suc (files_long told names texts have.1)
-
--- and no other
+-- each file has one text
 pub files_one : (told : Files) (names texts texts' : List (List ℕ)) → ArePartFiles (Some told) names texts
     → ArePartFiles (Some told) names texts' → texts ≡ texts'
 files_one told [] [] [] have have' = refl

@@ -1,44 +1,75 @@
 -- A text is a datalog of dies with given names in one way: `one_log`.
-use Rattle.std.proofs.Common.{◌≡◌, ℕ, ◌+◌, ◌≤◌, true, false, List, [], ◌∷◌, ◌++◌, refl, sym, ap, ◌∙◌, subst, arith, append_assoc}
+use Rattle.std.proofs.Common.{◌≡◌, ℕ, ◌+◌, ◌≤◌, true, List, [], ◌∷◌, ◌++◌, refl, sym, ap, ◌∙◌, subst, arith, append_assoc}
 use Rattle.std.specs.List.{AllByRecursion, flat_map}
 use Rattle.std.proofs.lemmas.List.{append_cancel_left}
 use Rattle.datalog.specs.DatalogText.{die_line, bin_line, site_line, totals_text}
-use Rattle.part_lines.specs.Lines.{ended}
+use Rattle.text_bytes.proofs.ListLemmas.{all_append}
+use Rattle.part_lines.specs.Lines.{is_one_line, ended}
 use Rattle.part_lines.proofs.LineLemmas.{one_reading}
-use Rattle.log_parts.specs.Log.{DieLog, AreDieLogs, AreLogs, IsLog, is_body_line, die_text, dies_text, sites_text, bins_of, log_text}
+use Rattle.log_parts.specs.Tries.{TryLog, IsTryLine, IsVerdictLine, is_fail_line, try_lines, AreFails, IsTry, AreTries}
+use Rattle.log_parts.specs.Log.{DieLog, IsDieLog, AreDieLogs, AreLogs, IsLog, die_text, dies_text, sites_text, bins_of, log_text}
 use Rattle.log_parts.specs.Step.{bin_words}
-use Rattle.log_parts.proofs.WordLemmas.{one_bin, one_body, one_bin_said}
+use Rattle.log_parts.proofs.WordLemmas.{one_bin, one_fail, one_bin_said, try_is_no_bin, fail_is_no_bin, verdict_is_no_bin}
+use Rattle.log_parts.proofs.SaidLemmas.{one_try, one_verdict}
 
 -- ---- a bin
 
--- no line of a try, a fail or a verdict is that of a bin
-no_bin : (line : List ℕ) (bin : ℕ) → is_body_line line ≡ true → line ≡ bin_words bin → ⊥
-no_bin line bin fits is = wrong (subst (λ (l : List ℕ). is_body_line l ≡ true) is fits)
-  where
-    wrong : false ≡ true → ⊥
-    wrong e = cc
+-- one line, which is none of a bin
+record IsNoBin (line : List ℕ) : Type 0 where
+  one : is_one_line line ≡ true
+  other : (bin : ℕ) → line ≡ bin_words bin → ⊥
+
+-- those of fails
+fails_no_bin : (fails : List (List ℕ)) → AreFails fails → AllByRecursion IsNoBin fails
+fails_no_bin [] are = tt
+fails_no_bin (line ∷ fails) are = (
+  record {
+    one = one_fail line are.0;
+    other = λ bin e. fail_is_no_bin bin (subst (λ (l : List ℕ). is_fail_line l ≡ true) e are.0);
+  },
+  fails_no_bin fails are.1,
+)
+
+-- those of a try
+try_no_bin : (number : ℕ) (t : TryLog) → IsTry number t → AllByRecursion IsNoBin (try_lines t)
+try_no_bin number t is = (
+  record { one = one_try number t.head is.head; other = λ bin e. try_is_no_bin number bin (subst (IsTryLine number) e is.head) },
+  all_append IsNoBin t.fails (t.verdict ∷ []) (fails_no_bin t.fails is.fails)
+      (record { one = one_verdict t.verdict is.verdict; other = λ bin e. verdict_is_no_bin bin (subst IsVerdictLine e is.verdict) }, tt),
+)
+
+-- those of tries
+tries_no_bin : (number : ℕ) (tries : List TryLog) → AreTries number tries → AllByRecursion IsNoBin (flat_map try_lines tries)
+tries_no_bin number [] are = tt
+tries_no_bin number (t ∷ tries) are =
+    all_append IsNoBin (try_lines t) (flat_map try_lines tries) (try_no_bin number t are.0) (tries_no_bin (number + 1) tries are.1)
+
+-- those of a die
+die_no_bin : (log : DieLog) → IsDieLog log → AllByRecursion IsNoBin log.body
+die_no_bin log is =
+    subst (λ (l : List (List ℕ)). AllByRecursion IsNoBin l) (sym is.lines) (tries_no_bin 1 is.tries is.are)
 
 -- ---- a die
 
 -- lines up to a bin, and what stands behind it
 one_rest_of_die : (a b : List (List ℕ)) (m n : ℕ) (x y : List ℕ)
-    → AllByRecursion (λ line. is_body_line line ≡ true) a
-    → AllByRecursion (λ line. is_body_line line ≡ true) b → m ≤ 99 → n ≤ 99
+    → AllByRecursion IsNoBin a
+    → AllByRecursion IsNoBin b → m ≤ 99 → n ≤ 99
     → flat_map ended a ++ (bin_line m ++ x) ≡ flat_map ended b ++ (bin_line n ++ y)
     → (a ≡ b) × (m ≡ n) × (x ≡ y)
 one_rest_of_die [] [] m n x y p q low high e =
     let both = one_reading (bin_words m) (bin_words n) x y (one_bin m) (one_bin n) e in
     (refl, one_bin_said m n low high both.0, both.1)
 one_rest_of_die [] (l ∷ b) m n x y p q low high e =
-    let both = one_reading (bin_words m) l x (flat_map ended b ++ (bin_line n ++ y)) (one_bin m) (one_body l q.0)
+    let both = one_reading (bin_words m) l x (flat_map ended b ++ (bin_line n ++ y)) (one_bin m) q.0.one
     (e ∙ append_assoc (ended l) (flat_map ended b) (bin_line n ++ y)) in
-    absurd (no_bin l m q.0 (sym both.0))
+    absurd (q.0.other m (sym both.0))
 one_rest_of_die (k ∷ a) [] m n x y p q low high e =
-    let both = one_reading k (bin_words n) (flat_map ended a ++ (bin_line m ++ x)) y (one_body k p.0) (one_bin n)
+    let both = one_reading k (bin_words n) (flat_map ended a ++ (bin_line m ++ x)) y p.0.one (one_bin n)
     (sym (append_assoc (ended k) (flat_map ended a) (bin_line m ++ x)) ∙ e) in
-    absurd (no_bin k n p.0 both.0)
+    absurd (p.0.other n both.0)
 one_rest_of_die (k ∷ a) (l ∷ b) m n x y p q low high e =
-    let both = one_reading k l (flat_map ended a ++ (bin_line m ++ x)) (flat_map ended b ++ (bin_line n ++ y)) (one_body k p.0) (one_body l q.0)
+    let both = one_reading k l (flat_map ended a ++ (bin_line m ++ x)) (flat_map ended b ++ (bin_line n ++ y)) p.0.one q.0.one
     (sym (append_assoc (ended k) (flat_map ended a) (bin_line m ++ x)) ∙ e ∙ append_assoc (ended l) (flat_map ended b) (bin_line n ++ y)) in
     let rest = one_rest_of_die a b m n x y p.1 q.1 low high both.1 in
     (ap (λ (h : List ℕ). h ∷ a) both.0 ∙ ap (λ (t : List (List ℕ)). l ∷ t) rest.0, rest.1, rest.2)
@@ -62,7 +93,7 @@ one_dies [] [] (l ∷ b) x y p q e = absurd (omega (arith, q.0))
 one_dies (n ∷ names) [] b x y p q e = absurd (omega (arith, p.0))
 one_dies (n ∷ names) (k ∷ a) [] x y p q e = absurd (omega (arith, q.0))
 one_dies (n ∷ names) (k ∷ a) (l ∷ b) x y p q e =
-    let first = one_rest_of_die k.body l.body k.bin l.bin (dies_text names a ++ x) (dies_text names b ++ y) p.1.0.lines q.1.0.lines p.1.0.last q.1.0.last
+    let first = one_rest_of_die k.body l.body k.bin l.bin (dies_text names a ++ x) (dies_text names b ++ y) (die_no_bin k p.1.0) (die_no_bin l q.1.0) p.1.0.last q.1.0.last
     (append_cancel_left (die_line n) (flat_map ended k.body ++ (bin_line k.bin ++ (dies_text names a ++ x)))
     (flat_map ended l.body ++ (bin_line l.bin ++ (dies_text names b ++ y)))
     (sym (die_split n k (dies_text names a) x) ∙ e ∙ die_split n l (dies_text names b) y)) in

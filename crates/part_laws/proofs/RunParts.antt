@@ -23,6 +23,8 @@ use Rattle.floor_core.specs.Book.{empty_site}
 use Rattle.tester_run.specs.Work.{AreRecords}
 use Rattle.datalog.specs.DatalogText.{lot_text}
 use Rattle.tool_inputs.specs.Inputs.{Inputs, AreInputs, bound_of}
+use Rattle.text_bytes.proofs.ListLemmas.{all_from}
+use Rattle.site_meaning.specs.Records.{Sound}
 use Rattle.lot_laws.specs.Moved.{SayTheSameMoved}
 use Rattle.lot_laws.proofs.SiteLemmas.{sound_own}
 use Rattle.lot_laws.proofs.MovedRows.{rows_of}
@@ -36,6 +38,7 @@ use Rattle.plan_parts.proofs.CountLemmas.{names_of_part, sites_of_part}
 use Rattle.log_parts.specs.Log.{DieLog, IsLog}
 use Rattle.log_parts.specs.Merged.{names_in}
 use Rattle.part_laws.specs.Runs.{IsRunOfPart}
+use Rattle.part_laws.proofs.LogLines.{IsTried, sound_tried}
 use Rattle.part_laws.proofs.LogSites.{AreShown, logs_at, text_is, logs_are}
 use Rattle.part_laws.proofs.PartAlike.{moved_alike}
 use Rattle.part_laws.proofs.PartRows.{rows_of_number}
@@ -132,6 +135,8 @@ module _ {S : Type 0} (tells : S → Told) (files : Files) (program plan : List 
         some = omega (arith, all, ltb-true 0 (length (dies_at number (said run).rows)) (has_there number low));
         named = sym (names_of_part is.bytes inputs.rows parts part number less plan_is (low_in number low)).1
             ∙ ap (names_at number) (sym rows_are);
+        tried = all_from (Sound (part_of (bound_of (said run)) number)) IsTried (sound_tried (part_of (bound_of (said run)) number))
+            (records_at run number) there.each;
       }
 
   -- what it says

@@ -1,16 +1,15 @@
--- The last word of a line is one; and numbers and names are printed as words of their kind.
-use Rattle.std.proofs.Common.{◌≡◌, ℕ, ◌+◌, ◌-◌, ◌==◌, Bool, true, false, ◌||◌, ◌&&◌, List, [], ◌∷◌, ◌++◌, length, drop, refl, sym, ap, ◌∙◌, arith, length-append, lt-ltb}
+-- The last word of a line is one; digits are a word; and numbers and names are printed as words of their kind.
+use Rattle.std.proofs.Common.{◌≡◌, ℕ, ◌-◌, ◌==◌, Bool, true, false, not, nat_lt, ◌||◌, ◌&&◌, List, [], ◌∷◌, ◌++◌, length, drop, refl, sym, ap, ◌∙◌, inl, inr, arith, length-append, lt-ltb}
 use Rattle.std.specs.Prelude.{codes, decimal}
 use Rattle.std.specs.List.{list_all, list_any}
-use Rattle.std.specs.Str.{bytes_eq}
-use Rattle.std.proofs.lemmas.Bool.{cond_both}
+use Rattle.std.proofs.lemmas.Bool.{cond_both, cases_Bool, and_parts, eqb-true, false≢true}
 use Rattle.std.proofs.lemmas.List.{drop_at}
-use Rattle.std.proofs.lemmas.List.Folds.{list_any-append}
 use Rattle.std.proofs.lemmas.Slice.Eq.{bytes_eq-Decides}
 use Rattle.text_bytes.specs.Bytes.{is_digit}
 use Rattle.text_bytes.specs.Numbers.{are_digits}
 use Rattle.text_bytes.proofs.DigitLemmas.{decimal_passes, decimal_some}
 use Rattle.tester_types.specs.Printing.{is_bare, quoted, printed_name}
+use Rattle.part_lines.specs.Lines.{is_feed, is_one_line}
 use Rattle.part_lines.specs.Words.{ends_quoted, is_named, is_gap}
 
 -- ---- there is one
@@ -43,6 +42,38 @@ one_last_word (c ∷ a) (d ∷ b) v w p q e =
     let head : c ≡ d = cc in
     let rest = one_last_word a b v w p q tail in
     (λ i. head i ∷ rest.0 i, rest.1)
+
+-- ---- digits
+
+-- what holds of no digit holds nowhere in digits
+digits_lack : (test : ℕ → Bool) → ((b : ℕ) → is_digit b ≡ true → test b ≡ false) → (bytes : List ℕ)
+    → list_all is_digit bytes ≡ true → list_any test bytes ≡ false
+digits_lack test none [] e = refl
+digits_lack test none (b ∷ bytes) e =
+    let parts = and_parts (is_digit b) (list_all is_digit bytes) e in
+    λ i. none b parts.0 i || digits_lack test none bytes parts.1 i
+
+-- a byte that is no digit isn't one of them
+digit_not : (other : ℕ) → is_digit other ≡ false → (b : ℕ) → is_digit b ≡ true → (b == other) ≡ false
+digit_not other none b e =
+    elim (cases_Bool (b == other)) [
+      | inl y ↦ absurd (false≢true (sym none ∙ sym (ap is_digit (eqb-true b other y)) ∙ e))
+      | inr n ↦ n
+    ]
+
+-- a number's digits are all digits
+all_are : (bytes : List ℕ) → are_digits bytes ≡ true → list_all is_digit bytes ≡ true
+all_are bytes e = (and_parts (nat_lt 0 (length bytes)) (list_all is_digit bytes) e).1
+
+-- they hold no blank
+pub digits_no_gap : (bytes : List ℕ) → are_digits bytes ≡ true → list_any is_gap bytes ≡ false
+unfolding is_digit
+digits_no_gap bytes e = digits_lack is_gap (digit_not 32 refl) bytes (all_are bytes e)
+
+-- and no line feed
+pub digits_one : (bytes : List ℕ) → are_digits bytes ≡ true → is_one_line bytes ≡ true
+unfolding is_digit
+digits_one bytes e = ap not (digits_lack is_feed (digit_not 10 refl) bytes (all_are bytes e))
 
 -- ---- what is printed
 
