@@ -31,10 +31,14 @@ pub quotes_in_names : is_fail_line (codes "fail 3 340 \"a \"b\" c\" L 1") ≡ tr
 unfolding is_digit
 quotes_in_names = refl
 
--- none: a letter is missing, a level that isn't one, a byte that can't stand in a name, a chain without its cell
+-- none: a letter is missing, one of a look that is always met, a level that isn't one, a byte that can't stand in a name, a chain without its cell
 pub missing_letter : is_fail_line (codes "fail 3 340 G17 L") ≡ false
 unfolding is_digit
 missing_letter = refl
+
+pub always_met : is_fail_line (codes "fail 3 340 G17 X 1") ≡ false
+unfolding is_digit
+always_met = refl
 
 pub other_level : is_fail_line (codes "fail 3 340 G17 L 2") ≡ false
 unfolding is_digit
