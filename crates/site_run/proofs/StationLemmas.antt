@@ -1,5 +1,5 @@
 -- What the loop over cycles wants of a try that runs: there is room for its next cycles, `can_play`.
-use Rattle.std.proofs.Common.{◌≡◌, ℕ, ◌+◌, ◌*◌, ◌^◌, ◌<◌, ◌≤◌, Bor, None, length, sym, subst, arith}
+use Rattle.std.proofs.Common.{◌≡◌, ℕ, ◌+◌, ◌≤◌, Bor, None, length, sym, subst, arith}
 use Rattle.packed_code.specs.Program.{Program}
 use Rattle.packed_code.specs.Cycles.{cycles_of}
 use Rattle.edge_gen.specs.Held.{Held}

@@ -1,4 +1,4 @@
-use Rattle.std.proofs.Common.{◌≤◌, ◌+◌, ◌∙◌, ℕ, Some, length, take, arith, ap, subst}
+use Rattle.std.proofs.Common.{◌≤◌, ◌∙◌, Some, length, take, arith, ap, subst}
 use Rattle.std.proofs.lemmas.List.{length-drop, length-take-le}
 use Rattle.packed_code.specs.Cycles.{cycles_of}
 use Rattle.pattern_mem.specs.Cursor.{cycles_to_come}
