@@ -181,13 +181,16 @@ polled_now stand most keep told told' old mid new (Err e) polled quiet after = t
 
 -- a try behind a batch can be run again
 pub plays_batch : (ground : Ground) (told told' : Told) (old new : Run) (count : ℕ)
-    → IsRunOn (code_in ground) (device_in ground) told old → 1 ≤ count → old.done + count ≤ length (cycles_of (code_in ground) old.exec)
-    → PlaysCycles (stand_in ground) old.exec (take count (cycles_to_come (code_in ground) old.cursor)) (between_of told old.at) (between_of told' new.at)
+    → IsRunOn (code_in ground) (device_in ground) told old → 1 ≤ count
+    → old.done + count ≤ length (cycles_of (code_in ground) old.exec)
+    → PlaysCycles (stand_in ground) old.exec (take count (cycles_to_come (code_in ground) old.cursor)) (between_of told old.at)
+    (between_of told' new.at)
     → cycles_to_come (code_in ground) new.cursor ≡ drop count (cycles_to_come (code_in ground) old.cursor)
     → IsCursorOf (code_in ground) new.cursor
     → FitsBench (length ground.image.now.binds) new.at.bench.last.items new.at.bench.levels.items
     → IsBetween (device_in ground) (point_of told' new.at)
-    → new.exec ≡ old.exec → new.done ≡ old.done + count → new.batch ≡ old.batch + 1 → PlaysBatch ground count told told' old new
+    → new.exec ≡ old.exec → new.done ≡ old.done + count → new.batch ≡ old.batch + 1
+    → PlaysBatch ground count told told' old new
 plays_batch ground told told' old new count r some most plays coming cursor room between exec done batch =
     let stand = stand_in ground in
     let left = cycles_to_come (code_in ground) old.cursor in
@@ -196,8 +199,8 @@ plays_batch ground told told' old new count r some most plays coming cursor room
     let long = length-take-le count left (omega (arith, behind, most)) in
     let number = ap (λ (g : Going). g.number) plays.going ∙ number-after_cycles stand going (take count left) in
     let time = ap (λ (g : Going). g.time) plays.going in
-    let within = time_between stand r.cursor.placed.program old.cursor.start count (entries_left (code_in ground) (walk_of old.cursor)) going
-    r.cursor.over.named in
+    let within = time_between stand r.cursor.placed.program old.cursor.start count
+    (entries_left (code_in ground) (walk_of old.cursor)) going r.cursor.over.named in
     record {
       plays = plays;
       runs = record {
@@ -224,8 +227,8 @@ plays_batch ground told told' old new count r some most plays coming cursor room
     }
 
 -- a try that goes on behind a batch stands later
-later_now : (old mid new : Run) (count : ℕ) (m : Move) → 1 ≤ count → old.at.time < mid.at.time → mid.done ≡ old.done + count
-    → KeepsTime mid new m → StandsLater old new m
+later_now : (old mid new : Run) (count : ℕ) (m : Move) → 1 ≤ count → old.at.time < mid.at.time
+    → mid.done ≡ old.done + count → KeepsTime mid new m → StandsLater old new m
 later_now old mid new count move.More some later done kept = (omega (arith, later, kept.0), omega (arith, some, done, kept.1))
 later_now old mid new count move.Next some later done kept = (omega (arith, later, kept.0), kept.1)
 later_now old mid new count (move.Ends verdict) some later done kept =

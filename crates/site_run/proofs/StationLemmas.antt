@@ -20,7 +20,8 @@ setup_on ground code = record { code = code; image = ground.image; skews = groun
 
 pub can_play : (ground : Ground) (code : Bor Program) (schedules : Held) (told : Told) (run : Run) (cycles : ℕ)
     → code.now ≡ code_in ground → HoldsSchedules (code_in ground) ground.skews.now schedules
-    → IsRunOn (code_in ground) (device_in ground) told run → run.done + cycles ≤ length (cycles_of (code_in ground) run.exec)
+    → IsRunOn (code_in ground) (device_in ground) told run
+    → run.done + cycles ≤ length (cycles_of (code_in ground) run.exec)
     → CanPlay (setup_on ground code) cycles schedules told run.at
 can_play ground code schedules told run cycles is held r within =
     let program = r.cursor.placed.program in

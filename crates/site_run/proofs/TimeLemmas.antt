@@ -24,7 +24,8 @@ period_between code number program within =
     let table = get_or code.tables number no_table in
     let found = slice_get-get_or code.tables number no_table within in
     let is = period_is code.tables number table found in
-    let fits = period_fits code number table program within (sym (get_or_from_slice_get code.tables number table table found)) in
+    let gets = sym (get_or_from_slice_get code.tables number table table found) in
+    let fits = period_fits code number table program within gets in
     (omega (arith, is, fits.0), omega (arith, is, fits.1))
 
 -- behind these cycles, of which each takes a femtosecond to a millisecond

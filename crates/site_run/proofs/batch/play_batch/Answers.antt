@@ -1,11 +1,8 @@
-use Rattle.std.proofs.Common.{◌≡◌, ℕ, ◌+◌, ◌∙◌, length, take, drop, arith, ap, refl, sym, subst}
-use Rattle.std.proofs.lemmas.List.{length-drop}
+use Rattle.std.proofs.Common.{◌≡◌, ℕ, ◌+◌, ◌∙◌, take, drop, arith, ap, refl, subst}
 use Rattle.packed_code.specs.Program.{Program}
-use Rattle.packed_code.specs.Cycles.{cycles_of}
 use Rattle.pattern_mem.specs.Cursor.{cycles_to_come, IsCursorOf}
 use Rattle.cycle_run.specs.Cycle.{stand_of}
 use Rattle.cycle_run.specs.Batch.{Between, PlaysCycles}
-use Rattle.cycle_run.specs.Step.{FitCode}
 use Rattle.cycle_run.proofs.FitLemmas.{few_cycles}
 use Rattle.try_play.specs.declared.setup.Until.TheVariants as until
 use Rattle.try_play.specs.Setup.{HasEnough}
@@ -17,33 +14,6 @@ use Rattle.site_run.specs.Station.{code_in, device_in, stand_in}
 use Rattle.site_run.proofs.StationLemmas.{can_play}
 use Rattle.site_run.proofs.PolledLemmas.{plays_batch}
 use Rattle.site_run.proofs.batch.play_batch.Goals as goal
-
-pub play_at-requires-clause-set_up : goal.play_at-requires-clause-set_up
-play_at-requires-clause-set_up g c =
-    let ground = c.args.ground.now in
-    let is = sym c.code.ensures in
-    record {
-      whole = c.requires.set_up.whole;
-      signals = c.requires.set_up.signals ∙ ap (λ (p : Program). length p.signals) is;
-      skews_fit = subst (λ (p : Program). FitCode p ground.skews.now) is c.requires.set_up.skews;
-      lent = tt;
-    }
-
-pub play_at-requires-clause-can : goal.play_at-requires-clause-can
-play_at-requires-clause-can g c =
-    let is = sym c.code.ensures in
-    record {
-      of = subst (λ (p : Program). IsCursorOf p c.args.run.now.cursor) is c.requires.runs.cursor;
-      pass = c.requires.serves.pass;
-      mem = is;
-    }
-
-pub play_at-requires-clause-some : goal.play_at-requires-clause-some
-play_at-requires-clause-some g c =
-    let run = c.args.run.now in
-    let left = ap length c.requires.runs.coming ∙ length-drop run.done (cycles_of (code_in c.args.ground.now) run.exec) in
-    let same = ap (λ (p : Program). length (cycles_to_come p run.cursor)) c.code.ensures in
-    omega (arith, left, same, c.requires.within)
 
 pub play_at-requires-clause-ready : goal.play_at-requires-clause-ready
 play_at-requires-clause-ready g c =
@@ -80,7 +50,7 @@ returns-clause-plays g c =
     let played = subst (λ (p : Program). PlaysUpTo (PlaysCycles (stand_of p ground.skews.now (device_in ground)) old.exec)
     (λ (b : Between). HasEnough until.End b.point.held) (cycles_to_come p old.cursor) c.args.cycles c.in-Ok.field-0
     (between_of told old.at) (between_of told' new.at)) c.code.ensures c.in-Ok.ensures.plays in
-    let all = all_ran _ _ _ _ _ _ _ played (λ enough. let two = enough in cc) in
+    let all = all_ran _ _ _ _ _ _ _ played (λ over. cc) in
     let left = subst (λ (p : Program). cycles_to_come p new.cursor ≡ drop c.in-Ok.field-0 (cycles_to_come p old.cursor)) c.code.ensures
     c.in-Ok.ensures.left in
     let ready = c.in-Ok.ensures.ready 0 (can_play ground c.code.result c.args.station.now.schedules.now told old (0 + c.args.cycles)
