@@ -23,9 +23,11 @@ use Rattle.site_run.proofs.RunLemmas.{counted}
 -- a try before the first executive
 abbrev pub before_all : Cursor → Bench → Run
 before_all cursor bench = record {
-  way = record { exec = 0; cursor = cursor; number = 0; time = 0; bench = bench };
+  exec = 0;
+  cursor = cursor;
   done = 0;
   batch = 0;
+  at = record { number = 0; time = 0; bench = bench };
 }
 
 take-none : {X : Type 0} (n : ℕ) → take {A = X} n [] ≡ []
@@ -75,10 +77,10 @@ module _ (image : Image) (whole : IsWhole image.circuit) (cursor : Cursor) (benc
 
 -- a try that ended without a batch has found nothing
 pub ended_fresh : (part : Part) (die number : ℕ) (told : Told) (old new : Run) (verdict : Verdict)
-    → running_of told old ≡ fresh_try part die number → new.way.number ≡ old.way.number → new.way.bench.checker ≡ old.way.bench.checker
+    → running_of told old ≡ fresh_try part die number → new.at.number ≡ old.at.number → new.at.bench.checker ≡ old.at.bench.checker
     → ended_now number (running_of told new) verdict ≡ without_cycles number verdict
 ended_fresh part die number told old new verdict fresh same checker =
-    let cycles_is : new.way.number ≡ 0 = same ∙ ap (λ (r : Running). r.going.number) fresh in
-    let total_is : new.way.bench.checker.count.total ≡ 0 = ap (λ x. x.count.total) checker ∙ ap (λ (r : Running). r.total) fresh in
-    let kept_is : new.way.bench.checker.count.kept ≡ [] = ap (λ x. x.count.kept) checker ∙ ap (λ (r : Running). r.kept) fresh in
+    let cycles_is : new.at.number ≡ 0 = same ∙ ap (λ (r : Running). r.going.number) fresh in
+    let total_is : new.at.bench.checker.count.total ≡ 0 = ap (λ x. x.count.total) checker ∙ ap (λ (r : Running). r.total) fresh in
+    let kept_is : new.at.bench.checker.count.kept ≡ [] = ap (λ x. x.count.kept) checker ∙ ap (λ (r : Running). r.kept) fresh in
     λ i. record { number = number; cycles = cycles_is i; fails = total_is i; kept = kept_is i; verdict = verdict }

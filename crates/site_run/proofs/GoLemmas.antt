@@ -23,7 +23,7 @@ use Rattle.site_run.specs.Contact.{EndsAtContact}
 use Rattle.site_run.specs.Site.{try_of, IsSeatOf, IsOutcome, HasLost, Advances, OutcomeFits, IsOutcomeOf}
 
 -- where a move loses contact, it comes no earlier than the batch begins
-late_of : (old new : Run) (m : Move) → StandsLater old new m → IfSome (contact_of m) (λ at. old.way.time ≤ at)
+late_of : (old new : Run) (m : Move) → StandsLater old new m → IfSome (contact_of m) (λ at. old.at.time ≤ at)
 late_of old new move.More later = tt
 late_of old new move.Next later = tt
 late_of old new (move.Ends v) later = later
@@ -83,7 +83,7 @@ advances_by plan stops site told told' old new m end polled later cause live on 
 -- a try that goes on can be run again
 pub fits_by : (mem : Memory) (plan : Bound) (told' : Told) (site : Site) (old new : Run) (m : Move) (end : Outcome) → IsOutcomeOf new m end
     → GoesOnSo mem.code (device_of (image_of plan site.site site.die (try_of site))) told' new m → StandsLater old new m
-    → new.way.bench.checker.count.keep ≡ (lot_of plan.rows).keep
+    → new.at.bench.checker.count.keep ≡ (lot_of plan.rows).keep
     → OutcomeFits mem plan told' site end
 fits_by mem plan told' site old new move.More end of fits later keep =
     subst (OutcomeFits mem plan told' site) (sym of)

@@ -1,8 +1,9 @@
 mod StandardFacts
 pub mod HitLemmas
 pub mod RunLemmas
+pub mod StationLemmas
+pub mod TimeLemmas
 pub mod TapeLemmas
-pub mod MadeLemmas
 pub mod MoveLemmas
 pub mod PolledLemmas
 pub mod ArrivalLemmas

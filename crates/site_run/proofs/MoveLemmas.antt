@@ -43,14 +43,14 @@ onward_none part number running from code is none =
 
 -- a try that comes to an executive can run it
 pub runs_on : (code : Program) (device : Device) (told : Told) (old new : Run) (from : ℕ) → IsBefore device told old from
-    → from ≤ new.way.exec → new.way.exec < length code.execs → IsCursorOf code new.way.cursor
-    → cycles_to_come code new.way.cursor ≡ cycles_of code new.way.exec → new.done ≡ 0 → new.batch ≡ old.batch → new.way.bench ≡ old.way.bench
-    → new.way.number ≡ old.way.number → new.way.time ≡ old.way.time
+    → from ≤ new.exec → new.exec < length code.execs → IsCursorOf code new.cursor
+    → cycles_to_come code new.cursor ≡ cycles_of code new.exec → new.done ≡ 0 → new.batch ≡ old.batch → new.at.bench ≡ old.at.bench
+    → new.at.number ≡ old.at.number → new.at.time ≡ old.at.time
     → IsRunOn code device told new
 runs_on code device told old new from b after within cursor coming done batch bench number time = record {
   exec = within;
   cursor = cursor;
-  coming = coming ∙ ap (λ (n : ℕ). drop n (cycles_of code new.way.exec)) (sym done);
+  coming = coming ∙ ap (λ (n : ℕ). drop n (cycles_of code new.exec)) (sym done);
   room = subst (λ x. FitsBench (length device.binds) x.last.items x.levels.items) (sym bench) b.room;
   loaded = b.loaded;
   state = b.state;
@@ -105,7 +105,7 @@ settled_on part number running code is over none =
 
 -- a try whose executive has ended comes to the next one
 pub comes_before : (code : Program) (device : Device) (told : Told) (run : Run) → IsProgram code → IsRunOn code device told run
-    → IsBefore device told run (run.way.exec + 1)
+    → IsBefore device told run (run.exec + 1)
 comes_before code device told run program r = record {
   room = r.room;
   loaded = r.loaded;
@@ -113,7 +113,7 @@ comes_before code device told run program r = record {
   keep = r.keep;
   found = r.found;
   seen = r.seen;
-  number = let few = few_cycles code run.way.exec program r.exec in omega (arith, few, r.done, r.number);
+  number = let few = few_cycles code run.exec program r.exec in omega (arith, few, r.done, r.number);
   time = r.time;
   batch = r.batch;
 }

@@ -1,8 +1,8 @@
 -- A batch that was run is the batch of a poll, up to its end or to the moment at which contact was lost.
-use Rattle.std.proofs.Common.{◌≡◌, ℕ, ◌+◌, ◌-◌, ◌^◌, ◌≤◌, List, ◌++◌, length, take, drop, Option, Some, None, refl, sym, ap, ◌∙◌, subst, arith, length-append}
+use Rattle.std.proofs.Common.{◌≡◌, ℕ, ◌+◌, ◌-◌, ◌^◌, ◌<◌, ◌≤◌, List, ◌++◌, length, take, drop, Option, Some, None, refl, sym, ap, ◌∙◌, subst, arith, length-append}
 use Rattle.std.specs.Prelude.{min, Result, Ok, Err, IfOk, IfSome}
 use Rattle.std.specs.Option.{option_map_or}
-use Rattle.std.proofs.lemmas.List.{append_assoc, length-drop, take_min}
+use Rattle.std.proofs.lemmas.List.{append_assoc, length-drop, length-take-le, take_min}
 use Rattle.tester_types.specs.declared.outside.NoMemory.{NoMemory}
 use Rattle.tester_types.specs.declared.record.Fail.{Fail}
 use Rattle.tester_types.specs.declared.record.Verdict.TheVariants as verdict
@@ -10,6 +10,8 @@ use Rattle.tester_types.specs.declared.cycle.Cycle.{Cycle}
 use Rattle.packed_code.specs.Program.{Program}
 use Rattle.packed_code.specs.Conditions.{IsProgram}
 use Rattle.packed_code.specs.Cycles.{cycles_of}
+use Rattle.packed_code.specs.Walk.{entries_left}
+use Rattle.pattern_mem.specs.Cursor.{walk_of, cycles_to_come, IsCursorOf}
 use Rattle.die_sim.specs.Die.{Device}
 use Rattle.die_sim.specs.Socket.{Told}
 use Rattle.strobe_check.specs.Count.{Count, HasCounted}
@@ -21,13 +23,15 @@ use Rattle.site_meaning.specs.Polls.{Running, Step, ends, ended_now, ended_at, m
 use Rattle.site_run.specs.declared.run.Run.{Run}
 use Rattle.site_run.specs.declared.run.Move.{Move}
 use Rattle.site_run.specs.declared.run.Move.TheVariants as move
-use Rattle.cycle_run.specs.Cycle.{closed_with, played_behind}
+use Rattle.cycle_run.specs.Cycle.{closed_with, played_behind, IsBetween}
 use Rattle.cycle_run.specs.Batch.{Between, going_in, PlaysCycles, LosesContactIn}
-use Rattle.cycle_run.specs.Step.{FitCode}
-use Rattle.site_run.specs.declared.station.Setup.{Setup}
-use Rattle.site_run.specs.Station.{code_in, device_in, stand_in, between_of, coming_in, Makes}
-use Rattle.site_run.specs.Seat.{running_of, IsRunOn, IsSeen, IsPlanned, IsMove, contact_of, GoesOnSo, KeepsTime, StandsLater, HasMoved}
+use Rattle.cycle_run.specs.Step.{FitCode, FitsBench}
+use Rattle.site_run.specs.declared.station.Ground.{Ground}
+use Rattle.try_play.specs.Seat.{point_of, between_of}
+use Rattle.site_run.specs.Station.{code_in, device_in, stand_in}
+use Rattle.site_run.specs.Seat.{running_of, IsRunOn, IsSeen, IsPlanned, PlaysBatch, IsMove, contact_of, GoesOnSo, KeepsTime, StandsLater, HasMoved}
 use Rattle.site_run.proofs.HitLemmas.{call_late, time_grows, reached_there}
+use Rattle.site_run.proofs.TimeLemmas.{time_between}
 use Rattle.site_run.proofs.RunLemmas.{counted, counted_open, min_more, take_more_of, drop-both}
 use Rattle.site_meaning.proofs.PlayedLemmas.{number-after_cycles}
 
@@ -53,59 +57,59 @@ kept_more part keep found fails old new same was is =
 -- ---- the cycles of a batch
 
 -- so many as there are to come, and at most those of a batch
-pub cycles_are : (setup : Setup) (told : Told) (run : Run) (most all count : ℕ) → IsRunOn (code_in setup) (device_in setup) told run
-    → all ≡ length (cycles_of (code_in setup) run.way.exec) → count ≡ min (all - run.done) most
-    → (part : Part) (die number : ℕ) → IsPlanned part die number (stand_in setup) most run.way.bench.checker.count.keep
-    → take count (coming_in setup run.way) ≡ next_cycles part (running_of told run)
+pub cycles_are : (ground : Ground) (told : Told) (run : Run) (most all count : ℕ) → IsRunOn (code_in ground) (device_in ground) told run
+    → all ≡ length (cycles_of (code_in ground) run.exec) → count ≡ min (all - run.done) most
+    → (part : Part) (die number : ℕ) → IsPlanned part die number (stand_in ground) most run.at.bench.checker.count.keep
+    → take count (cycles_to_come (code_in ground) run.cursor) ≡ next_cycles part (running_of told run)
 unfolding next_cycles
-cycles_are setup told run most all count r all_is few part die number planned =
-    let left = drop run.done (cycles_of (code_in setup) run.way.exec) in
-    let long = length-drop run.done (cycles_of (code_in setup) run.way.exec) in
+cycles_are ground told run most all count r all_is few part die number planned =
+    let left = drop run.done (cycles_of (code_in ground) run.exec) in
+    let long = length-drop run.done (cycles_of (code_in ground) run.exec) in
     let count_is : count ≡ min most (length left) = omega (arith, few, long, all_is) in
     ap (take count) r.coming
     ∙ ap (λ (n : ℕ). take n left) count_is
     ∙ take_min most left
     ∙ ap (λ (n : ℕ). take n left) (sym planned.most_is)
-    ∙ ap (λ (p : Program). take (lot_in part).batch (drop run.done (cycles_of p run.way.exec))) (sym planned.code)
+    ∙ ap (λ (p : Program). take (lot_in part).batch (drop run.done (cycles_of p run.exec))) (sym planned.code)
 
 module _ (part : Part) (die number most : ℕ) (stand : Stand) (old new : Run) (told told' : Told) (count : ℕ) (cycles : List Cycle)
-    (planned : IsPlanned part die number stand most old.way.bench.checker.count.keep)
+    (planned : IsPlanned part die number stand most old.at.bench.checker.count.keep)
     (cycles_is : cycles ≡ next_cycles part (running_of told old))
-    (keep : ℕ) (found : List Fail) (seen : HasSeen (closed_with stand.device keep found) old.way.bench.checker) where
-  old_count : HasCounted keep found old.way.bench.checker.count
-  old_count = counted stand.device keep found old.way.bench.checker seen
+    (keep : ℕ) (found : List Fail) (seen : HasSeen (closed_with stand.device keep found) old.at.bench.checker) where
+  old_count : HasCounted keep found old.at.bench.checker.count
+  old_count = counted stand.device keep found old.at.bench.checker seen
 
   same_keep : (lot_in part).keep ≡ keep
   same_keep = planned.keep_is ∙ old_count.most
 
   abbrev fails : List Fail
-  fails = fails_in (played stand old.way.exec (going_in (between_of told old.way)) cycles)
+  fails = fails_in (played stand old.exec (going_in (between_of told old.at)) cycles)
 
-  played_is : played stand old.way.exec (going_in (between_of told old.way)) cycles ≡ next_played part die number (running_of told old)
+  played_is : played stand old.exec (going_in (between_of told old.at)) cycles ≡ next_played part die number (running_of told old)
   unfolding next_played
   played_is =
-      ap (λ (s : Stand). played s old.way.exec (going_in (between_of told old.way)) cycles) (sym planned.stand_is)
-      ∙ ap (played (stand_for part die number) old.way.exec (going_in (between_of told old.way))) cycles_is
+      ap (λ (s : Stand). played s old.exec (going_in (between_of told old.at)) cycles) (sym planned.stand_is)
+      ∙ ap (played (stand_for part die number) old.exec (going_in (between_of told old.at))) cycles_is
 
   -- behind the batch
-  pub behind_batch : PlaysCycles stand old.way.exec cycles (between_of told old.way) (between_of told' new.way)
-      → length cycles ≡ count → new.way.exec ≡ old.way.exec → new.done ≡ old.done + count → new.batch ≡ old.batch + 1
+  pub behind_batch : PlaysCycles stand old.exec cycles (between_of told old.at) (between_of told' new.at)
+      → length cycles ≡ count → new.exec ≡ old.exec → new.done ≡ old.done + count → new.batch ≡ old.batch + 1
       → after_batch part die number (running_of told old) ≡ running_of told' new
   unfolding after_batch
   behind_batch plays long exec done batch =
-      let after = counted stand.device keep (found ++ fails) new.way.bench.checker (plays.finds keep found seen) in
+      let after = counted stand.device keep (found ++ fails) new.at.bench.checker (plays.finds keep found seen) in
       let next = next_cycles part (running_of told old) in
       let same = ap (λ (l : List Cycle). length l) cycles_is in
-      let exec_is : old.way.exec ≡ new.way.exec = sym exec in
+      let exec_is : old.exec ≡ new.exec = sym exec in
       let done_is : old.done + length next ≡ new.done = omega (arith, same, long, done) in
       let batch_is : old.batch + 1 ≡ new.batch = sym batch in
-      let going_is : after_cycles (stand_for part die number) (going_in (between_of told old.way)) next ≡ going_in (between_of told' new.way) =
-      ap (λ (s : Stand). after_cycles s (going_in (between_of told old.way)) next) planned.stand_is
-      ∙ ap (after_cycles stand (going_in (between_of told old.way))) (sym cycles_is) ∙ sym plays.going in
-      let total_is = ap (λ (l : List PlayedCycle). more_fails old.way.bench.checker.count.total (fails_in l)) (sym played_is)
-      ∙ more_total keep found fails old.way.bench.checker.count new.way.bench.checker.count old_count after in
-      let kept_is = ap (λ (l : List PlayedCycle). more_kept part old.way.bench.checker.count.kept (fails_in l)) (sym played_is)
-      ∙ kept_more part keep found fails old.way.bench.checker.count new.way.bench.checker.count same_keep old_count after in
+      let going_is : after_cycles (stand_for part die number) (going_in (between_of told old.at)) next ≡ going_in (between_of told' new.at) =
+      ap (λ (s : Stand). after_cycles s (going_in (between_of told old.at)) next) planned.stand_is
+      ∙ ap (after_cycles stand (going_in (between_of told old.at))) (sym cycles_is) ∙ sym plays.going in
+      let total_is = ap (λ (l : List PlayedCycle). more_fails old.at.bench.checker.count.total (fails_in l)) (sym played_is)
+      ∙ more_total keep found fails old.at.bench.checker.count new.at.bench.checker.count old_count after in
+      let kept_is = ap (λ (l : List PlayedCycle). more_kept part old.at.bench.checker.count.kept (fails_in l)) (sym played_is)
+      ∙ kept_more part keep found fails old.at.bench.checker.count new.at.bench.checker.count same_keep old_count after in
       λ i. record {
         exec = exec_is i;
         done = done_is i;
@@ -117,27 +121,27 @@ module _ (part : Part) (die number most : ℕ) (stand : Stand) (old new : Run) (
 
   -- or where contact was lost
   pub lost_in_batch : FitCode stand.code stand.skews → IsProgram stand.code → (instant : ℕ)
-      → LosesContactIn stand old.way.exec cycles (between_of told old.way) (between_of told' new.way) instant
+      → LosesContactIn stand old.exec cycles (between_of told old.at) (between_of told' new.at) instant
       → run_batch part die number (Some instant) (running_of told old)
       ≡ ends (ended_now number (running_of told' new) (verdict.Contact instant))
   unfolding run_batch
   lost_in_batch fit program instant l =
-      let going = going_in (between_of told old.way) in
-      let before = fails_in (played stand old.way.exec going l.done) in
-      let own = (played_behind stand old.way.exec (going_in l.mid) l.cycle l.loses.at.done l.loses.at.moment).earlier in
+      let going = going_in (between_of told old.at) in
+      let before = fails_in (played stand old.exec going l.done) in
+      let own = (played_behind stand old.exec (going_in l.mid) l.cycle l.loses.at.done l.loses.at.moment).earlier in
       let lost : Lost = record { cycles = length l.done; fails = before ++ own } in
       let there = ap (reached instant) (sym played_is)
-      ∙ ap (λ (cs : List Cycle). reached instant (played stand old.way.exec going cs)) l.split
-      ∙ reached_there stand fit program old.way.exec l.done l.later going (going_in l.mid) l.cycle instant l.plays.going l.loses.at in
+      ∙ ap (λ (cs : List Cycle). reached instant (played stand old.exec going cs)) l.split
+      ∙ reached_there stand fit program old.exec l.done l.later going (going_in l.mid) l.cycle instant l.plays.going l.loses.at in
       let has = l.loses.finds keep (found ++ before) (l.plays.finds keep found seen) in
-      let after = subst (λ (fs : List Fail). HasCounted keep fs new.way.bench.checker.count) (append_assoc found before own)
-      (counted_open keep ((found ++ before) ++ own) new.way.bench.checker has) in
-      let cycles_is : old.way.number + length l.done ≡ new.way.number =
+      let after = subst (λ (fs : List Fail). HasCounted keep fs new.at.bench.checker.count) (append_assoc found before own)
+      (counted_open keep ((found ++ before) ++ own) new.at.bench.checker has) in
+      let cycles_is : old.at.number + length l.done ≡ new.at.number =
       let mid = ap (λ (g : Going). g.number) l.plays.going in
       let numbered = number-after_cycles stand going l.done in
       omega (arith, mid, numbered, l.number) in
-      let total_is = more_total keep found (before ++ own) old.way.bench.checker.count new.way.bench.checker.count old_count after in
-      let kept_is = kept_more part keep found (before ++ own) old.way.bench.checker.count new.way.bench.checker.count same_keep old_count after in
+      let total_is = more_total keep found (before ++ own) old.at.bench.checker.count new.at.bench.checker.count old_count after in
+      let kept_is = kept_more part keep found (before ++ own) old.at.bench.checker.count new.at.bench.checker.count same_keep old_count after in
       let ended : ended_at part number (running_of told old) instant lost ≡ ended_now number (running_of told' new) (verdict.Contact instant) =
       (λ i. record {
         number = number;
@@ -176,39 +180,59 @@ polled_now stand most keep told told' old mid new (Ok m) polled quiet after = λ
 polled_now stand most keep told told' old mid new (Err e) polled quiet after = tt
 
 -- a try behind a batch can be run again
-runs_again : (setup : Setup) (told told' : Told) (old new : Run) (count : ℕ)
-    → IsRunOn (code_in setup) (device_in setup) told old → 1 ≤ count → old.done + count ≤ length (cycles_of (code_in setup) old.way.exec)
-    → Makes setup count told told' old.way new.way → new.done ≡ old.done + count → new.batch ≡ old.batch + 1
-    → IsRunOn (code_in setup) (device_in setup) told' new
-runs_again setup told told' old new count r some most made done batch =
-    let exec = made.exec in
-    let number = made.number in
-    let time = made.time in
+pub plays_batch : (ground : Ground) (told told' : Told) (old new : Run) (count : ℕ)
+    → IsRunOn (code_in ground) (device_in ground) told old → 1 ≤ count
+    → old.done + count ≤ length (cycles_of (code_in ground) old.exec)
+    → PlaysCycles (stand_in ground) old.exec (take count (cycles_to_come (code_in ground) old.cursor)) (between_of told old.at)
+    (between_of told' new.at)
+    → cycles_to_come (code_in ground) new.cursor ≡ drop count (cycles_to_come (code_in ground) old.cursor)
+    → IsCursorOf (code_in ground) new.cursor
+    → FitsBench (length ground.image.now.binds) new.at.bench.last.items new.at.bench.levels.items
+    → IsBetween (device_in ground) (point_of told' new.at)
+    → new.exec ≡ old.exec → new.done ≡ old.done + count → new.batch ≡ old.batch + 1
+    → PlaysBatch ground count told told' old new
+plays_batch ground told told' old new count r some most plays coming cursor room between exec done batch =
+    let stand = stand_in ground in
+    let left = cycles_to_come (code_in ground) old.cursor in
+    let going = going_in (between_of told old.at) in
+    let behind = ap length r.coming ∙ length-drop old.done (cycles_of (code_in ground) old.exec) in
+    let long = length-take-le count left (omega (arith, behind, most)) in
+    let number = ap (λ (g : Going). g.number) plays.going ∙ number-after_cycles stand going (take count left) in
+    let time = ap (λ (g : Going). g.time) plays.going in
+    let within = time_between stand r.cursor.placed.program old.cursor.start count
+    (entries_left (code_in ground) (walk_of old.cursor)) going r.cursor.over.named in
     record {
-      exec = omega (arith, exec, r.exec);
-      cursor = made.goes_on.of;
-      coming = made.coming ∙ ap (drop count) r.coming ∙ drop-both old.done count (cycles_of (code_in setup) old.way.exec)
-          ∙ ap (λ (n : ℕ). drop n (cycles_of (code_in setup) old.way.exec)) (sym done)
-          ∙ ap (λ (e : ℕ). drop new.done (cycles_of (code_in setup) e)) (sym exec);
-      room = made.goes_on.room;
-      loaded = made.goes_on.between.loaded;
-      state = made.goes_on.between.state;
-      keep = r.keep;
-      found = r.found ++ fails_in (played (stand_in setup) old.way.exec (going_in (between_of told old.way)) (take count (coming_in setup old.way)));
-      seen = made.plays.finds r.keep r.found r.seen;
-      done = subst (λ (e : ℕ). new.done ≤ length (cycles_of (code_in setup) e)) (sym exec) (omega (arith, done, most));
-      number = omega (arith, number, exec, done, r.number);
-      time = omega (arith, number, time, r.time);
-      batch = omega (arith, number, batch, some, r.batch);
+      plays = plays;
+      runs = record {
+        exec = omega (arith, exec, r.exec);
+        cursor = cursor;
+        coming = coming ∙ ap (drop count) r.coming ∙ drop-both old.done count (cycles_of (code_in ground) old.exec)
+            ∙ ap (λ (n : ℕ). drop n (cycles_of (code_in ground) old.exec)) (sym done)
+            ∙ ap (λ (e : ℕ). drop new.done (cycles_of (code_in ground) e)) (sym exec);
+        room = room;
+        loaded = between.loaded;
+        state = between.state;
+        keep = r.keep;
+        found = r.found ++ fails_in (played stand old.exec going (take count left));
+        seen = plays.finds r.keep r.found r.seen;
+        done = subst (λ (e : ℕ). new.done ≤ length (cycles_of (code_in ground) e)) (sym exec) (omega (arith, done, most));
+        number = omega (arith, number, long, exec, done, r.number);
+        time = omega (arith, number, long, time, within.1, r.time);
+        batch = omega (arith, number, long, batch, some, r.batch);
+      };
+      exec = exec;
+      done = done;
+      batch = batch;
+      later = omega (arith, time, within.0, long, some);
     }
 
 -- a try that goes on behind a batch stands later
-later_now : (old mid new : Run) (count : ℕ) (m : Move) → 1 ≤ count → old.way.time + count ≤ mid.way.time → mid.done ≡ old.done + count
-    → KeepsTime mid new m → StandsLater old new m
-later_now old mid new count move.More some later done kept = (omega (arith, some, later, kept.0), omega (arith, some, done, kept.1))
-later_now old mid new count move.Next some later done kept = (omega (arith, some, later, kept.0), kept.1)
+later_now : (old mid new : Run) (count : ℕ) (m : Move) → 1 ≤ count → old.at.time < mid.at.time
+    → mid.done ≡ old.done + count → KeepsTime mid new m → StandsLater old new m
+later_now old mid new count move.More some later done kept = (omega (arith, later, kept.0), omega (arith, some, done, kept.1))
+later_now old mid new count move.Next some later done kept = (omega (arith, later, kept.0), kept.1)
 later_now old mid new count (move.Ends verdict) some later done kept =
-    subst (λ (o : Option ℕ). IfSome o (λ at. old.way.time ≤ at)) (sym kept) tt
+    subst (λ (o : Option ℕ). IfSome o (λ at. old.at.time ≤ at)) (sym kept) tt
 
 -- contact is lost no earlier than the batch begins
 lost_late : (stand : Stand) (exec : ℕ) (cycles : List Cycle) (old new : Between) (instant : ℕ) → FitCode stand.code stand.skews
@@ -220,36 +244,35 @@ lost_late stand exec cycles old new instant fit program l =
     omega (arith, mid, grows, late)
 
 -- what is so of a try that runs on behind a batch
-pub moved_on : (setup : Setup) (told told' : Told) (old mid new : Run) (count : ℕ) (result : Result Move NoMemory)
-    → IsRunOn (code_in setup) (device_in setup) told old → 1 ≤ count → old.done + count ≤ length (cycles_of (code_in setup) old.way.exec)
-    → Makes setup count told told' old.way mid.way → mid.done ≡ old.done + count → mid.batch ≡ old.batch + 1
-    → IfOk result (λ m. (d : Device) (t : Told) → IsRunOn (code_in setup) d t mid → GoesOnSo (code_in setup) d t new m)
-    → IfOk result (λ m. KeepsTime mid new m) → new.way.bench.checker ≡ mid.way.bench.checker
-    → IfOk result (λ m. HasMoved (code_in setup) (device_in setup) told' old new m)
-moved_on setup told told' old mid new count (Ok m) r some most made done batch fits kept checker =
-    let seen = made.plays.finds r.keep r.found r.seen in
-    let before = counted (device_in setup) r.keep r.found old.way.bench.checker r.seen in
-    let after = counted (device_in setup) r.keep _ mid.way.bench.checker seen in
+pub moved_on : (ground : Ground) (told told' : Told) (old mid new : Run) (count : ℕ) (result : Result Move NoMemory)
+    → IsRunOn (code_in ground) (device_in ground) told old → 1 ≤ count → PlaysBatch ground count told told' old mid
+    → IfOk result (λ m. (d : Device) (t : Told) → IsRunOn (code_in ground) d t mid → GoesOnSo (code_in ground) d t new m)
+    → IfOk result (λ m. KeepsTime mid new m) → new.at.bench.checker ≡ mid.at.bench.checker
+    → IfOk result (λ m. HasMoved (code_in ground) (device_in ground) told' old new m)
+moved_on ground told told' old mid new count (Ok m) r some batch fits kept checker =
+    let seen = batch.plays.finds r.keep r.found r.seen in
+    let before = counted (device_in ground) r.keep r.found old.at.bench.checker r.seen in
+    let after = counted (device_in ground) r.keep _ mid.at.bench.checker seen in
     record {
-      fits = fits (device_in setup) told' (runs_again setup told told' old mid count r some most made done batch);
+      fits = fits (device_in ground) told' batch.runs;
       seen = subst IsSeen (sym checker) (_, seen);
       keep = ap (λ (h : Held). h.count.keep) checker ∙ after.most ∙ sym before.most;
-      later = later_now old mid new count m some made.later done kept;
+      later = later_now old mid new count m some batch.later batch.done kept;
     }
-moved_on setup told told' old mid new count (Err e) r some most made done batch fits kept checker = tt
+moved_on ground told told' old mid new count (Err e) r some batch fits kept checker = tt
 
 -- and of one that has lost contact in it
-pub moved_away : (setup : Setup) (told told' : Told) (old new : Run) (cycles : List Cycle) (instant : ℕ)
-    → IsRunOn (code_in setup) (device_in setup) told old → FitCode (code_in setup) setup.skews.now
-    → LosesContactIn (stand_in setup) old.way.exec cycles (between_of told old.way) (between_of told' new.way) instant
-    → HasMoved (code_in setup) (device_in setup) told' old new (move.Ends (verdict.Contact instant))
-moved_away setup told told' old new cycles instant r fit lost =
+pub moved_away : (ground : Ground) (told told' : Told) (old new : Run) (cycles : List Cycle) (instant : ℕ)
+    → IsRunOn (code_in ground) (device_in ground) told old → FitCode (code_in ground) ground.skews.now
+    → LosesContactIn (stand_in ground) old.exec cycles (between_of told old.at) (between_of told' new.at) instant
+    → HasMoved (code_in ground) (device_in ground) told' old new (move.Ends (verdict.Contact instant))
+moved_away ground told told' old new cycles instant r fit lost =
     let found = lost.loses.finds r.keep _ (lost.plays.finds r.keep r.found r.seen) in
-    let before = counted (device_in setup) r.keep r.found old.way.bench.checker r.seen in
+    let before = counted (device_in ground) r.keep r.found old.at.bench.checker r.seen in
     record {
       fits = tt;
       seen = (found.history, found.seen);
-      keep = (counted_open r.keep _ new.way.bench.checker found).most ∙ sym before.most;
-      later = lost_late (stand_in setup) old.way.exec cycles (between_of told old.way) (between_of told' new.way) instant fit r.cursor.placed.program
+      keep = (counted_open r.keep _ new.at.bench.checker found).most ∙ sym before.most;
+      later = lost_late (stand_in ground) old.exec cycles (between_of told old.at) (between_of told' new.at) instant fit r.cursor.placed.program
           lost;
     }

@@ -80,7 +80,7 @@ late_after (Some at) time some late zero_is =
     omega (arith, some, late, e)
 
 pub steps_running : (plan : Bound) (stops : ℕ) (site : Site) (other : Option Run) (told told' : Told) (run : Run) (end : Outcome) (taken : ℕ)
-    → site.running ≡ Some run → 0 < run.way.time → Advances plan stops (with_run site other) told told' run end
+    → site.running ≡ Some run → 0 < run.at.time → Advances plan stops (with_run site other) told told' run end
     → taken ≡ (if nat_lt site.state.taken stops then stops else site.state.taken)
     → Steps plan stops site told told' end taken
 steps_running plan stops site other told told' run end taken runs some a taken_is =
@@ -94,7 +94,7 @@ steps_running plan stops site other told told' run end taken runs some a taken_i
       steps = λ part same.
           subst (λ (s : Step). IsOutcome told' end (stepped_try part a.contact seat s))
           (sym (arrived_running part a.contact seat (running_of told run) running))
-          (a.on part seat same is (late_after a.contact run.way.time some a.late));
+          (a.on part seat same is (late_after a.contact run.at.time some a.late));
       tape = λ part same.
           subst (λ (s : Step). IsTaped a.contact (calls_of_step part seat s) told.tape told'.tape)
           (sym (arrived_running part None seat (running_of told run) running)) (a.tape part seat same is);

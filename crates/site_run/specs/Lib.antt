@@ -1,3 +1,5 @@
+pub mod Feed
+pub mod FeedLaws
 pub mod Station
 pub mod Taped
 pub mod Seat

@@ -1,5 +1,5 @@
 -- A site as a poll sees it, at a socket that tells the state of the die.
-use Rattle.std.specs.Prelude.{◌≡◌, ℕ, ◌+◌, ◌*◌, ◌<◌, ◌≤◌, Option, Some, None, IfSome, List, [], drop, length}
+use Rattle.std.specs.Prelude.{◌≡◌, ℕ, ◌+◌, ◌*◌, ◌<◌, ◌≤◌, Option, Some, None, IfSome, List, [], take, drop, length}
 use Rattle.tester_types.specs.declared.record.Verdict.{Verdict}
 use Rattle.tester_types.specs.declared.record.Verdict.TheVariants as verdict
 use Rattle.tester_types.specs.declared.record.Fail.{Fail}
@@ -19,49 +19,70 @@ use Rattle.site_run.specs.declared.run.Move.TheVariants as move
 use Rattle.site_run.specs.declared.arrival.Arrival.{Arrival}
 use Rattle.site_run.specs.declared.arrival.Arrival.TheVariants as arrival
 use Rattle.cycle_run.specs.Cycle.{closed_with, IsStateOf}
-use Rattle.cycle_run.specs.Step.{FitsBench}
+use Rattle.cycle_run.specs.declared.stop.Stop.{Stop}
+use Rattle.cycle_run.specs.Batch.{PlaysCycles, StopsAmong}
+use Rattle.cycle_run.specs.Step.{FitsBench, HasCause}
+use Rattle.try_play.specs.Seat.{between_of}
+use Rattle.site_run.specs.declared.station.Ground.{Ground}
+use Rattle.site_run.specs.Station.{code_in, device_in, stand_in}
 
 -- ---- a try that runs
 
 -- as a poll sees it: the die's state is the one that the socket tells
 abbrev pub running_of : Told → Run → Running
 running_of told run = record {
-  exec = run.way.exec;
+  exec = run.exec;
   done = run.done;
   batch = run.batch;
-  going = record { die = told.state; priors = run.way.bench.last.items; time = run.way.time; number = run.way.number };
-  total = run.way.bench.checker.count.total;
-  kept = run.way.bench.checker.count.kept;
+  going = record { die = told.state; priors = run.at.bench.last.items; time = run.at.time; number = run.at.number };
+  total = run.at.bench.checker.count.total;
+  kept = run.at.bench.checker.count.kept;
 }
 
 -- what is so of a try that runs on this program and this die: its cursor gives the cycles of its executive that haven't
 -- run, its checker has closed all cycles so far, and its numbers are small enough to go on
 pub record IsRunOn (code : Program) (device : Device) (told : Told) (run : Run) : Type 0 where
-  pub exec : run.way.exec < length code.execs
-  pub cursor : IsCursorOf code run.way.cursor
-  pub coming : cycles_to_come code run.way.cursor ≡ drop run.done (cycles_of code run.way.exec)
-  pub room : FitsBench (length device.binds) run.way.bench.last.items run.way.bench.levels.items
+  pub exec : run.exec < length code.execs
+  pub cursor : IsCursorOf code run.cursor
+  pub coming : cycles_to_come code run.cursor ≡ drop run.done (cycles_of code run.exec)
+  pub room : FitsBench (length device.binds) run.at.bench.last.items run.at.bench.levels.items
   pub loaded : told.loaded ≡ Some device
   pub state : IsStateOf device told.state
   pub keep : ℕ
   pub found : List Fail
-  pub seen : HasSeen (closed_with device keep found) run.way.bench.checker
-  pub done : run.done ≤ length (cycles_of code run.way.exec)
-  pub number : run.way.number ≤ 281474976710656 * run.way.exec + run.done
-  pub time : run.way.time ≤ 1000000000000 * run.way.number
-  pub batch : run.batch ≤ run.way.number
+  pub seen : HasSeen (closed_with device keep found) run.at.bench.checker
+  pub done : run.done ≤ length (cycles_of code run.exec)
+  pub number : run.at.number ≤ 281474976710656 * run.exec + run.done
+  pub time : run.at.time ≤ 1000000000000 * run.at.number
+  pub batch : run.batch ≤ run.at.number
+
+-- a batch of so many cycles is played: the try stands later, behind them, and can be run again
+pub record PlaysBatch (ground : Ground) (cycles : ℕ) (told told' : Told) (old new : Run) : Type 0 where
+  pub plays : PlaysCycles (stand_in ground) old.exec (take cycles (cycles_to_come (code_in ground) old.cursor))
+      (between_of told old.at) (between_of told' new.at)
+  pub runs : IsRunOn (code_in ground) (device_in ground) told' new
+  pub exec : new.exec ≡ old.exec
+  pub done : new.done ≡ old.done + cycles
+  pub batch : new.batch ≡ old.batch + 1
+  pub later : old.at.time < new.at.time
+
+-- it stops in one of its cycles, which has its cause
+pub record StopsBatch (ground : Ground) (cycles : ℕ) (told told' : Told) (old new : Run) (why : Stop) : Type 0 where
+  pub among : StopsAmong (stand_in ground) old.exec (take cycles (cycles_to_come (code_in ground) old.cursor))
+      (between_of told old.at) (between_of told' new.at) why
+  pub cause : HasCause told.count told'.count why
 
 -- what is so of it where it comes to the executives from this one on
 pub record IsBefore (device : Device) (told : Told) (run : Run) (from : ℕ) : Type 0 where
-  pub room : FitsBench (length device.binds) run.way.bench.last.items run.way.bench.levels.items
+  pub room : FitsBench (length device.binds) run.at.bench.last.items run.at.bench.levels.items
   pub loaded : told.loaded ≡ Some device
   pub state : IsStateOf device told.state
   pub keep : ℕ
   pub found : List Fail
-  pub seen : HasSeen (closed_with device keep found) run.way.bench.checker
-  pub number : run.way.number ≤ 281474976710656 * from
-  pub time : run.way.time ≤ 1000000000000 * run.way.number
-  pub batch : run.batch ≤ run.way.number
+  pub seen : HasSeen (closed_with device keep found) run.at.bench.checker
+  pub number : run.at.number ≤ 281474976710656 * from
+  pub time : run.at.time ≤ 1000000000000 * run.at.number
+  pub batch : run.batch ≤ run.at.number
 
 -- a checker has seen something
 abbrev pub IsSeen : Held → Type 0
@@ -99,30 +120,30 @@ contact_of (move.Ends verdict) = contact_by verdict
 -- a try that goes on can be run again
 abbrev pub GoesOnSo : Program → Device → Told → Run → Move → Type 0
 GoesOnSo code device told run move.More =
-    IsRunOn code device told run × (run.done < length (cycles_of code run.way.exec))
+    IsRunOn code device told run × (run.done < length (cycles_of code run.exec))
 GoesOnSo code device told run move.Next =
-    IsRunOn code device told run × (run.done < length (cycles_of code run.way.exec))
+    IsRunOn code device told run × (run.done < length (cycles_of code run.exec))
 GoesOnSo code device told run (move.Ends verdict) = Unit {0}
 
 -- the next batch wasn't run: a try that goes on stands at the same time
 abbrev pub KeepsTime : Run → Run → Move → Type 0
-KeepsTime old new move.More = (new.way.time ≡ old.way.time) × (new.done ≡ old.done)
-KeepsTime old new move.Next = (new.way.time ≡ old.way.time) × (new.done ≡ 0)
+KeepsTime old new move.More = (new.at.time ≡ old.at.time) × (new.done ≡ old.done)
+KeepsTime old new move.Next = (new.at.time ≡ old.at.time) × (new.done ≡ 0)
 KeepsTime old new (move.Ends verdict) = contact_by verdict ≡ None
 
 -- the next batch was run: a try that goes on stands later, behind cycles of the same executive or before another one,
 -- and contact is lost no earlier than the batch begins
 abbrev pub StandsLater : Run → Run → Move → Type 0
-StandsLater old new move.More = (old.way.time < new.way.time) × (0 < new.done)
-StandsLater old new move.Next = (old.way.time < new.way.time) × (new.done ≡ 0)
-StandsLater old new (move.Ends verdict) = IfSome (contact_by verdict) (λ at. old.way.time ≤ at)
+StandsLater old new move.More = (old.at.time < new.at.time) × (0 < new.done)
+StandsLater old new move.Next = (old.at.time < new.at.time) × (new.done ≡ 0)
+StandsLater old new (move.Ends verdict) = IfSome (contact_by verdict) (λ at. old.at.time ≤ at)
 
 -- what is so of a try that made this move: it can be run again where it goes on, and later than before, and its checker
 -- keeps as many fails
 pub record HasMoved (code : Program) (device : Device) (told : Told) (old new : Run) (made : Move) : Type 0 where
   pub fits : GoesOnSo code device told new made
-  pub seen : IsSeen new.way.bench.checker
-  pub keep : new.way.bench.checker.count.keep ≡ old.way.bench.checker.count.keep
+  pub seen : IsSeen new.at.bench.checker
+  pub keep : new.at.bench.checker.count.keep ≡ old.at.bench.checker.count.keep
   pub later : StandsLater old new made
 
 -- ---- a try from its load up to its first batch
@@ -139,7 +160,7 @@ IsArrival number told (arrival.Ends verdict) step = step ≡ ends (without_cycle
 -- a try that has arrived can be run, and nothing of it has been
 abbrev pub ArrivesSo : Program → Device → Told → Arrival → Type 0
 ArrivesSo code device told (arrival.Goes run) =
-    IsRunOn code device told run × (run.done < length (cycles_of code run.way.exec)) × (run.way.time ≡ 0)
+    IsRunOn code device told run × (run.done < length (cycles_of code run.exec)) × (run.at.time ≡ 0)
 ArrivesSo code device told (arrival.Ends verdict) = Unit {0}
 
 -- a load that failed lost contact at the instant 0
@@ -154,5 +175,5 @@ FailsToLoad (arrival.Ends end) = IfSome (contact_by end) (λ at. end ≡ verdict
 
 -- a try that has arrived keeps so many fails
 abbrev pub KeepsSo : ℕ → Arrival → Type 0
-KeepsSo keep (arrival.Goes run) = run.way.bench.checker.count.keep ≡ keep
+KeepsSo keep (arrival.Goes run) = run.at.bench.checker.count.keep ≡ keep
 KeepsSo keep (arrival.Ends end) = Unit {0}

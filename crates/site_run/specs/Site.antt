@@ -46,9 +46,9 @@ try_of site = length site.trials.items + 1
 -- a try that runs at a site of a plan
 pub record IsRunAt (mem : Memory) (plan : Bound) (told : Told) (site die number : ℕ) (run : Run) : Type 0 where
   pub runs : IsRunOn mem.code (device_of (image_of plan site die number)) told run
-  pub more : run.done < length (cycles_of mem.code run.way.exec)
-  pub later : 0 < run.way.time
-  pub keep : run.way.bench.checker.count.keep ≡ (lot_of plan.rows).keep
+  pub more : run.done < length (cycles_of mem.code run.exec)
+  pub later : 0 < run.at.time
+  pub keep : run.at.bench.checker.count.keep ≡ (lot_of plan.rows).keep
 
 -- what is so of a site that isn't spent: it was started over this memory and this plan, of one program, and where a try
 -- runs, the socket holds its die
@@ -99,7 +99,7 @@ pub record Advances (plan : Bound) (stops : ℕ) (site : Site) (told told' : Tol
     pub lost : IfSome contact (HasLost come)
     pub none : contact ≡ Some 0
         → (come ≡ outcome.Ends (unloaded (try_of site))) × (nat_lt site.state.taken stops ≡ false)
-    pub late : IfSome contact (λ at. run.way.time ≤ at)
+    pub late : IfSome contact (λ at. run.at.time ≤ at)
 
 -- the try of a site came to this outcome, and the site has taken this number: as in a poll, where some contact was
 -- lost, or none

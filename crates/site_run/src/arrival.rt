@@ -5,16 +5,16 @@ ghost use Rattle.tester_types.specs.Outside.{HasRisen};
 ghost use Rattle.die_sim.specs.Socket.{Told, IsLoaded};
 ghost use Rattle.site_meaning.specs.Part.{Part, stand_for};
 ghost use Rattle.site_meaning.specs.Polls.{fresh_try, onward, unloaded, ends};
-ghost use Rattle.site_run.specs.Station.{code_in, device_in, IsSetUp};
+ghost use Rattle.site_run.specs.Station.{code_in, device_in, IsGround};
 ghost use Rattle.site_run.specs.Seat.{running_of, IsBefore, IsArrival, ArrivesSo, load_contact, FailsToLoad, KeepsSo};
 
-use crate::batch::Underway;
 use crate::run::{Move, Run, onward};
-use crate::station::Setup;
+use crate::station::Ground;
 use cycle_run::Bench;
 use die_sim::{Socket, SocketFault};
 use pattern_mem::at;
 use tester_types::{NoMemory, Verdict};
+use try_play::Standing;
 
 /// How a try comes to its first batch.
 #[derive(Drop)]
@@ -26,49 +26,49 @@ pub(crate) enum Arrival {
 }
 
 /// A try of a die that is loaded, before the first executive.
-fn fresh(setup: &Setup, keep: u16) -> Result<Run, NoMemory>
-    requires set_up { IsSetUp setup.now }
+fn fresh(ground: &Ground, keep: u16) -> Result<Run, NoMemory>
+    requires set_up { IsGround ground.now }
     ensures fresh { IfOk result (λ run. (part : Part) (die number : ℕ) (told : Told)
-        → (stand_for part die number).device ≡ device_in setup.now → IsLoaded setup.now.image.now told
+        → (stand_for part die number).device ≡ device_in ground.now → IsLoaded ground.now.image.now told
         → running_of told run ≡ fresh_try part die number) }
-    ensures before { IfOk result (λ run. (told : Told) → IsLoaded setup.now.image.now told
-        → IsBefore (device_in setup.now) told run 0) }
-    ensures time { IfOk result (λ run. run.way.time ≡ 0) }
-    ensures keep { IfOk result (λ run. run.way.bench.checker.count.keep ≡ keep) }
+    ensures before { IfOk result (λ run. (told : Told) → IsLoaded ground.now.image.now told
+        → IsBefore (device_in ground.now) told run 0) }
+    ensures time { IfOk result (λ run. run.at.time ≡ 0) }
+    ensures keep { IfOk result (λ run. run.at.bench.checker.count.keep ≡ keep) }
 {
-    let code = setup.mem.code();
-    let bench = Bench::new(setup.alloc, setup.image, code.signals(), keep)?;
-    let cursor = at(setup.alloc, setup.mem, 0)?;
+    let code = ground.mem.code();
+    let bench = Bench::new(ground.alloc, ground.image, code.signals(), keep)?;
+    let cursor = at(ground.alloc, ground.mem, 0)?;
     Ok(Run {
-        way: Underway {
-            exec: 0,
-            cursor,
+        exec: 0,
+        cursor,
+        done: 0,
+        batch: 0,
+        at: Standing {
             number: 0,
             time: 0,
             bench,
         },
-        done: 0,
-        batch: 0,
     })
 }
 
 /// Comes to the first executive that has a cycle, at a die that is loaded.
-fn begin(setup: &Setup, keep: u16) -> Result<Arrival, NoMemory>
-    requires set_up { IsSetUp setup.now }
+fn begin(ground: &Ground, keep: u16) -> Result<Arrival, NoMemory>
+    requires set_up { IsGround ground.now }
     ensures polled { IfOk result (λ arrival. (part : Part) (die number : ℕ) (told : Told)
-        → part.code ≡ code_in setup.now → (stand_for part die number).device ≡ device_in setup.now
-        → IsLoaded setup.now.image.now told
+        → part.code ≡ code_in ground.now → (stand_for part die number).device ≡ device_in ground.now
+        → IsLoaded ground.now.image.now told
         → IsArrival number told arrival (onward part number (fresh_try part die number) 0)) }
-    ensures fits { IfOk result (λ arrival. (told : Told) → IsLoaded setup.now.image.now told
-        → ArrivesSo (code_in setup.now) (device_in setup.now) told arrival) }
+    ensures fits { IfOk result (λ arrival. (told : Told) → IsLoaded ground.now.image.now told
+        → ArrivesSo (code_in ground.now) (device_in ground.now) told arrival) }
     ensures quiet { IfOk result (λ arrival. load_contact arrival ≡ None) }
     ensures keep { IfOk result (λ arrival. KeepsSo keep arrival) }
 {
-    let mut run = match fresh(setup, keep) {
+    let mut run = match fresh(ground, keep) {
         Ok(run) => run,
         Err(fault) => return Err(fault),
     };
-    match onward(setup, &mut run, 0) {
+    match onward(ground, &mut run, 0) {
         Ok(Move::More) => Ok(Arrival::Goes(run)),
         Ok(Move::Next) => Ok(Arrival::Goes(run)),
         Ok(Move::Ends(verdict)) => Ok(Arrival::Ends(verdict)),
@@ -78,25 +78,25 @@ fn begin(setup: &Setup, keep: u16) -> Result<Arrival, NoMemory>
 
 /// Loads a die and comes to the first executive that has a cycle. A load that fails loses contact at the instant 0.
 pub(crate) fn arrive<K: Socket>(
-    setup: &Setup,
+    ground: &Ground,
     keep: u16,
     socket: &mut K,
 ) -> Result<Arrival, NoMemory>
-    requires set_up { IsSetUp setup.now }
-    ensures polled { IfOk result (λ arrival. (part : Part) (die number : ℕ) → part.code ≡ code_in setup.now
-        → (stand_for part die number).device ≡ device_in setup.now → load_contact arrival ≡ None
+    requires set_up { IsGround ground.now }
+    ensures polled { IfOk result (λ arrival. (part : Part) (die number : ℕ) → part.code ≡ code_in ground.now
+        → (stand_for part die number).device ≡ device_in ground.now → load_contact arrival ≡ None
         → IsArrival number (K.told socket.new) arrival (onward part number (fresh_try part die number) 0)) }
     ensures keep { IfOk result (λ arrival. KeepsSo keep arrival) }
     ensures failed { IfOk result (λ arrival. FailsToLoad arrival) }
-    ensures fits { IfOk result (λ arrival. ArrivesSo (code_in setup.now) (device_in setup.now)
+    ensures fits { IfOk result (λ arrival. ArrivesSo (code_in ground.now) (device_in ground.now)
         (K.told socket.new) arrival) }
     ensures cause { IfOk result (λ arrival. IfSome (load_contact arrival)
         (λ _. HasRisen (K.told socket.old).count (K.told socket.new).count)) }
     ensures tape { (K.told socket.new).tape ≡ (K.told socket.old).tape }
     ensures count { (K.told socket.old).count ≤ (K.told socket.new).count }
 {
-    match socket.load(setup.image) {
-        Ok(()) => begin(setup, keep),
+    match socket.load(ground.image) {
+        Ok(()) => begin(ground, keep),
         Err(SocketFault::Contact) => Ok(Arrival::Ends(Verdict::Contact(0))),
         Err(SocketFault::NoMemory) => Err(NoMemory),
     }

@@ -4,6 +4,7 @@
 mod arrival;
 mod batch;
 mod fault;
+mod feed;
 mod laws;
 mod run;
 mod site;

@@ -20,7 +20,7 @@ use crate::arrival::{Arrival, arrive};
 use crate::fault::SiteFault;
 use crate::run::{Move, Run, run_batch};
 use crate::state::SiteState;
-use crate::station::{Setup, Station};
+use crate::station::{Ground, Station};
 use crate::task::Task;
 use crate::trial::{Outcome, is_ordered, is_tried_again, outcome_of, without_cycles};
 use die_sim::Socket;
@@ -169,8 +169,8 @@ impl Site {
         requires runs { IsRunOn task.now.mem.now.code
             (device_of (image_of task.now.plan.now self.old.site self.old.die (try_of self.old)))
             (K.told socket.old) run.old }
-        requires more { run.old.done < length (cycles_of task.now.mem.now.code run.old.way.exec) }
-        requires keep { run.old.way.bench.checker.count.keep ≡ (lot_of task.now.plan.now.rows).keep }
+        requires more { run.old.done < length (cycles_of task.now.mem.now.code run.old.exec) }
+        requires keep { run.old.at.bench.checker.count.keep ≡ (lot_of task.now.plan.now.rows).keep }
         ensures polled { IfOk result (λ move. (part : Part) (seat : Seat)
             → part ≡ part_of task.now.plan.now self.old.site → IsSeatOf task.now.stops self.old seat
             → IsMove (try_of self.old) (K.told socket.new) run.new move
@@ -198,7 +198,7 @@ impl Site {
         if is_ordered(plan.stop(self.site, self.die, number), run.batch) {
             return Ok(Move::Ends(Verdict::Stopped(run.batch, By::Plan)));
         }
-        let setup = Setup {
+        let ground = Ground {
             alloc: self.alloc,
             mem: task.mem,
             image: plan.image(self.site, self.die, number),
@@ -210,7 +210,7 @@ impl Site {
             schedules: &mut self.schedules,
             socket,
         };
-        run_batch(&setup, &mut station, run, plan.batch())
+        run_batch(&ground, &mut station, run, plan.batch())
     }
 
     /// Runs a try that stands before its next batch.
@@ -224,8 +224,8 @@ impl Site {
         requires runs { IsRunOn task.now.mem.now.code
             (device_of (image_of task.now.plan.now self.old.site self.old.die (try_of self.old)))
             (K.told socket.old) run }
-        requires more { run.done < length (cycles_of task.now.mem.now.code run.way.exec) }
-        requires keep { run.way.bench.checker.count.keep ≡ (lot_of task.now.plan.now.rows).keep }
+        requires more { run.done < length (cycles_of task.now.mem.now.code run.exec) }
+        requires keep { run.at.bench.checker.count.keep ≡ (lot_of task.now.plan.now.rows).keep }
         ensures advances { IfOk result (λ outcome. Advances task.now.plan.now task.now.stops self.old
             (K.told socket.old) (K.told socket.new) run outcome) }
         ensures fits { IfOk result (λ outcome. OutcomeFits task.now.mem.now task.now.plan.now
@@ -258,13 +258,13 @@ impl Site {
     {
         let plan = task.plan;
         let number = self.number();
-        let setup = Setup {
+        let ground = Ground {
             alloc: self.alloc,
             mem: task.mem,
             image: plan.image(self.site, self.die, number),
             skews: plan.skews(self.site),
         };
-        match arrive(&setup, plan.keep(), socket) {
+        match arrive(&ground, plan.keep(), socket) {
             Ok(Arrival::Goes(run)) => self.go(task, socket, run),
             Ok(Arrival::Ends(verdict)) => {
                 Ok(Outcome::Ends(without_cycles(self.alloc, number, verdict)))

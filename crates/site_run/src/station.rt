@@ -7,7 +7,7 @@ use std::alloc::Global;
 
 /// What a try runs on, the same in all its cycles.
 #[derive(Drop)]
-pub(crate) struct Setup<'a> {
+pub(crate) struct Ground<'a> {
     pub alloc: Global,
     pub mem: &'a PatternMem,
     pub image: &'a DieImage,

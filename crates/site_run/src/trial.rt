@@ -14,12 +14,12 @@ use tester_types::{FailList, Trial, Verdict};
 
 /// The try of this number, which has run and ended so.
 pub(crate) fn ended(run: Run, number: u8, verdict: Verdict) -> Trial
-    requires seen { IsSeen run.way.bench.checker }
+    requires seen { IsSeen run.at.bench.checker }
     ensures { (told : Told) → result ≡ ended_now number (running_of told run) verdict }
 {
-    let cycles = run.way.number;
-    let way = run.way;
-    let bench = way.bench;
+    let cycles = run.at.number;
+    let at = run.at;
+    let bench = at.bench;
     let checker = bench.checker;
     let fails = checker.total();
     Trial {
@@ -73,7 +73,7 @@ pub(crate) enum Outcome {
 
 /// What comes of the try of this number, which made this move. Contact that is lost at the instant 0 is lost as at a load.
 pub(crate) fn outcome_of(alloc: Global, run: Run, number: u8, moved: Move) -> Outcome
-    requires seen { IsSeen run.way.bench.checker }
+    requires seen { IsSeen run.at.bench.checker }
     ensures on { (told : Told) (step : Step) → (contact_of moved ≡ Some 0 → ⊥) → IsMove number told run moved step
         → IsOutcome told result step }
     ensures of { IsOutcomeOf run moved result }

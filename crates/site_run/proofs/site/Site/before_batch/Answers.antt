@@ -34,7 +34,7 @@ pub returns-clause-polled : goal.returns-clause-polled
 returns-clause-polled g c =
     let old = c.args.self.now in
     let plan = c.args.task.now.plan.now in
-    let polled = runs_now plan old c.args.task.now.stops c.args.task.now.mem.now.code c.image.result.now c.skews.result.now c.batch.result c.args.run.now.way.bench.checker.count.keep
+    let polled = runs_now plan old c.args.task.now.stops c.args.task.now.mem.now.code c.image.result.now c.skews.result.now c.batch.result c.args.run.now.at.bench.checker.count.keep
     c.stop.result (g.K.Socket.told c.args.socket.now) (g.K.Socket.told c.run_batch.new.station.socket.now) c.args.run.now c.run_batch.new.run c.run_batch.result
     c.requires.works.of.one_program (c.image.ensures ∙ ap (image_of plan old.site old.die) c.number-number.ensures) c.skews.ensures c.batch.ensures
     c.requires.keep c.requires.works.die (not_live old.state.taken c.args.task.now.stops c.poll.result c.poll.ensures.answer c.if-poll.false)
@@ -64,7 +64,7 @@ pub returns-clause-tape : goal.returns-clause-tape
 returns-clause-tape g c =
     let old = c.args.self.now in
     let plan = c.args.task.now.plan.now in
-    let taped = taped_so plan old c.args.task.now.stops c.args.task.now.mem.now.code c.image.result.now c.skews.result.now c.batch.result c.args.run.now.way.bench.checker.count.keep
+    let taped = taped_so plan old c.args.task.now.stops c.args.task.now.mem.now.code c.image.result.now c.skews.result.now c.batch.result c.args.run.now.at.bench.checker.count.keep
     c.stop.result (g.K.Socket.told c.args.socket.now) (g.K.Socket.told c.run_batch.new.station.socket.now) c.args.run.now c.run_batch.result
     c.requires.works.of.one_program (c.image.ensures ∙ ap (image_of plan old.site old.die) c.number-number.ensures) c.skews.ensures c.batch.ensures
     c.requires.keep c.requires.works.die (not_live old.state.taken c.args.task.now.stops c.poll.result c.poll.ensures.answer c.if-poll.false)
