@@ -56,7 +56,7 @@ LOADED = "Call load { si=101; so=HLH; }"
 
 # what is written in another dialect, and the same by hand
 PAIRS: dict[str, tuple[Program, Program]] = {
-    # dropped, since no cycle hangs on it
+    # dropped, since no cycle depends on it
     "Termination of a burst and an entry": (
         Program(burst="Termination { y TerminateHigh; } PatList { p { Termination none; } }", pattern=V), Program(pattern=V)),
     "Termination of a signal": (
@@ -195,7 +195,7 @@ STOPS: dict[str, tuple[Program, list[int], str]] = {
     "raw events": (Program(pattern="@ 500 V { a=1; }\nV { a=U 10 D 20; }\nV { a='5ns'; }"), [18, 19, 20], "raw event"),
     "conditions and jumps": (
         Program(pattern="If 'k==1' { V { } } Else { V { } }\nWhile 'k<3' { V { } }\nMatchLoop 9 { V { y=H; } }\nGoto x;\nLoopData { }"),
-        [18, 19, 20, 21, 22], "hang"),
+        [18, 19, 20, 21, 22], "depend"),
     "a statement that isn't known": (Program(head="Strange x;", pattern="Odd { }"), [2, 18], "no rule"),
     "an F that a macro three calls down contradicts": (
         Program(macros="m1 { Macro m2; }\nm2 { Macro m3; }\nm3 { V { b=0; a=1; } }", pattern="F { a=0; }\nV { }\nMacro m1;"), [20], "line 15"),

@@ -28,7 +28,7 @@ def test_each_tool_has_its_line() -> None:
 
 
 def test_a_version_is_one_number() -> None:
-    version = (TOP / "VERSION").read_text().strip()
+    version = (TOP / "release/VERSION").read_text().strip()
     first = next(line for line in (TOP / "CHANGELOG.md").read_text().splitlines() if line.startswith("## "))
     assert re.fullmatch(r"\d+\.\d+\.\d+", version) and first == f"## {version}"
     assert f'version = "{version}"' in (TOP / "floor" / "pyproject.toml").read_text()

@@ -36,7 +36,7 @@ def test_all_that_the_manifest_names_is_there(extension: zipfile.ZipFile) -> Non
     told = manifest.find(".//v:Identity", SPACE)
     assert told is not None
     assert (told.attrib["Id"], told.attrib["Version"], told.attrib["Publisher"]) == (package["name"], package["version"], package["publisher"])
-    assert package["version"] == (TOP / "VERSION").read_text().strip()
+    assert package["version"] == (TOP / "release/VERSION").read_text().strip()
     contributed = package["contributes"]
     files = [item["path"] for item in contributed["grammars"]] + [item["configuration"] for item in contributed["languages"]]
     assert {f"extension/{file.removeprefix('./')}" for file in files} <= names

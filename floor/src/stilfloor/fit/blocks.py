@@ -1,4 +1,4 @@
-"""Rules for the blocks outside patterns: what no cycle hangs on goes, and names are written as the program reads them."""
+"""Rules for the blocks outside patterns: what no cycle depends on goes, and names are written as the program reads them."""
 
 import re
 from collections.abc import Iterator

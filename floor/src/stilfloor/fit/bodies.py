@@ -19,10 +19,10 @@ CALLS = ("Call", "Macro")
 KEPT = frozenset((*ASSIGNING, *TABLES, *CALLS, *TIED, *ACTIVE, "Loop", "Shift", "Stop", "BreakPoint", "IddqTestPoint", "IDDQTestPoint"))
 PAUSE = "it runs while a tester pauses, so its vectors never enter the test"
 STOPS = {
-    "If": "what runs here hangs on a condition that is met while the test runs, so its vectors aren't known",
-    "While": "how often this runs hangs on a condition that is met while the test runs",
-    "MatchLoop": "how often this runs hangs on what the die shows",
-    "Goto": "what runs next hangs on this jump, which the program doesn't make",
+    "If": "what runs here depends on a condition that is met while the test runs, so its vectors aren't known",
+    "While": "how often this runs depends on a condition that is met while the test runs",
+    "MatchLoop": "how often this runs depends on what the die shows",
+    "Goto": "what runs next depends on this jump, which the program doesn't make",
     "LoopData": "this moves data by itself; have the tool write a Shift, or vectors written out",
     "@": "this vector has a time of its own (a raw event), and a table's waveforms don't",
 }

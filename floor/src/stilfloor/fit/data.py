@@ -121,7 +121,7 @@ def _refuse(cursor: Cursor, is_argument: bool) -> None:
             raise DataStop("these data have times of their own (raw events), and a table's waveforms don't")
     if is_argument and ("%" in cursor.tokens or "#" in cursor.tokens):
         sign = "%" if "%" in cursor.tokens else "#"
-        raise DataStop(f"`{sign}` in an argument hangs on what the signals have when this runs: write the characters that they have then")
+        raise DataStop(f"`{sign}` in an argument depends on what the signals have when this runs: write the characters that they have then")
 
 
 def _read(rules: Rules, cursor: Cursor, is_argument: bool) -> None:

@@ -23,7 +23,7 @@ class Table:
 
 
 def fit_tables(work: Work, names: Names) -> None:
-    """Takes out of Timing blocks what no cycle hangs on, and writes inherited waveforms as their events."""
+    """Takes out of Timing blocks what no cycle depends on, and writes inherited waveforms as their events."""
     for block in work.statements:
         if work.keyword(block) != "Timing":
             continue
