@@ -1,16 +1,16 @@
 -- A moment of 64 dies: what drives them, and what goes along with them.
-use Rattle.std.proofs.Common.{◌≡◌, ℕ, ◌<◌, Bool, List, [], length, map, filter, fold, min, refl, sym, ap, ◌∙◌, subst}
+use Rattle.std.proofs.Common.{◌≡◌, ℕ, Bool, List, map, filter, fold, min, sym, ap, ◌∙◌, subst}
 use Rattle.std.specs.Prelude.{Option, Result, Ok, Err, IfOk, OnOk}
 use Rattle.std.specs.Int.{bit_at}
 use Rattle.tester_types.specs.declared.wave.Push.{Push}
 use Rattle.tester_types.specs.declared.wave.Look.{Look}
 use Rattle.tester_types.specs.declared.level.Drive.{Drive}
 use Rattle.tester_types.specs.declared.cycle.Moment.{Moment}
-use Rattle.die_sim.specs.Die.{Image, Device, State, IsOfNet, device_of}
+use Rattle.die_sim.specs.Die.{Image, Device, IsOfNet, device_of}
 use Rattle.die_sim.specs.Stepped.{stepped}
-use Rattle.site_meaning.specs.Playing.{Along, after_push, handed, is_driven, driven, priors_after, after_moment}
+use Rattle.site_meaning.specs.Playing.{Along, after_push, handed, is_driven, driven, after_moment}
 use Rattle.die_words.specs.Lane.{bit}
-use Rattle.die_words.specs.Lanes.{Lanes, IsLaneOf}
+use Rattle.die_words.specs.Lanes.{IsLaneOf}
 use Rattle.word_run.specs.declared.board.Board.{Board}
 use Rattle.word_run.specs.Judge.{are_met}
 use Rattle.word_run.specs.Board.{bare, StandsAt}

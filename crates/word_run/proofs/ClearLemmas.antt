@@ -1,6 +1,6 @@
 -- A moment of a cycle without a fail has none exactly where its edge looks are met, and the windows behind its looks.
-use Rattle.std.proofs.Common.{◌≡◌, ℕ, zero, suc, ◌+◌, ◌<◌, ◌≤◌, ◌++◌, Bool, true, false, not, ◌&&◌, ◌||◌, eqb, cond, List, [], ◌∷◌, length, get_or, map, filter, fold, Option, Some, None, refl, sym, ap, ◌∙◌, subst, arith, inl, inr, zero-add}
-use Rattle.std.specs.List.{flat_map, list_all, enumerate_from, range_with_len}
+use Rattle.std.proofs.Common.{◌≡◌, ℕ, zero, suc, ◌+◌, ◌<◌, ◌++◌, Bool, true, false, not, ◌&&◌, ◌||◌, eqb, cond, List, [], ◌∷◌, length, get_or, map, filter, Option, None, refl, sym, ap, ◌∙◌, subst, arith, inl, inr, zero-add}
+use Rattle.std.specs.List.{flat_map, list_all, range_with_len}
 use Rattle.std.proofs.lemmas.Bool.{cases_lt, eq-eqb, ne_eqb}
 use Rattle.std.proofs.lemmas.List.{get_or_past}
 use Rattle.std.proofs.lemmas.List.Folds.{list_all-append}
@@ -16,7 +16,7 @@ use Rattle.strobe_check.specs.Entry.{Entry, looks_at, fail_at}
 use Rattle.strobe_check.specs.Entry as entry
 use Rattle.strobe_check.specs.Fails.{bound_from, bound_signals, fails}
 use Rattle.strobe_check.specs.Step.{looks_of, window_after}
-use Rattle.site_meaning.specs.Playing.{Whose, entry_of, levels_of}
+use Rattle.site_meaning.specs.Playing.{Whose, entry_of}
 use Rattle.word_run.specs.Checks.{if_open, checked, unmet, window_behind}
 use Rattle.word_run.specs.Judge.{edge_met, window_met, are_met}
 use Rattle.word_run.specs.Board.{is_clear}

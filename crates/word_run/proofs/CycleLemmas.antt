@@ -18,7 +18,7 @@ use Rattle.strobe_check.proofs.CycleLemmas.{new_fails, fails-push}
 use Rattle.strobe_check.proofs.HistoryLemmas.{fails-none}
 use Rattle.edge_gen.specs.Moments.{later}
 use Rattle.site_meaning.specs.Playing.{Along, Whose, is_bound, bound_of, after_moment, after_moments, entry_of, entries_in}
-use Rattle.cycle_run.proofs.StepLemmas.{after_moments-append, after_moments-one, after_moments-none, entries_in-append, entries_in-one, entries_in-none, map-more}
+use Rattle.cycle_run.proofs.StepLemmas.{after_moments-append, after_moments-one, entries_in-append, entries_in-one, entries_in-none, map-more}
 use Rattle.die_words.specs.Lane.{bit}
 use Rattle.word_run.specs.Checks.{window_on, window_behind}
 use Rattle.word_run.specs.Judge.{are_met}

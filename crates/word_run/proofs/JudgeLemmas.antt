@@ -1,10 +1,9 @@
 -- The looks of a moment one after another, and a moment without drives.
-use Rattle.std.proofs.Common.{◌≡◌, ℕ, ◌+◌, ◌-◌, ◌^◌, ◌<◌, ◌≤◌, ◌&&◌, ◌||◌, Bool, true, false, not, min, List, [], ◌∷◌, ◌++◌, length, get_or, take, Option, Some, None, refl, sym, ap, ◌∙◌, subst, arith}
+use Rattle.std.proofs.Common.{◌≡◌, ℕ, ◌+◌, ◌-◌, ◌^◌, ◌<◌, ◌&&◌, ◌||◌, Bool, true, false, not, min, List, [], ◌∷◌, get_or, Option, Some, None, refl, sym, ap, ◌∙◌, subst, arith}
 use Rattle.std.specs.Prelude.{bit_and}
 use Rattle.std.specs.Int.{bit_at}
 use Rattle.std.specs.List.{list_all, range_with_len}
-use Rattle.std.proofs.lemmas.List.{take_all}
-use Rattle.std.proofs.lemmas.List.Folds.{list_all_more, list_all-append}
+use Rattle.std.proofs.lemmas.List.Folds.{list_all-append}
 use Rattle.std.proofs.lemmas.Nat.Bits.{bit_at-lt}
 use Rattle.text_bytes.proofs.ListLemmas.{range-push}
 use Rattle.tester_types.specs.declared.wave.Look.{Look}
@@ -19,7 +18,7 @@ use Rattle.die_words.specs.Lane.{bit}
 use Rattle.die_words.specs.Lanes.{Lanes, IsLaneOf}
 use Rattle.die_words.proofs.WordLemmas.{and_is, not_is}
 use Rattle.word_run.specs.Checks.{if_open}
-use Rattle.word_run.specs.Judge.{edge_met, window_met, are_met}
+use Rattle.word_run.specs.Judge.{edge_met, window_met}
 
 -- ---- bits of lanes
 

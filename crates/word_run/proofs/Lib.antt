@@ -5,3 +5,5 @@ pub mod ClearLemmas
 pub mod CycleLemmas
 pub mod BoardLemmas
 pub mod PlayLemmas
+pub mod RunLemmas
+pub mod StartLemmas

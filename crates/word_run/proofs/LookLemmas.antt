@@ -24,10 +24,10 @@ windows_more first old new looks i d within count before here others s inside =
           ∙ sym (window_after-other (get_or first s None) s looks i d within (λ e. apart (sym e)))
     ]
 
--- no window at any signal
-pub none_at : (n s : ℕ) → get_or (replicate {A = Option Look} n None) s None ≡ None
-none_at n s =
+-- nothing at any place
+pub none_at : {X : Type 0} (n s : ℕ) → get_or (replicate {A = Option X} n None) s None ≡ None
+none_at {X} n s =
     elim (cases_lt s n) [
       | inl l ↦ get_or-replicate n s None None l
-      | inr l ↦ get_or_past (replicate {A = Option Look} n None) s None (let long = length-replicate {A = Option Look} n None in omega (arith, l, long))
+      | inr l ↦ get_or_past (replicate {A = Option X} n None) s None (let long = length-replicate {A = Option X} n None in omega (arith, l, long))
     ]

@@ -8,7 +8,6 @@ use Rattle.die_sim.specs.Die.{Image, Device, device_of}
 use Rattle.strobe_check.specs.Entry.{looks_at}
 use Rattle.strobe_check.specs.Step.{window_after}
 use Rattle.strobe_check.specs.Fails.{fails}
-use Rattle.edge_gen.specs.Moments.{later}
 use Rattle.site_meaning.specs.Playing.{Along, Whose, bound_of, entries_in}
 use Rattle.die_words.specs.Lanes.{IsLaneOf}
 use Rattle.word_run.specs.declared.board.Board.{Board}

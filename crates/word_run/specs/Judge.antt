@@ -1,5 +1,5 @@
 -- Whether the looks that are checked at a moment are met in a die, as they are gone through. No public clause cites it.
-use Rattle.std.specs.Prelude.{ℕ, Bool, false, not, ◌&&◌, ◌||◌, List, [], ◌∷◌, length, Option, Some, None, slice_index_or}
+use Rattle.std.specs.Prelude.{ℕ, Bool, false, not, ◌&&◌, ◌||◌, List, length, Option, None, slice_index_or}
 use Rattle.std.specs.List.{list_all, range_with_len}
 use Rattle.tester_types.specs.declared.wave.Look.{Look}
 use Rattle.die_sim.specs.Die.{Device, State, level_of}

@@ -1,5 +1,5 @@
 -- 64 dies between two cycles, and what cycles that are played change. No public clause cites it.
-use Rattle.std.specs.Prelude.{◌≡◌, ℕ, ◌+◌, ◌*◌, ◌-◌, ◌^◌, ◌<◌, ◌≤◌, Bool, List, length, Option, None, is_none, slice_index_or}
+use Rattle.std.specs.Prelude.{◌≡◌, ℕ, ◌+◌, ◌*◌, ◌-◌, ◌^◌, ◌<◌, ◌≤◌, List, length, Option, None, is_none, slice_index_or}
 use Rattle.std.specs.Int.{bit_at}
 use Rattle.std.specs.Option.{option_or}
 use Rattle.tester_types.specs.declared.cycle.Cycle.{Cycle}

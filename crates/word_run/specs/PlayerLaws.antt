@@ -4,15 +4,14 @@ use Rattle.std.specs.Option.{option_or}
 use Rattle.std.proofs.Common.{refl, sym, ap, ◌∙◌, subst, arith}
 use Rattle.tester_types.specs.declared.cycle.Cycle.{Cycle}
 use Rattle.tester_types.specs.declared.record.Fail.{Fail}
-use Rattle.die_sim.specs.Die.{Device}
-use Rattle.site_meaning.specs.Playing.{Stand, Going, PlayedCycle, played_cycle, after_cycle}
+use Rattle.site_meaning.specs.Playing.{Stand, Going, played_cycle, after_cycle}
 use Rattle.site_meaning.specs.Trials.{played, after_cycles, fails_in}
 use Rattle.cycle_run.proofs.BatchLemmas.{after_cycles-append, after_cycles-none, after_cycles-next, fails_in-next, fails_in-none}
 use Rattle.std.proofs.lemmas.List.{append_assoc}
 use Rattle.try_play.specs.declared.setup.Setup.{Setup}
 use Rattle.word_run.specs.declared.player.WordPlayer.{WordPlayer}
 use Rattle.word_run.specs.First.{first_fail}
-use Rattle.word_run.specs.Player.{stand_with, found_in, StandsIn, CanPlay, PlaysLane, PlaysLanes}
+use Rattle.word_run.specs.Player.{stand_with, found_in, StandsIn, CanPlay, PlaysLanes}
 
 -- ---- the first of fails
 

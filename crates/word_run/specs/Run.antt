@@ -7,11 +7,10 @@ use Rattle.packed_code.specs.Program.{Program}
 use Rattle.packed_code.specs.Cycles.{cycles_of}
 use Rattle.die_sim.specs.Die.{Device}
 use Rattle.site_meaning.specs.Playing.{Going}
-use Rattle.site_meaning.specs.Trials.{after_cycles, played, fails_in}
 use Rattle.try_play.specs.declared.setup.Setup.{Setup}
 use Rattle.try_play.specs.Setup.{code_in}
 use Rattle.word_run.specs.declared.player.WordPlayer.{WordPlayer}
-use Rattle.word_run.specs.First.{first_fail, first_from}
+use Rattle.word_run.specs.First.{first_from}
 use Rattle.word_run.specs.Player.{stand_with, found_in, StandsIn, IsBefore, PlaysLanes}
 
 -- the cycles of the executives from this one on
@@ -39,6 +38,14 @@ pub record PlaysExec (setup : Setup) (exec : ℕ) (old new : WordPlayer) : Type 
 abbrev pub RunsExec : Setup → ℕ → WordPlayer → WordPlayer → Bool → Type 0
 RunsExec setup exec old new true = FindsAll setup exec old new
 RunsExec setup exec old new false = PlaysExec setup exec old new
+
+-- a die whose try began with this stands in its lane still, and comes to what it came to then
+pub record IsLeft (setup : Setup) (exec : ℕ) (old new : WordPlayer) (lane : ℕ) (device : Device) (going : Going) :
+    Type 0 where
+  pub now : Going
+  pub stands : StandsIn new lane device now
+  pub rest : comes_to setup old lane device going 0 (execs_left (code_in setup) 0)
+      ≡ comes_to setup new lane device now exec (execs_left (code_in setup) exec)
 
 -- all executives are run
 pub record RunsAll (setup : Setup) (old new : WordPlayer) : Type 0 where

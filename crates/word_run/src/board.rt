@@ -75,7 +75,8 @@ impl Board {
     /// Room for the dies of an image's netlist, with so many signals. Nothing is said yet of what stands in their lanes.
     pub(crate) fn make(alloc: Global, image: &DieImage, signals: u16) -> Result<Board, NoMemory>
         requires { signals ≡ length image.now.binds }
-        ensures { IfOk result (λ board. IsBoardOf image.now board) }
+        ensures of { IfOk result (λ board. IsBoardOf image.now board) }
+        ensures last { IfOk result (λ board. board.last.items ≡ replicate signals drive.Unknown) }
     {
         Ok(Board {
             dies: DieWords::make(alloc, image)?,

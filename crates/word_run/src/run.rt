@@ -60,7 +60,7 @@ fn run_exec(setup: &Setup, player: &mut WordPlayer, exec: u16) -> Result<bool, N
     requires set_up { IsSetUp setup.now }
     requires exec { exec < length (code_in setup.now).execs }
     requires before { IsBefore setup.now exec player.old }
-    ensures runs { IfOk result (λ all. RunsExec setup.now exec player.old player.new all) }
+    ensures { IfOk result (λ all. RunsExec setup.now exec player.old player.new all) }
 {
     let _conditions = setup.code.signals();
     let mut walk = walk(setup.code, exec);

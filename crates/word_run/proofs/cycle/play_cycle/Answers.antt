@@ -1,12 +1,11 @@
-use Rattle.std.proofs.Common.{◌≡◌, ◌∙◌, ℕ, List, length, map, min, sym, subst}
+use Rattle.std.proofs.Common.{◌≡◌, ◌∙◌, ℕ, List, length, min, sym, subst}
 use Rattle.std.specs.Prelude.{All}
 use Rattle.std.specs.Int.{bit_at}
 use Rattle.tester_types.specs.declared.cycle.Moment.{Moment}
-use Rattle.edge_gen.specs.Moments.{later, moments_of}
+use Rattle.edge_gen.specs.Moments.{moments_of}
 use Rattle.edge_gen.specs.Held.{Held}
 use Rattle.die_sim.specs.Die.{Device}
-use Rattle.site_meaning.specs.Playing.{Along, Going, along_of, after_moments, moments_in, whose_next}
-use Rattle.cycle_run.specs.Cycle.{stand_of}
+use Rattle.site_meaning.specs.Playing.{along_of, after_moments, whose_next}
 use Rattle.cycle_run.specs.Step.{IsScheduled, HoldsSchedules}
 use Rattle.cycle_run.proofs.MomentLemmas.{row_long, moved_fit, moments_fit}
 use Rattle.cycle_run.proofs.ScheduleLemmas.{schedule_is, moments_are, holds_only, holds_asked}

@@ -3,11 +3,10 @@ use Rattle.std.specs.Int.{bit_at}
 use Rattle.std.proofs.lemmas.List.{take_all}
 use Rattle.tester_types.specs.declared.cycle.Moment.{Moment}
 use Rattle.edge_gen.specs.Moments.{later}
-use Rattle.die_sim.specs.Die.{Device, device_of}
-use Rattle.site_meaning.specs.Playing.{Along, after_moment, after_moments, bound_of}
+use Rattle.site_meaning.specs.Playing.{Along, after_moments}
 use Rattle.cycle_run.proofs.StepLemmas.{after_moments-none}
 use Rattle.die_words.specs.Lane.{bit}
-use Rattle.word_run.specs.Board.{IsBoardOf, StandsAt, are_clear, AreWindows}
+use Rattle.word_run.specs.Board.{StandsAt, are_clear, AreWindows}
 use Rattle.word_run.proofs.BoardLemmas.{of_net}
 use Rattle.word_run.proofs.CycleLemmas.{windows_next, after-later, clear_more, clear_none, same_bound}
 use Rattle.word_run.proofs.cycle.play_moments.Goals as goal

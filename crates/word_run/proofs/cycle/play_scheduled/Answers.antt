@@ -1,4 +1,4 @@
-use Rattle.std.proofs.Common.{◌≡◌, ◌∙◌, ℕ, List, ap, length, subst}
+use Rattle.std.proofs.Common.{◌∙◌, List, ap, length}
 use Rattle.std.specs.Prelude.{Option, None, slice_index_or}
 use Rattle.std.proofs.lemmas.List.{length-replicate}
 use Rattle.tester_types.specs.declared.wave.Look.{Look}

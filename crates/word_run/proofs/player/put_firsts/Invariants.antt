@@ -1,4 +1,4 @@
-use Rattle.std.proofs.Common.{◌≡◌, ℕ, ◌<◌, ◌≤◌, length}
+use Rattle.std.proofs.Common.{◌≡◌, ℕ, ◌<◌, length}
 use Rattle.std.specs.Prelude.{None, Some, slice_index_or}
 use Rattle.std.specs.Int.{bit_at}
 use Rattle.word_run.proofs.player.put_firsts.Given as goal
