@@ -39,11 +39,11 @@ execs-none code exec past =
     let e : length code.execs - exec ≡ 0 = omega (arith, past) in
     ap (λ (n : ℕ). map (cycles_of code) (range_with_len exec n)) e
 
-first_from-none : (stand : Stand) (exec : ℕ) (going : Going) → first_from stand exec going [] ≡ None
+pub first_from-none : (stand : Stand) (exec : ℕ) (going : Going) → first_from stand exec going [] ≡ None
 unfolding first_from
 first_from-none stand exec going = refl
 
-first_from-next : (stand : Stand) (exec : ℕ) (going : Going) (cycles : List Cycle) (later : List (List Cycle))
+pub first_from-next : (stand : Stand) (exec : ℕ) (going : Going) (cycles : List Cycle) (later : List (List Cycle))
     → first_from stand exec going (cycles ∷ later)
     ≡ option_or (first_fail (fails_in (played stand exec going cycles)))
     (first_from stand (exec + 1) (after_cycles stand going cycles) later)
