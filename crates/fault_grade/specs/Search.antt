@@ -1,18 +1,17 @@
 -- What the code goes through to find a first fail. No public clause cites it.
-use Rattle.std.specs.Prelude.{◌≡◌, ℕ, ◌+◌, ◌-◌, ◌<◌, ℤ, Bool, true, false, Option, None, List, [], ◌∷◌, length, map}
-use Rattle.std.specs.Option.{option_or}
+use Rattle.std.specs.Prelude.{◌≡◌, ℕ, ◌+◌, ◌-◌, ◌<◌, ℤ, Bool, true, false, Option, List, [], length, map}
 use Rattle.std.specs.List.{range_with_len}
 use Rattle.tester_types.specs.declared.cycle.Cycle.{Cycle}
 use Rattle.tester_types.specs.declared.record.Fail.{Fail}
 use Rattle.packed_code.specs.Program.{Program}
 use Rattle.edge_gen.specs.Held.{Held}
-use Rattle.die_sim.specs.Die.{Device, Image, device_of}
+use Rattle.die_sim.specs.Die.{Device, Image}
 use Rattle.die_sim.specs.Socket.{Told}
 use Rattle.die_sim.specs.declared.image.StuckAt.{StuckAt}
 use Rattle.strobe_check.specs.History.{HasSeen}
-use Rattle.site_meaning.specs.Playing.{Stand, Going, starting}
-use Rattle.site_meaning.specs.Trials.{played, after_cycles, fails_in, execs_of}
-use Rattle.cycle_run.specs.Cycle.{stand_of, closed_with, Point}
+use Rattle.site_meaning.specs.Playing.{Stand}
+use Rattle.site_meaning.specs.Trials.{played, after_cycles, fails_in}
+use Rattle.cycle_run.specs.Cycle.{closed_with, Point}
 use Rattle.cycle_run.specs.Batch.{Between, going_in}
 use Rattle.try_play.specs.declared.setup.Setup.{Setup}
 use Rattle.try_play.specs.declared.seat.Standing.{Standing}

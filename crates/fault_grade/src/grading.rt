@@ -43,7 +43,8 @@ fn set_up<'a>(
 ) -> Setup<'a>
     requires die { 0 < sites_of plan.now.rows }
     requires one_program { plan.now.program ≡ code.now }
-    requires lent { IfSome lent (λ moments. HoldsMoments code.now (site_skews plan.now (first_site plan.now)) moments.now) }
+    requires lent { IfSome lent (λ moments. HoldsMoments code.now (site_skews plan.now (first_site plan.now))
+        moments.now) }
     requires image { bare image.now ≡ bare (image_of plan.now (first_site plan.now) 0 1) }
     ensures set_up { IsSetUp result }
     ensures code { result.code.now ≡ code.now }

@@ -22,11 +22,6 @@ use Rattle.word_run.specs.Judge.{edge_met, window_met}
 
 -- ---- bits of lanes
 
--- a lane that stays, where a test is passed
-pub stays_so : (alive k : ℕ) (m : Bool) → m ≡ true → bit_at alive k ≡ min (bit_at alive k) (bit m)
-stays_so alive k true is = let low = bit_at-lt alive k in omega (arith, low)
-stays_so alive k false is = cc
-
 -- two tests one after another
 pub both_bits : (a : ℕ) (x y : Bool) → a < 2 → min (min a (bit x)) (bit y) ≡ min a (bit (x && y))
 both_bits a true true l = omega arith
@@ -51,71 +46,6 @@ pub met_here : (alive f k : ℕ) (m : Bool) → f < 2 ^ 64 → k < 64 → bit_at
 met_here alive f k m small lane here =
     and_is alive (18446744073709551615 - f) k (bit_at alive k) (1 - bit (not m)) refl (not_is f k (bit (not m)) small lane here)
     ∙ ap (min (bit_at alive k)) (flip m)
-
--- ---- one look
-
-no_edge : (b e m : Bool) → e ≡ false → (not (b && e) || m) ≡ true
-no_edge true true m is = cc
-no_edge true false m is = refl
-no_edge false e m is = refl
-
-unbound_edge : (b e m : Bool) → b ≡ false → (not (b && e) || m) ≡ true
-unbound_edge true e m is = cc
-unbound_edge false e m is = refl
-
-bound_edge : (b e m : Bool) → b ≡ true → e ≡ true → (not (b && e) || m) ≡ m
-bound_edge true true m b_is e_is = refl
-bound_edge true false m b_is e_is = cc
-bound_edge false e m b_is e_is = cc
-
-module _ (bound : List Bool) (device : Device) (state : State) (signal : ℕ) (look : Look) where
-  -- it isn't an edge look
-  pub edge_passes : is_edge look ≡ false → edge_met bound device state (signal, look) ≡ true
-  edge_passes = no_edge (get_or bound signal false) (is_edge look) (is_met look (level_of device state signal))
-
-  -- its signal isn't looked at
-  pub edge_unbound : get_or bound signal false ≡ false → edge_met bound device state (signal, look) ≡ true
-  edge_unbound = unbound_edge (get_or bound signal false) (is_edge look) (is_met look (level_of device state signal))
-
-  -- it is checked
-  pub edge_checked : get_or bound signal false ≡ true → is_edge look ≡ true
-      → edge_met bound device state (signal, look) ≡ is_met look (level_of device state signal)
-  edge_checked = bound_edge (get_or bound signal false) (is_edge look) (is_met look (level_of device state signal))
-
--- ---- the window of a signal
-
-or_true : (b : Bool) → (b || true) ≡ true
-or_true true = refl
-or_true false = refl
-
-unbound_window : (b m : Bool) → b ≡ false → (not b || m) ≡ true
-unbound_window true m is = cc
-unbound_window false m is = refl
-
-bound_window : (b m : Bool) → b ≡ true → (not b || (m && true)) ≡ m
-bound_window true true is = refl
-bound_window true false is = refl
-bound_window false m is = cc
-
-module _ (bound : List Bool) (device : Device) (state : State) (windows : List (Option Look)) (signal : ℕ) where
-  abbrev met_in : Option Look → Bool
-  met_in window = not (get_or bound signal false) || list_all (λ look. is_met look (level_of device state signal)) (if_open window)
-
-  -- none is open
-  pub window_none : get_or windows signal None ≡ None → window_met bound device state windows signal ≡ true
-  window_none is = ap met_in is ∙ or_true (not (get_or bound signal false))
-
-  -- its signal isn't looked at
-  pub window_unbound : get_or bound signal false ≡ false → window_met bound device state windows signal ≡ true
-  window_unbound is =
-      unbound_window (get_or bound signal false)
-      (list_all (λ look. is_met look (level_of device state signal)) (if_open (get_or windows signal None))) is
-
-  -- it is checked
-  pub window_checked : (look : Look) → get_or windows signal None ≡ Some look → get_or bound signal false ≡ true
-      → window_met bound device state windows signal ≡ is_met look (level_of device state signal)
-  window_checked look is so =
-      ap met_in is ∙ bound_window (get_or bound signal false) (is_met look (level_of device state signal)) so
 
 -- ---- looks and windows one after another
 

@@ -65,7 +65,8 @@ plays_none setup exec player = record {
       let stand = stand_with setup device in
       record {
         stands = subst (λ (g : Going). StandsIn player lane device g) (sym (after_cycles-none stand going)) stands;
-        found = sym (ap (λ (l : List Fail). option_or (found_in player lane) (first_fail l)) (fails_in-none stand exec going)
+        found = sym
+            (ap (λ (l : List Fail). option_or (found_in player lane) (first_fail l)) (fails_in-none stand exec going)
             ∙ or-none (found_in player lane));
       };
 }
@@ -83,7 +84,8 @@ plays_more setup exec ones others x y z first then = record {
       let ones_fail = first_fail (fails_in (played stand exec going ones)) in
       let others_fail = first_fail (fails_in (played stand exec mid others)) in
       record {
-        stands = subst (λ (g : Going). StandsIn z lane device g) (sym (after_cycles-append stand going ones others)) b.stands;
+        stands = subst (λ (g : Going). StandsIn z lane device g)
+            (sym (after_cycles-append stand going ones others)) b.stands;
         found = b.found
             ∙ ap (λ (o : Option ℕ). option_or o others_fail) a.found
             ∙ or-assoc (found_in x lane) ones_fail others_fail

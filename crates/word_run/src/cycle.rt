@@ -89,7 +89,8 @@ pub(crate) fn play_cycle(
         (along_of (after_cycle (stand_of (code_in setup.now) setup.now.skews.now device) going cycle))) }
     ensures clear { IfOk result (λ left. (k : ℕ) (device : Device) (exec : ℕ) (going : Going) → k < 64
         → StandsAt board.old k device (along_of going) → bit_at left k ≡ min (bit_at alive k)
-        (bit (is_clear (played_cycle (stand_of (code_in setup.now) setup.now.skews.now device) exec going cycle).fails))) }
+        (bit (is_clear (played_cycle (stand_of (code_in setup.now) setup.now.skews.now device) exec going
+        cycle).fails))) }
 {
     let code = setup.code;
     let _signals = code.signals();

@@ -1,11 +1,7 @@
-use Rattle.std.proofs.Common.{◌∙◌, List, ap, length, map, arith}
-use Rattle.std.specs.List.{range_with_len}
-use Rattle.std.proofs.lemmas.List.{length-map}
-use Rattle.std.proofs.lemmas.List.FromFn.{length-range_with_len}
+use Rattle.std.proofs.Common.{◌∙◌, ap, map, arith}
 use Rattle.die_sim.specs.declared.image.StuckAt.{StuckAt}
 use Rattle.word_run.specs.First.{first_on, with_fault}
 use Rattle.try_play.specs.Setup.{code_in}
-use Rattle.fault_grade.specs.Run.{fault_at}
 use Rattle.fault_grade.proofs.ImageLemmas.{faults-within, faults-count, on_ok}
 use Rattle.fault_grade.proofs.run.append_run.Goals as goal
 
