@@ -22,7 +22,8 @@ use Rattle.cycle_run.specs.Step.{FitCode}
 use Rattle.cycle_run.proofs.FitLemmas.{skews_fit}
 use Rattle.fault_grade.specs.Grade.{image_with, first, graded, nets_in, first_site}
 use Rattle.fault_grade.specs.Run.{fault_at, run_of}
-use Rattle.fault_grade.specs.Search.{first_on, graded_on, run_on}
+use Rattle.word_run.specs.First.{first_on}
+use Rattle.fault_grade.specs.Search.{graded_on, run_on}
 use Rattle.fault_grade.proofs.FirstLemmas.{first-is}
 
 -- ---- the first die record

@@ -22,7 +22,7 @@ use Rattle.try_play.specs.Play.{PlaysUpTo}
 use Rattle.try_play.specs.Seat.{CanPlay, IsBefore}
 use Rattle.try_play.proofs.PlayLemmas.{all_ran}
 use Rattle.try_play.proofs.SeatLemmas.{before_next, total_is}
-use Rattle.fault_grade.specs.Grade.{first_fail}
+use Rattle.word_run.specs.First.{first_fail}
 use Rattle.fault_grade.specs.Search.{Finds, Passes, RunsUpTo, GoesOn}
 
 -- ---- a front of the cycles

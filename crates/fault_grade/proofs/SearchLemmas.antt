@@ -1,9 +1,8 @@
 -- A try goes from executive to executive up to its first fail.
-use Rattle.std.proofs.Common.{◌≡◌, ℕ, suc, ◌+◌, ◌-◌, ◌<◌, ◌≤◌, ℤ, List, [], ◌∷◌, ◌++◌, length, map, take, Option, Some, None, refl, sym, ap, ◌∙◌, arith}
+use Rattle.std.proofs.Common.{◌≡◌, ℕ, ◌+◌, ◌-◌, ◌<◌, ◌≤◌, ℤ, List, [], ◌∷◌, ◌++◌, length, map, take, Option, Some, None, refl, sym, ap, ◌∙◌, arith}
 use Rattle.std.specs.List.{range_with_len}
 use Rattle.std.specs.Option.{option_or}
 use Rattle.std.proofs.lemmas.List.{append-nil}
-use Rattle.tester_types.specs.declared.cycle.Cycle.{Cycle}
 use Rattle.tester_types.specs.declared.record.Fail.{Fail}
 use Rattle.packed_code.specs.Program.{Program}
 use Rattle.packed_code.specs.Cycles.{cycles_of}
@@ -14,43 +13,13 @@ use Rattle.site_meaning.specs.Playing.{Stand, Going, bound_of, starting}
 use Rattle.site_meaning.specs.Trials.{played, after_cycles, fails_in, execs_of}
 use Rattle.cycle_run.specs.Cycle.{Point, stand_of, closed_with}
 use Rattle.cycle_run.specs.Batch.{Between, going_in}
-use Rattle.fault_grade.specs.Grade.{first_fail}
-use Rattle.fault_grade.specs.Search.{first_from, first_on, HasFirst, Finds, Passes}
+use Rattle.word_run.specs.First.{first_fail, first_from, first_on}
+use Rattle.word_run.specs.Run.{execs_left}
+use Rattle.word_run.proofs.RunLemmas.{execs-next, execs-none, first_from-none, first_from-next}
+use Rattle.fault_grade.specs.Search.{HasFirst, Finds, Passes}
 use Rattle.fault_grade.proofs.FirstLemmas.{first_fail-take}
 
--- ---- executives from one on
-
--- the cycles of so many executives, from this one on
-abbrev pub execs_from : Program → ℕ → ℕ → List (List Cycle)
-execs_from code from count = map (cycles_of code) (range_with_len from count)
-
--- those up to the last
-abbrev pub execs_left : Program → ℕ → List (List Cycle)
-execs_left code from = execs_from code from (length code.execs - from)
-
-execs-next : (code : Program) (exec : ℕ) → exec < length code.execs
-    → execs_left code exec ≡ cycles_of code exec ∷ execs_left code (exec + 1)
-execs-next code exec within =
-    let e : length code.execs - exec ≡ suc (length code.execs - (exec + 1)) = omega (arith, within) in
-    ap (execs_from code exec) e
-
-execs-none : (code : Program) (exec : ℕ) → length code.execs ≤ exec → execs_left code exec ≡ []
-execs-none code exec past =
-    let e : length code.execs - exec ≡ 0 = omega (arith, past) in
-    ap (execs_from code exec) e
-
 -- ---- from executive to executive
-
-first_from-none : (stand : Stand) (exec : ℕ) (going : Going) → first_from stand exec going [] ≡ None
-unfolding first_from
-first_from-none stand exec going = refl
-
-first_from-next : (stand : Stand) (exec : ℕ) (going : Going) (cycles : List Cycle) (later : List (List Cycle))
-    → first_from stand exec going (cycles ∷ later)
-    ≡ option_or (first_fail (fails_in (played stand exec going cycles)))
-    (first_from stand (exec + 1) (after_cycles stand going cycles) later)
-unfolding first_from
-first_from-next stand exec going cycles later = refl
 
 -- before the first executive
 pub begins : (code : Program) (skews : List ℤ) (image : Image) (going : Going) → going ≡ starting (device_of image)
@@ -59,7 +28,7 @@ unfolding first_on execs_of
 begins code skews image going is =
     let all : length code.execs - 0 ≡ length code.execs = omega arith in
     ap (λ (g : Going). first_from (stand_of code skews (device_of image)) 0 g (execs_left code 0)) is
-    ∙ ap (λ (n : ℕ). first_from (stand_of code skews (device_of image)) 0 (starting (device_of image)) (execs_from code 0 n)) all
+    ∙ ap (λ (n : ℕ). first_from (stand_of code skews (device_of image)) 0 (starting (device_of image)) (map (cycles_of code) (range_with_len 0 n))) all
 
 -- the first of fails that are there, and others behind them
 first-some : (found : List Fail) (later : Option ℕ) → 0 < length found → option_or (first_fail found) later ≡ first_fail found

@@ -1,54 +1,41 @@
 -- What the code goes through to find a first fail. No public clause cites it.
-use Rattle.std.specs.Prelude.{◌≡◌, ℕ, ◌+◌, ◌-◌, ◌<◌, ℤ, Bool, true, false, Option, None, List, [], ◌∷◌, length, map}
-use Rattle.std.specs.Option.{option_or}
+use Rattle.std.specs.Prelude.{◌≡◌, ℕ, ◌+◌, ◌-◌, ◌<◌, ℤ, Bool, true, false, Option, List, [], length, map}
 use Rattle.std.specs.List.{range_with_len}
 use Rattle.tester_types.specs.declared.cycle.Cycle.{Cycle}
 use Rattle.tester_types.specs.declared.record.Fail.{Fail}
 use Rattle.packed_code.specs.Program.{Program}
 use Rattle.edge_gen.specs.Held.{Held}
-use Rattle.die_sim.specs.Die.{Device, Image, device_of}
+use Rattle.die_sim.specs.Die.{Device, Image}
 use Rattle.die_sim.specs.Socket.{Told}
 use Rattle.die_sim.specs.declared.image.StuckAt.{StuckAt}
 use Rattle.strobe_check.specs.History.{HasSeen}
-use Rattle.site_meaning.specs.Playing.{Stand, Going, starting}
-use Rattle.site_meaning.specs.Trials.{played, after_cycles, fails_in, execs_of}
-use Rattle.cycle_run.specs.Cycle.{stand_of, closed_with, Point}
+use Rattle.site_meaning.specs.Playing.{Stand}
+use Rattle.site_meaning.specs.Trials.{played, after_cycles, fails_in}
+use Rattle.cycle_run.specs.Cycle.{closed_with, Point}
 use Rattle.cycle_run.specs.Batch.{Between, going_in}
 use Rattle.try_play.specs.declared.setup.Setup.{Setup}
 use Rattle.try_play.specs.declared.seat.Standing.{Standing}
 use Rattle.try_play.specs.Setup.{code_in}
 use Rattle.try_play.specs.Seat.{IsBefore}
-use Rattle.fault_grade.specs.Grade.{first_fail}
+use Rattle.word_run.specs.First.{first_fail, first_on, with_fault}
 use Rattle.fault_grade.specs.Run.{fault_at}
 use Rattle.fault_grade.specs.declared.graded.Graded.{Graded}
 
 -- ---- what a try comes to
 
--- the cycle of the first fail of executives one after another, the first of which has this number
-unfoldable pub first_from : Stand → ℕ → Going → List (List Cycle) → Option ℕ
-first_from stand exec going [] = None
-first_from stand exec going (cycles ∷ later) =
-    option_or (first_fail (fails_in (played stand exec going cycles)))
-    (first_from stand (exec + 1) (after_cycles stand going cycles) later)
-
--- the cycle of the first fail of a program, with these skews, on a die that is loaded from an image
-unfoldable pub first_on : Program → List ℤ → Image → Option ℕ
-first_on code skews image =
-    first_from (stand_of code skews (device_of image)) 0 (starting (device_of image)) (execs_of code)
-
--- the same of an image with this fault in place of its own
+-- the grade of a fault on a die with the netlist and the binding of an image
 abbrev pub graded_on : Program → List ℤ → Image → StuckAt → Graded
 graded_on code skews image fault = record {
   net = fault.net;
   value = fault.value;
-  first = first_on code skews (record image { faults = fault ∷ [] });
+  first = first_on code skews (with_fault image fault);
 }
 
--- the same of the faults of these numbers, the last left out
+-- those of the faults of these numbers, the last left out
 unfoldable pub run_on : Program → List ℤ → Image → ℕ → ℕ → List Graded
 run_on code skews image from to = map (λ k. graded_on code skews image (fault_at k)) (range_with_len from (to - from))
 
--- the same of what a try is played with
+-- the first failing cycle of what a try is played with
 abbrev pub first_in : Setup → Option ℕ
 first_in setup = first_on (code_in setup) setup.skews.now setup.image.now
 

@@ -1,6 +1,7 @@
 //! The faults of a die by their numbers, and images that have them.
 
-ghost use Rattle.std.specs.Prelude.{◌≡◌, ◌∷◌, [], ◌<◌, length, IfOk, IfSome, option_to_list};
+ghost use Rattle.std.specs.Prelude.{◌≡◌, ◌-◌, ◌<◌, ◌≤◌, length, map, IfOk, IfSome, option_to_list};
+ghost use Rattle.std.specs.List.{range_with_len};
 ghost use Rattle.fault_grade.specs.Run.{fault_at};
 
 use die_sim::{DieImage, FaultList, StuckAt};
@@ -16,6 +17,18 @@ pub(crate) fn fault_at(number: u32) -> StuckAt
         net: number / 2,
         value: number % 2 == 1,
     }
+}
+
+/// The faults of these numbers, the last left out.
+pub(crate) fn faults_between(alloc: Global, from: u32, to: u32) -> Result<Vec<StuckAt>, NoMemory>
+    requires { from ≤ to }
+    ensures { IfOk result (λ faults. faults.items ≡ map fault_at (range_with_len from (to - from))) }
+{
+    let mut faults = Vec::with_capacity(alloc, (to - from) as usize)?;
+    for number in from..to {
+        faults.push(fault_at(number))?;
+    }
+    Ok(faults)
 }
 
 /// The list of this fault, if there is one.
@@ -43,21 +56,5 @@ pub(crate) fn image_with(
         net: Arc::try_clone(&base.net)?,
         bind: Arc::try_clone(&base.bind)?,
         faults,
-    })
-}
-
-/// The image with this fault in place of its own, in the room that its list has.
-pub(crate) fn put_fault(image: DieImage, fault: StuckAt) -> Result<DieImage, NoMemory>
-    requires { fault.net < length image.circuit.net.drivers }
-    ensures { IfOk result (λ new. new ≡ record image { faults = fault ∷ [] }) }
-{
-    let DieImage { net, bind, faults } = image;
-    let mut list = faults.into_vec();
-    list.clear();
-    list.push(fault)?;
-    Ok(DieImage {
-        net,
-        bind,
-        faults: FaultList::from_vec(list),
     })
 }

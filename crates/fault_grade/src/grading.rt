@@ -24,7 +24,7 @@ use tester_types::NoMemory;
 use try_play::{Lent, Setup, Until};
 
 /// The moments that the cycles have at the first die's site.
-pub(crate) fn first_lent(alloc: Global, code: &Code, plan: &BoundPlan) -> Result<Lent, NoMemory>
+fn first_lent(alloc: Global, code: &Code, plan: &BoundPlan) -> Result<Lent, NoMemory>
     requires die { 0 < sites_of plan.now.rows }
     requires one_program { plan.now.program ≡ code.now }
     ensures { IfOk result (λ lent. HoldsMoments code.now (site_skews plan.now (first_site plan.now)) lent) }
@@ -35,10 +35,16 @@ pub(crate) fn first_lent(alloc: Global, code: &Code, plan: &BoundPlan) -> Result
 }
 
 /// What a try of the first die is played with, with the faults of this image in place of its own.
-fn set_up<'a>(code: &'a Code, plan: &'a BoundPlan, lent: &'a Lent, image: &'a DieImage) -> Setup<'a>
+fn set_up<'a>(
+    code: &'a Code,
+    plan: &'a BoundPlan,
+    lent: Option<&'a Lent>,
+    image: &'a DieImage,
+) -> Setup<'a>
     requires die { 0 < sites_of plan.now.rows }
     requires one_program { plan.now.program ≡ code.now }
-    requires lent { HoldsMoments code.now (site_skews plan.now (first_site plan.now)) lent.now }
+    requires lent { IfSome lent (λ moments. HoldsMoments code.now (site_skews plan.now (first_site plan.now))
+        moments.now) }
     requires image { bare image.now ≡ bare (image_of plan.now (first_site plan.now) 0 1) }
     ensures set_up { IsSetUp result }
     ensures code { result.code.now ≡ code.now }
@@ -53,51 +59,8 @@ fn set_up<'a>(code: &'a Code, plan: &'a BoundPlan, lent: &'a Lent, image: &'a Di
         image,
         skews: first_skews(plan),
         until: Until::FirstFail,
-        lent: Some(lent),
+        lent,
     }
-}
-
-/// The cycle of the first fail of the first die with this fault, if there is one, where moments are lent.
-pub(crate) fn first_with(
-    alloc: Global,
-    code: &Code,
-    plan: &BoundPlan,
-    lent: &Lent,
-    fault: Option<StuckAt>,
-) -> Result<Option<u64>, NoMemory>
-    requires die { 0 < sites_of plan.now.rows }
-    requires one_program { plan.now.program ≡ code.now }
-    requires net { IfSome fault (λ f. f.net < nets_in (first_part plan.now)) }
-    requires lent { HoldsMoments code.now (site_skews plan.now (first_site plan.now)) lent.now }
-    ensures { IfOk result (λ cycle. cycle ≡ first (first_part plan.now) 0 (option_to_list fault)) }
-{
-    let _sites = plan.sites();
-    let _signals = code.signals();
-    let image = image_with(alloc, first_image(plan), fault)?;
-    let setup = set_up(code, plan, lent, &image);
-    try_image(alloc, &setup)
-}
-
-/// The grades of the first die's faults with these numbers, the last left out, where moments are lent.
-pub(crate) fn run_with(
-    alloc: Global,
-    code: &Code,
-    plan: &BoundPlan,
-    lent: &Lent,
-    from: u32,
-    to: u32,
-) -> Result<GradeList, NoMemory>
-    requires die { 0 < sites_of plan.now.rows }
-    requires one_program { plan.now.program ≡ code.now }
-    requires order { from ≤ to }
-    requires within { to ≤ 2 * nets_in (first_part plan.now) }
-    requires lent { HoldsMoments code.now (site_skews plan.now (first_site plan.now)) lent.now }
-    ensures { IfOk result (λ list. list ≡ run_of (first_part plan.now) from to) }
-{
-    let _sites = plan.sites();
-    let _signals = code.signals();
-    let setup = set_up(code, plan, lent, first_image(plan));
-    try_run(alloc, &setup, from, to)
 }
 
 /// The cycle of the first fail of a try of the plan's first die in which this fault alone is active, or no fault; none
@@ -113,8 +76,32 @@ pub fn first_of(
     requires net { IfSome fault (λ f. f.net < nets_in (first_part plan.now)) }
     ensures { IfOk result (λ cycle. cycle ≡ first (first_part plan.now) 0 (option_to_list fault)) }
 {
+    let _sites = plan.sites();
+    let _signals = code.signals();
     let lent = first_lent(alloc, code, plan)?;
-    first_with(alloc, code, plan, &lent, fault)
+    let image = image_with(alloc, first_image(plan), fault)?;
+    let setup = set_up(code, plan, Some(&lent), &image);
+    try_image(alloc, &setup)
+}
+
+/// The grades of the first die's faults with these numbers, the last left out.
+fn run_with<'a>(
+    alloc: Global,
+    code: &'a Code,
+    plan: &'a BoundPlan,
+    from: u32,
+    to: u32,
+) -> Result<GradeList, NoMemory>
+    requires die { 0 < sites_of plan.now.rows }
+    requires one_program { plan.now.program ≡ code.now }
+    requires order { from ≤ to }
+    requires within { to ≤ 2 * nets_in (first_part plan.now) }
+    ensures { IfOk result (λ list. list ≡ run_of (first_part plan.now) from to) }
+{
+    let _sites = plan.sites();
+    let _signals = code.signals();
+    let setup = set_up(code, plan, None, first_image(plan));
+    try_run(alloc, &setup, from, to)
 }
 
 /// The grades of the faults of the plan's first die from one number up to another, the last left out: fault k is net
@@ -132,6 +119,5 @@ pub fn grade_run(
     requires within { to ≤ 2 * nets_in (first_part plan.now) }
     ensures { IfOk result (λ list. list ≡ run_of (first_part plan.now) from to) }
 {
-    let lent = first_lent(alloc, code, plan)?;
-    run_with(alloc, code, plan, &lent, from, to)
+    run_with(alloc, code, plan, from, to)
 }

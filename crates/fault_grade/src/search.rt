@@ -6,7 +6,7 @@ ghost use Rattle.cycle_run.specs.Step.{HoldsSchedules};
 ghost use Rattle.try_play.specs.declared.setup.Until.TheVariants as until;
 ghost use Rattle.try_play.specs.Setup.{IsSetUp, code_in, device_in};
 ghost use Rattle.try_play.specs.Seat.{point_of, StartsSo};
-ghost use Rattle.fault_grade.specs.Grade.{first_fail};
+ghost use Rattle.word_run.specs.First.{first_fail};
 ghost use Rattle.fault_grade.specs.Search.{first_in, HasFirst};
 
 use crate::exec::run_exec;

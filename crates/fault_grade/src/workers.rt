@@ -3,15 +3,13 @@
 ghost use Rattle.std.specs.Prelude.{◌≡◌, ◌+◌, ◌*◌, ◌≤◌, ◌<◌, ℕ, length, IfOk};
 ghost use Rattle.std.specs.Thread.{IsSync};
 ghost use Rattle.plan_rows.specs.Rows.{sites_of};
-ghost use Rattle.lot_plan.specs.Skews.{site_skews};
-ghost use Rattle.fault_grade.specs.Grade.{first_site, first_part, nets_in, grade_of};
+ghost use Rattle.fault_grade.specs.Grade.{first_part, nets_in, grade_of};
 ghost use Rattle.site_meaning.specs.Part.{Part};
-ghost use Rattle.try_play.specs.Lent.{HoldsMoments};
 ghost use Rattle.fault_grade.specs.Run.{cut_at, run_of, IsEachRun};
 
 use crate::die::fault_count;
 use crate::graded::{Grade, GradeList};
-use crate::grading::{first_lent, first_with, run_with};
+use crate::grading::{first_of, grade_run};
 use lot_plan::BoundPlan;
 use packed_code::Code;
 use std::alloc::Global;
@@ -19,7 +17,6 @@ use std::sync::Wait;
 use std::thread;
 use std::thread::Threads;
 use tester_types::{Gate, NoMemory};
-use try_play::Lent;
 
 /// Where the run of a worker begins, of so many workers who share so many faults.
 fn cut_at(faults: u32, workers: u8, worker: u32) -> u32
@@ -37,7 +34,6 @@ fn work<R: Threads + Wait + Sync, G: Gate>(
     alloc: Global,
     code: &Code,
     plan: &BoundPlan,
-    lent: &Lent,
     gate: &G,
     workers: u8,
     worker: usize,
@@ -46,7 +42,6 @@ fn work<R: Threads + Wait + Sync, G: Gate>(
     requires one_program { plan.now.program ≡ code.now }
     requires few { workers ≤ 16 }
     requires worker { worker < workers }
-    requires lent { HoldsMoments code.now (site_skews plan.now (first_site plan.now)) lent.now }
     ensures { IfOk result (λ list. list ≡ run_of (first_part plan.now)
         (cut_at (2 * nets_in (first_part plan.now)) workers worker)
         (cut_at (2 * nets_in (first_part plan.now)) workers (worker + 1))) }
@@ -55,7 +50,7 @@ fn work<R: Threads + Wait + Sync, G: Gate>(
     let faults = fault_count(plan);
     let from = cut_at(faults, workers, worker as u32);
     let to = cut_at(faults, workers, worker as u32 + 1);
-    run_with(alloc, code, plan, lent, from, to)
+    grade_run(alloc, code, plan, from, to)
 }
 
 /// The runs of all workers, each in a thread of its own as far as threads can be made.
@@ -64,14 +59,12 @@ fn work_all<R: Threads + Wait + Sync, G: Gate>(
     alloc: Global,
     code: &Code,
     plan: &BoundPlan,
-    lent: &Lent,
     gate: &G,
     workers: u8,
 ) -> Result<Vec<Result<GradeList, NoMemory>>, NoMemory>
     requires die { 0 < sites_of plan.now.rows }
     requires one_program { plan.now.program ≡ code.now }
     requires few { workers ≤ 16 }
-    requires lent { HoldsMoments code.now (site_skews plan.now (first_site plan.now)) lent.now }
     ensures count { IfOk result (λ runs. length runs.items ≡ workers) }
     ensures each { IfOk result (λ runs. IsEachRun (first_part plan.now) workers runs.items) }
 {
@@ -81,12 +74,11 @@ fn work_all<R: Threads + Wait + Sync, G: Gate>(
         usize::from(workers),
         &|worker: usize| -> Result<GradeList, NoMemory>
             requires { IsSync R.row × IsSync G.row × (0 < sites_of plan.now.rows) × (plan.now.program ≡ code.now)
-                × (workers ≤ 16) × (worker < workers)
-                × HoldsMoments code.now (site_skews plan.now (first_site plan.now)) lent.now }
+                × (workers ≤ 16) × (worker < workers) }
             ensures { IfOk result (λ list. list ≡ run_of (first_part plan.entry.now)
                 (cut_at (2 * nets_in (first_part plan.entry.now)) workers worker)
                 (cut_at (2 * nets_in (first_part plan.entry.now)) workers (worker + 1))) }
-        { work(rt, alloc, code, plan, lent, gate, workers, worker) },
+        { work(rt, alloc, code, plan, gate, workers, worker) },
     )?;
     Ok(runs)
 }
@@ -128,9 +120,8 @@ pub fn grade<R: Threads + Wait + Sync, G: Gate>(
     requires few { workers ≤ 16 }
     ensures { IfOk result (λ grade. grade ≡ grade_of plan.now) }
 {
-    let lent = first_lent(alloc, code, plan)?;
-    let good = first_with(alloc, code, plan, &lent, None)?;
-    let runs = work_all(rt, alloc, code, plan, &lent, gate, workers)?;
+    let good = first_of(alloc, code, plan, None)?;
+    let runs = work_all(rt, alloc, code, plan, gate, workers)?;
     let faults = joined(alloc, runs.as_slice(), fault_count(plan) as usize)?;
     Ok(Grade { good, faults })
 }

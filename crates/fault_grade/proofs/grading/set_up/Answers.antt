@@ -1,4 +1,4 @@
-use Rattle.std.proofs.Common.{◌∙◌, ℤ, List, length, ap, sym, subst}
+use Rattle.std.proofs.Common.{◌∙◌, ℤ, IfSome, List, length, ap, sym, subst}
 use Rattle.packed_code.specs.Program.{Program}
 use Rattle.bench_net.specs.Circuit.{Circuit, IsWhole}
 use Rattle.die_sim.specs.Die.{Image}
@@ -22,5 +22,5 @@ returns-clause-set_up c =
           ∙ ap (λ (p : Program). length p.signals) c.requires.one_program;
       skews_fit = subst (λ (l : List ℤ). FitCode code l) (sym c.first_skews.ensures)
           (code-fits plan site code c.signals-signals.ensures.conditions c.requires.one_program bound);
-      lent = subst (λ (l : List ℤ). HoldsMoments code l c.args.lent.now) (sym c.first_skews.ensures) c.requires.lent;
+      lent = subst (λ (l : List ℤ). IfSome c.args.lent (λ moments. HoldsMoments code l moments.now)) (sym c.first_skews.ensures) c.requires.lent;
     }

@@ -3,7 +3,7 @@ use Rattle.std.specs.Prelude.{None}
 use Rattle.die_sim.specs.Socket.{holding}
 use Rattle.try_play.specs.Setup.{device_in}
 use Rattle.try_play.specs.Seat.{point_of}
-use Rattle.fault_grade.specs.Grade.{first_fail}
+use Rattle.word_run.specs.First.{first_fail}
 use Rattle.fault_grade.specs.Search.{first_in}
 use Rattle.fault_grade.proofs.SearchLemmas.{kept_first}
 use Rattle.fault_grade.proofs.search.first_cycle_of.Goals as goal

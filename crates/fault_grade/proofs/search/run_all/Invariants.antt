@@ -4,8 +4,9 @@ use Rattle.die_sim.specs.Socket.{holding}
 use Rattle.cycle_run.specs.Batch.{going_in}
 use Rattle.try_play.specs.Setup.{code_in, stand_in}
 use Rattle.try_play.specs.Seat.{between_of, IsBefore}
-use Rattle.fault_grade.specs.Search.{first_from, first_in}
-use Rattle.fault_grade.proofs.SearchLemmas.{execs_left}
+use Rattle.word_run.specs.First.{first_from}
+use Rattle.word_run.specs.Run.{execs_left}
+use Rattle.fault_grade.specs.Search.{first_in}
 use Rattle.fault_grade.proofs.search.run_all.Given as goal
 
 -- what is left comes to the first fail of all

@@ -7,9 +7,10 @@ use Rattle.lot_plan.specs.Skews.{site_skews}
 use Rattle.site_meaning.proofs.ImageLemmas.{image-whole}
 use Rattle.try_play.specs.Setup.{code_in}
 use Rattle.fault_grade.specs.Grade.{first_site}
-use Rattle.fault_grade.specs.Search.{bare, first_on}
+use Rattle.word_run.specs.First.{first_on}
+use Rattle.fault_grade.specs.Search.{bare}
 use Rattle.fault_grade.proofs.DieLemmas.{first-die, first-of_plan, net-of_plan}
-use Rattle.fault_grade.proofs.grading.first_with.Goals as goal
+use Rattle.fault_grade.proofs.grading.first_of.Goals as goal
 
 pub image_with-requires : goal.image_with-requires
 image_with-requires c =

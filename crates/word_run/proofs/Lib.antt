@@ -1,0 +1,9 @@
+pub mod CheckLemmas
+pub mod LookLemmas
+pub mod JudgeLemmas
+pub mod ClearLemmas
+pub mod CycleLemmas
+pub mod BoardLemmas
+pub mod PlayLemmas
+pub mod RunLemmas
+pub mod StartLemmas
