@@ -13,3 +13,4 @@ pub mod SameLemmas
 pub mod EntryLemmas
 pub mod SteadyLemmas
 pub mod CompileLemmas
+pub mod MeasureLemmas

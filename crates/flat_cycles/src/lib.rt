@@ -3,4 +3,4 @@
 
 mod laws;
 
-pub use laws::{compiling_is_fine, cycles_are_same};
+pub use laws::{compiling_is_fine, cycles_are_same, small_are_fine};

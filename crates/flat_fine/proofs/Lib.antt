@@ -13,3 +13,4 @@ pub mod RowLemmas
 pub mod PatternLemmas
 pub mod ScopeLemmas
 pub mod PassLemmas
+pub mod ApartLemmas

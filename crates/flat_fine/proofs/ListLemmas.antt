@@ -181,3 +181,12 @@ pub at_range : (count number n : ℕ) → slice_get (range_with_len 0 count) num
 at_range count number n at =
     let is = in_range 0 count number n at in
     (omega (arith, is), subst (λ (k : ℕ). number < k) (length-range_with_len 0 count) (within (range_with_len 0 count) number n at))
+
+-- another relation of lists beside each other, which their items have at each place
+pub zip_at : {A B : Type 0} (R S : A → B → Type 0) (xs : List A) (ys : List B) → AllZip R xs ys
+    → ((i : ℕ) (x : A) (y : B) → slice_get xs i ≡ Some x → slice_get ys i ≡ Some y → S x y) → AllZip S xs ys
+zip_at R S [] [] all so = tt
+zip_at R S [] (y ∷ ys) all so = absurd all
+zip_at R S (x ∷ xs) [] all so = absurd all
+zip_at R S (x ∷ xs) (y ∷ ys) all so =
+    (so 0 x y refl refl, zip_at R S xs ys all.1 (λ i a b there at. so (suc i) a b there at))

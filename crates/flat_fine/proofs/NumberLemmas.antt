@@ -1,5 +1,5 @@
 -- Names of a letter and a number, and what is in the lists of all executives.
-use Rattle.std.proofs.Common.{◌≡◌, ℕ, ◌*◌, ◌^◌, ◌<◌, ◌≤◌, true, false, List, [], ◌∷◌, length, length-append, sym, ◌∙◌, arith, inl, inr}
+use Rattle.std.proofs.Common.{◌≡◌, ℕ, ◌+◌, ◌*◌, ◌^◌, ◌<◌, ◌≤◌, true, false, List, [], ◌∷◌, length, length-append, sym, ◌∙◌, arith, inl, inr}
 use Rattle.std.specs.Prelude.{◌==◌, decimal}
 use Rattle.std.specs.List.{AllByRecursion, flat_map}
 use Rattle.std.proofs.lemmas.Bool.{or_cases, false_from_ne_true, false≢true}
@@ -38,3 +38,10 @@ all_long of (x ∷ items) most each =
     let here = each.0 in
     let is = length-append (of x) (flat_map of items) in
     omega (arith, is, here, behind)
+
+-- products of sums
+pub times_suc : (n k : ℕ) → (n + 1) * k ≡ n * k + k
+times_suc n k = grind arith
+
+pub times_both : (m n k : ℕ) → (m + (n + 1) + 1) * k ≡ m * k + n * k + k + k
+times_both m n k = grind arith

@@ -1,6 +1,6 @@
 //! Laws of the blocks that a flat text says.
 
-ghost use Rattle.flat_fine.specs.Laws.{NamesAreFine, ExecutivesAreFine};
+ghost use Rattle.flat_fine.specs.Laws.{NamesAreFine, ExecutivesAreFine, FewAreFine};
 
 /// The signals have no fault.
 pub fn names_are_fine()
@@ -10,4 +10,9 @@ pub fn names_are_fine()
 /// A fault of the executives is that something is too large.
 pub fn executives_are_fine()
     ensures { ExecutivesAreFine }
+{}
+
+/// They have none where they are few and shallow.
+pub fn few_are_fine()
+    ensures { FewAreFine }
 {}

@@ -3,4 +3,4 @@
 
 mod laws;
 
-pub use laws::{executives_are_fine, names_are_fine};
+pub use laws::{executives_are_fine, few_are_fine, names_are_fine};

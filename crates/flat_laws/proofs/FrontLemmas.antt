@@ -49,23 +49,23 @@ told_beyond code bytes tokens (nowhere kind) fault beyond told = absurd beyond
 
 -- where the nests of a code are known
 module _ (code : Program) (nests : ℕ → Nest) (whole : IsProgram code) (plain : has_plain_names code ≡ true) (are : AreNests code nests) where
-  abbrev text : List ℕ
+  abbrev pub text : List ℕ
   text = flat_text code
 
-  abbrev tokens : List Token
+  abbrev pub tokens : List Token
   tokens = flat_tokens code nests
 
-  abbrev forest : Trees
+  abbrev pub forest : Trees
   forest = trees_at 0 (flat_said code nests)
 
-  reads : Reads text tokens
+  pub reads : Reads text tokens
   reads = flat_reads code nests whole plain are
 
   -- what its statements are read as
-  read : IsReading code (blocks_of text tokens (entries forest))
+  pub read : IsReading code (blocks_of text tokens (entries forest))
   read = said_is_read code nests text tokens whole are (flat_lexemes code nests whole plain are)
 
-  parses : fits 0 (flat_said code nests) ≡ true → Parses tokens forest
+  pub parses : fits 0 (flat_said code nests) ≡ true → Parses tokens forest
   parses fit = said_parses 0 0 [] (flat_said code nests) fit
 
   -- the blocks, where it has such

@@ -1,6 +1,6 @@
 -- What holds of the flat text of a code: it says the whole code but for its chains, and it has no fault but that it is
 -- beyond a limit of texts.
-use Rattle.std.specs.Prelude.{◌≡◌, ◌⊎◌, true, Some}
+use Rattle.std.specs.Prelude.{◌≡◌, ◌⊎◌, ℕ, true, Some, None}
 use Rattle.stil_ast.specs.declared.blocks.Blocks.{Blocks}
 use Rattle.stil_ast.specs.declared.fault.StilFault.{StilFault}
 use Rattle.stil_ast.specs.declared.fault.StilKind.{StilKind}
@@ -10,6 +10,7 @@ use Rattle.packed_code.specs.Conditions.{IsProgram}
 use Rattle.time_expr.specs.TimesOf.{times_of}
 use Rattle.stil_program.specs.Program.{IsTextFault, IsTextOf}
 use Rattle.flat_parts.specs.FlatText.{flat_text, has_plain_names}
+use Rattle.flat_laws.specs.Limits.{IsWithinLimits}
 use Rattle.flat_laws.specs.SameProgram.{IsSameProgram}
 
 -- a text is beyond a limit: it walks, measures or holds too much; a Timing has too many tables; its loops nest too deep
@@ -27,3 +28,9 @@ abbrev pub ProgramIsSame : Type 0
 ProgramIsSame =
     (code : Program) (blocks : Blocks) → IsProgram code → has_plain_names code ≡ true
     → IsTextOf (flat_text code) blocks → IsSameProgram times_of code blocks
+
+-- it has none where it is within the limits
+abbrev pub FlatIsFine : Type 0
+FlatIsFine =
+    (code : Program) (left : ℕ) → IsProgram code → has_plain_names code ≡ true → IsWithinLimits code left
+    → IsTextFault (flat_text code) None

@@ -4,4 +4,4 @@
 
 mod laws;
 
-pub use laws::{faults_are_limits, program_is_same};
+pub use laws::{faults_are_limits, flat_is_fine, program_is_same};

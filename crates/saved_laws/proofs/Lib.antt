@@ -4,3 +4,4 @@ pub mod PartSights
 pub mod RowSights
 pub mod ProgramSights
 pub mod LawLemmas
+pub mod SizeLemmas

@@ -1,4 +1,4 @@
-//! Laws of the refusals of saved programs.
+//! Laws of saved programs: of their refusals, and of their length.
 
 ghost use Rattle.std.specs.Prelude.{◌≡◌, ◌<◌, ◌≤◌, ◌∷◌, ◌++◌, length, take, List, ℕ, Err};
 ghost use Rattle.page_code.specs.declared.fault.SavedFault.TheVariants.{BadMagic, BadVersion, Torn, BadCode};
@@ -6,6 +6,7 @@ ghost use Rattle.packed_code.specs.Program.{Program};
 ghost use Rattle.page_code.specs.Saved.{Saved};
 ghost use Rattle.page_code.specs.Reading.{load_of};
 ghost use Rattle.saved_laws.specs.Laws.{HasRefusedField, HasRefusedHead, AgreeUpTo};
+ghost use Rattle.saved_laws.specs.Size.{SavedIsShort};
 
 /// A condition that fails is refused at a field: nothing before the field's end is refused, and whatever stands behind it
 /// changes nothing.
@@ -39,4 +40,9 @@ pub fn no_shorter_no_longer()
     ensures { (bytes : List ℕ) (code : Program) → Saved code bytes
         → ((n : ℕ) → n < length bytes → load_of (take n bytes) ≡ Err (Torn n))
         × ((byte : ℕ) (more : List ℕ) → load_of (bytes ++ byte ∷ more) ≡ Err (BadCode (length bytes))) }
+{}
+
+/// No saved form takes more bytes than the numbers of its code say.
+pub fn saved_is_short()
+    ensures { SavedIsShort }
 {}
