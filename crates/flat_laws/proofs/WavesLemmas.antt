@@ -40,7 +40,7 @@ zip_made P R make from (x ∷ xs) [] all so = absurd all
 zip_made P R make from (x ∷ xs) (y ∷ ys) all so = (
   subst (λ (n : ℕ). R x (make (n, y))) (omega arith) (so 0 x y refl refl all.0),
   zip_made P R make (from + 1) xs ys all.1 (λ i a b there at p.
-  subst (λ (n : ℕ). R a (make (n, b))) (omega arith) (so (suc i) a b there at p)),
+      subst (λ (n : ℕ). R a (make (n, b))) (omega arith) (so (suc i) a b there at p)),
 )
 
 -- tables with so many waves each
