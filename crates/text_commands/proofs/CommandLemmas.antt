@@ -8,6 +8,7 @@ use Rattle.stil_ast.specs.declared.executive.ExecDecl.{ExecDecl}
 use Rattle.stil_ast.specs.Data.Refusal.{StilRefusal}
 use Rattle.answers.specs.declared.short.Short.TheVariants.{NoMemory, Fault}
 use Rattle.packed_code.specs.Program.{Program}
+use Rattle.packed_code.specs.Conditions.{IsProgram}
 use Rattle.packed_code.specs.declared.parts.CodeSignal.{CodeSignal}
 use Rattle.cycle_comp.specs.Compiled.{signal_of}
 use Rattle.code_listing.specs.Lines.{AreFirstLines, GainsLines}
@@ -125,9 +126,9 @@ want_flat : (file bytes : List ℕ) (code : Program) (status : Status) (text : L
     → FlatWant file code status text → BytesWant Flat file bytes status text
 want_flat file bytes code Done text is want = (code, is, want.0, want.1)
 want_flat file bytes code OutOfMemory text is want = at_once want
-want_flat file bytes code TooLong text is want = (record { code = code; is = is; long = want.0 }, want.1)
+want_flat file bytes code TooLong text is want = (record { code = code; is = is; whole = want.1; long = want.0 }, want.2)
 want_flat file bytes code TooFlat text is want =
-    (record { flattens = refl; code = code; is = is; flat = want.0; limit = want.1 }, want.2)
+    (record { flattens = refl; code = code; is = is; whole = want.2; flat = want.0; limit = want.1 }, want.3)
 want_flat file bytes code Usage text is want = absurd want
 want_flat file bytes code ReadFault text is want = absurd want
 want_flat file bytes code WriteFault text is want = absurd want
@@ -150,8 +151,8 @@ flat_answers file bytes code held held' faults faults' result is a = record {
 }
 
 -- the status and the line of a fault are wanted
-pub want_fault : (file : List ℕ) (code : Program) (f : FlatFault) → IsCause code f → IsBeyondLimits code
+pub want_fault : (file : List ℕ) (code : Program) (f : FlatFault) → IsProgram code → IsCause code f → IsBeyondLimits code
     → FlatWant file code (flat_status f) (flat_line file f)
-want_fault file code fault.NoMemory cause limit = refl
-want_fault file code fault.TooLong cause limit = (cause, refl)
-want_fault file code fault.TooFlat cause limit = (cause, limit, refl)
+want_fault file code fault.NoMemory whole cause limit = refl
+want_fault file code fault.TooLong whole cause limit = (cause, whole, refl)
+want_fault file code fault.TooFlat whole cause limit = (cause, limit, whole, refl)

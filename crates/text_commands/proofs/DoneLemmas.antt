@@ -91,9 +91,9 @@ not_long Check bytes accepted long = long.long
 not_long Cycles bytes accepted long = long.long
 not_long Events bytes accepted long = long.long
 not_long Save bytes accepted long =
-    let few = accepted.1 long.code long.is in let more = long.long in omega (arith, few, more)
+    let few = accepted.1 long.code long.is long.whole in let more = long.long in omega (arith, few, more)
 not_long Flat bytes accepted long =
-    let few = (accepted.1 long.code long.is).short in let more = long.long in omega (arith, few, more)
+    let few = (accepted.1 long.code long.is long.whole).short in let more = long.long in omega (arith, few, more)
 
 not_flat : (command : Command) (bytes : List ℕ) → IsAccepted command bytes → IsWrittenTooFlat command bytes → ⊥
 not_flat Check bytes accepted flat = let wrong = flat.flattens in cc
@@ -102,7 +102,7 @@ not_flat Events bytes accepted flat = let wrong = flat.flattens in cc
 not_flat Save bytes accepted flat = let wrong = flat.flattens in cc
 not_flat Flat bytes accepted flat =
     let is = flat.flat in
-    let same = one_text_fault (flat_text flat.code) (Some is.fault) None is.first (accepted.1 flat.code flat.is).fine in cc
+    let same = one_text_fault (flat_text flat.code) (Some is.fault) None is.first (accepted.1 flat.code flat.is flat.whole).fine in cc
 
 bytes_done : (command : Command) (file bytes : List ℕ) (status : Status) (text : List ℕ) → IsAccepted command bytes
     → BytesWant command file bytes status text → IsDone status

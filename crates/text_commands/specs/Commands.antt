@@ -81,6 +81,7 @@ HasTooLong Flat code = IsTooLong code
 pub record IsWrittenTooLong (command : Command) (bytes : List ℕ) : Type 0 where
   pub code : Program
   pub is : IsProgramOf bytes code
+  pub whole : IsProgram code
   pub long : HasTooLong command code
 
 -- the flat text of a text would be refused, as it is beyond a limit
@@ -88,6 +89,7 @@ pub record IsWrittenTooFlat (command : Command) (bytes : List ℕ) : Type 0 wher
   pub flattens : command ≡ Flat
   pub code : Program
   pub is : IsProgramOf bytes code
+  pub whole : IsProgram code
   pub flat : IsTooFlat code
   pub limit : IsBeyondLimits code
 
@@ -122,12 +124,14 @@ pub data FileWants (command : Command) (file : List ℕ) (told : Option Files) (
   no_memory : status ≡ OutOfMemory → text ≡ memory_line → FileWants command file told before now status text
 
 -- the text has no fault, and not too many cycles for a command that prints them, nor too many bytes for one that saves;
--- its flat text, for one that writes it, isn't too long and has no fault
+-- its flat text, for one that writes it, isn't too long and has no fault; this of codes that meet all conditions
 abbrev pub IsAccepted : Command → List ℕ → Type 0
 IsAccepted Check bytes = IsTextFault bytes None
 IsAccepted Cycles bytes = (blocks : Blocks) × IsListed bytes blocks
 IsAccepted Events bytes = (blocks : Blocks) × IsListed bytes blocks
 IsAccepted Save bytes =
-    IsTextFault bytes None × ((code : Program) → IsProgramOf bytes code → length (saved_form code) ≤ limit)
+    IsTextFault bytes None
+    × ((code : Program) → IsProgramOf bytes code → IsProgram code → length (saved_form code) ≤ limit)
 IsAccepted Flat bytes =
-    IsTextFault bytes None × ((code : Program) → IsProgramOf bytes code → IsFlat code (flat_text code))
+    IsTextFault bytes None
+    × ((code : Program) → IsProgramOf bytes code → IsProgram code → IsFlat code (flat_text code))

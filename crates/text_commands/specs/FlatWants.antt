@@ -1,6 +1,7 @@
 -- What is answered of a code that is to be written flat; no public clause cites it.
 use Rattle.std.specs.Prelude.{◌≡◌, ℕ, List}
 use Rattle.packed_code.specs.Program.{Program}
+use Rattle.packed_code.specs.Conditions.{IsProgram}
 use Rattle.flat_stil.specs.FlatFault.{IsFlat, MeansSame, IsTooLong, IsTooFlat, IsBeyondLimits}
 use Rattle.flat_stil.specs.declared.fault.FlatFault.{FlatFault}
 use Rattle.flat_stil.specs.declared.fault.FlatFault.TheVariants as fault
@@ -11,8 +12,9 @@ use Rattle.tool_inputs.specs.Endings.{too_long_line, too_flat_line, memory_line}
 -- what must be so of the code of this file for a status, with what is written then
 abbrev pub FlatWant : List ℕ → Program → Status → List ℕ → Type 0
 FlatWant file code Done text = IsFlat code text × MeansSame code text
-FlatWant file code TooLong text = IsTooLong code × (text ≡ too_long_line file)
-FlatWant file code TooFlat text = IsTooFlat code × IsBeyondLimits code × (text ≡ too_flat_line file)
+FlatWant file code TooLong text = IsTooLong code × IsProgram code × (text ≡ too_long_line file)
+FlatWant file code TooFlat text =
+    IsTooFlat code × IsBeyondLimits code × IsProgram code × (text ≡ too_flat_line file)
 FlatWant file code OutOfMemory text = text ≡ memory_line
 FlatWant file code _ text = ⊥
 

@@ -140,6 +140,7 @@ fn save_text<K: Sink>(alloc: Global, file: &str, bytes: &[u8], out: &mut K) -> S
         Err(refusal) => return put_stil(out, &refusal),
     };
     if saved_len(&code) > LIMIT as u64 {
+        let _conditions = code.signals();
         let name = Piece::Name(file.as_bytes());
         return ended(
             out,
@@ -186,6 +187,7 @@ fn put_flat<K: Sink>(alloc: Global, file: &str, code: &Code, out: &mut K) -> Sta
     if !has_plain_names(code) {
         return no_memory(out);
     }
+    let _conditions = code.signals();
     match flat(alloc, code) {
         Ok(text) => match put_all(out, text.as_slice()) {
             Ok(()) => Status::Done,

@@ -5,6 +5,8 @@
 mod command;
 mod commands;
 mod few_cycles;
+mod laws;
 
 pub use command::{Command, command_of};
 pub use commands::run_file;
+pub use laws::saved_by_numbers;
