@@ -2,5 +2,5 @@ pub mod ListedLemmas
 pub mod FewLemmas
 pub mod CommandLemmas
 pub mod DoneLemmas
-mod NumberLemmas
-mod SaveLemmas
+pub mod NumberLemmas
+pub mod SaveLemmas

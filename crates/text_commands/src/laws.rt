@@ -1,4 +1,4 @@
-//! Which texts are saved and written flat, by plain numbers of a text.
+//! Which texts are saved, by plain numbers of a text.
 
 ghost use Rattle.text_commands.specs.Laws.{SavedByNumbers};
 
