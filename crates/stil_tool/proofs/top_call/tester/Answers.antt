@@ -18,9 +18,6 @@ returns-in-Lot-clause-answers g c =
 pub returns-in-Lot-clause-complete_lot : goal.returns-in-Lot-clause-complete_lot
 returns-in-Lot-clause-complete_lot g c = λ fine. lot_completes _ _ _ _ _ _ _ _ _ _ _ _ (returns-in-Lot-clause-answers g c) fine
 
-pub drill-requires-clause-few : goal.drill-requires-clause-few
-drill-requires-clause-few g c = λ _. c.in-Drill.ensures.few
-
 pub returns-in-Drill-clause-answers : goal.returns-in-Drill-clause-answers
 returns-in-Drill-clause-answers g c =
     let a = c.drill.ensures.answers in
