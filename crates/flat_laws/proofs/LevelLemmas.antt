@@ -12,7 +12,7 @@ use Rattle.flat_parts.specs.Order.{row_order}
 use Rattle.flat_parts.specs.FlatText.{executives}
 use Rattle.flat_parts.specs.FlatBlocks.{table_numbered, own_numbers, given_from, row_numbered}
 use Rattle.flat_parts.specs.Nests.{Nest, nothing, run, loop, row_name}
-use Rattle.flat_said.specs.FlatSaid.{signal_said, signals_said, event_said, wave_said, table_said, timing_said, gift_said, row_said, rows_said, call_said, loop_head, calls_said, nest_said, pattern_said, burst_said, exec_said, flat_said}
+use Rattle.flat_said.specs.FlatSaid.{signal_said, event_said, wave_said, table_said, timing_said, gift_said, row_said, rows_said, call_said, loop_head, nest_said, pattern_said, burst_said, exec_said, flat_said}
 use Rattle.flat_said.specs.Shape.{is_shaped}
 use Rattle.flat_fine.specs.Fits.{HasRoom}
 

@@ -2,5 +2,10 @@ pub mod ListedLemmas
 pub mod FewLemmas
 pub mod CommandLemmas
 pub mod DoneLemmas
-pub mod NumberLemmas
-pub mod SaveLemmas
+mod NumberLemmas
+mod SaveLemmas
+mod OrderSums
+mod SizeLemmas
+mod FlatSizeLemmas
+mod FlatLemmas
+mod StandardFacts
