@@ -1,5 +1,5 @@
 -- How large the flat tree of a pattern of a flat text is, by how its instructions nest.
-use Rattle.std.proofs.Common.{◌≡◌, ℕ, zero, suc, ◌+◌, ◌-◌, ◌*◌, ◌^◌, ◌<◌, ◌≤◌, Bool, true, false, cond, nat_lt, List, [], ◌∷◌, ◌++◌, length, slice_get, Option, Some, None, refl, sym, ap, subst, ◌∙◌, arith, length-append}
+use Rattle.std.proofs.Common.{◌≡◌, ℕ, zero, suc, ◌+◌, ◌-◌, ◌*◌, ◌^◌, ◌<◌, ◌≤◌, Bool, true, false, cond, nat_lt, List, [], ◌∷◌, length, slice_get, Option, refl, ap, ◌∙◌, arith, length-append}
 use Rattle.packed_code.specs.declared.instr.Instr.TheVariants.{End}
 use Rattle.packed_code.specs.Program.{Program}
 use Rattle.stil_ast.specs.Data.Places.{of_pattern, of_procedure}

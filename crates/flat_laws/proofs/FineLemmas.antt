@@ -1,6 +1,5 @@
 -- The flat text of a code has no fault where it is within the limits: `flat_is_fine`.
-use Rattle.std.proofs.Common.{◌≡◌, ℕ, zero, suc, ◌-◌, ◌<◌, ◌≤◌, true, List, [], ◌∷◌, length, Result, Ok, Err, None, refl, sym, ap, subst, ◌∙◌, arith}
-use Rattle.std.specs.List.{AllByRecursion}
+use Rattle.std.proofs.Common.{◌≡◌, ℕ, ◌-◌, ◌≤◌, true, length, Result, Ok, Err, None, refl, sym, arith}
 use Rattle.text_bytes.specs.Limits.{deepest_loops}
 use Rattle.stil_ast.specs.declared.blocks.Blocks.{Blocks}
 use Rattle.stil_ast.specs.Faults.Found.{or_else}
@@ -25,7 +24,7 @@ use Rattle.flat_said.specs.Laws.{AreNests}
 use Rattle.flat_said.proofs.ShapeLemmas.{flat_shaped}
 use Rattle.flat_said.proofs.TextLemmas.{nests_of}
 use Rattle.flat_read.specs.Laws.{IsBeyond, IsReading}
-use Rattle.flat_fine.specs.Fits.{HasRoom, AreShallow, AreFew}
+use Rattle.flat_fine.specs.Fits.{HasRoom}
 use Rattle.flat_fine.proofs.ListLemmas.{at_range}
 use Rattle.flat_fine.proofs.ScopeLemmas.{each_at}
 use Rattle.flat_fine.proofs.NameLemmas.{names_fine}

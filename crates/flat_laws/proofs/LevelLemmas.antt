@@ -12,7 +12,7 @@ use Rattle.flat_parts.specs.Order.{row_order}
 use Rattle.flat_parts.specs.FlatText.{executives}
 use Rattle.flat_parts.specs.FlatBlocks.{table_numbered, own_numbers, given_from, row_numbered}
 use Rattle.flat_parts.specs.Nests.{Nest, nothing, run, loop, row_name}
-use Rattle.flat_said.specs.FlatSaid.{signal_said, signals_said, event_said, wave_said, table_said, timing_said, gift_said, row_said, rows_said, call_said, loop_head, calls_said, nest_said, pattern_said, burst_said, exec_said, flat_said}
+use Rattle.flat_said.specs.FlatSaid.{signal_said, event_said, wave_said, table_said, timing_said, gift_said, row_said, rows_said, call_said, loop_head, nest_said, pattern_said, burst_said, exec_said, flat_said}
 use Rattle.flat_said.specs.Shape.{is_shaped}
 use Rattle.flat_fine.specs.Fits.{HasRoom}
 
@@ -112,10 +112,12 @@ flat_low code nests left few room shaped =
     let bursts = each_said burst_said (executives code) ends in
     let patterns = each_said (pattern_said code nests) (executives code) bursts in
     let rows = rows_said code patterns in
-    low_fits 0 (flat_said code nests) shaped
-    (omega arith, low_each 1 signal_said (λ s rest l. l) code.signals no_more tt,
-    low_each 0 (timing_said code) (timing_low code) (executives code) rows
-    (rows_low code patterns
-    (patterns_low code nests left few (executives code) room bursts
-    (low_each 0 burst_said burst_low (executives code) ends
-    (low_each 0 (exec_said code) (exec_low code) (executives code) no_more tt)))))
+    low_fits 0 (flat_said code nests) shaped (
+      omega arith,
+      low_each 1 signal_said (λ s rest l. l) code.signals no_more tt,
+      low_each 0 (timing_said code) (timing_low code) (executives code) rows
+          (rows_low code patterns
+          (patterns_low code nests left few (executives code) room bursts
+          (low_each 0 burst_said burst_low (executives code) ends
+          (low_each 0 (exec_said code) (exec_low code) (executives code) no_more tt)))),
+    )

@@ -1,6 +1,6 @@
 pub mod FrontLemmas
 pub mod SameLemmas
 pub mod LawLemmas
-mod LevelLemmas
-mod WavesLemmas
-mod FineLemmas
+pub mod LevelLemmas
+pub mod WavesLemmas
+pub mod FineLemmas

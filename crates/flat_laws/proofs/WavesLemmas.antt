@@ -1,5 +1,5 @@
 -- The tables of an executive of a flat text have as many waves as those of the code that its Runs name.
-use Rattle.std.proofs.Common.{◌≡◌, ℕ, zero, suc, ◌+◌, ◌<◌, ◌≤◌, List, [], ◌∷◌, length, map, take, slice_get, Some, refl, sym, ap, subst, ◌∙◌, arith}
+use Rattle.std.proofs.Common.{◌≡◌, ℕ, suc, ◌+◌, List, [], ◌∷◌, length, map, take, slice_get, Some, refl, sym, ap, subst, ◌∙◌, arith}
 use Rattle.std.specs.Prelude.{sum_by, slice_index_or}
 use Rattle.std.specs.List.{AllZip, enumerate_from}
 use Rattle.std.proofs.lemmas.List.Sums.{sum_by-cons}
@@ -40,7 +40,7 @@ zip_made P R make from (x ∷ xs) [] all so = absurd all
 zip_made P R make from (x ∷ xs) (y ∷ ys) all so = (
   subst (λ (n : ℕ). R x (make (n, y))) (omega arith) (so 0 x y refl refl all.0),
   zip_made P R make (from + 1) xs ys all.1 (λ i a b there at p.
-  subst (λ (n : ℕ). R a (make (n, b))) (omega arith) (so (suc i) a b there at p)),
+      subst (λ (n : ℕ). R a (make (n, b))) (omega arith) (so (suc i) a b there at p)),
 )
 
 -- tables with so many waves each

@@ -4,3 +4,7 @@ pub mod CommandLemmas
 pub mod DoneLemmas
 mod NumberLemmas
 mod SaveLemmas
+mod OrderSums
+mod SizeLemmas
+mod FlatSizeLemmas
+mod FlatLemmas

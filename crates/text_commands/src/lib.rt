@@ -9,4 +9,4 @@ mod laws;
 
 pub use command::{Command, command_of};
 pub use commands::run_file;
-pub use laws::saved_by_numbers;
+pub use laws::{flat_by_numbers, saved_by_numbers};
