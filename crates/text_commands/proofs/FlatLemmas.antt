@@ -6,7 +6,7 @@ use Rattle.std.proofs.lemmas.Bool.{and_parts, and_from}
 use Rattle.std.proofs.lemmas.List.Sums.{sum_by-cons}
 use Rattle.std.proofs.lemmas.List.FromFn.{length-range_with_len}
 use Rattle.std.proofs.lemmas.Option.{get_or_from_slice_get}
-use Rattle.text_bytes.proofs.ListLemmas.{slice_get-there, all_got, length-filter-le}
+use Rattle.text_bytes.proofs.ListLemmas.{slice_get-there, all_got}
 use Rattle.tester_types.specs.declared.wave.Table.{Table}
 use Rattle.stil_ast.specs.Meaning.Signals.{Signal, names_of}
 use Rattle.stil_ast.specs.Meaning.Executive.{executive_of}
@@ -31,12 +31,11 @@ use Rattle.flat_parts.specs.Order.{is_in, tables_in, table_order}
 use Rattle.flat_parts.specs.FlatText.{is_plain, has_plain_names, executives, flat_text}
 use Rattle.flat_parts.specs.FlatBlocks.{no_table, table_numbered, own_numbers}
 use Rattle.flat_parts.specs.Nests.{Nest, nothing, run, loop, instrs_in}
-use Rattle.flat_fine.specs.Fits.{HasRoom, AreShallow, walk_of}
+use Rattle.flat_fine.specs.Fits.{HasRoom, AreShallow}
 use Rattle.flat_fine.proofs.ScopeLemmas.{each_at}
-use Rattle.flat_cycles.specs.Small.{measure_at}
 use Rattle.flat_laws.specs.Limits.{waves_at, IsWithinLimits}
 use Rattle.flat_laws.proofs.FineLemmas.{flat_is_fine}
-use Rattle.text_commands.specs.Numbers.{text_tables, text_rows, instructions_of, exec_bytes, signal_bytes, numbers_of, flat_most, has_plain_texts, IsFlattable}
+use Rattle.text_commands.specs.Numbers.{text_tables, text_rows, instructions_of, exec_bytes, signal_bytes, numbers_of, flat_most, IsFlattable}
 use Rattle.text_commands.specs.Laws.{FlatByNumbers}
 use Rattle.text_commands.proofs.NumberLemmas.{signals_are, signal_bytes_are, tables_same, rows_same, execs_few, few_instructions}
 use Rattle.text_commands.proofs.OrderSums.{by_places, tables_few}

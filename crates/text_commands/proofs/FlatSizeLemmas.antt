@@ -1,11 +1,11 @@
 -- The flat text of a code is no longer than its numbers say: `flat_short`.
-use Rattle.std.proofs.Common.{◌≡◌, ℕ, zero, suc, ◌+◌, ◌-◌, ◌*◌, ◌^◌, ◌<◌, ◌≤◌, Bool, true, false, not, cond, List, [], ◌∷◌, ◌++◌, length, length-append, map, flat_map, decimal, take, slice_get, Option, Some, None, refl, sym, ap, subst, ◌∙◌, arith}
+use Rattle.std.proofs.Common.{◌≡◌, ℕ, zero, suc, ◌+◌, ◌-◌, ◌*◌, ◌^◌, ◌<◌, ◌≤◌, Bool, true, false, cond, List, [], ◌∷◌, ◌++◌, length, length-append, map, flat_map, decimal, take, slice_get, Option, Some, None, refl, ap, arith}
 use Rattle.std.specs.Prelude.{sum_by, codes, ◌==◌, nat_lt, slice_index_or}
 use Rattle.std.specs.List.{AllByRecursion, range_with_len}
 use Rattle.std.specs.Option.{option_map_or}
 use Rattle.std.proofs.lemmas.List.Sums.{sum_by-cons}
 use Rattle.std.proofs.lemmas.List.FromFn.{length-range_with_len}
-use Rattle.std.proofs.lemmas.Option.{get_or_from_slice_get, slice_get_within}
+use Rattle.std.proofs.lemmas.Option.{get_or_from_slice_get}
 use Rattle.text_bytes.specs.Limits.{longest_period}
 use Rattle.tester_types.specs.Printing.{quoted}
 use Rattle.tester_types.specs.declared.signal.Direction.{Direction}
@@ -22,11 +22,11 @@ use Rattle.packed_code.specs.declared.instr.Instr.TheVariants.{Run, Loop, End, D
 use Rattle.packed_code.specs.declared.parts.CodeSignal.{CodeSignal}
 use Rattle.packed_code.specs.Whole.{IsRest}
 use Rattle.packed_code.specs.Program.{Exec, Program}
-use Rattle.packed_code.specs.Conditions.{IsTable, IsProgram, wave_count, characters_of}
+use Rattle.packed_code.specs.Conditions.{IsTable, IsProgram, characters_of}
 use Rattle.packed_code.specs.Cycles.{exec_of}
-use Rattle.packed_code.proofs.Lists.{behind_all, all_of_any}
+use Rattle.packed_code.proofs.Lists.{all_of_any}
 use Rattle.flat_parts.specs.Order.{is_in, tables_in, table_order, row_order, number_in}
-use Rattle.flat_parts.specs.FlatText.{block, opening, braced, name_of, direction_word, signal_line, signal_lines, act_letter, event_item, wave_front, wave_line, waveform_lines, period_line, table_lines, numbered_table, table_among, own_table, timing_lines, character_item, signal_item, character_items, row_front, row_text, row_line, row_lines, one_line, many_line, run_line, instr_lines, pattern_lines, burst_line, title, exec_parts, exec_text, exec_line, executives, flat_lines, flat_text}
+use Rattle.flat_parts.specs.FlatText.{opening, braced, name_of, direction_word, signal_line, signal_lines, act_letter, event_item, wave_front, wave_line, waveform_lines, period_line, table_lines, numbered_table, own_table, timing_lines, signal_item, character_items, row_front, row_line, row_lines, one_line, many_line, run_line, instr_lines, pattern_lines, burst_line, title, exec_parts, exec_line, executives, flat_text}
 use Rattle.flat_fine.proofs.ListLemmas.{fits_behind, at_range}
 use Rattle.flat_fine.proofs.ScopeLemmas.{each_at}
 use Rattle.flat_fine.proofs.ExecLemmas as order

@@ -8,3 +8,4 @@ mod OrderSums
 mod SizeLemmas
 mod FlatSizeLemmas
 mod FlatLemmas
+mod StandardFacts

@@ -1,14 +1,14 @@
 -- The numbers of a code are those of its text, but that it may have fewer instructions.
-use Rattle.std.proofs.Common.{◌≡◌, ℕ, zero, suc, ◌+◌, ◌*◌, ◌<◌, ◌≤◌, List, [], ◌∷◌, ◌++◌, length, map, flat_map, slice_get, Some, refl, sym, ap, subst, ◌∙◌, arith}
+use Rattle.std.proofs.Common.{◌≡◌, ℕ, suc, ◌*◌, ◌≤◌, List, [], ◌∷◌, ◌++◌, length, map, flat_map, slice_get, Some, refl, ap, subst, ◌∙◌, arith}
 use Rattle.std.specs.Prelude.{sum_by}
 use Rattle.std.proofs.lemmas.List.{length-map}
 use Rattle.std.proofs.lemmas.List.Sums.{sum_by-cons}
 use Rattle.std.proofs.lemmas.Option.{get_or_from_slice_get}
 use Rattle.tester_types.specs.declared.wave.Table.{Table}
-use Rattle.stil_ast.specs.Meaning.Signals.{Signal, names_of}
+use Rattle.stil_ast.specs.Meaning.Signals.{names_of}
 use Rattle.stil_ast.specs.Meaning.State.{Vector}
-use Rattle.stil_ast.specs.Meaning.Executive.{exec_vectors, chain_list}
-use Rattle.stil_ast.specs.Meaning.ExecutiveData.{Executive, row_of, vectors_of, rows_of, distinct_rows}
+use Rattle.stil_ast.specs.Meaning.Executive.{exec_vectors}
+use Rattle.stil_ast.specs.Meaning.ExecutiveData.{Executive, row_of, vectors_of, distinct_rows}
 use Rattle.stil_ast.specs.declared.blocks.Blocks.{Blocks}
 use Rattle.stil_ast.specs.declared.executive.ExecDecl.{ExecDecl}
 use Rattle.packed_code.specs.declared.parts.CodeSignal.{CodeSignal}
@@ -17,10 +17,10 @@ use Rattle.packed_code.specs.Program.{Exec, Program}
 use Rattle.packed_code.specs.Conditions.{wave_count}
 use Rattle.packed_code.specs.Cycles.{exec_of}
 use Rattle.burst_exec.specs.Executives.{AreExecutives}
-use Rattle.cycle_comp.specs.Compiled.{signal_of, chain_of}
+use Rattle.cycle_comp.specs.Compiled.{signal_of}
 use Rattle.saved_laws.specs.Size.{events_in, cells_in, chain_names, exec_names, numbers_in, saved_most}
 use Rattle.stil_program.specs.Program.{IsBlocksCode}
-use Rattle.stil_program.proofs.ProgramLemmas.{HasExec, execs_are, tables_are, exec_at}
+use Rattle.stil_program.proofs.ProgramLemmas.{execs_are, tables_are, exec_at}
 use Rattle.text_commands.specs.Numbers.{text_tables, text_rows, text_chains, instructions_of, exec_bytes, signal_bytes, numbers_of}
 
 -- sums over lists of one length, whose items are no more at each place

@@ -1,5 +1,5 @@
 -- A text is saved where its numbers make few bytes: `saved_by_numbers`.
-use Rattle.std.proofs.Common.{◌≡◌, ℕ, ◌≤◌, List, length, sym, ap, subst, arith}
+use Rattle.std.proofs.Common.{◌≡◌, ℕ, List, sym, ap, subst, arith}
 use Rattle.stil_ast.specs.declared.blocks.Blocks.{Blocks}
 use Rattle.stil_ast.specs.Faults.FrontFaults.{Front, refused_by, read_as}
 use Rattle.packed_code.specs.Program.{Program}

@@ -1,11 +1,10 @@
 -- Plain numbers of a text's blocks, by which it can be told beforehand that its code is saved and its flat text written.
-use Rattle.std.specs.Prelude.{◌≡◌, ℕ, suc, ◌+◌, ◌*◌, ◌^◌, ◌<◌, ◌≤◌, Bool, true, ◌&&◌, List, [], ◌∷◌, length, map, sum_by}
+use Rattle.std.specs.Prelude.{◌≡◌, ℕ, suc, ◌+◌, ◌*◌, ◌^◌, ◌<◌, ◌≤◌, Bool, true, ◌&&◌, List, [], length, map, sum_by}
 use Rattle.std.specs.List.{AllByRecursion, flat_map, list_all}
 use Rattle.text_bytes.specs.Limits.{most_bytes, most_tables, most_waves, most_walked, most_measure}
 use Rattle.tester_types.specs.declared.wave.Table.{Table}
 use Rattle.stil_tree.specs.Grammar.{most_levels}
 use Rattle.stil_ast.specs.Meaning.Signals.{Signal, names_of}
-use Rattle.stil_ast.specs.Meaning.State.{Vector}
 use Rattle.stil_ast.specs.Meaning.Executive.{table_list, chain_list, exec_vectors, executive_of}
 use Rattle.stil_ast.specs.Meaning.ExecutiveData.{row_of, distinct_rows, measure_of}
 use Rattle.stil_ast.specs.declared.blocks.Blocks.{Blocks}
