@@ -113,9 +113,12 @@ def test_names_within_files_are_names_to_every_word(tmp_path: pathlib.Path, caps
     for words in (["lot", "lot.datalog"], ["fails", "lot.datalog", "--program", "p.stil"], ["events", "p.stil", "--to", "3"]):
         for ending in ("png", "svg"):
             told(["plot", *words, "-o", f"p.{ending}"], capsys)
-    told(["report", "p.stil", "lot.csv", "lot.datalog", "-o", "report", "--title", "\n".join(UTF8)], capsys)
+    (tmp_path / "grade").write_bytes(tester.run(["grade", "p.stil", "lot.csv"])[1])
+    words = ["report", "p.stil", "lot.csv", "lot.datalog", "lot.datalog", "-o", "report", "--title", "\n".join(UTF8), "--grade", "grade", "--pairs", "2"]
+    told(words, capsys)
     page = (tmp_path / "report" / "index.html").read_text()
     assert "<script>a" not in page and "<b>a" not in page and "&lt;script&gt;a" in page
+    assert re.findall("<script[^>]*>", page) == ["<script>"] and page.count("</script>") == 1
 
 
 def test_a_grade_of_such_nets_is_read(tmp_path: pathlib.Path, capsys: pytest.CaptureFixture[str]) -> None:
@@ -124,6 +127,15 @@ def test_a_grade_of_such_nets_is_read(tmp_path: pathlib.Path, capsys: pytest.Cap
     with records.grade("grade") as faults:
         assert {fault.net for fault in faults} >= {f"{name}o" for name in NETS}
     told(["plot", "grade", "grade", "-o", "g.svg"], capsys)
+
+
+def farmed(folder: pathlib.Path, plan: str, datalog: str) -> None:
+    """Makes a working folder of a lot in one part, which is done."""
+    (folder / "1").mkdir(parents=True)
+    shutil.copy(plan, folder / "plan.csv")
+    shutil.copy(datalog, folder / "1" / "text")
+    (folder / "1" / "status").write_text("0\n")
+    (folder / "said").write_text(json.dumps({"kind": "lot", "parts": 1}))
 
 
 def test_names_of_files_are_names_to_every_word(tmp_path: pathlib.Path, capsys: pytest.CaptureFixture[str], s27: Lot) -> None:
@@ -145,6 +157,8 @@ def test_names_of_files_are_names_to_every_word(tmp_path: pathlib.Path, capsys: 
         told(["learn", stil, plan, "-o", f"{stil}.learnt"], capsys)
         assert ("stuck at" in told(["diagnose", stil, plan, datalog], capsys, status)) == fine
         told(["report", stil, plan, datalog, "-o", f"./{folder}/{name}.report"], capsys, status)
+        farmed(pathlib.Path(f"./{folder}/{name}.farm"), plan, datalog)
+        told(["report", stil, plan, "--follow", f"./{folder}/{name}.farm", "-o", f"./{folder}/{name}.followed"], capsys, status)
         told(["plot", "lot", datalog, "-o", f"{datalog}.svg"], capsys)
         told(["plot", "fails", datalog, "-o", f"{datalog}.png"], capsys)
         told(["plot", "events", stil, "-o", f"{stil}.svg"], capsys, status)

@@ -14,6 +14,7 @@ from conftest import CHROMIUM, EXAMPLES, Lot, dies_of, needs_chromium
 from stilfloor import failmaps, saved, tester, waves
 from stilfloor.cli import main
 from stilfloor.dictionary import nets_of
+from stilfloor.report_style import SCRIPT, policy
 
 SCAN = EXAMPLES / "s27scan"
 WORDS = {
@@ -102,8 +103,9 @@ def test_a_report_has_each_failing_die_and_needs_no_net(page: pathlib.Path, made
     for die in failing:
         assert f"site {die.site}, die {die.name}</h3>" in text
     assert len(re.findall(r'<img class="map"', text)) == len(failing) > 8
-    assert "die d26<" in text and "stopped 0 plan" in text and "die d25<" not in text
-    assert not re.search(r"""(src|href)=["']?https?:|url\(["']?https?:|<script|<link""", text)
+    assert "die d26<" in text and "stopped 0 plan" in text and "die d25</h3>" not in text
+    assert not re.search(r"""(src|href)=["']?https?:|url\(["']?https?:|<link""", text)
+    assert re.findall(r"<script[^>]*>", text) == ["<script>"] and f"<script>{SCRIPT}</script>" in text and policy() in text
     maps = [base64.b64decode(code) for code in re.findall(r"data:image/png;base64,([^\"]+)", text) if len(code) > 40]
     assert all(data.startswith(b"\x89PNG") for data in maps[:len(failing)])
 

@@ -26,6 +26,13 @@ class Cycles:
                 time += step.times * code.tables[step.table].period
             offset += executive.cycles
 
+    def begins(self, cycle: int) -> int:
+        """When a cycle of a try begins, in femtoseconds; the one behind the last begins where the try ends."""
+        place = bisect_right(self.starts, cycle) - 1
+        if place < 0:
+            return 0
+        return self.times[place] + (cycle - self.starts[place]) * self.code.tables[self.steps[place][0].table].period
+
     def why_not(self, fail: records.Fail, skew: int) -> str:
         """Why the program can't have this fail, if it can't."""
         if fail.signal not in self.numbers:
