@@ -110,7 +110,8 @@ def test_names_within_files_are_names_to_every_word(tmp_path: pathlib.Path, caps
     assert all(f" die {name} try 1 " in text for name in DIES)
     assert f"{NETS[1]}o stuck at 1" in text
     told(["learn", "p.stil", "lot.csv", "-o", "learnt.stil"], capsys)
-    for words in (["lot", "lot.datalog"], ["fails", "lot.datalog", "--program", "p.stil"], ["events", "p.stil", "--to", "3"]):
+    for words in (["lot", "lot.datalog"], ["fails", "lot.datalog", "--program", "p.stil"], ["events", "p.stil", "--to", "3", "--datalog", "lot.datalog"],
+                  ["shmoo", "p.stil", "lot.csv", "--strobe", "40ns..50ns/10ns"]):
         for ending in ("png", "svg"):
             told(["plot", *words, "-o", f"p.{ending}"], capsys)
     (tmp_path / "grade").write_bytes(tester.run(["grade", "p.stil", "lot.csv"])[1])
@@ -161,7 +162,8 @@ def test_names_of_files_are_names_to_every_word(tmp_path: pathlib.Path, capsys: 
         told(["report", stil, plan, "--follow", f"./{folder}/{name}.farm", "-o", f"./{folder}/{name}.followed"], capsys, status)
         told(["plot", "lot", datalog, "-o", f"{datalog}.svg"], capsys)
         told(["plot", "fails", datalog, "-o", f"{datalog}.png"], capsys)
-        told(["plot", "events", stil, "-o", f"{stil}.svg"], capsys, status)
+        told(["plot", "events", stil, "-o", f"{stil}.svg", "--datalog", datalog], capsys, status)
+        told(["plot", "shmoo", stil, plan, "-o", f"{stil}.png", "--period", "100ns..100ns/1ns"], capsys, status)
         shutil.copy(GRADE, f"{folder}/{name}.grade")
         told(["plot", "grade", f"./{folder}/{name}.grade", "-o", f"./{folder}/{name}.svg"], capsys)
 

@@ -56,10 +56,11 @@ def test_waves_are_those_of_the_events(tmp_path: pathlib.Path) -> None:
     text = (EXAMPLES / "p1.stil").read_text()
     path = tmp_path / "p.stil"
     path.write_text(text.replace("L/H/X; }", "l/h/X; }").replace("01 { '0ns' D/U; }", "01NPZ { '0ns' D/U/N/P/Z; }").replace("V { y=X; }", "V { a=P; y=X; }"))
-    found = waves.gather(waves.cycles_between(str(path), 0, 9))
-    assert found.traces["a"].drives == [(0, 0.0, False), (100_000_000, 1.0, False), (200_000_000, 1.0, False)]
-    assert found.traces["y"].windows == [(40_000_000, 100_000_000, "h"), (140_000_000, 200_000_000, "l")]
-    assert found.traces["y"].looks == [(240_000_000, "X")] and found.end == 300_000_000
+    found = waves.gather(waves.cycles_between(str(path), 9), ["y", "a"])
+    assert list(found.traces) == ["y", "a"] and found.tables == ["w"] * 3
+    assert found.traces["a"].drives == [(0, "D"), (100_000_000, "U"), (200_000_000, "U")]
+    looks = [(look.at, look.until, look.act, look.cycle) for look in found.traces["y"].looks]
+    assert looks == [(40_000_000, 100_000_000, "h", 0), (140_000_000, 200_000_000, "l", 1), (240_000_000, None, "X", 2)] and found.end == 300_000_000
 
 
 def test_fails_lie_at_their_load_and_cell() -> None:

@@ -139,7 +139,19 @@ def _add_showing(words: "argparse._SubParsersAction[argparse.ArgumentParser]") -
     kind.add_argument("program", metavar="PROGRAM", help="a STIL text")
     kind.add_argument("--from", dest="first", type=_number, default=0, metavar="K", help="the first cycle (0)")
     kind.add_argument("--to", dest="last", type=_number, metavar="K", help="the last cycle (31 behind the first)")
-    for name in ("lot", "fails", "grade", "events"):
+    kind.add_argument("--bits", action="store_true", help="a line for each bit of a bus")
+    kind.add_argument("--datalog", metavar="DATALOG", help="looks beside what a die of it has seen: the first one that fails, else the first")
+    kind.add_argument("--site", type=_number, metavar="S", help="only dies at this site")
+    kind.add_argument("--die", metavar="D", help="only dies of this name")
+    kind = _add(kinds, "shmoo", "pass and fail over periods and strobes, by a lot for each pair of the text with its times changed",
+                "stilfloor plot shmoo examples/skew/hold.stil examples/skew/lot.csv --period 60ns..140ns/5ns --strobe 0ns..120ns/5ns", plot_shmoo)
+    kind.add_argument("program", metavar="PROGRAM", help="a STIL text whose times are plain numbers")
+    kind.add_argument("plan", metavar="PLAN", help="the plan of the lot")
+    kind.add_argument("--period", metavar="A..B/STEP", help="periods of the first table, as 80ns..120ns/5ns; all times are scaled with it")
+    kind.add_argument("--strobe", metavar="A..B/STEP", help="times of the first look, as 20ns..60ns/5ns; all looks are moved with it")
+    kind.add_argument("--site", type=_number, metavar="S", help="only dies at this site")
+    kind.add_argument("--die", metavar="D", help="only dies of this name")
+    for name in ("lot", "fails", "grade", "events", "shmoo"):
         kinds.choices[name].add_argument("-o", dest="out", default=f"{name}.png", metavar="FILE", help=f"the picture ({name}.png)")
     word = _add(words, "report", "write one HTML page about a lot, or about several of one plan",
                 "stilfloor report scan.stil lot.csv lot.datalog -o report", report)
@@ -334,14 +346,36 @@ def plot_grade(words: argparse.Namespace) -> int:
 
 def plot_events(words: argparse.Namespace) -> int:
     """The word `plot events`."""
-    from stilfloor import drawing, waves
+    from stilfloor import drawing, saved, waves
+    from stilfloor.wave_figure import wave_figure
 
+    if not words.datalog and (words.site is not None or words.die is not None):
+        raise Fault(USAGE, "--site and --die belong to --datalog")
     last = words.first + 31 if words.last is None else words.last
-    gathered = waves.gather(waves.cycles_between(words.program, words.first, last))
+    code = saved.code_of(words.program)
+    gathered = waves.gather(waves.cycles_between(words.program, last, code), [name for _, name in code.signals], words.first)
     if not gathered.starts:
         raise Fault(REFUSED, f"the program has no cycle from {words.first} to {last}", words.program)
-    title = f"{shown(words.program)}, cycles {words.first} to {words.first + len(gathered.starts) - 1}"
-    drawing.store(waves.wave_figure(gathered, title), words.out)
+    seen = waves.seen_in(words.datalog, code, words.site, words.die) if words.datalog else None
+    title = f"{shown(words.program)}, cycles {words.first} to {words.first + len(gathered.starts) - 1}" + (f"\n{seen.words}" if seen else "")
+    drawing.store(wave_figure(gathered, title, seen, words.bits), words.out)
+    return 0
+
+
+def plot_shmoo(words: argparse.Namespace) -> int:
+    """The word `plot shmoo`."""
+    from stilfloor import drawing, shmoo
+    from stilfloor.shmoo_figure import shmoo_figure
+
+    if not words.period and not words.strobe:
+        raise Fault(USAGE, "plot shmoo needs --period A..B/STEP, --strobe A..B/STEP, or both")
+    periods, strobes = (shmoo.steps_of(text, option) if text else [] for text, option in ((words.period, "--period"), (words.strobe, "--strobe")))
+    made = shmoo.run(words.program, words.plan, periods, strobes, (words.site, words.die))
+    cells = [cell for row in made.cells for cell in row]
+    limit = "dies have no delays: what shows is edges, windows and skews of sites alone"
+    dies = max(cell.dies for cell in cells)
+    drawing.store(shmoo_figure(made, f"{shown(words.program)}, {dies} {'die' if dies == 1 else 'dies'}\n{limit}"), words.out)
+    say(f"{sum(not cell.broken and cell.passing == cell.dies for cell in cells)} of {len(cells)} pass; {limit}")
     return 0
 
 
