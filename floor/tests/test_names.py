@@ -172,7 +172,9 @@ def test_names_of_files_are_names_to_every_word(tmp_path: pathlib.Path, capsys: 
 def test_files_that_are_not_there_are_told_on_one_line(front: int, capsys: pytest.CaptureFixture[str]) -> None:
     for name in set(NAMES[front : front + 20]) - {"-", "--"}:
         for words in (["lint", "--", name], ["lint", f"--plan={name}"], ["learn", "--", name, name], ["export", "--csv", "--", name],
-                      ["plot", "lot", "--", name], ["diagnose", "--", name, name, name], ["netlist", "--", name]):
+                      ["plot", "lot", "--", name], ["diagnose", "--", name, name, name], ["netlist", "--", name],
+                      ["report", f"--follow={name}", "-o", "r", "--", name, name], ["report", f"--grade={name}", "-o", "r", "--", name, name, name],
+                      ["plot", "shmoo", "--strobe", "1ns..2ns/1ns", "--", name, name]):
             line, = told(words, capsys, 1 if words[:2] == ["lint", "--"] and name in UTF8 else 3).removesuffix("\n").split("\n")
             assert line.startswith(f"{shown(name)}:1:1: error: "), (words, line)
 
