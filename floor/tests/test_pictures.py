@@ -1,6 +1,7 @@
 """Pictures that aren't empty, in each format, and the report in a browser without a net."""
 
 import base64
+import itertools
 import pathlib
 import re
 import struct
@@ -11,7 +12,7 @@ import pytest
 from matplotlib.image import imread
 
 from conftest import CHROMIUM, EXAMPLES, Lot, dies_of, needs_chromium
-from stilfloor import failmaps, saved, tester, waves
+from stilfloor import drawing, failmaps, saved, shmoo_figure, tester, wave_figure, waves
 from stilfloor.cli import main
 from stilfloor.dictionary import nets_of
 from stilfloor.report_style import SCRIPT, policy
@@ -120,6 +121,22 @@ def test_a_report_is_shown_by_a_browser(page: pathlib.Path, tmp_path: pathlib.Pa
     assert pixels.shape[:2] == (1600, 1200) and (pixels[:, :, :3].min(axis=2) < 0.9).mean() > 0.01
     shown = subprocess.run([*words, "--dump-dom", page.as_uri()], check=True, capture_output=True, text=True, timeout=600).stdout
     assert "<h1>ALU lot</h1>" in shown and shown.count('class="die"') == page.read_text().count('class="die"')
+
+
+def lab(colour: str, cones: list[list[float]]) -> numpy.ndarray:
+    """A colour as an eye without one kind of cones has it, in a space where distances are those that one sees (CIELAB)."""
+    levels = numpy.array([int(colour[place : place + 2], 16) for place in (1, 3, 5)]) / 255
+    light = numpy.clip(numpy.array(cones) @ numpy.where(levels <= 0.04045, levels / 12.92, ((levels + 0.055) / 1.055) ** 2.4), 0, 1)
+    xyz = numpy.array([[0.4124, 0.3576, 0.1805], [0.2126, 0.7152, 0.0722], [0.0193, 0.1192, 0.9505]]) @ light / [0.9505, 1, 1.089]
+    x, y, z = numpy.where(xyz > 0.008856, numpy.cbrt(xyz), 7.787 * xyz + 16 / 116)
+    return numpy.array([116 * y - 16, 500 * (x - y), 200 * (y - z)])
+
+
+@pytest.mark.parametrize("colours", [drawing.COLOURS, shmoo_figure.COLOURS, (wave_figure.HELD, wave_figure.FAILED, wave_figure.UNKNOWN)])
+def test_colours_are_told_apart_without_red_or_green(colours: tuple[str, ...]) -> None:
+    for cones in ([[0.11238, 0.88762, 0], [0.11238, 0.88762, 0], [0.00401, -0.00401, 1]],
+                  [[0.29275, 0.70725, 0], [0.29275, 0.70725, 0], [-0.02234, 0.02234, 1]]):
+        assert min(numpy.linalg.norm(lab(one, cones) - lab(other, cones)) for one, other in itertools.combinations(colours, 2)) > 15
 
 
 def test_a_report_of_a_lot_without_a_fail_says_so(s27: Lot, tmp_path: pathlib.Path) -> None:

@@ -97,6 +97,9 @@ def test_test_time_is_that_of_the_cycles_that_ran(two_lots: tuple[pathlib.Path, 
     assert len({attempt.cycles for die in dies for attempt in die.tries}) == 1 and max(ran) == 2 * min(ran)
     table = seen(section(two_lots[0].read_text(), "time"))
     assert f"cycles a die {sum(ran) / len(ran):,.0f} {min(ran):,} {max(ran):,}" in table
+    first = next(die for die in dies if die.verdict.kind == "fail")
+    cycles_of, time = sum(attempt.cycles for attempt in first.tries), sum(cycles.begins(attempt.cycles) for attempt in first.tries)
+    assert f"fails; {cycles_of:,} cycles, {time / 1e9:,.3f} us</p>" in two_lots[0].read_text().replace(" are kept;", ";").replace(", of which 64;", ";")
     assert f"{sum(times) / len(times) / 1e9:,.3f} us {min(times) / 1e9:,.3f} us {max(times) / 1e9:,.3f} us" in table
 
 

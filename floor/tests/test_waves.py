@@ -80,7 +80,7 @@ def test_looks_stand_beside_what_a_die_has_seen(made_alu: Lot, tmp_path: pathlib
     assert FAILED in out.read_text()
 
 
-def test_what_is_not_known_of_a_die_is_grey(made_alu: Lot) -> None:
+def test_what_is_not_known_of_a_die_has_a_colour_of_its_own(made_alu: Lot) -> None:
     found, code = gathered(made_alu, 0, 40)
     seen = waves.seen_in(failing(made_alu, 1), code, None, None)
     known = [[seen.of(look, name) for look in trace.looks if look.act in "LH" and look.cycle > seen.known] for name, trace in found.traces.items()]
@@ -156,6 +156,12 @@ def test_texts_of_several_tables_keep_their_proportions(tmp_path: pathlib.Path) 
     assert [table.period * 2 for table in code.tables] == [table.period for table in twice.tables]
     for one, other in zip(code.tables, twice.tables):
         assert {key: [(2 * at, act) for at, act in events] for key, events in one.waves.items()} == other.waves
+
+
+def test_times_out_of_their_range_are_a_place_of_the_picture(monkeypatch: pytest.MonkeyPatch) -> None:
+    monkeypatch.chdir(EXAMPLES.parent)
+    made = shmoo.run(str(HOLD), str(PLAN), [0, 10**8, 2 * 10**12], [], (None, None))
+    assert [cell.broken for cell in made.cells[0]] == ["OutOfRange", "", "OutOfRange"]
 
 
 NOT_PLAIN = {

@@ -21,8 +21,8 @@ from stilfloor.names import replacing
 # a name with dollars is a name, and no formula
 matplotlib.rcParams["text.parse_math"] = False
 
-# colours that a colour-blind reader tells apart (by Okabe and Ito)
-COLOURS = ("#009e73", "#d55e00", "#e69f00", "#0072b2", "#cc79a7", "#56b4e9", "#f0e442", "#999999")
+# colours that a colour-blind reader tells apart (the first seven by Okabe and Ito)
+COLOURS = ("#009e73", "#d55e00", "#e69f00", "#0072b2", "#cc79a7", "#56b4e9", "#f0e442", "#444444")
 FORMATS = ("png", "svg", "pdf")
 MOST_BORDERS = 256
 MOST_NAMED = 24

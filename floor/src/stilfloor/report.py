@@ -71,7 +71,7 @@ class Page:
         """Counts a die, and writes its part where it fails."""
         self.lot.add(die)
         self.lots[-1].add(die)
-        self.times.add(die)
+        ran = self.times.add(die)
         self.sites.setdefault(die.site, report_tables.SiteTable()).add(die)
         places = self.gathered.add(die)
         diagnosis = self.doctor.see(die)
@@ -84,13 +84,13 @@ class Page:
             self.failing += 1
             self.explained += diagnosis.explained
             self.lots[-1].failing += 1
-        self._write(die, diagnosis, places)
+        self._write(die, diagnosis, places, ran)
 
     def _named(self, die: records.Die) -> str:
         front = f"lot {len(self.lots)}, " if self.several else ""
         return f"{front}site {die.site}, die {die.name}"
 
-    def _write(self, die: records.Die, diagnosis: Diagnosis | None, places: set[tuple[int, int]]) -> None:
+    def _write(self, die: records.Die, diagnosis: Diagnosis | None, places: set[tuple[int, int]], ran: str) -> None:
         """The row and the part of a die that doesn't pass."""
         mark = f"d{len(self.rows) + 1}"
         what = f"bin {die.bin}: {escape(str(die.verdict))}"
@@ -103,10 +103,10 @@ class Page:
         self.rows.append(f'<tr data-die="{mark}" data-site="{die.site}" data-bin="{die.bin}" data-lot="{len(self.lots)}">'
                          f'<td><a href="#{mark}">{escape(die.name)}</a></td>{lot}{cell(die.site)}{cell(die.bin)}{cell(len(die.tries))}'
                          f"{cell(die.tries[-1].fails)}{cell(what, True)}</tr>")
-        self.parts.write(self._part(die, diagnosis, places, mark) if diagnosis else
-                         f'<div class="die" id="{mark}"><div></div><div><h3>{escape(self._named(die))}</h3><p>{what}</p></div></div>\n')
+        self.parts.write(self._part(die, diagnosis, places, mark, ran) if diagnosis else
+                         f'<div class="die" id="{mark}"><div></div><div><h3>{escape(self._named(die))}</h3><p>{what}; {ran}</p></div></div>\n')
 
-    def _part(self, die: records.Die, diagnosis: Diagnosis, places: set[tuple[int, int]], mark: str) -> str:
+    def _part(self, die: records.Die, diagnosis: Diagnosis, places: set[tuple[int, int]], mark: str, ran: str) -> str:
         """A failing die: its map, and its suspects."""
         data = failmaps.picture(places, self.gathered.rows(), len(self.gathered.axes.columns), self.gathered.reach(die))
         kept = len(die.tries[-1].kept)
@@ -116,7 +116,7 @@ class Page:
         return (f'<div class="die" id="{mark}"><div class="framed"><img class="map" alt="fail map" '
                 f'src="data:image/png;base64,{base64.b64encode(data).decode()}"></div>'
                 f"<div><h3>{escape(self._named(die))}</h3>"
-                f"<p>bin {die.bin}, {len(die.tries)} {'try' if len(die.tries) == 1 else 'tries'}, {diagnosis.fails} fails{more}</p>"
+                f"<p>bin {die.bin}, {len(die.tries)} {'try' if len(die.tries) == 1 else 'tries'}, {diagnosis.fails} fails{more}; {ran}</p>"
                 f"<p{kind}>{escape(diagnosis.sentence)}</p><ul>{suspects}</ul></div></div>\n")
 
 
@@ -183,11 +183,12 @@ def legend(page: Page) -> str:
     """What is said in front of the dies."""
     axes = page.gathered.axes
     row = "load" if axes.by_load else "cycle"
+    borders = "; blue lines are the borders of chains" if 1 < len(page.gathered.chains()) <= report_parts.MOST_RUNS else ""
     left = page.doctor.left
     pairs = (f" Pairs of stuck nets weren't tried for {left} {'kind' if left == 1 else 'kinds'} of fails that no single one explains: --pairs N tries more."
              if left else "")
     return (f'<p class="note">In a fail map each row is a {row}, from the top down ({page.gathered.rows()}), and each column a scan cell, chain by '
-            f"chain from scan-in to scan-out, then an output ({len(axes.columns)}); blue lines are the borders of chains. A score is the part of fails "
+            f"chain from scan-in to scan-out, then an output ({len(axes.columns)}){borders}. A score is the part of fails "
             "that a die and a suspect have in common; suspects in one line are told apart by no look of this program. A pair is told where a die with "
             "one net of each side stuck has the very fails; other pairs, which weren't tried, may have them too. Grey is what lies behind the last "
             f"kept fail of a die that has more.{pairs}</p>")

@@ -16,6 +16,8 @@ from stilfloor.dictionary import Suspect
 from stilfloor.faults import shown
 from stilfloor.pairs import MOST_TOLD as MOST_PAIRS
 
+# of how many chains, and outputs, the borders are drawn over a small map at most
+MOST_RUNS = 40
 # the heading of a table's column, and whether it is a text
 Head = tuple[str, bool]
 
@@ -102,10 +104,10 @@ def axes_data(gathered: failmaps.Gathered) -> str:
 
 def borders(gathered: failmaps.Gathered) -> str:
     """The rule that draws the borders of chains over each small map."""
-    count = len(gathered.axes.columns)
-    ends = [100 * begin / count for _, begin, _ in gathered.chains()[1:]] if count else []
+    count, runs = len(gathered.axes.columns), gathered.chains()
+    ends = [100 * begin / count for _, begin, _ in runs[1:]] if len(runs) <= MOST_RUNS else []
     lines = ", ".join(f"linear-gradient(to right, transparent calc({end:.3f}% - .5px), #56b4e9 calc({end:.3f}% - .5px), #56b4e9 calc({end:.3f}% + .5px), "
-                      f"transparent calc({end:.3f}% + .5px))" for end in ends[: drawing.MOST_NAMED])
+                      f"transparent calc({end:.3f}% + .5px))" for end in ends)
     return f"<style>.framed::after {{ background: {lines}; }}</style>" if lines else ""
 
 

@@ -118,8 +118,8 @@ class Times:
         self.dies: list[tuple[int, int]] = []
         self.sites: Counter[int] = Counter()
 
-    def add(self, die: records.Die) -> None:
-        """Counts a die."""
+    def add(self, die: records.Die) -> str:
+        """Counts a die; its cycles and how long they take."""
         ran = [attempt.cycles for attempt in die.tries]
         for cycles in ran if self.cycles else []:
             if cycles not in self.ends and self.cycles:
@@ -127,6 +127,7 @@ class Times:
         time = sum(self.ends.get(cycles, 0) for cycles in ran)
         self.dies.append((sum(ran), time))
         self.sites[die.site] += time
+        return f"{sum(ran):,} cycles" + (f", {spelled(time)}" if self.cycles else "")
 
     def told(self) -> str:
         """The table of cycles and times."""

@@ -20,7 +20,7 @@ PLAIN = re.compile(r"\s*(\d{1,15}(?:\.\d{1,15})?)(fs|ps|ns|us|ms|s)?\s*", re.ASC
 CHECKS = {"L", "H", "T", "l", "h", "t", "CompareLow", "CompareHigh", "CompareOff", "CompareLowWindow", "CompareHighWindow", "CompareOffWindow"}
 LOOKS = CHECKS | {"X", "CompareUnknown"}
 # what a move of times can break, which is a place of the picture
-BROKEN = re.compile(rb"refused (stil (EventOutside|EventOrder) |plan SkewOutside )")
+BROKEN = re.compile(rb"refused (?:stil|plan) (EventOutside|EventOrder|OutOfRange|SkewOutside) ")
 MOST_STEPS = 64
 MOST_CELLS = 1024
 
@@ -167,7 +167,7 @@ def run(program: str, plan: str, periods: list[int], strobes: list[int], chosen:
     with tempfile.TemporaryDirectory() as room:
         file = os.path.join(room, "program.stil")
         for strobe in shmoo.strobes:
-            shmoo.cells.append([_cell(timing.written(period, strobe), file, plan, chosen) for period in shmoo.periods])
+            shmoo.cells.append([_cell(timing.written(period, strobe), file, program, plan, chosen) for period in shmoo.periods])
     return shmoo
 
 
@@ -179,15 +179,16 @@ def _chosen(output: bytes, chosen: tuple[int | None, str | None]) -> Iterator[re
             yield die
 
 
-def _cell(text: str, file: str, plan: str, chosen: tuple[int | None, str | None]) -> Cell:
-    """Runs the lot of a text."""
+def _cell(text: str, file: str, program: str, plan: str, chosen: tuple[int | None, str | None]) -> Cell:
+    """Runs the lot of a text; what its times alone can't break is told of the text that it was made of, which has as many lines."""
     with open(file, "w", encoding="latin-1", newline="") as out:
         out.write(text)
     status, output = tester.run(["lot", file, plan])
     broken = BROKEN.match(output)
     if broken:
-        return Cell(broken=(broken[2] or b"SkewOutside").decode())
+        return Cell(broken=broken[1].decode())
     if status:
-        raise refusal(output.decode("latin-1"), status, file, plan)
+        fault = refusal(output.decode("latin-1"), status, file, plan)
+        raise Fault(fault.status, fault.text, program if fault.file == file else fault.file, fault.line)
     dies = list(_chosen(output, chosen))
     return Cell(sum(die.verdict.kind == "pass" for die in dies), len(dies))

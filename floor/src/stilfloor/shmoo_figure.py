@@ -13,7 +13,7 @@ from stilfloor.shmoo import Cell, Shmoo
 NANOSECOND = 10**6
 NONE, SOME, ALL, BROKEN = range(4)
 COLOURS = ("#d55e00", "#f0e442", "#009e73", "#dddddd")
-NAMES = ("no die passes", "some dies pass: how many", "all dies pass", "times out of their cycle or order")
+NAMES = ("no die passes", "some dies pass: how many", "all dies pass", "times out of their cycle, order or range")
 MOST_TICKS = 24
 
 

@@ -12,7 +12,7 @@ NANOSECOND = 1e6
 STEP = 1.5
 MARKS = {"L": ("v", 0.1), "H": ("^", 0.9), "T": ("D", 0.5), "X": ("x", 0.5)}
 MEANINGS = (("L", "low"), ("H", "high"), ("T", "off"), ("X", "no check"))
-DRIVEN, PLAIN, HELD, FAILED, UNKNOWN, QUIET = "#0072b2", "#333333", "#009e73", "#d55e00", "#999999", "#bbbbbb"
+DRIVEN, PLAIN, HELD, FAILED, UNKNOWN, QUIET = "#0072b2", "#333333", "#009e73", "#d55e00", "#b0a0c0", "#bbbbbb"
 LETTER_WIDTH = 0.09
 
 
