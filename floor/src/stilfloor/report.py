@@ -126,7 +126,8 @@ def _short(diagnosis: Diagnosis) -> str:
         return report_parts.told_class(diagnosis.classes[0])
     if diagnosis.pairs and diagnosis.pairs.pairs:
         pair = diagnosis.pairs.pairs[0]
-        return f"{diagnosis.pairs.count} pairs, as {report_parts.folded([str(pair.first[0])])} with {report_parts.folded([str(pair.second[0])])}"
+        front = "a pair:" if diagnosis.pairs.count == 1 else f"{diagnosis.pairs.count} pairs, as"
+        return f"{front} {report_parts.folded([shown(str(pair.first[0]))])} with {report_parts.folded([shown(str(pair.second[0]))])}"
     return f"nearest: {report_parts.folded([diagnosis.classes[0].text()])}" if diagnosis.classes else "nothing is near"
 
 
