@@ -26,7 +26,7 @@ form[hidden], tr[hidden], .die[hidden] { display: none; } input, select { font: 
 .map { width: 100%; height: 100%; image-rendering: pixelated; display: block; }
 #tip { position: fixed; background: #222; color: #fff; padding: .2rem .5rem; font-size: .85rem; border-radius: .2rem; pointer-events: none; z-index: 2;
        max-width: 20rem; }
-details, details[open]::details-content { display: inline; }
+details, details[open]::details-content { display: inline; } details:not([open])::details-content { display: none; }
 details[open] summary { display: none; } summary { display: inline; cursor: pointer; color: #0072b2; }
 .none { color: #a33; } .note { color: #666; font-size: .9rem; } code { font-family: ui-monospace, monospace; }
 @media (max-width: 40rem) {
