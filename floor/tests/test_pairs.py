@@ -9,7 +9,7 @@ import numpy
 import pytest
 
 from conftest import Lot, dies_of
-from stilfloor import pairs, plans, records, saved
+from stilfloor import chains, pairs, plans, records, saved
 from stilfloor.chain_tests import breaking
 from stilfloor.chains import Chains, looks_of
 from stilfloor.cli import main
@@ -86,7 +86,7 @@ def test_pairs_are_grouped_so_that_each_goes_with_each() -> None:
 def test_what_leaves_a_chain_tells_where_it_is_broken(made_alu: Lot) -> None:
     """Each net of a chain's own, stuck: the chain is told, at or before the cell behind it, and a reset that is stuck breaks none."""
     code = saved.code_of(made_alu.stil)
-    chains = Chains(looks_of(code))
+    every = Chains(looks_of(code))
     die = Die(made_alu.stil, made_alu.bench, plans.read_plan(made_alu.plan), [], 512)
     wanted = {}
     for chain in code.executives[0].chains:
@@ -98,7 +98,7 @@ def test_what_leaves_a_chain_tells_where_it_is_broken(made_alu: Lot) -> None:
     dies = dies_of(made_alu.run(rows, kept=512, name="chains")[1])
     told = 0
     for suspect, made in zip(suspects, dies):
-        found = chains.broken(made.tries[0])
+        found = every.broken(made.tries[0])
         if suspect.net == "rst":
             assert len(found) == 2 and not any(breaking(die, code, broken, [suspect]) for broken in found)
             continue
@@ -110,13 +110,18 @@ def test_what_leaves_a_chain_tells_where_it_is_broken(made_alu: Lot) -> None:
     assert told > 8
 
 
+def test_of_programs_with_too_many_looks_no_chain_is_told(made_alu: Lot, monkeypatch: pytest.MonkeyPatch) -> None:
+    monkeypatch.setattr(chains, "MOST_LOOKS", 100)
+    assert looks_of(saved.code_of(made_alu.stil)) == []
+
+
 def test_a_die_that_fails_at_a_cell_alone_breaks_no_chain(made_alu: Lot) -> None:
     code = saved.code_of(made_alu.stil)
-    chains = Chains(looks_of(code))
-    looks = chains.looks[0]
+    every = Chains(looks_of(code))
+    looks = every.looks[0]
     fails = [records.Fail(int(cycle), 0, looks.out, "L", "1", looks.chain.name, looks.chain.cells[0])
              for cycle, cell, want in zip(looks.cycles, looks.cells, looks.wanted) if cell == 0 and want == 0]
-    assert chains.broken(records.Try(1, 0, len(fails), fails)) == [] and len(fails) > 3
+    assert every.broken(records.Try(1, 0, len(fails), fails)) == [] and len(fails) > 3
     assert numpy.all(numpy.diff(looks.cycles) > 0)
 
 

@@ -9,6 +9,7 @@ from stilfloor import records, saved
 from stilfloor.faults import Fault
 
 LEAST_CELLS = 2
+MOST_LOOKS = 1 << 22
 UNKNOWN = 2
 
 
@@ -59,26 +60,39 @@ class Looks:
 
 
 def looks_of(code: saved.Code) -> list[Looks]:
-    """The looks at each chain of a program; none of a program with too many steps to list them."""
+    """The looks at each chain of a program; none of a program with too many steps, or too many such looks, to list them."""
     found: list[Looks] = []
-    offset = 0
+    offset = count = 0
     try:
         for executive in code.executives:
-            shifts = [(offset + step.start, step.table, step.row, step.mark) for step in saved.steps(executive) if step.mark]
-            found += [_looks(code, chain, numpy.array(shifts, dtype=numpy.int64)) for chain in executive.chains if shifts and chain.cells]
+            shifts = Shifts([(offset + step.start, step.table, step.row, step.mark) for step in saved.steps(executive) if step.mark])
+            for chain in executive.chains if len(shifts.marks) else []:
+                found.append(_looks(code, chain, shifts))
+                count += len(found[-1].cycles)
+                if count > MOST_LOOKS:
+                    return []
             offset += executive.cycles
     except Fault:
         return []
     return [looks for looks in found if len(looks.cycles)]
 
 
-def _looks(code: saved.Code, chain: saved.Chain, shifts: numpy.ndarray) -> Looks:
-    """The looks at a chain in steps of a Shift, each a cycle, a table, a row and a mark."""
-    pairs, numbers = numpy.unique(shifts[:, 1:3], axis=0, return_inverse=True)
-    wants = numpy.array([_want(code, int(table), int(row), chain.out) for table, row in pairs])[numbers.reshape(-1)]
-    cells = chain.length - shifts[:, 3]
+class Shifts:
+    """The steps of an executive's Shifts: their cycles and marks, and which pair of a table and a row each has."""
+
+    def __init__(self, steps: list[tuple[int, int, int, int]]) -> None:
+        every = numpy.array(steps, dtype=numpy.int64).reshape(-1, 4)
+        self.cycles, self.marks = every[:, 0], every[:, 3]
+        self.pairs, numbers = numpy.unique(every[:, 1:3], axis=0, return_inverse=True)
+        self.numbers = numbers.reshape(-1)
+
+
+def _looks(code: saved.Code, chain: saved.Chain, shifts: Shifts) -> Looks:
+    """The looks at a chain in the steps of Shifts."""
+    wants = numpy.array([_want(code, int(table), int(row), chain.out) for table, row in shifts.pairs], dtype=numpy.int8)[shifts.numbers]
+    cells = chain.length - shifts.marks
     chosen = (wants >= 0) & (cells >= 0) & (cells < len(chain.cells))
-    return Looks(chain, code.signals[chain.out][1], shifts[chosen, 0], cells[chosen], wants[chosen])
+    return Looks(chain, code.signals[chain.out][1], shifts.cycles[chosen], cells[chosen].astype(numpy.int32), wants[chosen])
 
 
 def _want(code: saved.Code, table: int, row: int, signal: int) -> int:

@@ -116,7 +116,8 @@ def whole_map(gathered: failmaps.Gathered) -> str:
     figure = drawing.map_figure(gathered, "dies that fail at each place")
     picture = drawing.svg_of(figure)
     counts = gathered.matrix()
-    grid = {"down": gathered.down, "right": gathered.right, "width": counts.shape[1], "height": counts.shape[0]}
+    grid = {"down": gathered.down, "right": gathered.right, "width": counts.shape[1], "height": counts.shape[0],
+            "unit": ", once for each place" if gathered.is_sum else ""}
     dies = base64.b64encode(numpy.minimum(counts, 65535).astype("<u2").tobytes()).decode()
     return (f'<div class="all" id="all" data-box="{escape(json.dumps(drawing.box_of(figure)))}" data-grid="{escape(json.dumps(grid))}" '
             f'data-dies="{dies}">{picture}</div>')

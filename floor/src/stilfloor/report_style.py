@@ -85,12 +85,12 @@ SCRIPT = """
   const counts = whole && Uint8Array.from(atob(whole.dataset.dies), (character) => character.charCodeAt(0));
   const overWhole = (event) => {
     const box = whole.querySelector("svg").getBoundingClientRect(), [left, top, right, bottom] = JSON.parse(whole.dataset.box);
-    const { down, right: step, width, height } = JSON.parse(whole.dataset.grid);
+    const { down, right: step, width, height, unit } = JSON.parse(whole.dataset.grid);
     const x = ((event.clientX - box.left) / box.width - left) / (right - left), y = ((event.clientY - box.top) / box.height - top) / (bottom - top);
     if (x < 0 || x >= 1 || y < 0 || y >= 1) return "";
     const column = Math.floor(x * width), row = Math.floor(y * height), place = 2 * (row * width + column);
     const dies = counts[place] + 256 * counts[place + 1];
-    return `${told(row, column, down, step)}: ${dies || "no"} ${dies === 1 || !dies ? "die" : "dies"}`;
+    return `${told(row, column, down, step)}: ${dies || "no"} ${dies === 1 || !dies ? "die" : "dies"}${unit}`;
   };
   const pixels = new WeakMap();
   const within = (place, count) => Math.max(0, Math.min(count - 1, Math.floor(place * count)));
