@@ -18,6 +18,7 @@ if TYPE_CHECKING:
     from stilfloor.report import Page
 
 MOST_SUSPECTS = 40
+MOST_COLUMNS = 8
 KINDS = ("pass", "fail", "stopped", "contact")
 
 
@@ -216,26 +217,31 @@ class Suspects:
                 f"and of several sites, look at what they have in common, as the process or the design.{pairs}</p>" + table(heads, rows) + more)
 
     def few(self, page: Page) -> str:
-        """What two dies a site or more have in common, at no more than a quarter of the sites."""
+        """What two dies a site or more have in common, at no more than a quarter of the sites: classes, and behind them cells and outputs."""
         sites = page.sites
         most = max(1, len(sites) // 4)
         if len(sites) < 2:
             return "<p>All dies are of one site.</p>"
         names = [failmaps.name_of(key) for key in page.gathered.axes.columns]
-        found = [(one, f"class {told_class(ranked)}") for ranked, one in self.classes.values()]
-        found += [(one, f"fails at <code>{escape(names[column])}</code>") for column, one in sorted(self.columns.items())]
-        few = [(one, what) for one, what in found if len(one.sites) <= most and one.sites.total() >= 2 * len(one.sites)]
-        few.sort(key=lambda entry: -entry[0].sites.total())
-        if not few:
-            return f"<p>Nothing that several dies a site have in common stands at {most} of the {len(sites)} sites alone.</p>"
+        classes = _few([(one, f"class {told_class(ranked)}") for ranked, one in self.classes.values()], most)
+        columns = _few([(one, f"fails at <code>{escape(names[column])}</code>") for column, one in sorted(self.columns.items())], most)
+        if not classes + columns:
+            return f"<p>Nothing that two dies a site or more have in common stands at {most} of the {len(sites)} sites alone.</p>"
         rows = [cell(one.sites.total()) + cell(what, True)
                 + cell(", ".join(f"{site} ({count} of {sites[site].kinds.total()})" for site, count in sorted(one.sites.items())), True)
-                + f'<td class="link"><a href="#{one.first}">first die</a></td>' for one, what in few[:MOST_SUSPECTS]]
-        more = f"<p>{len(few) - MOST_SUSPECTS} rows more have as few dies or fewer.</p>" if len(few) > MOST_SUSPECTS else ""
+                + f'<td class="link"><a href="#{one.first}">first die</a></td>' for one, what in [*classes[:MOST_SUSPECTS], *columns[:MOST_COLUMNS]]]
+        left = len(classes[MOST_SUSPECTS:]), len(columns[MOST_COLUMNS:])
+        more = f"<p>Left out are {left[0]} classes, and {left[1]} cells and outputs, of as many dies or fewer.</p>" if any(left) else ""
         known = " Fails behind the last kept one of a die aren't known, and don't count." if page.gathered.cut.count else ""
-        return (f'<p class="note">What at least two dies have in common, at {most} of the {len(sites)} sites at most. Where there are many dies, look at '
-                f"these sites; of few it may be chance.{known}</p>"
+        return (f'<p class="note">What two dies a site or more have in common, at {most} of the {len(sites)} sites at most: classes, and behind them cells '
+                f"and outputs. Where there are many dies, look at these sites; of few it may be chance.{known}</p>"
                 + table([("dies", False), ("what", True), ("site (dies of all there)", True), ("", True)], rows) + more)
+
+
+def _few(found: list[tuple[Suspected, str]], most: int) -> list[tuple[Suspected, str]]:
+    """Those of at most so many sites, and two dies a site or more, by their number of dies."""
+    few = [(one, what) for one, what in found if len(one.sites) <= most and one.sites.total() >= 2 * len(one.sites)]
+    return sorted(few, key=lambda entry: -entry[0].sites.total())
 
 
 def dies_table(page: Page) -> str:
