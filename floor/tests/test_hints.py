@@ -114,6 +114,101 @@ def test_scan_data_and_waveforms_that_are_likely_not_meant_are_warned_of(tmp_pat
     assert told(tmp_path, SCAN) == []
 
 
+CHAINS = (EXAMPLES / "two_chains" / "chains.stil").read_text()
+LONG = "and the chain `a` has 3 cells"
+
+
+@pytest.mark.parametrize("old, new, wanted", [
+    ("sa=011; sb=01;", "si=00001111;", f"32:1: warning: the data of `si` have 4 characters for each of its 2 signals, {LONG}"),
+    ("sa=011; sb=01;", "si=\\r10 0;", f"32:1: warning: the data of `si` have 5 characters for each of its 2 signals, {LONG}"),
+    ("sa=011; sb=01;", "si=0011;", f"32:1: warning: the data of `si` have 2 characters for each of its 2 signals, {LONG}"),
+    ("oa=HLH; ob=HL;", "so=HLHLHLHLHL;", f"35:1: warning: the data of `so` have 5 characters for each of its 2 signals, {LONG}"),
+    ("oa=HLH; ob=HL;", "'oa + ob'=HLHL;", f"35:1: warning: the data of `oa + ob` have 2 characters for each of its 2 signals, {LONG}"),
+    ("sb=00; oa", "sb=0; oa", "35:1: warning: the data of `sb` have 1 character, and the chain `b` has 2 cells"),
+])
+def test_scan_data_of_groups_of_several_chains_are_warned_of(tmp_path: pathlib.Path, old: str, new: str, wanted: str) -> None:
+    assert old in CHAINS
+    found = told(tmp_path, CHAINS.replace(old, new))
+    assert any(line.startswith(wanted) for line in found), found
+    groups = CHAINS.replace("sa=#; sb=#; oa=#; ob=#;", "si=#; so=#;")
+    assert any(line.startswith(wanted) for line in told(tmp_path, groups.replace(old, new)))
+
+
+def test_a_vector_that_takes_the_first_character_of_a_group_is_warned_of(tmp_path: pathlib.Path) -> None:
+    text = CHAINS.replace("Shift { V { ck=P; sa=#;", "V { ck=P; so=#; } Shift { V { ck=P; sa=#;").replace("sa=011; sb=01;", "sa=011; sb=01; so=XXXXXX;")
+    found = [line for line in told(tmp_path, text) if "first scan character" in line]
+    assert len(found) == 1 and "takes the first scan character of `so`, before the Shift does" in found[0] and "no cell of the chain `a`" in found[0]
+
+
+def test_scan_data_of_groups_that_fit_are_not_warned_of(tmp_path: pathlib.Path) -> None:
+    assert told(tmp_path, CHAINS) == []
+    for front, back in (("sa=011; sb=01;", "si=001101;"), ("sa=011; sb=01;", "'sa + sb'=001101;"), ("oa=HLH; ob=HL;", "so=HHLLHX;")):
+        assert told(tmp_path, CHAINS.replace(front, back)) == []
+    many = CHAINS.replace("sb In { ScanIn; }", "sb In { ScanIn; } q[0..3] In;").replace("'sa + sb'", "'sa + q[0..3] + sb'").replace("si=00;", "si=000000;")
+    fits = many.replace("sa=011; sb=01;", "si=000000000000000000;").replace("'se + si'", "'se + si'").replace("sa=#; sb=#;", "si=#;")
+    assert not [line for line in told(tmp_path, fits) if "the data of `si`" in line]
+    assert any("have 2 characters for each of its 6 signals" in line for line in told(tmp_path, fits.replace("si=000000000000000000;", "si=000000000000;")))
+
+
+def test_waveforms_of_different_bits_are_no_second_ones(tmp_path: pathlib.Path) -> None:
+    text = P1.replace("a In;", "a In; q[0..1] In;").replace("Waveforms {", "Waveforms {\n q[0] { 01 { '0ns' D/U; } } q[1] { 01 { '0ns' D/U; } }")
+    assert told(tmp_path, text) == []
+    again = told(tmp_path, text.replace("q[1] { 01", "q[1..0] { 01"))
+    assert any("`q[0]` has a waveform of the character 0 on line 6 already" in line for line in again)
+
+
+VECTOR = "V { a=0; y=H; }"
+MANY = "".join(f"q{number} In;\n" for number in range(1030))
+OUT_OF_RANGE = {
+    "a loop of 0": (VECTOR, f"Loop 0 {{ {VECTOR} }}", "11:6: error: a Loop runs 1 to 281,474,976,710,656 times, and this one is to run 0 times (OutOfRange"),
+    "a long loop": (VECTOR, f"Loop {'9' * 5000} {{ {VECTOR} }}", "11:6: error: a Loop runs 1 to 281,474,976,710,656 times"),
+    "a period": ("'100ns'", "'2ms'", "4:8: error: a period is more than 0 and at most 1ms, and this one is '2ms'"),
+    "no period": ("'100ns'", "'0'", "4:8: error: a period is more than 0 and at most 1ms, and this one is '0'"),
+    "a repeat": (VECTOR, "V { a=\\r1048577 0; y=H; }", "11:7: error: a repeat is at most 1,048,576 times, and this one is \\r1048577"),
+    "digits": ("'40ns'", f"'{'9' * 45}ns'", f"7:11: error: the number {'9' * 45} has more digits than can be counted with"),
+    "decimals": ("'40ns'", f"'0.{'0' * 45}1ns'", "7:11: error: the number 0.000"),
+    "signals at once": ("y Out;", "y Out; q[0..1023] In;", "2:24: error: a text has at most 1,024 signals, and here are 1,026"),
+    "signals": ("y Out;", f"y Out;\n{MANY}", "1025:1: error: a text has at most 1,024 signals, and here are 1,025"),
+    "events": ("L/H/X;", "L/H/X;" + "".join(f" '{41 + place}ns' X;" for place in range(17)), "7:"),
+    "executives": ("PatternExec {", "".join(f"PatternExec e{number} {{ PatternBurst b; }}\n" for number in range(66)) + "PatternExec {",
+                   "80:1: error: a text has at most 64 executives"),
+}
+
+
+@pytest.mark.parametrize("what", OUT_OF_RANGE)
+def test_what_is_out_of_range_is_told_with_its_range(tmp_path: pathlib.Path, what: str) -> None:
+    old, new, wanted = OUT_OF_RANGE[what]
+    line, *_ = told(tmp_path, P1.replace(old, new, 1))
+    assert line.startswith(wanted) and "(OutOfRange" in line, line
+    assert what != "events" or "a waveform has at most 16 events, and this one has 18" in line
+
+
+FIELDS = {
+    "lot,256,9,8,,\n": "1:1: error: field 3 of this row (TRIES) is 9, and it goes from 1 to 8 (OutOfRange)",
+    "lot,0,1,8,,\n": "1:1: error: field 2 of this row (B, the cycles of a batch) is 0, and it goes from 1 to 1,048,576 (OutOfRange)",
+    "lot,256,1,1025,,\n": "1:1: error: field 4 of this row (F, the kept fails of a try) is 1025, and it goes from 0 to 1,024 (OutOfRange)",
+    FRONT + "die,64,b,n.bench,,\n": "field 2 of this row (SITE) is 64, and it goes from 0 to 63",
+    FRONT + "fault,0,a,G0,2,\n": "field 5 of this row (VALUE) is 2, and it goes from 0 to 1",
+    FRONT + "fault,0,a,G0,1,9\n": "field 6 of this row (TRIES) is 9, and it goes from 1 to 8",
+    FRONT + "stop,0,a,9,0,\n": "field 4 of this row (TRY) is 9, and it goes from 1 to 8",
+    FRONT + f"stop,0,a,1,{'9' * 5000},\n": "field 5 of this row (BATCH) is 99999999999999999999..99999999999999999999, and it goes from 0 to",
+    FRONT + "bin,pass,,100,,\n": "field 4 of this row (N, the bin) is 100, and it goes from 1 to 99",
+    FRONT + "bin,fail,1,7,,\n": "field 3 of this row (E, an executive) is 1, and the program has 1, counted from 0",
+    FRONT + "skew,0,G0,1000000000001,,\n": "field 4 of this row (FS) is 1000000000001, and it goes from -1,000,000,000,000 to 1,000,000,000,000",
+    "lot,256,8,1024,,\n" + "".join(f"die,0,d{number},n.bench,,\n" for number in range(129)):
+        "130:1: error: 129 dies times 8 tries times 1,024 kept fails are more than 1,048,576: lower TRIES or F in the first row",
+    "lot,256,1,1,,\n" + "".join(f"die,0,d{number},n.bench,,\n" for number in range(4097)): "4098:1: error: a plan has at most 4,096 dies",
+}
+
+
+@pytest.mark.parametrize("text", FIELDS, ids=range(len(FIELDS)))
+def test_a_field_of_a_plan_that_is_out_of_range_is_told_with_its_range(s27: Lot, tmp_path: pathlib.Path, text: str) -> None:
+    plan = tmp_path / "fields.csv"
+    plan.write_text(text.replace("n.bench", s27.bench))
+    line, = lint_plan(str(plan), s27.stil)
+    assert FIELDS[text] in line and line.endswith("(OutOfRange)"), line
+
+
 def test_a_grade_of_a_good_die_that_fails_says_so_first(tmp_path: pathlib.Path, capsys: pytest.CaptureFixture[str]) -> None:
     grade = tmp_path / "grade"
     grade.write_text("good 3\nfault a 0 3\nfaults 1 found 1\n")

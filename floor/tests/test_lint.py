@@ -56,7 +56,7 @@ def test_each_kind_of_refusal_has_its_sentence_at_its_line(tmp_path: pathlib.Pat
 
 
 # kinds of which more is told than their sentence
-TOLD_MORE = ("LeftOut", "UnknownName", "NoWave", "Shape", "OpenStatement")
+TOLD_MORE = ("OutOfRange", "LeftOut", "UnknownName", "NoWave", "Shape", "OpenStatement")
 OTHERS = {"NoHeader": "Signals { a In; }\n", "OpenComment": "STIL 1.0;\n/* never", "BadByte": "STIL 1.0;\n\n\x80", "OpenQuote": "STIL 1.0;\n'",
           "TooManyCycles": P1.replace("V { y=X; }", "Loop 281474976710656 { V { y=X; } }"), "OpenBlock": "STIL 1.0;\nSignals {\n",
           "StrayClose": "STIL 1.0;\n}\n", "OpenStatement": "STIL 1.0;\nSignals\n"}

@@ -110,12 +110,16 @@ def test_names_within_files_are_names_to_every_word(tmp_path: pathlib.Path, caps
     assert all(f" die {name} try 1 " in text for name in DIES)
     assert f"{NETS[1]}o stuck at 1" in text
     told(["learn", "p.stil", "lot.csv", "-o", "learnt.stil"], capsys)
-    for words in (["lot", "lot.datalog"], ["fails", "lot.datalog", "--program", "p.stil"], ["events", "p.stil", "--to", "3"]):
+    for words in (["lot", "lot.datalog"], ["fails", "lot.datalog", "--program", "p.stil"], ["events", "p.stil", "--to", "3", "--datalog", "lot.datalog"],
+                  ["shmoo", "p.stil", "lot.csv", "--strobe", "40ns..50ns/10ns"]):
         for ending in ("png", "svg"):
             told(["plot", *words, "-o", f"p.{ending}"], capsys)
-    told(["report", "p.stil", "lot.csv", "lot.datalog", "-o", "report", "--title", "\n".join(UTF8)], capsys)
+    (tmp_path / "grade").write_bytes(tester.run(["grade", "p.stil", "lot.csv"])[1])
+    words = ["report", "p.stil", "lot.csv", "lot.datalog", "lot.datalog", "-o", "report", "--title", "\n".join(UTF8), "--grade", "grade", "--pairs", "2"]
+    told(words, capsys)
     page = (tmp_path / "report" / "index.html").read_text()
     assert "<script>a" not in page and "<b>a" not in page and "&lt;script&gt;a" in page
+    assert re.findall("<script[^>]*>", page) == ["<script>"] and page.count("</script>") == 1
 
 
 def test_a_grade_of_such_nets_is_read(tmp_path: pathlib.Path, capsys: pytest.CaptureFixture[str]) -> None:
@@ -124,6 +128,15 @@ def test_a_grade_of_such_nets_is_read(tmp_path: pathlib.Path, capsys: pytest.Cap
     with records.grade("grade") as faults:
         assert {fault.net for fault in faults} >= {f"{name}o" for name in NETS}
     told(["plot", "grade", "grade", "-o", "g.svg"], capsys)
+
+
+def farmed(folder: pathlib.Path, plan: str, datalog: str) -> None:
+    """Makes a working folder of a lot in one part, which is done."""
+    (folder / "1").mkdir(parents=True)
+    shutil.copy(plan, folder / "plan.csv")
+    shutil.copy(datalog, folder / "1" / "text")
+    (folder / "1" / "status").write_text("0\n")
+    (folder / "said").write_text(json.dumps({"kind": "lot", "parts": 1}))
 
 
 def test_names_of_files_are_names_to_every_word(tmp_path: pathlib.Path, capsys: pytest.CaptureFixture[str], s27: Lot) -> None:
@@ -145,9 +158,12 @@ def test_names_of_files_are_names_to_every_word(tmp_path: pathlib.Path, capsys: 
         told(["learn", stil, plan, "-o", f"{stil}.learnt"], capsys)
         assert ("stuck at" in told(["diagnose", stil, plan, datalog], capsys, status)) == fine
         told(["report", stil, plan, datalog, "-o", f"./{folder}/{name}.report"], capsys, status)
+        farmed(pathlib.Path(f"./{folder}/{name}.farm"), plan, datalog)
+        told(["report", stil, plan, "--follow", f"./{folder}/{name}.farm", "-o", f"./{folder}/{name}.followed"], capsys, status)
         told(["plot", "lot", datalog, "-o", f"{datalog}.svg"], capsys)
         told(["plot", "fails", datalog, "-o", f"{datalog}.png"], capsys)
-        told(["plot", "events", stil, "-o", f"{stil}.svg"], capsys, status)
+        told(["plot", "events", stil, "-o", f"{stil}.svg", "--datalog", datalog], capsys, status)
+        told(["plot", "shmoo", stil, plan, "-o", f"{stil}.png", "--period", "100ns..100ns/1ns"], capsys, status)
         shutil.copy(GRADE, f"{folder}/{name}.grade")
         told(["plot", "grade", f"./{folder}/{name}.grade", "-o", f"./{folder}/{name}.svg"], capsys)
 
@@ -156,7 +172,9 @@ def test_names_of_files_are_names_to_every_word(tmp_path: pathlib.Path, capsys: 
 def test_files_that_are_not_there_are_told_on_one_line(front: int, capsys: pytest.CaptureFixture[str]) -> None:
     for name in set(NAMES[front : front + 20]) - {"-", "--"}:
         for words in (["lint", "--", name], ["lint", f"--plan={name}"], ["learn", "--", name, name], ["export", "--csv", "--", name],
-                      ["plot", "lot", "--", name], ["diagnose", "--", name, name, name], ["netlist", "--", name]):
+                      ["plot", "lot", "--", name], ["diagnose", "--", name, name, name], ["netlist", "--", name],
+                      ["report", f"--follow={name}", "-o", "r", "--", name, name], ["report", f"--grade={name}", "-o", "r", "--", name, name, name],
+                      ["plot", "shmoo", "--strobe", "1ns..2ns/1ns", "--", name, name]):
             line, = told(words, capsys, 1 if words[:2] == ["lint", "--"] and name in UTF8 else 3).removesuffix("\n").split("\n")
             assert line.startswith(f"{shown(name)}:1:1: error: "), (words, line)
 

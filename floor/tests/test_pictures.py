@@ -1,6 +1,7 @@
 """Pictures that aren't empty, in each format, and the report in a browser without a net."""
 
 import base64
+import itertools
 import pathlib
 import re
 import struct
@@ -11,9 +12,10 @@ import pytest
 from matplotlib.image import imread
 
 from conftest import CHROMIUM, EXAMPLES, Lot, dies_of, needs_chromium
-from stilfloor import failmaps, saved, tester, waves
+from stilfloor import drawing, failmaps, saved, shmoo_figure, tester, wave_figure, waves
 from stilfloor.cli import main
 from stilfloor.dictionary import nets_of
+from stilfloor.report_style import SCRIPT, policy
 
 SCAN = EXAMPLES / "s27scan"
 WORDS = {
@@ -55,10 +57,11 @@ def test_waves_are_those_of_the_events(tmp_path: pathlib.Path) -> None:
     text = (EXAMPLES / "p1.stil").read_text()
     path = tmp_path / "p.stil"
     path.write_text(text.replace("L/H/X; }", "l/h/X; }").replace("01 { '0ns' D/U; }", "01NPZ { '0ns' D/U/N/P/Z; }").replace("V { y=X; }", "V { a=P; y=X; }"))
-    found = waves.gather(waves.cycles_between(str(path), 0, 9))
-    assert found.traces["a"].drives == [(0, 0.0, False), (100_000_000, 1.0, False), (200_000_000, 1.0, False)]
-    assert found.traces["y"].windows == [(40_000_000, 100_000_000, "h"), (140_000_000, 200_000_000, "l")]
-    assert found.traces["y"].looks == [(240_000_000, "X")] and found.end == 300_000_000
+    found = waves.gather(waves.cycles_between(str(path), 9), ["y", "a"])
+    assert list(found.traces) == ["y", "a"] and found.tables == ["w"] * 3
+    assert found.traces["a"].drives == [(0, "D"), (100_000_000, "U"), (200_000_000, "U")]
+    looks = [(look.at, look.until, look.act, look.cycle) for look in found.traces["y"].looks]
+    assert looks == [(40_000_000, 100_000_000, "h", 0), (140_000_000, 200_000_000, "l", 1), (240_000_000, None, "X", 2)] and found.end == 300_000_000
 
 
 def test_fails_lie_at_their_load_and_cell() -> None:
@@ -102,8 +105,9 @@ def test_a_report_has_each_failing_die_and_needs_no_net(page: pathlib.Path, made
     for die in failing:
         assert f"site {die.site}, die {die.name}</h3>" in text
     assert len(re.findall(r'<img class="map"', text)) == len(failing) > 8
-    assert "die d26<" in text and "stopped 0 plan" in text and "die d25<" not in text
-    assert not re.search(r"""(src|href)=["']?https?:|url\(["']?https?:|<script|<link""", text)
+    assert "die d26<" in text and "stopped 0 plan" in text and "die d25</h3>" not in text
+    assert not re.search(r"""(src|href)=["']?https?:|url\(["']?https?:|<link""", text)
+    assert re.findall(r"<script[^>]*>", text) == ["<script>"] and f"<script>{SCRIPT}</script>" in text and policy() in text
     maps = [base64.b64decode(code) for code in re.findall(r"data:image/png;base64,([^\"]+)", text) if len(code) > 40]
     assert all(data.startswith(b"\x89PNG") for data in maps[:len(failing)])
 
@@ -117,6 +121,22 @@ def test_a_report_is_shown_by_a_browser(page: pathlib.Path, tmp_path: pathlib.Pa
     assert pixels.shape[:2] == (1600, 1200) and (pixels[:, :, :3].min(axis=2) < 0.9).mean() > 0.01
     shown = subprocess.run([*words, "--dump-dom", page.as_uri()], check=True, capture_output=True, text=True, timeout=600).stdout
     assert "<h1>ALU lot</h1>" in shown and shown.count('class="die"') == page.read_text().count('class="die"')
+
+
+def lab(colour: str, cones: list[list[float]]) -> numpy.ndarray:
+    """A colour as an eye without one kind of cones has it, in a space where distances are those that one sees (CIELAB)."""
+    levels = numpy.array([int(colour[place : place + 2], 16) for place in (1, 3, 5)]) / 255
+    light = numpy.clip(numpy.array(cones) @ numpy.where(levels <= 0.04045, levels / 12.92, ((levels + 0.055) / 1.055) ** 2.4), 0, 1)
+    xyz = numpy.array([[0.4124, 0.3576, 0.1805], [0.2126, 0.7152, 0.0722], [0.0193, 0.1192, 0.9505]]) @ light / [0.9505, 1, 1.089]
+    x, y, z = numpy.where(xyz > 0.008856, numpy.cbrt(xyz), 7.787 * xyz + 16 / 116)
+    return numpy.array([116 * y - 16, 500 * (x - y), 200 * (y - z)])
+
+
+@pytest.mark.parametrize("colours", [drawing.COLOURS, shmoo_figure.COLOURS, (wave_figure.HELD, wave_figure.FAILED, wave_figure.UNKNOWN)])
+def test_colours_are_told_apart_without_red_or_green(colours: tuple[str, ...]) -> None:
+    for cones in ([[0.11238, 0.88762, 0], [0.11238, 0.88762, 0], [0.00401, -0.00401, 1]],
+                  [[0.29275, 0.70725, 0], [0.29275, 0.70725, 0], [-0.02234, 0.02234, 1]]):
+        assert min(numpy.linalg.norm(lab(one, cones) - lab(other, cones)) for one, other in itertools.combinations(colours, 2)) > 15
 
 
 def test_a_report_of_a_lot_without_a_fail_says_so(s27: Lot, tmp_path: pathlib.Path) -> None:

@@ -26,6 +26,25 @@ class Cycles:
                 time += step.times * code.tables[step.table].period
             offset += executive.cycles
 
+    def begins(self, cycle: int) -> int:
+        """When a cycle of a try begins, in femtoseconds; the one behind the last begins where the try ends."""
+        place = bisect_right(self.starts, cycle) - 1
+        if place < 0:
+            return 0
+        return self.times[place] + (cycle - self.starts[place]) * self.code.tables[self.steps[place][0].table].period
+
+    def why_no_look(self, fail: records.Fail) -> str:
+        """Why the program can't have this fail at a site of any skews, if it can't."""
+        if fail.signal not in self.numbers:
+            return f"the program has no signal `{fail.signal}`"
+        place = bisect_right(self.starts, fail.cycle) - 1
+        if place < 0 or fail.cycle >= self.starts[-1] + self.steps[-1][0].times:
+            return f"the program has no cycle {fail.cycle}"
+        step, signal = self.steps[place][0], self.numbers[fail.signal]
+        looks = self.code.tables[step.table].waves.get((signal, chr(self.code.rows[step.row][signal])), [])
+        is_there = any(act == fail.want for _, act in looks)
+        return "" if is_there else f"the program doesn't look for {fail.want} at `{fail.signal}` in cycle {fail.cycle}"
+
     def why_not(self, fail: records.Fail, skew: int) -> str:
         """Why the program can't have this fail, if it can't."""
         if fail.signal not in self.numbers:

@@ -17,6 +17,7 @@ if TYPE_CHECKING:
     from stilfloor.diagnose import Diagnosis, Doctor
 
 Word = Callable[[argparse.Namespace], int]
+MOST_PAIRED = 100
 
 
 def _add(words: "argparse._SubParsersAction[argparse.ArgumentParser]", name: str, what: str, example: str,
@@ -102,6 +103,8 @@ def _add_finding(words: "argparse._SubParsersAction[argparse.ArgumentParser]") -
     word.add_argument("--site", type=_number, metavar="S", help="only dies at this site")
     word.add_argument("--die", metavar="D", help="only dies of this name")
     word.add_argument("--most", type=_number, default=3, metavar="N", help="how many classes are told where none explains a die (3)")
+    word.add_argument("--pairs", type=_number, default=MOST_PAIRED, metavar="N",
+                      help=f"for how many kinds of fails that no single net explains pairs are tried ({MOST_PAIRED})")
     word.add_argument("--json", action="store_true", help="the same as JSON")
     word = _add(words, "lint", "say what is refused of a STIL text or a plan, and what is likely not meant",
                 "stilfloor lint examples/s27scan/s27scan.stil\n  stilfloor lint --plan examples/s27scan/lot.csv", lint)
@@ -109,10 +112,13 @@ def _add_finding(words: "argparse._SubParsersAction[argparse.ArgumentParser]") -
     word.add_argument("--plan", metavar="PLAN", help="a plan; with one FILE.stil it is bound to that program")
 
 
-def _add_lot(word: argparse.ArgumentParser) -> None:
+def _add_lot(word: argparse.ArgumentParser, several: bool = False) -> None:
     word.add_argument("program", metavar="PROGRAM", help="the STIL text or saved program")
     word.add_argument("plan", metavar="PLAN", help="the plan of the lot")
-    word.add_argument("datalog", metavar="DATALOG", help="what `stil lot PROGRAM PLAN` printed, - for standard input")
+    if several:
+        word.add_argument("datalogs", nargs="*", metavar="DATALOG", help="what `stil lot PROGRAM PLAN` printed, - for standard input; several are lots in turn")
+    else:
+        word.add_argument("datalog", metavar="DATALOG", help="what `stil lot PROGRAM PLAN` printed, - for standard input")
     word.add_argument("--jobs", type=_number, default=os.cpu_count() or 1, metavar="N", help="processes that make a dictionary (all processors)")
 
 
@@ -133,10 +139,28 @@ def _add_showing(words: "argparse._SubParsersAction[argparse.ArgumentParser]") -
     kind.add_argument("program", metavar="PROGRAM", help="a STIL text")
     kind.add_argument("--from", dest="first", type=_number, default=0, metavar="K", help="the first cycle (0)")
     kind.add_argument("--to", dest="last", type=_number, metavar="K", help="the last cycle (31 behind the first)")
-    for name in ("lot", "fails", "grade", "events"):
+    kind.add_argument("--bits", action="store_true", help="a line for each bit of a bus")
+    kind.add_argument("--datalog", metavar="DATALOG", help="looks beside what a die of it has seen: the first one that fails, else the first")
+    kind.add_argument("--site", type=_number, metavar="S", help="only dies at this site")
+    kind.add_argument("--die", metavar="D", help="only dies of this name")
+    kind = _add(kinds, "shmoo", "pass and fail over periods and strobes, by a lot for each pair of the text with its times changed",
+                "stilfloor plot shmoo examples/skew/hold.stil examples/skew/lot.csv --period 60ns..140ns/5ns --strobe 0ns..120ns/5ns", plot_shmoo)
+    kind.add_argument("program", metavar="PROGRAM", help="a STIL text whose times are plain numbers")
+    kind.add_argument("plan", metavar="PLAN", help="the plan of the lot")
+    kind.add_argument("--period", metavar="A..B/STEP", help="periods of the first table, as 80ns..120ns/5ns; all times are scaled with it")
+    kind.add_argument("--strobe", metavar="A..B/STEP", help="times of the first look, as 20ns..60ns/5ns; all looks are moved with it")
+    kind.add_argument("--site", type=_number, metavar="S", help="only dies at this site")
+    kind.add_argument("--die", metavar="D", help="only dies of this name")
+    for name in ("lot", "fails", "grade", "events", "shmoo"):
         kinds.choices[name].add_argument("-o", dest="out", default=f"{name}.png", metavar="FILE", help=f"the picture ({name}.png)")
-    word = _add(words, "report", "write one HTML page about a lot", "stilfloor report scan.stil lot.csv lot.datalog -o report", report)
-    _add_lot(word)
+    word = _add(words, "report", "write one HTML page about a lot, or about several of one plan",
+                "stilfloor report scan.stil lot.csv lot.datalog -o report", report)
+    _add_lot(word, True)
+    word.add_argument("--grade", metavar="GRADE", help="what `stil grade PROGRAM PLAN` printed, for the coverage")
+    word.add_argument("--follow", metavar="FOLDER", help="in place of a DATALOG: the parts that are done in the working folder of farm/lot")
+    word.add_argument("--every", type=_number, default=0, metavar="S", help="with --follow: look every S seconds for more, until all are done")
+    word.add_argument("--pairs", type=_number, default=20, metavar="N",
+                      help="for how many kinds of fails that no single net explains pairs are tried (20)")
     word.add_argument("-o", dest="folder", required=True, metavar="DIR", help="the folder for index.html")
     word.add_argument("--title", metavar="TEXT", help="the page's heading (the datalog's name)")
     word = _add(words, "export", "turn a datalog into a table for other tools", "stilfloor export lot.datalog --csv --table dies -o dies.csv", export)
@@ -226,13 +250,13 @@ def _put(path: str | None, pieces: Iterator[str], encoding: str = "utf-8") -> No
 
 def diagnose(words: argparse.Namespace) -> int:
     """The word `diagnose`."""
-    from stilfloor import records, saved
+    from stilfloor import records
     from stilfloor.belonging import Owner
     from stilfloor.diagnose import Doctor, as_json
     from stilfloor.diagnose import diagnose as diagnosed
 
-    doctor = Doctor(words.program, words.plan, words.jobs, words.most)
-    owner = Owner(doctor.plan, saved.code_of(words.program))
+    doctor = Doctor(words.program, words.plan, words.jobs, words.most, words.pairs)
+    owner = Owner(doctor.plan, doctor.code)
     with records.datalog(words.datalog) as dies:
         found = diagnosed(doctor, owner.held(dies), words.site, words.die)
         _put(None, as_json(found) if words.json else _told(found, doctor))
@@ -240,6 +264,8 @@ def diagnose(words: argparse.Namespace) -> int:
         say(line)
     for line in doctor.site_lines():
         print(line, file=sys.stderr if words.json else sys.stdout)
+    if doctor.left and words.pairs:
+        say(f"pairs of stuck nets weren't tried for {doctor.left} kinds of fails more: --pairs N tries more")
     return 0
 
 
@@ -310,7 +336,8 @@ def plot_grade(words: argparse.Namespace) -> int:
     from stilfloor import drawing, records
 
     with records.grade(words.grade) as faults:
-        figure = drawing.grade_figure(faults, words.grade)
+        every = list(faults)
+    figure = drawing.grade_figure(every, faults.good, words.grade)
     if faults.good is not None:
         say(f"{words.grade}: the good die fails from cycle {faults.good} on: its program, netlist and plan aren't of each other")
     drawing.store(figure, words.out)
@@ -319,30 +346,52 @@ def plot_grade(words: argparse.Namespace) -> int:
 
 def plot_events(words: argparse.Namespace) -> int:
     """The word `plot events`."""
-    from stilfloor import drawing, waves
+    from stilfloor import drawing, saved, waves
+    from stilfloor.wave_figure import wave_figure
 
+    if not words.datalog and (words.site is not None or words.die is not None):
+        raise Fault(USAGE, "--site and --die belong to --datalog")
     last = words.first + 31 if words.last is None else words.last
-    gathered = waves.gather(waves.cycles_between(words.program, words.first, last))
+    code = saved.code_of(words.program)
+    gathered = waves.gather(waves.cycles_between(words.program, last, code), [name for _, name in code.signals], words.first)
     if not gathered.starts:
         raise Fault(REFUSED, f"the program has no cycle from {words.first} to {last}", words.program)
-    title = f"{shown(words.program)}, cycles {words.first} to {words.first + len(gathered.starts) - 1}"
-    drawing.store(waves.wave_figure(gathered, title), words.out)
+    seen = waves.seen_in(words.datalog, code, words.site, words.die) if words.datalog else None
+    title = f"{shown(words.program)}, cycles {words.first} to {words.first + len(gathered.starts) - 1}" + (f"\n{seen.words}" if seen else "")
+    drawing.store(wave_figure(gathered, title, seen, words.bits), words.out)
+    return 0
+
+
+def plot_shmoo(words: argparse.Namespace) -> int:
+    """The word `plot shmoo`."""
+    from stilfloor import drawing, shmoo
+    from stilfloor.shmoo_figure import shmoo_figure
+
+    if not words.period and not words.strobe:
+        raise Fault(USAGE, "plot shmoo needs --period A..B/STEP, --strobe A..B/STEP, or both")
+    periods, strobes = (shmoo.steps_of(text, option) if text else [] for text, option in ((words.period, "--period"), (words.strobe, "--strobe")))
+    made = shmoo.run(words.program, words.plan, periods, strobes, (words.site, words.die))
+    cells = [cell for row in made.cells for cell in row]
+    limit = "dies have no delays: what shows is edges, windows and skews of sites alone"
+    dies = max(cell.dies for cell in cells)
+    drawing.store(shmoo_figure(made, f"{shown(words.program)}, {dies} {'die' if dies == 1 else 'dies'}\n{limit}"), words.out)
+    say(f"{sum(not cell.broken and cell.passing == cell.dies for cell in cells)} of {len(cells)} pass; {limit}")
     return 0
 
 
 def report(words: argparse.Namespace) -> int:
     """The word `report`."""
-    from stilfloor import records, saved
-    from stilfloor.belonging import Owner
-    from stilfloor.diagnose import Doctor
-    from stilfloor.report import make_report
+    from stilfloor.report import Wish, make_report
 
-    doctor = Doctor(words.program, words.plan, words.jobs)
-    owner = Owner(doctor.plan, saved.code_of(words.program))
-    with records.datalog(words.datalog) as dies:
-        path, page = make_report(words.program, doctor, owner.held(dies), words.folder, shown(words.title or os.path.basename(words.datalog)))
-    say(f"{page.lot.count} dies, {page.failing} fail, {page.explained} explained")
-    print(path)
+    if bool(words.datalogs) == bool(words.follow):
+        raise Fault(USAGE, "report needs a DATALOG, or several, or else --follow FOLDER")
+    if words.every and not words.follow:
+        raise Fault(USAGE, "--every belongs to --follow")
+    wish = Wish(words.program, words.plan, words.datalogs, words.folder, words.title or "", words.grade or "", words.follow or "", words.every,
+                words.jobs, words.pairs)
+    for path, page in make_report(wish):
+        say(f"{page.lot.count} dies, {page.failing} fail, {page.explained} explained")
+        print(path, flush=True)
     return 0
 
 

@@ -193,7 +193,7 @@ def _make(die: Die, jobs: int) -> Dictionary:
     stuck = [Suspect(net, value) for net in nets_of(die.netlist) for value in (0, 1)]
     moved = moved_signals(saved.code_of(die.program), [signal for signal, _ in die.skews])
     with tempfile.TemporaryDirectory() as room:
-        _put_files(die, room)
+        put_files(die, room)
         parts = _stuck_parts(die, [Suspect(), *stuck], room, jobs) + _moved_parts(die, moved, room)
         _run_parts([name for name, _ in parts], room, jobs)
         made = Dictionary()
@@ -203,11 +203,16 @@ def _make(die: Die, jobs: int) -> Dictionary:
     return made
 
 
-def _put_files(die: Die, room: str) -> None:
-    """The program, compiled where that is short enough, and the netlist."""
+def put_netlist(die: Die, room: str) -> None:
+    """Puts the netlist into a folder."""
     if not os.path.exists(die.netlist):
         raise refusal(f"read fault {die.netlist}", 2, die.program, die.plan.file)
     shutil.copyfile(die.netlist, os.path.join(room, "die.bench"))
+
+
+def put_files(die: Die, room: str) -> None:
+    """Puts the program, compiled where that is short enough, and the netlist into a folder."""
+    put_netlist(die, room)
     status, output = tester.run(["save", die.program])
     with open(os.path.join(room, "program"), "wb") as out:
         if status == 0:
@@ -217,7 +222,8 @@ def _put_files(die: Die, room: str) -> None:
                 shutil.copyfileobj(source, out)
 
 
-def _rows_of(die: Die) -> list[list[str]]:
+def rows_of(die: Die) -> list[list[str]]:
+    """The rows in front of those of dies."""
     return [["lot", str(die.plan.batch), "1", str(die.kept)], *die.plan.binding()]
 
 
@@ -227,7 +233,7 @@ def _stuck_parts(die: Die, suspects: list[Suspect], room: str, jobs: int) -> lis
     parts: list[tuple[str, list[Suspect]]] = []
     for front in range(0, len(suspects), most):
         some = suspects[front : front + most]
-        rows = _rows_of(die)
+        rows = rows_of(die)
         for number, suspect in enumerate(some):
             rows.append(["die", "0", f"f{number}", "die.bench"])
             if suspect.net:
@@ -242,7 +248,7 @@ def _moved_parts(die: Die, moved: list[Moved], room: str) -> list[tuple[str, lis
     parts: list[tuple[str, list[Suspect]]] = []
     for front in range(0, len(moved), 16):
         some = moved[front : front + 16]
-        rows = _rows_of(die) + [["die", str(site), "good", "die.bench"] for site in range(len(some))]
+        rows = rows_of(die) + [["die", str(site), "good", "die.bench"] for site in range(len(some))]
         for site, (signal, amount) in enumerate(some):
             rows += [["skew", str(site), name, str(known)] for name, known in [*die.skews, (signal, amount)]]
         parts.append((_put_plan(rows, room, len(parts), "moved"), [Suspect(signal, amount, True) for signal, amount in some]))

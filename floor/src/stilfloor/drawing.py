@@ -3,6 +3,7 @@
 import io
 import warnings
 from collections import Counter
+from collections.abc import Iterable
 from dataclasses import dataclass, field
 from typing import IO, Any
 
@@ -20,8 +21,11 @@ from stilfloor.names import replacing
 # a name with dollars is a name, and no formula
 matplotlib.rcParams["text.parse_math"] = False
 
-COLOURS = ("#4c9f70", "#d1495b", "#edae49", "#30638e", "#7768ae", "#8d6a4f", "#5bc0be", "#9a9a9a")
+# colours that a colour-blind reader tells apart (the first seven by Okabe and Ito)
+COLOURS = ("#009e73", "#d55e00", "#e69f00", "#0072b2", "#cc79a7", "#56b4e9", "#f0e442", "#444444")
 FORMATS = ("png", "svg", "pdf")
+MOST_BORDERS = 256
+MOST_NAMED = 24
 
 
 def store(figure: Figure, path: str) -> None:
@@ -40,6 +44,12 @@ def _draw_into(figure: Figure, out: IO, kind: str) -> None:
     with warnings.catch_warnings():
         warnings.filterwarnings("ignore", "Glyph .* missing", UserWarning)
         figure.savefig(out, format=kind, dpi=120)
+
+
+def box_of(figure: Figure) -> list[float]:
+    """Where the first picture of a figure that was drawn lies: its left, top, right and bottom edge as parts of the figure's size."""
+    box = figure.axes[0].get_position()
+    return [round(edge, 5) for edge in (box.x0, 1 - box.y1, box.x1, 1 - box.y0)]
 
 
 def svg_of(figure: Figure) -> str:
@@ -128,27 +138,54 @@ def pareto_figure(gathered: Gathered, most: int = 20) -> Figure:
 def map_on(figure: Figure, axes: Any, gathered: Gathered, title: str) -> None:
     """Draws a fail map: white where no die fails."""
     cells = gathered.matrix()
-    names = [name_of(key) for key in gathered.axes.columns]
-    shown = axes.imshow(numpy.ma.masked_equal(cells, 0), aspect="auto", interpolation="nearest", cmap="magma_r", vmin=0,
-                        vmax=max(cells.max(), 1), extent=(-0.5, max(len(names), 1) - 0.5, gathered.rows() - 0.5, -0.5))
-    figure.colorbar(shown, ax=axes, label="dies", ticks=MaxNLocator(integer=True))
+    box = (-0.5, cells.shape[1] * gathered.right - 0.5, cells.shape[0] * gathered.down - 0.5, -0.5)
+    shown_map = axes.imshow(numpy.ma.masked_equal(cells, 0), aspect="auto", interpolation="nearest", cmap="magma_r", vmin=0,
+                            vmax=max(cells.max(), 1), extent=box)
+    figure.colorbar(shown_map, ax=axes, label="dies, once for each place" if gathered.is_sum else "dies", ticks=MaxNLocator(integer=True))
     axes.set(xlabel="scan cell or output", ylabel="load" if gathered.axes.by_load else "cycle")
     if gathered.cut.count:
         title += f"\ngrey: behind the last kept fail of {gathered.cut.count} of {gathered.failing} failing dies"
-        grey_on(axes, gathered, len(names))
+        grey_on(axes, gathered, box)
     axes.set_title(title)
     axes.yaxis.set_major_locator(MaxNLocator(integer=True))
-    if 0 < len(names) <= 64:
+    names_on(axes, gathered)
+
+
+def names_on(axes: Any, gathered: Gathered) -> None:
+    """Writes the names of a map's columns, or those of its chains between their borders where there are more than 64 columns."""
+    names, runs = [name_of(key) for key in gathered.axes.columns], gathered.chains()
+    for _, begin, _ in runs[1:] if len(names) <= 64 or len(runs) <= MOST_BORDERS else []:
+        axes.axvline(begin - 0.5, color=COLOURS[5], linewidth=0.8)
+    if len(names) <= 64:
         axes.set_xticks(range(len(names)), names, rotation=90, fontsize=7)
+        return
+    told = runs[:: -(-len(runs) // MOST_NAMED)]
+    axes.set_xticks([(begin + end - 1) / 2 for _, begin, end in told], [shown(chain) if chain else "outputs" for chain, _, _ in told],
+                    rotation=90 if len(told) > 6 else 0, fontsize=8)
 
 
-def grey_on(axes: Any, gathered: Gathered, columns: int) -> None:
+def grey_on(axes: Any, gathered: Gathered, box: tuple[float, float, float, float]) -> None:
     """Greys the rows behind the last kept fails, the more the more dies are cut off before them."""
     bands = min(gathered.rows(), 1024)
     unknown = gathered.unknown(bands)
     colours = numpy.full((bands, 1, 4), 0.45)
     colours[:, 0, 3] = numpy.where(unknown > 0, 0.15 + 0.55 * unknown, 0)
-    axes.imshow(colours, aspect="auto", interpolation="nearest", zorder=0, extent=(-0.5, max(columns, 1) - 0.5, gathered.rows() - 0.5, -0.5))
+    axes.imshow(colours, aspect="auto", interpolation="nearest", zorder=0, extent=(*box[:2], gathered.rows() - 0.5, -0.5))
+    axes.set_ylim(box[2], box[3])
+
+
+def trend_figure(lots: list[tuple[int, int, int]]) -> Figure:
+    """The yields of lots in their order, each by its dies, those that pass, and those that pass in their first try."""
+    figure = Figure(figsize=(max(5.0, 1.5 + 0.4 * len(lots)), 3.2), layout="constrained")
+    axes = figure.subplots()
+    numbers = range(1, len(lots) + 1)
+    for place, label, mark in ((1, "pass", "o"), (2, "pass in their first try", "^")):
+        axes.plot(numbers, [100 * lot[place] / max(lot[0], 1) for lot in lots], marker=mark, color=COLOURS[3 if place == 1 else 1], label=label)
+    axes.set(xlabel="lot", ylabel="dies, percent", title="yield over lots", ylim=(0, 102))
+    axes.xaxis.set_major_locator(MaxNLocator(integer=True))
+    axes.grid(alpha=0.3)
+    axes.legend(frameon=False)
+    return figure
 
 
 def map_figure(gathered: Gathered, title: str) -> Figure:
@@ -167,7 +204,7 @@ def fails_figure(gathered: Gathered, title: str) -> Figure:
     return figure
 
 
-def grade_figure(faults: records.Grade, name: str) -> Figure:
+def grade_figure(faults: Iterable[records.StuckNet], good: int | None, name: str) -> Figure:
     """Coverage over cycles: how many of the stuck-at faults are found up to each cycle, in percent."""
     count = 0
     firsts: Counter[int] = Counter()
@@ -180,12 +217,12 @@ def grade_figure(faults: records.Grade, name: str) -> Figure:
         total += firsts[cycle]
         cycles.append(cycle + 1)
         found.append(100.0 * total / count)
-    good = "" if faults.good is None else f"the good die fails from cycle {faults.good} on, so faults are found that aren't there\n"
+    front = "" if good is None else f"the good die fails from cycle {good} on, so faults are found that aren't there\n"
     figure = Figure(figsize=(7, 4), layout="constrained")
     axes = figure.subplots()
     axes.step(cycles, found, where="post", color=COLOURS[3])
     axes.fill_between(cycles, found, step="post", color=COLOURS[3], alpha=0.2)
     axes.set(xlabel="cycles run", ylabel="stuck-at faults found, percent", ylim=(0, 100), xlim=(0, max(cycles) or 1),
-             title=good + f"{shown(name)}: {total} of {count} faults found")
+             title=front + f"{shown(name)}: {total} of {count} faults found")
     axes.grid(alpha=0.3)
     return figure

@@ -107,12 +107,15 @@ class Cut:
 class Gathered:
     """Fails of many dies: how many dies fail at each place, and at each column.
 
-    Of a die with more fails than are kept the rows up to that of its last kept fail are known. Where there are more than half a million
-    places, neighbours are gathered: `down` rows and `right` columns are one place then.
+    Of a die with more fails than are kept the rows up to that of its last kept fail are known. Where there would be more than `most` places,
+    neighbours are gathered: `down` rows and `right` columns are one place then. Where that is known only while dies are counted, places
+    are added up, and `is_sum` says so: a die counts at each of them.
     """
 
-    def __init__(self, axes: Axes) -> None:
+    def __init__(self, axes: Axes, most: int = MOST_PLACES) -> None:
         self.axes = axes
+        self.most = most
+        self.is_sum = False
         self.places: Counter[tuple[int, int]] = Counter()
         self.columns: Counter[int] = Counter()
         self.whole: Counter[int] = Counter()
@@ -121,6 +124,19 @@ class Gathered:
         self.cut = Cut()
         self.down = self.right = 1
         self.last_row = 0
+        while self._height() * self._width() > most or max(self._height(), self._width()) > MOST_SIDE:
+            down, right = self._longer()
+            self.down, self.right = self.down * down, self.right * right
+
+    def _height(self) -> int:
+        return -(-self.rows() // self.down)
+
+    def _width(self) -> int:
+        return -(-len(self.axes.columns) // self.right)
+
+    def _longer(self) -> tuple[int, int]:
+        """The direction in which neighbours become one place next."""
+        return (2, 1) if self._height() >= self._width() else (1, 2)
 
     def add(self, die: records.Die) -> set[tuple[int, int]]:
         """Counts a die by the kept fails of its last try; its places, as they are before any are gathered."""
@@ -132,7 +148,7 @@ class Gathered:
         whole = self.down == self.right == 1
         self.places.update(places if whole else {(row // self.down, column // self.right) for row, column in places})
         self._count(die.tries[-1], rows, places)
-        while len(self.places) > MOST_PLACES:
+        while len(self.places) > self.most:
             self._gather()
         return places
 
@@ -166,8 +182,8 @@ class Gathered:
 
     def _gather(self) -> None:
         """Makes two neighbours one place, in the longer direction."""
-        tall = self.rows() // self.down >= len(self.axes.columns) // self.right
-        down, right = (2, 1) if tall else (1, 2)
+        self.is_sum = True
+        down, right = self._longer()
         self.down, self.right = self.down * down, self.right * right
         fewer: Counter[tuple[int, int]] = Counter()
         for (row, column), count in self.places.items():
@@ -180,7 +196,17 @@ class Gathered:
 
     def matrix(self) -> numpy.ndarray:
         """How many dies fail at each place, with rows and columns gathered where there are very many."""
-        return spread(self.places, -(-self.rows() // self.down), -(-len(self.axes.columns) // self.right), MOST_SIDE)
+        return spread(self.places, self._height(), self._width(), MOST_SIDE)
+
+    def chains(self) -> list[tuple[str, int, int]]:
+        """The runs of columns of one chain each, by its name, and of outputs, by none: from where, and up to where."""
+        runs: list[tuple[str, int, int]] = []
+        for place, (chain, _) in enumerate(self.axes.columns):
+            if runs and runs[-1][0] == chain:
+                runs[-1] = chain, runs[-1][1], place + 1
+            else:
+                runs.append((chain, place, place + 1))
+        return runs
 
     def ranked(self) -> tuple[Counter[int], str]:
         """How many dies fail at each column, by what is known alike of all that are counted, and the words for what that is.

@@ -36,7 +36,7 @@ def near(name: str, names: list[str]) -> str:
 def of_text(fault: Fault, text: str) -> Fault:
     """The fault with what can be told besides; of kinds for which nothing is known it stays as it is."""
     teller = {"LeftOut": _left_out, "UnknownName": _unknown_name, "NoWave": _no_wave, "Shape": _shape, "OpenStatement": _shape,
-              "EventOutside": _no_unit, "EventOrder": _no_unit, "NotWhole": _no_unit}.get(fault.kind)
+              "OutOfRange": _out_of_range, "EventOutside": _no_unit, "EventOrder": _no_unit, "NotWhole": _no_unit}.get(fault.kind)
     told = teller(fault, text) if teller else None
     if told:
         place, sentence = told
@@ -165,6 +165,12 @@ def _no_unit(fault: Fault, text: str) -> Told:
     line, time, wanted = found
     return None, (f"{fault.text.rpartition(' (')[0]}; the time '{time}' on line {line} has no unit, which makes it femtoseconds: "
                   f"write one, as '{wanted}ns'")
+
+
+def _out_of_range(fault: Fault, text: str) -> Told:
+    from stilfloor import ranges
+
+    return ranges.of_text(text, fault.line)
 
 
 def _asked(text: str) -> tuple[str, str]:

@@ -5,7 +5,7 @@ import re
 import tempfile
 from collections.abc import Iterator
 
-from stilfloor import hints, plans, saved, scans, tester
+from stilfloor import hints, plans, ranges, saved, scans, tester
 from stilfloor.dictionary import nets_of
 from stilfloor.faults import UNREADABLE, Fault, shown
 from stilfloor.looks import compiled, trace, written
@@ -168,6 +168,8 @@ def _explained(fault: Fault, plan: plans.Plan, program: str | None) -> Fault:
         return fault
     if fault.kind == "Shape" and place >= 0:
         said = hints.of_row(plan.rows[place], place == 0)
+    elif fault.kind == "OutOfRange" and place >= 0:
+        said = ranges.of_row(plan.rows, place, len(saved.code_of(program).executives) if program else None)
     elif fault.kind == "UnknownName" and place >= 0:
         row = plan.rows[place]
         dies = {other[2]: other[3] for other in plan.rows[:place] if other[0] == "die" and other[1] == row[1]}

@@ -1,141 +1,257 @@
-"""One page about a lot: yield and bins, sites, failing cells, and each failing die with its fail map and suspects."""
+"""One page about lots: yield, bins, sites, test time, coverage, suspects over dies, and each failing die with its fail map and suspects."""
 
 import base64
 import os
 import shutil
 import tempfile
+import time
 from collections import Counter
-from collections.abc import Iterable
+from collections.abc import Iterator
+from dataclasses import dataclass, field
 from html import escape
 from typing import IO
 
-from stilfloor import drawing, records, saved
+from stilfloor import drawing, failmaps, records, report_parts, report_tables
+from stilfloor.belonging import Owner
 from stilfloor.diagnose import Diagnosis, Doctor
-from stilfloor.failmaps import Gathered, axes_of, picture
-from stilfloor.faults import UNREADABLE, Fault
+from stilfloor.faults import REFUSED, UNREADABLE, Fault, shown
 from stilfloor.names import replacing
+from stilfloor.pairs import FEW_TRIED
+from stilfloor.report_follow import farm_of
+from stilfloor.report_parts import cell
+from stilfloor.report_style import SCRIPT, STYLE, policy
 
-STYLE = """
-body { font: 15px/1.45 system-ui, sans-serif; margin: 2rem auto; max-width: 70rem; padding: 0 1rem; color: #222; }
-h1, h2 { font-weight: 600; } h2 { margin-top: 2.2rem; border-bottom: 1px solid #ddd; padding-bottom: .2rem; }
-table { border-collapse: collapse; margin-bottom: 1rem; } th, td { padding: .2rem .8rem; text-align: right; border-bottom: 1px solid #eee; }
-th:first-child, td:first-child { text-align: left; }
-.figures { display: flex; flex-wrap: wrap; gap: 1rem; } .figures svg { max-width: 34rem; height: auto; }
-.all svg { width: 100%; height: auto; }
-.die { display: grid; grid-template-columns: 14rem 1fr; gap: 1rem; padding: .8rem 0; border-bottom: 1px solid #eee;
-       content-visibility: auto; contain-intrinsic-size: auto 9rem; }
-.die h3 { margin: 0; font-size: 1rem; } .die p { margin: .2rem 0; } .die ul { margin: .2rem 0; padding-left: 1.2rem; }
-.map { width: 13rem; height: 8rem; image-rendering: pixelated; border: 1px solid #999; background: #fff; }
-.none { color: #a33; } .note { color: #777; font-size: .9rem; } code { font-family: ui-monospace, monospace; }
-"""
+# how many places the map of all fails has at most
+MOST_PLACES = 1 << 17
+
+
+@dataclass(slots=True)
+class Wish:
+    """What a page is made of: the program, the plan, and datalogs of it, or the working folder of a farm, looked at every so many seconds.
+
+    Besides a grade where there is one, how the page is headed, and where it goes.
+    """
+
+    program: str
+    plan: str
+    datalogs: list[str]
+    folder: str
+    title: str = ""
+    grade: str = ""
+    follow: str = ""
+    every: int = 0
+    jobs: int = 1
+    pairs: int = 0
 
 
 class Page:
-    """What is gathered of a lot while its datalog is read, die by die; the parts of failing dies go to a file of their own."""
+    """What is gathered of lots while their datalogs are read, die by die; the parts of failing dies go to a file of their own."""
 
-    def __init__(self, program: str, doctor: Doctor, parts: IO[str]) -> None:
+    def __init__(self, doctor: Doctor, owner: Owner, several: bool, parts: IO[str]) -> None:
         self.doctor = doctor
+        self.several = several
         self.lot = drawing.LotCounts()
-        self.gathered = Gathered(axes_of(saved.code_of(program)))
-        self.verdicts: Counter[tuple[int, str]] = Counter()
-        self.again: Counter[int] = Counter()
+        self.gathered = failmaps.Gathered(failmaps.axes_of(doctor.code), MOST_PLACES)
+        self.lots: list[report_tables.LotCount] = []
+        self.sites: dict[int, report_tables.SiteTable] = {}
+        self.times = report_tables.Times(owner.cycles)
+        self.suspects = report_tables.Suspects()
+        self.rows: list[str] = []
+        self.recovered: list[str] = []
         self.failing = 0
         self.explained = 0
+        self.bins: Counter[int] = Counter()
         self.parts = parts
+
+    def begin(self, name: str) -> None:
+        """Goes on with the next lot."""
+        self.lots.append(report_tables.LotCount(name))
 
     def add(self, die: records.Die) -> None:
         """Counts a die, and writes its part where it fails."""
         self.lot.add(die)
-        self.verdicts[die.site, die.verdict.kind] += 1
-        self.again[die.site] += len(die.tries) > 1
+        self.lots[-1].add(die)
+        ran = self.times.add(die)
+        self.sites.setdefault(die.site, report_tables.SiteTable()).add(die)
         places = self.gathered.add(die)
         diagnosis = self.doctor.see(die)
+        if die.verdict.kind == "pass":
+            if len(die.tries) > 1:
+                self.recovered.append(self._named(die))
+            return
+        self.bins[die.bin] += 1
         if diagnosis:
             self.failing += 1
-            self.explained += diagnosis.exact
-            self.parts.write(self._part(die, diagnosis, places))
-        elif die.verdict.kind != "pass":
-            self.parts.write(f'<div class="die"><div></div><div><h3>site {die.site}, die {escape(die.name)}</h3>'
-                             f"<p>bin {die.bin}: {escape(str(die.verdict))}</p></div></div>\n")
+            self.explained += diagnosis.explained
+            self.lots[-1].failing += 1
+        self._write(die, diagnosis, places, ran)
 
-    def _part(self, die: records.Die, diagnosis: Diagnosis, places: set[tuple[int, int]]) -> str:
+    def _named(self, die: records.Die) -> str:
+        front = f"lot {len(self.lots)}, " if self.several else ""
+        return f"{front}site {die.site}, die {die.name}"
+
+    def _write(self, die: records.Die, diagnosis: Diagnosis | None, places: set[tuple[int, int]], ran: str) -> None:
+        """The row and the part of a die that doesn't pass."""
+        mark = f"d{len(self.rows) + 1}"
+        what = f"bin {die.bin}: {escape(str(die.verdict))}"
+        if diagnosis:
+            what = _short(diagnosis)
+            self.suspects.add(die.site, mark, diagnosis, {column for _, column in places})
+            if diagnosis.exact:
+                self.lots[-1].suspects[diagnosis.classes[0].text().partition(" ")[2]] += 1
+        lot = cell(len(self.lots)) if self.several else ""
+        self.rows.append(f'<tr data-die="{mark}" data-site="{die.site}" data-bin="{die.bin}" data-lot="{len(self.lots)}">'
+                         f'<td><a href="#{mark}">{escape(die.name)}</a></td>{lot}{cell(die.site)}{cell(die.bin)}{cell(len(die.tries))}'
+                         f"{cell(die.tries[-1].fails)}{cell(what, True)}</tr>")
+        self.parts.write(self._part(die, diagnosis, places, mark, ran) if diagnosis else
+                         f'<div class="die" id="{mark}"><div></div><div><h3>{escape(self._named(die))}</h3><p>{what}; {ran}</p></div></div>\n')
+
+    def _part(self, die: records.Die, diagnosis: Diagnosis, places: set[tuple[int, int]], mark: str, ran: str) -> str:
         """A failing die: its map, and its suspects."""
-        reach = self.gathered.reach(die)
-        image = base64.b64encode(picture(places, self.gathered.rows(), len(self.gathered.axes.columns), reach)).decode()
+        data = failmaps.picture(places, self.gathered.rows(), len(self.gathered.axes.columns), self.gathered.reach(die))
         kept = len(die.tries[-1].kept)
         more = "" if kept == diagnosis.fails else f", of which {kept} are kept"
-        suspects = "".join(f"<li><code>{escape(ranked.text())}</code></li>" for ranked in diagnosis.classes)
-        mark = "" if diagnosis.exact else ' class="none"'
-        return (f'<div class="die"><img class="map" alt="fail map" src="data:image/png;base64,{image}">'
-                f"<div><h3>site {die.site}, die {escape(die.name)}</h3>"
-                f"<p>bin {die.bin}, {len(die.tries)} {'try' if len(die.tries) == 1 else 'tries'}, {diagnosis.fails} fails{more}</p>"
-                f"<p{mark}>{escape(diagnosis.sentence)}</p><ul>{suspects}</ul></div></div>\n")
-
-    def head(self, title: str) -> str:
-        """The page in front of its failing dies."""
-        count = self.lot.count
-        share = f"{100 * self.lot.passing / count:.1f} percent" if count else "no dies"
-        lines = [f"<!doctype html><html lang=\"en\"><head><meta charset=\"utf-8\"><title>{escape(title)}</title><style>{STYLE}</style></head><body>",
-                 f"<h1>{escape(title)}</h1>",
-                 f"<p>Yield: {self.lot.passing} of {count} dies pass, {share}. {self.failing} dies fail, "
-                 f"and for {self.explained} of them something explains the fails exactly.</p>",
-                 self._cut(), "<h2>Bins and sites</h2>", self._bins(), self._sites()]
-        lines += [f"<p class=\"none\">{escape(line)}</p>" for line in [*self.doctor.notes, *self.doctor.site_lines()]]
-        lines.append('<div class="figures">' + drawing.svg_of(drawing.lot_figure(self.lot)))
-        if self.gathered.columns:
-            lines.append(drawing.svg_of(drawing.pareto_figure(self.gathered)))
-        lines.append("</div>")
-        if self.gathered.columns:
-            lines.append("<h2>All fails</h2>" + self._cut() + "<div class=\"all\">"
-                         + drawing.svg_of(drawing.map_figure(self.gathered, "dies that fail at each place")) + "</div>")
-        lines.append("<h2>Failing dies</h2>" + self._legend())
-        return "\n".join(lines) + "\n"
-
-    def _cut(self) -> str:
-        """What is said of dies with more fails than are kept."""
-        note = self.gathered.cut.note(self.gathered.failing)
-        return f'<p class="none">{escape(note)}.</p>' if note else ""
-
-    def _legend(self) -> str:
-        axes = self.gathered.axes
-        row = "load" if axes.by_load else "cycle"
-        return (f'<p class="note">In a fail map each row is a {row}, from the top down ({self.gathered.rows()}), and each column a scan cell, chain by '
-                f"chain from scan-in to scan-out, then an output ({len(axes.columns)}). A score is the part of fails that a die and a suspect "
-                "have in common; suspects in one line are told apart by no look of this program. Grey is what lies behind the last kept fail "
-                "of a die that has more.</p>")
-
-    def _bins(self) -> str:
-        rows = []
-        for number in self.lot.bins:
-            dies = sum(count for (_, bin_number, _), count in self.lot.dies.items() if bin_number == number)
-            rows.append(f"<tr><td>bin {number}</td><td>{dies}</td><td>{100 * dies / self.lot.count:.1f}</td></tr>")
-        return "<table><tr><th>bin</th><th>dies</th><th>percent</th></tr>" + "".join(rows) + "</table>"
-
-    def _sites(self) -> str:
-        kinds = ("pass", "fail", "stopped", "contact")
-        rows = []
-        for site in self.lot.sites:
-            counts = [self.verdicts[site, kind] for kind in kinds]
-            cells = "".join(f"<td>{count}</td>" for count in [sum(counts), *counts, self.again[site]])
-            rows.append(f"<tr><td>site {site}</td>{cells}<td>{100 * counts[0] / sum(counts):.1f}</td></tr>")
-        names = "".join(f"<th>{name}</th>" for name in ("site", "dies", *kinds, "tried again", "yield, percent"))
-        return f"<table><tr>{names}</tr>" + "".join(rows) + "</table>"
+        suspects = "".join(f"<li>{line}</li>" for line in report_parts.told_lines(diagnosis))
+        kind = "" if diagnosis.explained else ' class="none"'
+        return (f'<div class="die" id="{mark}"><div class="framed"><img class="map" alt="fail map" '
+                f'src="data:image/png;base64,{base64.b64encode(data).decode()}"></div>'
+                f"<div><h3>{escape(self._named(die))}</h3>"
+                f"<p>bin {die.bin}, {len(die.tries)} {'try' if len(die.tries) == 1 else 'tries'}, {diagnosis.fails} fails{more}; {ran}</p>"
+                f"<p{kind}>{escape(diagnosis.sentence)}</p><ul>{suspects}</ul></div></div>\n")
 
 
-def make_report(program: str, doctor: Doctor, dies: Iterable[records.Die], folder: str, title: str) -> tuple[str, Page]:
-    """Writes `index.html` into the folder; its path, and what was gathered."""
-    path = os.path.join(folder, "index.html")
+def _short(diagnosis: Diagnosis) -> str:
+    """What is found of a die in a few words."""
+    if diagnosis.exact:
+        return report_parts.told_class(diagnosis.classes[0])
+    if diagnosis.pairs and diagnosis.pairs.pairs:
+        pair = diagnosis.pairs.pairs[0]
+        front = "a pair:" if diagnosis.pairs.count == 1 else f"{diagnosis.pairs.count} pairs, as"
+        return f"{front} {report_parts.folded([shown(str(pair.first[0]))])} with {report_parts.folded([shown(str(pair.second[0]))])}"
+    return f"nearest: {report_parts.folded([diagnosis.classes[0].text()])}" if diagnosis.classes else "nothing is near"
+
+
+@dataclass(slots=True)
+class Frame:
+    """What stands on a page beside its dies: its heading, its files, notes in front, and a grade."""
+
+    title: str
+    files: list[tuple[str, str]]
+    notes: list[str] = field(default_factory=list)
+    grade: str = ""
+    refresh: int = 0
+
+
+def head(page: Page, frame: Frame) -> str:
+    """The page in front of its failing dies."""
+    again = f'<meta http-equiv="refresh" content="{frame.refresh}">' if frame.refresh else ""
+    sections = list(_sections(page, frame))
+    links = "".join(f'<li><a href="#{name}">{title}</a></li>' for name, title, _ in sections)
+    lines = [f'<!doctype html><html lang="en"><head><meta charset="utf-8"><meta name="viewport" content="width=device-width, initial-scale=1">'
+             f'<meta http-equiv="Content-Security-Policy" content="{policy()}">{again}<title>{escape(frame.title)}</title><style>{STYLE}</style>'
+             f"{report_parts.borders(page.gathered)}</head><body>",
+             f"<h1>{escape(frame.title)}</h1>", f"<nav><ul>{links}</ul></nav>", report_parts.made_of(frame.files),
+             *(f'<p class="none">{escape(shown(note))}</p>' for note in frame.notes), report_tables.summary(page), cut_note(page)]
+    lines += [f'<p class="none">{escape(line)}</p>' for line in [*page.doctor.notes, *page.doctor.site_lines()]]
+    lines += [f'<h2 id="{name}">{title}</h2>{content}' for name, title, content in sections]
+    return "\n".join(lines) + "\n" + report_parts.axes_data(page.gathered)
+
+
+def _sections(page: Page, frame: Frame) -> Iterator[tuple[str, str, str]]:
+    """The sections of a page: the mark of each, its title, and what stands in it."""
+    if page.several:
+        yield "lots", "Lots", report_tables.lots_table(page.lots)
+    yield "bins", "Bins and sites", report_tables.bins_table(page.lot) + report_tables.sites_table(page.sites) + (
+        f'<div class="figures">{drawing.svg_of(drawing.lot_figure(page.lot))}</div>' if page.lot.count else "")
+    yield "time", "Test time", page.times.told()
+    if frame.grade:
+        yield "coverage", "Coverage", report_tables.coverage(frame.grade, page.doctor.plan)
+    yield "suspects", "Suspects", page.suspects.told(page.failing)
+    yield "few", "At few sites alone", page.suspects.few(page)
+    if page.gathered.columns:
+        yield "fails", "All fails", (cut_note(page) + report_parts.whole_map(page.gathered)
+                                     + f'<div class="figures">{drawing.svg_of(drawing.pareto_figure(page.gathered))}</div>')
+    yield "dies", "Dies that don't pass", report_tables.dies_table(page) + legend(page)
+
+
+def cut_note(page: Page) -> str:
+    """What is said of dies with more fails than are kept."""
+    note = page.gathered.cut.note(page.gathered.failing)
+    return f'<p class="none">{escape(note)}.</p>' if note else ""
+
+
+def legend(page: Page) -> str:
+    """What is said in front of the dies."""
+    axes = page.gathered.axes
+    row = "load" if axes.by_load else "cycle"
+    borders = "; blue lines are the borders of chains" if 1 < len(page.gathered.chains()) <= report_parts.MOST_RUNS else ""
+    left = page.doctor.left
+    pairs = (f" Pairs of stuck nets weren't tried for {left} {'kind' if left == 1 else 'kinds'} of fails that no single one explains: --pairs N tries more."
+             if left else "")
+    return (f'<p class="note">In a fail map each row is a {row}, from the top down ({page.gathered.rows()}), and each column a scan cell, chain by '
+            f"chain from scan-in to scan-out, then an output ({len(axes.columns)}){borders}. A score is the part of fails "
+            "that a die and a suspect have in common; suspects in one line are told apart by no look of this program. A pair is told where a die with "
+            "one net of each side stuck has the very fails; other pairs, which weren't tried, may have them too. Grey is what lies behind the last "
+            f"kept fail of a die that has more.{pairs}</p>")
+
+
+def make_report(wish: Wish) -> Iterator[tuple[str, Page]]:
+    """Writes `index.html` into the folder; its path, and what was gathered. Of a farm that is followed it does so for more parts each time."""
+    doctor = Doctor(wish.program, wish.plan, wish.jobs, most_pairs=wish.pairs, each=FEW_TRIED)
+    owner = Owner(doctor.plan, doctor.code)
+    names = [os.path.basename(file) for file in wish.datalogs] or [os.path.basename(os.path.normpath(wish.follow))]
+    files = [("program", wish.program), ("plan", wish.plan), *(("datalog", file) for file in wish.datalogs),
+             *((what, file) for what, file in (("grade", wish.grade), ("farm", wish.follow)) if file)]
+    frame = Frame(shown(wish.title or ", ".join(names)), files, grade=wish.grade)
+    if wish.follow:
+        yield from _follow(wish, doctor, owner, frame)
+        return
     with tempfile.TemporaryFile("w+", encoding="utf-8") as parts:
-        page = Page(program, doctor, parts)
-        for die in dies:
-            page.add(die)
-        try:
-            os.makedirs(folder, exist_ok=True)
-        except OSError as error:
-            raise Fault(UNREADABLE, f"{error.strerror}", folder) from error
-        with replacing(path) as out:
-            out.write(page.head(title))
-            parts.seek(0)
-            shutil.copyfileobj(parts, out)
-            out.write("</body></html>\n" if page.failing else "<p>No die fails.</p></body></html>\n")
-    return path, page
+        page = Page(doctor, owner, len(names) > 1, parts)
+        for file in wish.datalogs:
+            page.begin(file)
+            with records.datalog(file) as dies:
+                for die in owner.held(dies):
+                    page.add(die)
+        yield write(page, frame, wish.folder), page
+
+
+def _follow(wish: Wish, doctor: Doctor, owner: Owner, frame: Frame) -> Iterator[tuple[str, Page]]:
+    """The page of the parts of a farm that are there so far, and of more of them each time where it is to go on."""
+    farm = farm_of(wish.follow, doctor.plan)
+    before: list[int] | None = None
+    while True:
+        there = farm.there()
+        if there != before:
+            before = there
+            doctor.sites.clear()
+            frame.notes = [note for note in [farm.note(there)] if note]
+            frame.refresh = wish.every if frame.notes else 0
+            with tempfile.TemporaryFile("w+", encoding="utf-8") as parts:
+                page = Page(doctor, owner, False, parts)
+                page.begin(wish.follow)
+                for die in (die for number in there for die in farm.dies(number, owner)):
+                    page.add(die)
+                yield write(page, frame, wish.folder), page
+        if not wish.every or len(there) == farm.parts:
+            return
+        time.sleep(wish.every)
+        if not os.path.isdir(wish.follow):
+            raise Fault(REFUSED, f"the working folder is gone, and the page has {len(there)} of {farm.parts} parts: make it anew of the whole datalog",
+                        wish.follow)
+
+
+def write(page: Page, frame: Frame, folder: str) -> str:
+    """Writes the page into a folder; its path."""
+    path = os.path.join(folder, "index.html")
+    try:
+        os.makedirs(folder, exist_ok=True)
+    except OSError as error:
+        raise Fault(UNREADABLE, f"{error.strerror}", folder) from error
+    with replacing(path) as out:
+        out.write(head(page, frame))
+        page.parts.seek(0)
+        shutil.copyfileobj(page.parts, out)
+        out.write("" if page.failing else "<p>No die fails.</p>")
+        out.write(f'<div id="tip" hidden></div><script>{SCRIPT}</script></body></html>\n')
+    return path

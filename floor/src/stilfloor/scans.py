@@ -6,26 +6,28 @@ from dataclasses import dataclass, field
 
 from stilfloor import plans
 from stilfloor.faults import Fault
-from stilfloor.outline import Statement, data_of, every, outline
+from stilfloor.outline import Statement, Token, data_of, every, outline
 
-NAMES = re.compile(r"\"[^\"]*\"|[A-Za-z_]\w*(?:\[\d+\])?")
+ITEM = re.compile(r"\"[^\"]*\"|\w+(?:\s*\[\s*\d+(?:\s*\.\.\s*\d+)?\s*\])?", re.ASCII)
+BITS = re.compile(r"(.+)\[(\d{1,5})\.\.(\d{1,5})\]", re.DOTALL)
+MOST_BITS = 1 << 14
 GATE = re.compile(r"=\s*DFF\s*\(", re.IGNORECASE)
 
 
 @dataclass(slots=True)
 class Ends:
-    """The chains of a text by the signals at their ends, with their lengths, and its groups of one signal by their names."""
+    """The chains of a text by the signals at their ends, with their lengths; `several` are signals that end chains of several lengths."""
 
     chains: dict[str, tuple[str, int]] = field(default_factory=dict)
-    alike: dict[str, str] = field(default_factory=dict)
+    several: set[str] = field(default_factory=set)
 
-    def of(self, reference: str) -> tuple[str, int] | None:
-        """The chain, and its length, at an end of which a reference stands."""
-        return self.chains.get(self.alike.get(reference, reference))
+    def of(self, signals: list[str]) -> list[tuple[str, int]]:
+        """The chains, and their lengths, at ends of which some signals stand; none where one of them ends chains of several lengths."""
+        return [] if self.several & set(signals) else [self.chains[signal] for signal in signals if signal in self.chains]
 
 
 def ends_of(statements: list[Statement]) -> Ends:
-    """The ends of all chains; a signal that ends chains of several lengths is none."""
+    """The ends of all chains."""
     ends = Ends()
     lengths: dict[str, set[int]] = {}
     for chain in every(statements):
@@ -34,16 +36,38 @@ def ends_of(statements: list[Statement]) -> Ends:
         parts = {part.keyword: part for part in chain.block}
         length = _length(parts)
         for end in ("ScanIn", "ScanOut"):
-            if length is not None and end in parts and len(parts[end].head) == 2:
-                ends.chains[parts[end].name] = chain.name, length
-                lengths.setdefault(parts[end].name, set()).add(length)
-    ends.chains = {signal: chain for signal, chain in ends.chains.items() if len(lengths[signal]) == 1}
-    for block in statements:
-        for group in (block.block or []) if block.keyword == "SignalGroups" else []:
-            found = re.fullmatch(r"\s*\"?([^\"+\-()]+?)\"?\s*", group.head[2].plain) if len(group.head) == 3 else None
-            if found:
-                ends.alike[group.keyword] = found[1]
+            signals = signals_of(parts[end].head[1:]) if end in parts else []
+            if length is not None and len(signals) == 1:
+                ends.chains[signals[0]] = chain.name, length
+                lengths.setdefault(signals[0], set()).add(length)
+    ends.several = {signal for signal, found in lengths.items() if len(found) > 1}
     return ends
+
+
+def signals_of(head: list[Token]) -> list[str]:
+    """The signals, or groups, that a reference names, in its order; none where that isn't a plain sum of names."""
+    if len(head) == 1 and head[0].kind == "text":
+        items = [item.strip() for item in head[0].plain.split("+")]
+        if not all(ITEM.fullmatch(item) for item in items):
+            return []
+        return [signal for item in items for signal in _bits(item.replace('"', "").replace(" ", "") if item[:1] != '"' else item.strip('"'))]
+    return _bits("".join(token.plain for token in head)) if head else []
+
+
+def _bits(name: str) -> list[str]:
+    """The signals of a name with a range of indices, or the name itself."""
+    bits = BITS.fullmatch(name)
+    if not bits:
+        return [name]
+    first, last = int(bits[2]), int(bits[3])
+    step = 1 if last >= first else -1
+    return [f"{bits[1]}[{bit}]" for bit in range(first, last + step, step)] if abs(last - first) < MOST_BITS else [name]
+
+
+def _reference(assignment: Statement) -> list[str]:
+    """The signals, or groups, to which an assignment gives data."""
+    place = next((place for place, token in enumerate(assignment.head) if token.text == "="), len(assignment.head))
+    return signals_of(assignment.head[:place])
 
 
 def _length(parts: dict[str, Statement]) -> int | None:
@@ -75,13 +99,13 @@ def size_of(assignment: Statement) -> int | None:
 
 @dataclass(slots=True)
 class Body:
-    """A macro or a procedure: for each reference whether a Shift takes its data, and the vectors before it that take a character."""
+    """A macro or a procedure: the signals whose data a Shift takes, and the vectors before it that take a character of some signals."""
 
     shifted: set[str] = field(default_factory=set)
-    before: list[tuple[int, str]] = field(default_factory=list)
+    before: list[tuple[int, list[str]]] = field(default_factory=list)
 
 
-def bodies_of(statements: list[Statement]) -> dict[tuple[str, str], Body]:
+def bodies_of(statements: list[Statement], groups: "Groups") -> dict[tuple[str, str], Body]:
     """The macros and procedures that shift, by the word that runs them and their name; of one name that stands twice there is none."""
     found: dict[tuple[str, str], Body] = {}
     twice: set[tuple[str, str]] = set()
@@ -91,62 +115,90 @@ def bodies_of(statements: list[Statement]) -> dict[tuple[str, str], Body]:
             key = (str(word), body.keyword)
             if key in found:
                 twice.add(key)
-            found[key] = _body(body)
+            found[key] = _body(body, groups)
     return {key: body for key, body in found.items() if body.shifted and key not in twice}
 
 
-def _body(body: Statement) -> Body:
+def _body(body: Statement, groups: "Groups") -> Body:
     made = Body()
     for statement in body.block or []:
         if statement.keyword == "Shift":
             for vector in statement.block or []:
-                made.shifted |= {part.keyword for part in vector.block or [] if any(token.text == "#" for token in data_of(part))}
+                for part in [part for part in vector.block or [] if any(token.text == "#" for token in data_of(part))]:
+                    made.shifted |= set(groups.signals(_reference(part)))
         elif statement.keyword in ("V", "Vector") and not made.shifted:
-            made.before += [(part.line, part.keyword) for part in statement.block or [] if [token.text for token in data_of(part)] == ["#"]]
+            made.before += [(part.line, _reference(part)) for part in statement.block or [] if {token.text for token in data_of(part)} == {"#"}]
     return made
 
 
 def scan_data(text: str) -> Iterator[tuple[int, str]]:
     """Scan data of another length than their chain, and vectors before a Shift that take its first character."""
     statements = outline(text)
-    ends, bodies = ends_of(statements), bodies_of(statements)
+    ends, groups = ends_of(statements), Groups(statements)
+    bodies = bodies_of(statements, groups)
     for body in bodies.values():
         for line, reference in body.before:
-            chain = ends.of(reference)
-            if chain and reference in body.shifted:
-                yield line, (f"this vector takes the first scan character of `{reference}`, before the Shift does: a fail here names no cell of the "
-                             f"chain `{chain[0]}`, and the Shift has one character less")
+            chains = ends.of([signal for signal in groups.signals(reference) if signal in body.shifted])
+            if chains:
+                yield line, (f"this vector takes the first scan character of `{' + '.join(reference)}`, before the Shift does: a fail here names no "
+                             f"cell of the chain `{chains[0][0]}`, and the Shift has one character less")
     for call in every(statements):
         called = bodies.get((call.keyword, call.name)) if call.keyword in ("Call", "Macro") else None
         for argument in (call.block or []) if called else []:
-            chain, size = ends.of(argument.keyword), size_of(argument)
-            if called and chain and size and argument.keyword in called.shifted and size != chain[1]:
-                yield argument.line, (f"the data of `{argument.keyword}` have {size} characters, and the chain `{chain[0]}` has {chain[1]} cells")
+            told = _wrong_length(argument, groups.exact(_reference(argument)), ends, called.shifted) if called else ""
+            if told:
+                yield argument.line, told
+
+
+def _wrong_length(argument: Statement, signals: list[str], ends: Ends, shifted: set[str]) -> str:
+    """What is said of data that aren't as long as the longest of the chains at whose ends their signals stand."""
+    chains, size = ends.of([signal for signal in signals if signal in shifted]), size_of(argument)
+    if not chains or not size or size % len(signals):
+        return ""
+    name, length = max(chains, key=lambda chain: chain[1])
+    each = size // len(signals)
+    if each == length:
+        return ""
+    reference = " + ".join(_reference(argument))
+    what = f"the data of `{reference}` have {each} {'character' if each == 1 else 'characters'}"
+    behind = f" for each of its {len(signals)} signals" if len(signals) > 1 else ""
+    return f"{what}{behind}, and the chain `{name}` has {length} {'cell' if length == 1 else 'cells'}"
 
 
 class Groups:
-    """The groups that are sums of names, by which a reference is the signals that it names."""
+    """The groups that are sums of names, by which a reference is the signals that it names; of other groups nothing is known."""
 
     def __init__(self, statements: list[Statement]) -> None:
         self.members: dict[str, list[str]] = {}
+        self.declared: dict[str, list[str]] = {}
         for block in statements:
             for group in (block.block or []) if block.keyword == "SignalGroups" else []:
-                if len(group.head) == 3 and "-" not in group.head[2].plain:
-                    self.members[group.keyword] = NAMES.findall(group.head[2].plain)
+                names = signals_of(group.head[2:3]) if len(group.head) == 3 else []
+                if names:
+                    self.members[group.keyword] = names
+            for signal in (block.block or []) if block.keyword == "Signals" else []:
+                for bit in _bits("".join(token.plain for token in signal.head[:-1])):
+                    self.declared.setdefault(bit, [bit])
+                    self.declared.setdefault(bit.partition("[")[0], []).extend([bit] if "[" in bit else [])
 
     def signals(self, names: list[str]) -> list[str]:
-        """The signals of some names, groups resolved once each."""
+        """The signals of some names, groups resolved once each, in their order."""
         found: dict[str, None] = {}
         seen: set[str] = set()
-        waiting = list(names)
+        waiting = list(names)[::-1]
         while waiting:
             name = waiting.pop().strip('"')
-            if name in self.members and name not in seen:
+            if name in self.members and name not in self.declared:
+                waiting += self.members[name][::-1] if name not in seen else []
                 seen.add(name)
-                waiting += self.members[name]
-            elif name not in self.members:
-                found[name] = None
+            else:
+                found.update(dict.fromkeys(self.declared.get(name) or [name]))
         return list(found)
+
+    def exact(self, names: list[str]) -> list[str]:
+        """The same where each of them is declared, else none."""
+        signals = self.signals(names)
+        return signals if all(signal in self.declared for signal in signals) else []
 
 
 def second_waveforms(text: str) -> Iterator[tuple[int, str]]:
@@ -157,8 +209,7 @@ def second_waveforms(text: str) -> Iterator[tuple[int, str]]:
         blocks = [block for block in table.block or [] if block.keyword == "Waveforms"] if table.keyword == "WaveformTable" else []
         lines: dict[tuple[str, str], int] = {}
         for pin in [pin for block in blocks for pin in block.block or []]:
-            names = NAMES.findall(pin.keyword) if pin.head[0].kind == "text" else [pin.keyword]
-            yield from _again(pin, groups.signals(names) if "-" not in pin.keyword else [], lines)
+            yield from _again(pin, groups.signals(signals_of(pin.head)), lines)
 
 
 def _again(pin: Statement, signals: list[str], lines: dict[tuple[str, str], int]) -> Iterator[tuple[int, str]]:
