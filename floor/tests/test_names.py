@@ -172,7 +172,8 @@ def test_names_of_verilog_files_are_no_words_of_a_script(tmp_path: pathlib.Path,
         pathlib.Path(files[-1]).write_text(f'module m{number}(input [99:0] a, output y);\n`include "part.vh"\nendmodule\n')
     uses = "".join(f"m{number} u{number}(a, y[{number}]);\n" for number in range(len(NAMES)))
     pathlib.Path("top.v").write_text(f"module top(input [99:0] a, output [99:0] y);\n{uses}endmodule\n")
-    printed = told(["netlist", "top.v", *files, "-o", "out"], capsys)
+    # (iverilog looks for what each file includes in the folders of all of them)
+    printed = told(["netlist", "top.v", *files, "-o", "out", "--unchecked"], capsys)
     assert "100 gates" in printed or "gates" in printed
     bench = pathlib.Path("out/top.bench").read_text()
     assert "y[99] = NOT(a[99])" in bench and bench.split("\n")[1] == "INPUT(a[0])"
@@ -198,8 +199,21 @@ def test_names_of_modules_and_nets_are_names(tmp_path: pathlib.Path, capsys: pyt
                       f"always @(posedge c) y <= \\{name}w ; endmodule\n" for name in parts)
     last = len(parts) - 1
     pathlib.Path("top.v").write_text(f"{modules}module top(input c, input [{last}:0] a, output [{last}:0] y);\n{uses}endmodule\n")
-    told(["netlist", "top.v", "-o", "out", "--scan", "2"], capsys)
+    told(["netlist", "top.v", "-o", "out", "--scan", "2", "--pins", "--unchecked"], capsys)
     assert sorted(path.name for path in tmp_path.iterdir()) == ["out", "top.v"]
+
+
+@needs_yosys
+def test_names_of_libraries_and_held_inputs_are_names(tmp_path: pathlib.Path, capsys: pytest.CaptureFixture[str]) -> None:
+    for name in NAMES[::11]:
+        for end, source in ((".lib", "cells.lib"), (".v", "s27cells.v"), (".l.v", "cells.v")):
+            shutil.copy(DATA / source, f"{name}{end}")
+        words = ["netlist", f"./{name}.v", "--liberty", f"./{name}.lib", "--as-written", "--libs", f"./{name}.l.v", "-o", "out", "--force"]
+        assert "200 random vectors agree" in told([*words, "--hold", "RN=1"], capsys) or not shutil.which("iverilog")
+        assert "is no input of" in told([*words, f"--hold={name}=1"], capsys, 1)
+        assert "is no identifier" in told([*words, f"--top={name}"], capsys, 2)
+        (tmp_path / f"{name}.lib").write_text("library (")
+        assert f"{shown(f'./{name}.lib')}:" in told(words, capsys, 1)
 
 
 @needs_yosys

@@ -10,7 +10,7 @@ from typing import IO, TYPE_CHECKING
 
 from stilfloor import __version__
 from stilfloor.faults import REFUSED, STATUSES, UNREADABLE, USAGE, Fault, shown
-from stilfloor.more_words import add_words
+from stilfloor.more_words import add_netlist_options, add_words, netlist
 from stilfloor.names import replacing
 
 if TYPE_CHECKING:
@@ -60,6 +60,7 @@ def _add_making(words: "argparse._SubParsersAction[argparse.ArgumentParser]") ->
     word.add_argument("--scan", type=_number, default=0, metavar="N", help="put the flip-flops into N scan chains")
     word.add_argument("--vectors", type=_number, default=16, metavar="N", help="random vectors, or loads, to begin with (16)")
     word.add_argument("--seed", type=int, default=1, metavar="S", help="the seed of the random vectors (1)")
+    add_netlist_options(word)
     word.add_argument("-o", dest="folder", default=".", metavar="DIR", help="the folder to write into (where you stand)")
     word.add_argument("--force", action="store_true", help="write over files that are there")
     word = _add(words, "learn", "take expected values from the plan's first die: looks written L become what it shows",
@@ -151,20 +152,6 @@ def _add_showing(words: "argparse._SubParsersAction[argparse.ArgumentParser]") -
 def say(text: str) -> None:
     """Tells something beside the output."""
     print(text, file=sys.stderr)
-
-
-def netlist(words: argparse.Namespace) -> int:
-    """The word `netlist`."""
-    from stilfloor.netlist import Start, make
-
-    bench, paths = make(Start(words.files, words.top, words.scan, words.vectors, words.seed), words.folder, words.force)
-    registers = sum(gate.kind == "DFF" for gate in bench.gates)
-    say(f"{bench.name}: {len(bench.gates)} gates, of which {registers} flip-flops"
-        + (f", in chains of {', '.join(str(len(chain.cells)) for chain in bench.chains)}" if bench.chains else "")
-        + (f"; constants are driven at {', '.join(bench.ties)}" if bench.ties else ""))
-    for path in paths:
-        print(path)
-    return 0
 
 
 def learn(words: argparse.Namespace) -> int:

@@ -1,8 +1,11 @@
-"""Further words of the command: the language server, and how long something will take."""
+"""Further words of the command: netlists, the language server, and how long something will take."""
 
 import argparse
 import os
+import sys
 from collections.abc import Callable
+
+from stilfloor.faults import USAGE, Fault
 
 # adds a word with its help, an example, and what it does
 Add = Callable[..., argparse.ArgumentParser]
@@ -18,6 +21,38 @@ def add_words(words: "argparse._SubParsersAction[argparse.ArgumentParser]", add:
     word.add_argument("plan", metavar="PLAN", help="the plan of the lot")
     word.add_argument("--grade", action="store_true", help="the grade of the plan's first die, and not the lot")
     word.add_argument("--processors", type=_some, default=os.cpu_count() or 1, metavar="N", help="on so many processors (all that are here)")
+
+
+def add_netlist_options(word: argparse.ArgumentParser) -> None:
+    """Adds what `netlist` takes of cells, pins, held inputs and of being compared."""
+    word.add_argument("--liberty", metavar="FILE.lib", help="the cells of a netlist in cells, by their Liberty functions")
+    word.add_argument("--as-written", action="store_true", help="take a netlist in cells as it stands: each net keeps its name")
+    word.add_argument("--pins", action="store_true", help="give each pin at a net with several readers a net of its own, as u12/A")
+    word.add_argument("--hold", action="append", default=[], metavar="NET=0|1", help="an input that the test holds, as a reset at rest; may come again")
+    word.add_argument("--libs", nargs="+", action="extend", default=[], metavar="L.v", help="the cells' Verilog, beside which the netlist is simulated")
+    word.add_argument("--unchecked", action="store_true", help="write the netlist without simulating it beside the Verilog")
+
+
+def netlist(words: argparse.Namespace) -> int:
+    """The word `netlist`."""
+    from stilfloor.holds import holds_of
+    from stilfloor.netlist import Start, make
+
+    if words.libs and not words.liberty:
+        raise Fault(USAGE, "--libs are the Verilog of the cells that --liberty FILE.lib has")
+    start = Start(words.files, words.top, words.scan, words.vectors, words.seed, words.liberty, words.as_written, words.pins,
+                  holds_of(words.hold), words.libs, not words.unchecked)
+    bench, paths = make(start, words.folder, words.force)
+    registers = sum(gate.kind == "DFF" for gate in bench.gates)
+    lines = [f"{bench.name}: {len(bench.gates)} gates, of which {registers} flip-flops"
+             + (f", in chains of {', '.join(str(len(chain.cells)) for chain in bench.chains)}" if bench.chains else "")
+             + (f"; constants are driven at {', '.join(bench.ties)}" if bench.ties else "")]
+    lines += [f"{net} is held at {value}" for net, value in bench.held.items()]
+    for line in [*lines, *bench.told]:
+        print(line, file=sys.stderr)
+    for path in paths:
+        print(path)
+    return 0
 
 
 def _some(text: str) -> int:
