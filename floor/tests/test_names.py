@@ -216,6 +216,19 @@ def test_names_of_libraries_and_held_inputs_are_names(tmp_path: pathlib.Path, ca
         assert f"{shown(f'./{name}.lib')}:" in told(words, capsys, 1)
 
 
+@pytest.mark.skipif(not shutil.which("cadical"), reason="cadical isn't there: scan tests are left out")
+def test_names_of_a_scan_test_are_names(tmp_path: pathlib.Path, capsys: pytest.CaptureFixture[str], s27: Lot) -> None:
+    for name in NAMES[::24]:
+        for end, source in ((".bench", s27.bench), (".stil", s27.stil), (".csv", s27.plan)):
+            shutil.copy(source, f"{name}{end}")
+        words = ["atpg", f"./{name}.bench", f"./{name}.csv", "--loads", "1", "-o", f"./{name}.out"]
+        assert "faults are found" in told(words, capsys)
+        assert pathlib.Path(f"./{name}.out").read_text().startswith("STIL 1.0")
+        for word in (name, f"none{name}"):
+            line = told(["atpg", f"--program={word}", "--", word, word], capsys, 1 if word.startswith("none") else 3 if pathlib.Path(word).exists() else 1)
+            assert line.count("\n") == 1 and ": error: " in line
+
+
 @needs_yosys
 @pytest.mark.parametrize("name", ["../../x", "/abs/x", "..", "-rf", 'a"b', "$(touch${IFS}RUN)", "a;touch", "`touch${IFS}RUN`", "{1}", "a'b", "a\\b"])
 def test_a_top_module_writes_within_its_folder_alone(tmp_path: pathlib.Path, capsys: pytest.CaptureFixture[str], name: str) -> None:

@@ -13,6 +13,7 @@ Add = Callable[..., argparse.ArgumentParser]
 
 def add_words(words: "argparse._SubParsersAction[argparse.ArgumentParser]", add: Add) -> None:
     """Adds them."""
+    _add_tests(words, add)
     add(words, "server", "serve an editor: a language server on standard input and output",
         "stilfloor server\n  docs/editors.md says how Vim, Neovim, Emacs and VS Code start it", server)
     word = add(words, "plan-time", "say how long a lot or a grade will take, by running a little of it for some seconds",
@@ -52,6 +53,32 @@ def netlist(words: argparse.Namespace) -> int:
         print(line, file=sys.stderr)
     for path in paths:
         print(path)
+    return 0
+
+
+def _add_tests(words: "argparse._SubParsersAction[argparse.ArgumentParser]", add: Add) -> None:
+    word = add(words, "atpg", "make a scan test of a netlist that finds each stuck net, or prove of it that nothing does",
+               "stilfloor atpg alu/alu.bench alu/alu.csv -o alu/test.stil", atpg)
+    word.add_argument("netlist", metavar="NETLIST.bench", help="a netlist with scan chains, as `netlist --scan N` makes it")
+    word.add_argument("plan", metavar="PLAN", help="the plan that binds it")
+    word.add_argument("--program", metavar="FILE.stil", help="the netlist's STIL text (NETLIST.stil)")
+    word.add_argument("--loads", type=_some, metavar="N", help="at most N loads")
+    word.add_argument("--seed", type=int, default=1, metavar="S", help="the seed of random loads (1)")
+    word.add_argument("--compact", action="store_true", help="make few loads: one for several faults, and none that others make needless")
+    word.add_argument("--seconds", type=_some, default=10, metavar="N", help="how long one question to the solver may take (10)")
+    word.add_argument("--resume", action="store_true", help="go on with what an earlier run left in OUT.stil.work")
+    word.add_argument("-o", dest="out", metavar="OUT.stil", help="where the test goes (NETLIST.test.stil)")
+
+
+def atpg(words: argparse.Namespace) -> int:
+    """The word `atpg`."""
+    from stilfloor.atpg.word import make_test
+    from stilfloor.atpg.work import Wish
+
+    out = words.out or words.netlist.removesuffix(".bench") + ".test.stil"
+    wish = Wish(out, words.loads, words.seed, words.compact, words.seconds, words.resume)
+    for line in make_test(words.netlist, words.plan, words.program, wish):
+        print(line)
     return 0
 
 
