@@ -216,6 +216,24 @@ def test_names_of_libraries_and_held_inputs_are_names(tmp_path: pathlib.Path, ca
         assert f"{shown(f'./{name}.lib')}:" in told(words, capsys, 1)
 
 
+def test_names_of_dumps_and_tables_and_in_them_are_names(tmp_path: pathlib.Path, capsys: pytest.CaptureFixture[str]) -> None:
+    head = "$timescale 1ns $end\n$scope module tb $end\n$var reg 1 ! CK $end\n"
+    parts = [name for name in NAMES if plain(name) and not name.startswith("$end")]
+    variables = "".join(f"$var reg 1 c{number} \\{name} $end\n" for number, name in enumerate(parts))
+    for name in NAMES:
+        pathlib.Path(f"./{name}.vcd").write_text(f"{head}{variables}$upscope $end\n$enddefinitions $end\n#0\n0!\n#5\n1!\n#7\n0!\n#15\n1!\n")
+        pathlib.Path(f"./{name}.json").write_text(json.dumps([{name.encode("utf-8", "replace").decode(): 0}]))
+    for name in NAMES[::9]:
+        status = 0 if plain(name) and '"' not in name else 1
+        line = told(["from-vcd", "--clock=CK", f"--out={name}", "-o", "out.stil", "--", f"./{name}.vcd"], capsys, status)
+        assert line.count("\n") == 1
+        told(["from-vcd", f"--clock={name}", f"--scope={name}", "--", f"./{name}.vcd"], capsys, 1)
+        told(["vectors", f"--clock={name}", "-o", "out.stil", "--", f"./{name}.json"], capsys, 0 if printing(name) else 1)
+        made = told(["vectors", "--clock=CK", "-o", "out.stil", "--", f"./{name}.json"], capsys, 0 if printing(name) else 1)
+        assert made.count("\n") == 1
+    assert ": error: `" in told(["from-vcd", "--clock=CK", "./-o.vcd"], capsys, 1)
+
+
 @pytest.mark.skipif(not shutil.which("cadical"), reason="cadical isn't there: scan tests are left out")
 def test_names_of_a_scan_test_are_names(tmp_path: pathlib.Path, capsys: pytest.CaptureFixture[str], s27: Lot) -> None:
     for name in NAMES[::24]:

@@ -159,7 +159,7 @@ def learn(words: argparse.Namespace) -> int:
     from stilfloor.learn import learn as learnt_from
 
     learnt = learnt_from(words.program, words.plan)
-    _put(words.out, iter([learnt.text]), "latin-1")
+    put(words.out, iter([learnt.text]), "latin-1")
     for note in learnt.notes:
         say(note)
     counts = learnt.counts
@@ -195,7 +195,7 @@ def testbench(words: argparse.Namespace) -> int:
     return told.status
 
 
-def _put(path: str | None, pieces: Iterator[str], encoding: str = "utf-8") -> None:
+def put(path: str | None, pieces: Iterator[str], encoding: str = "utf-8") -> None:
     """Writes pieces into a file, or to standard output."""
     try:
         if path is None:
@@ -222,7 +222,7 @@ def diagnose(words: argparse.Namespace) -> int:
     owner = Owner(doctor.plan, saved.code_of(words.program))
     with records.datalog(words.datalog) as dies:
         found = diagnosed(doctor, owner.held(dies), words.site, words.die)
-        _put(None, as_json(found) if words.json else _told(found, doctor))
+        put(None, as_json(found) if words.json else _told(found, doctor))
     for line in doctor.notes if words.json else []:
         say(line)
     for line in doctor.site_lines():

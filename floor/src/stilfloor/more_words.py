@@ -14,6 +14,7 @@ Add = Callable[..., argparse.ArgumentParser]
 def add_words(words: "argparse._SubParsersAction[argparse.ArgumentParser]", add: Add) -> None:
     """Adds them."""
     _add_tests(words, add)
+    _add_vectors(words, add)
     add(words, "server", "serve an editor: a language server on standard input and output",
         "stilfloor server\n  docs/editors.md says how Vim, Neovim, Emacs and VS Code start it", server)
     word = add(words, "plan-time", "say how long a lot or a grade will take, by running a little of it for some seconds",
@@ -68,6 +69,57 @@ def _add_tests(words: "argparse._SubParsersAction[argparse.ArgumentParser]", add
     word.add_argument("--seconds", type=_some, default=10, metavar="N", help="how long one question to the solver may take (10)")
     word.add_argument("--resume", action="store_true", help="go on with what an earlier run left in OUT.stil.work")
     word.add_argument("-o", dest="out", metavar="OUT.stil", help="where the test goes (NETLIST.test.stil)")
+
+
+def _add_vectors(words: "argparse._SubParsersAction[argparse.ArgumentParser]", add: Add) -> None:
+    word = add(words, "from-vcd", "write a simulation's dump as a STIL text: inputs by cycle, outputs as looks",
+               "stilfloor from-vcd bench/waves.vcd --clock ck -o again.stil", from_vcd)
+    word.add_argument("file", metavar="DUMP", help="a value change dump (VCD)")
+    _add_cycles(word)
+    word.add_argument("--netlist", metavar="NETLIST.bench", help="its inputs and outputs are those of this netlist")
+    word.add_argument("--scope", metavar="SCOPE", help="the scope of the signals, as top.dut (the outermost one that has the clock)")
+    word = add(words, "vectors", "write a table as a STIL text: a column each signal, a row each cycle",
+               "stilfloor vectors table.csv --clock ck -o table.stil", vectors)
+    word.add_argument("file", metavar="TABLE", help="a .csv with a heading, or a .json with a list of objects")
+    _add_cycles(word)
+
+
+def _add_cycles(word: argparse.ArgumentParser) -> None:
+    word.add_argument("--clock", required=True, metavar="CK", help="the clock")
+    word.add_argument("--period", metavar="T", help="how long a cycle is, as 100ns")
+    word.add_argument("--strobe", metavar="T", help="when outputs are looked at in a cycle, as 40ns")
+    word.add_argument("--in", dest="inputs", nargs="+", action="extend", default=[], metavar="NAME", help="inputs")
+    word.add_argument("--out", dest="outputs", nargs="+", action="extend", default=[], metavar="NAME", help="outputs")
+    word.add_argument("-o", dest="out", metavar="OUT.stil", help="where the text goes (standard output)")
+
+
+def _put_vectors(words: argparse.Namespace, is_dump: bool) -> int:
+    from stilfloor.cli import put
+    from stilfloor.vectors.table import Table
+    from stilfloor.vectors.text import text_of, time_of
+    from stilfloor.vectors.vcd import Reading, Wish
+
+    period, strobe = (time_of(word, option) if word else None for word, option in ((words.period, "--period"), (words.strobe, "--strobe")))
+    if period == 0:
+        raise Fault(USAGE, "--period wants a time above 0")
+    wish = Wish(words.clock, period, strobe, words.inputs, words.outputs)
+    if is_dump:
+        wish.netlist, wish.scope = words.netlist, words.scope
+    made = Reading(words.file, wish).vectors() if is_dump else Table(words.file, wish).vectors()
+    pieces = list(text_of(made))
+    put(words.out, iter(pieces), "latin-1")
+    print(f"{len(made.rows):,} cycles, {len(made.inputs)} inputs, {len(made.outputs)} outputs", file=sys.stderr)
+    return 0
+
+
+def from_vcd(words: argparse.Namespace) -> int:
+    """The word `from-vcd`."""
+    return _put_vectors(words, True)
+
+
+def vectors(words: argparse.Namespace) -> int:
+    """The word `vectors`."""
+    return _put_vectors(words, False)
 
 
 def atpg(words: argparse.Namespace) -> int:

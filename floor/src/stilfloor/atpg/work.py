@@ -21,7 +21,7 @@ from stilfloor.names import replacing
 
 BATCH = 8
 # so many other faults are asked for in a load that is made for one, and so often a fault gets a load that doesn't find it
-MORE, AGAIN = 40, 3
+MORE, AGAIN = 12, 3
 OPEN = {
     "time": "no answer in the time that a question has",
     "proof": "nothing shows it, by a proof that couldn't be checked",
