@@ -242,7 +242,10 @@ def test_names_of_a_scan_test_are_names(tmp_path: pathlib.Path, capsys: pytest.C
         words = ["atpg", f"./{name}.bench", f"./{name}.csv", "--loads", "1", "-o", f"./{name}.out"]
         assert "faults are found" in told(words, capsys)
         assert pathlib.Path(f"./{name}.out").read_text().startswith("STIL 1.0")
+        assert "faults 58: " in told(["coverage", f"./{name}.out", f"./{name}.csv", "--plot", f"./{name}.svg", "-o", f"./{name}.txt"], capsys) + \
+            pathlib.Path(f"./{name}.txt").read_text()
         for word in (name, f"none{name}"):
+            told(["coverage", f"--grade={word}", "--", f"./{name}.out", f"./{name}.csv"], capsys, 3)
             line = told(["atpg", f"--program={word}", "--", word, word], capsys, 1 if word.startswith("none") else 3 if pathlib.Path(word).exists() else 1)
             assert line.count("\n") == 1 and ": error: " in line
 

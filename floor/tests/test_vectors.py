@@ -24,7 +24,7 @@ def _in_the_checkout(monkeypatch: pytest.MonkeyPatch) -> None:
 def test_a_dump_of_a_testbench_comes_back(tmp_path: pathlib.Path, capsys: pytest.CaptureFixture[str]) -> None:
     assert main(["testbench", *COUNTER, "--waves", "-o", str(tmp_path)]) == 0
     mores: list[list[str]] = [[], ["--netlist", str(EXAMPLES / "counter" / "counter.bench")],
-                               ["--in", "en", "rst", "--out", "q0", "q1", "q2", "--strobe", "40ns"]]
+                              ["--in", "en", "rst", "--out", "q0", "q1", "q2", "--strobe", "40ns"]]
     for more in mores:
         out = str(tmp_path / "again.stil")
         assert main(["from-vcd", str(tmp_path / "waves.vcd"), "--clock", "ck", "-o", out, *more]) == 0

@@ -15,6 +15,7 @@ def add_words(words: "argparse._SubParsersAction[argparse.ArgumentParser]", add:
     """Adds them."""
     _add_tests(words, add)
     _add_vectors(words, add)
+    _add_coverage(words, add)
     add(words, "server", "serve an editor: a language server on standard input and output",
         "stilfloor server\n  docs/editors.md says how Vim, Neovim, Emacs and VS Code start it", server)
     word = add(words, "plan-time", "say how long a lot or a grade will take, by running a little of it for some seconds",
@@ -69,6 +70,38 @@ def _add_tests(words: "argparse._SubParsersAction[argparse.ArgumentParser]", add
     word.add_argument("--seconds", type=_some, default=10, metavar="N", help="how long one question to the solver may take (10)")
     word.add_argument("--resume", action="store_true", help="go on with what an earlier run left in OUT.stil.work")
     word.add_argument("-o", dest="out", metavar="OUT.stil", help="where the test goes (NETLIST.test.stil)")
+
+
+def _add_coverage(words: "argparse._SubParsersAction[argparse.ArgumentParser]", add: Add) -> None:
+    word = add(words, "coverage", "count stuck nets: found sure, found by an unknown alone, refuted, open, and why",
+               "stilfloor coverage alu/alu.test.stil alu/alu.csv --plot coverage.png", coverage)
+    word.add_argument("program", metavar="PROGRAM", help="the STIL text or saved program")
+    word.add_argument("plan", metavar="PLAN", help="the plan, whose first die it is")
+    word.add_argument("--grade", metavar="FILE", help="what `stil grade PROGRAM PLAN` printed, where it is there already")
+    form = word.add_mutually_exclusive_group()
+    form.add_argument("--csv", action="store_true", help="a table with a row each fault")
+    form.add_argument("--json", action="store_true", help="the counts and all faults as JSON")
+    word.add_argument("--plot", metavar="FILE", help="a picture of coverage over cycles, as PNG, SVG or PDF")
+    word.add_argument("--seconds", type=_some, default=10, metavar="N", help="how long one question to the solver may take (10)")
+    word.add_argument("-o", dest="out", metavar="FILE", help="where it goes (standard output)")
+
+
+def coverage(words: argparse.Namespace) -> int:
+    """The word `coverage`."""
+    import tempfile
+
+    from stilfloor import drawing
+    from stilfloor.cli import put
+    from stilfloor.coverage import shown
+    from stilfloor.coverage.count import Counting
+
+    with tempfile.TemporaryDirectory() as room:
+        made = Counting(words.program, words.plan, room, words.seconds).count(words.grade)
+    if words.plot:
+        drawing.store(shown.figure_of(made), words.plot)
+    text = shown.csv_of(made) if words.csv else shown.json_of(made) if words.json else "".join(f"{line}\n" for line in shown.lines_of(made))
+    put(words.out, iter([text]))
+    return 0
 
 
 def _add_vectors(words: "argparse._SubParsersAction[argparse.ArgumentParser]", add: Add) -> None:

@@ -26,8 +26,9 @@ class Found:
 class Floor:
     """Runs programs on dies of one netlist, in a folder of their own."""
 
-    def __init__(self, plan: plans.Plan, bench: str, room: str) -> None:
+    def __init__(self, plan: plans.Plan, bench: str, room: str, skews: list[tuple[str, int]] | None = None) -> None:
         self.plan = plan
+        self.skews = skews or []
         self.bench = bench
         self.room = room
         self.runs = 0
@@ -45,12 +46,24 @@ class Floor:
 
     def found(self, program: str, faults: list[Stuck]) -> dict[Stuck, Found]:
         """The stuck nets that a program finds."""
-        found: dict[Stuck, Found] = {}
         self.save(program)
-        most = min(plans.MOST_DIES, plans.MOST_FAILS // KEPT)
+        return self.run(faults, KEPT)
+
+    def run(self, faults: list[Stuck], kept: int) -> dict[Stuck, Found]:
+        """The stuck nets that the program in the folder finds, so many fails of each looked through."""
+        found: dict[Stuck, Found] = {}
+        most = min(plans.MOST_DIES, plans.MOST_FAILS // kept)
         for front in range(0, len(faults), most):
-            found.update(self._lot(faults[front : front + most]))
+            found.update(self._lot(faults[front : front + most], kept))
         return found
+
+    def told_apart(self, faults: list[Stuck]) -> dict[Stuck, bool]:
+        """Whether the program in the folder finds each of these stuck nets by a level that is known."""
+        found = self.run(faults, KEPT)
+        again = [fault for fault in faults if not (fault in found and found[fault].is_sure)]
+        if again:
+            found.update(self.run(again, plans.MOST_KEPT))
+        return {fault: fault in found and found[fault].is_sure for fault in faults}
 
     def save(self, program: str) -> None:
         """Puts a text into the folder, compiled."""
@@ -63,11 +76,13 @@ class Floor:
         with open(os.path.join(self.room, "program"), "wb") as saved:
             saved.write(output)
 
-    def _lot(self, faults: list[Stuck]) -> dict[Stuck, Found]:
-        rows = [["lot", str(self.plan.batch), "1", str(KEPT)], *self.plan.binding()]
+    def _lot(self, faults: list[Stuck], kept: int) -> dict[Stuck, Found]:
+        rows = [["lot", str(self.plan.batch), "1", str(kept)], *self.plan.binding()]
         for number, (net, value) in enumerate(faults):
             site = str(number % SITES)
             rows += [["die", site, f"f{number}", "die.bench"], ["fault", site, f"f{number}", net, str(value)]]
+        for number in range(min(SITES, len(faults))):
+            rows += [["skew", str(number), signal, str(amount)] for signal, amount in self.skews]
         with open(os.path.join(self.room, "lot.csv"), "w", encoding="latin-1") as out:
             out.write(plans.write_rows(rows))
         status, output = tester.run(["lot", "program", "lot.csv"], self.room)
@@ -87,7 +102,13 @@ class Floor:
 def grade_of(floor: Floor, program: str) -> tuple[int | None, dict[Stuck, int | None]]:
     """The grade of a program: the first cycle that fails on the good die, and that of each stuck net."""
     floor.save(program)
+    return graded(floor)
+
+
+def graded(floor: Floor) -> tuple[int | None, dict[Stuck, int | None]]:
+    """The same of the program in the folder."""
     rows = [["lot", str(floor.plan.batch), "1", "1"], *floor.plan.binding(), ["die", "0", "good", "die.bench"]]
+    rows += [["skew", "0", signal, str(amount)] for signal, amount in floor.skews]
     with open(os.path.join(floor.room, "grade.csv"), "w", encoding="latin-1") as out:
         out.write(plans.write_rows(rows))
     status, output = tester.run(["grade", "program", "grade.csv"], floor.room)

@@ -1,6 +1,5 @@
 """What a scan test of a netlist may do: chains with their cells' nets, inputs and their levels, and looks, by the netlist's own STIL text."""
 
-import re
 from dataclasses import dataclass, field
 
 from stilfloor import plans, saved
@@ -270,8 +269,3 @@ class Settled:
                 turns ^= sum(self.levels[used] == "1" for used in inputs) % 2
             net = open_ones[0]
         return net, turns
-
-
-def plain_name(text: str) -> bool:
-    """Whether a name can stand in a plan as a file's."""
-    return re.fullmatch(r"[\x21-\x7e]{1,255}", text) is not None

@@ -5,7 +5,7 @@ import sys
 import tempfile
 import time
 
-from stilfloor.atpg.setting import plain_name, setting_of
+from stilfloor.atpg.setting import setting_of
 from stilfloor.atpg.solver import check_tools
 from stilfloor.atpg.work import Wish, Work
 from stilfloor.faults import REFUSED, Fault
@@ -21,9 +21,6 @@ def make_test(bench: str, plan: str, program: str | None, wish: Wish) -> list[st
         raise Fault(REFUSED, "the netlist's STIL text isn't there: name it by --program", program)
     began = time.monotonic()
     setting = setting_of(bench, plan, program)
-    unplain = next((net for net in setting.circuit.nets if not plain_name(net)), None)
-    if unplain is not None:
-        raise Fault(REFUSED, f"the net `{unplain}` can't be named in a plan, as it has more than 255 bytes", bench)
     with tempfile.TemporaryDirectory() as room:
         work = Work(setting, wish, room)
         text = work.run()
