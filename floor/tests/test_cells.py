@@ -155,6 +155,27 @@ def test_where_iverilog_is_missing_nothing_is_compared(tmp_path: pathlib.Path, m
     assert bench.told == ["nothing was compared with the Verilog, as iverilog isn't there"]
 
 
+@needs_iverilog
+def test_a_netlist_is_proved_to_be_its_verilog(tmp_path: pathlib.Path, monkeypatch: pytest.MonkeyPatch, capsys: pytest.CaptureFixture[str]) -> None:
+    (tmp_path / "acc.v").write_text(RESET)
+    words = ["netlist", str(tmp_path / "acc.v"), "--scan", "1", "--hold", "rst_n=1", "--equiv", "--force", "-o", str(tmp_path / "out")]
+    assert main(words) == 0
+    assert "yosys' equiv proves that it is the Verilog as yosys reads it, at " in capsys.readouterr().err
+    bench = in_cells(tmp_path, (DATA / "s27cells.v").read_text(), held={"RN": "1"}, is_proved=True, has_pins=True, chains=1)
+    assert bench.told[1].endswith(" all outputs among them")
+    made = netlist.compare
+
+    def otherwise(bench: netlist.Bench, sources: netlist.Sources) -> str:
+        told = made(bench, sources)
+        gate = next(gate for gate in bench.gates if gate.kind in ("XOR", "XNOR"))
+        gate.kind = {"XOR": "XNOR", "XNOR": "XOR"}[gate.kind]
+        return told
+
+    monkeypatch.setattr(netlist, "compare", otherwise)
+    assert main(words) == 1 and "unproved that both have by name: the netlist may be another circuit" in capsys.readouterr().err
+    assert main([*words, "--unchecked"]) == 2
+
+
 BENCHES = "module die(input clk, input d, output reg q); always @(posedge clk) q <= d; endmodule\n{more}" \
           "module bench; reg clk, d; wire q; die u(clk, d, q); {uses} initial begin clk = 0; d = 1; end endmodule\n"
 

@@ -33,6 +33,7 @@ def add_netlist_options(word: argparse.ArgumentParser) -> None:
     word.add_argument("--pins", action="store_true", help="give each pin at a net with several readers a net of its own, as u12/A")
     word.add_argument("--hold", action="append", default=[], metavar="NET=0|1", help="an input that the test holds, as a reset at rest; may come again")
     word.add_argument("--libs", nargs="+", action="extend", default=[], metavar="L.v", help="the cells' Verilog, beside which the netlist is simulated")
+    word.add_argument("--equiv", action="store_true", help="also prove by yosys' equiv that it is the Verilog as yosys reads it")
     word.add_argument("--unchecked", action="store_true", help="write the netlist without simulating it beside the Verilog")
 
 
@@ -41,10 +42,12 @@ def netlist(words: argparse.Namespace) -> int:
     from stilfloor.holds import holds_of
     from stilfloor.netlist import Start, make
 
+    if words.equiv and words.unchecked:
+        raise Fault(USAGE, "--equiv and --unchecked exclude each other")
     if words.libs and not words.liberty:
         raise Fault(USAGE, "--libs are the Verilog of the cells that --liberty FILE.lib has")
     start = Start(words.files, words.top, words.scan, words.vectors, words.seed, words.liberty, words.as_written, words.pins,
-                  holds_of(words.hold), words.libs, not words.unchecked)
+                  holds_of(words.hold), words.libs, not words.unchecked, words.equiv)
     bench, paths = make(start, words.folder, words.force)
     registers = sum(gate.kind == "DFF" for gate in bench.gates)
     lines = [f"{bench.name}: {len(bench.gates)} gates, of which {registers} flip-flops"

@@ -9,6 +9,7 @@ from stilfloor import tester
 from stilfloor.benches import Bench, Maker, make_bench
 from stilfloor.cells import CellMaker
 from stilfloor.compared import Sources, compare
+from stilfloor.equiv import prove
 from stilfloor.faults import REFUSED, UNREADABLE, Fault
 from stilfloor.names import remark, replacing
 from stilfloor.plans import MOST_KEPT, write_rows
@@ -68,7 +69,9 @@ def _compared(bench: Bench, design: Design, maker: Maker, start: Start) -> list[
     """What is said of the netlist beside the Verilog as it was given."""
     if not start.is_compared:
         return ["nothing was compared with the Verilog, as --unchecked says"]
-    return [compare(bench, Sources(design.name, start.files, start.libraries, design.cells, maker.resets, start.seed))]
+    sources = Sources(design.name, start.files, start.libraries, design.cells, maker.resets, start.seed)
+    told = [compare(bench, sources)]
+    return told + ([prove(bench, sources, start.liberty)] if start.is_proved else [])
 
 
 def _path(folder: str, name: str) -> str:

@@ -146,7 +146,7 @@ class Reading:
         if not self.given.liberty:
             return
         path = f"{self.sources.room}/l"
-        complaints = _run_yosys([f"read_liberty -ignore_miss_func {path}.lib", f"write_json {path}.json", f"write_verilog -noattr {path}.v"])
+        complaints = run_yosys([f"read_liberty -ignore_miss_func {path}.lib", f"write_json {path}.json", f"write_verilog -noattr {path}.v"])
         if not os.path.exists(f"{path}.json"):
             raise _complaint(complaints, self.given.liberty)
         with open(f"{path}.json", encoding="utf-8", errors="replace") as stream, open(self.given.liberty, encoding="latin-1") as text:
@@ -178,7 +178,7 @@ class Reading:
         form = READ_CELLS if self.given.as_written else READ
         words = form.format(top=f"-top {top}" if top else "-auto-top", early=self.early, cells=again)
         maps = [] if self.given.as_written or self.given.held else [MAP.format(late=self.late)]
-        return _run_yosys([*first, *self.sources.reads, f"write_rtlil {self.all}", words, *maps])
+        return run_yosys([*first, *self.sources.reads, f"write_rtlil {self.all}", words, *maps])
 
     def _mapped(self, judged: "Judged", complaints: str) -> Module:
         """The design as simple gates."""
@@ -188,7 +188,7 @@ class Reading:
             _rest(modules["modules"], judged)
             with open(self.early, "w", encoding="utf-8", errors="surrogateescape") as out:
                 json.dump(modules, out, ensure_ascii=False)
-            complaints = _run_yosys([f"read_json {self.early}", MAP.format(late=self.late)])
+            complaints = run_yosys([f"read_json {self.early}", MAP.format(late=self.late)])
         if not os.path.exists(self.late):
             raise _complaint(complaints, self.sources.files[0])
         return _module(self.late)[1]
@@ -202,7 +202,7 @@ def _rest(modules: dict[str, Module], judged: "Judged") -> None:
                 made_plain(cell)
 
 
-def _run_yosys(commands: list[str]) -> str:
+def run_yosys(commands: list[str]) -> str:
     """Runs yosys, which writes the design before and after it is mapped; what it complained of."""
     done = subprocess.run(["yosys", "-q", "-p", "; ".join(commands)], capture_output=True, text=True, errors="replace", check=False)
     return done.stdout + done.stderr
