@@ -213,6 +213,15 @@ def test_what_no_test_can_be_made_of_is_refused(s27: Lot, tmp_path: pathlib.Path
                        ([s27.bench, s27.plan, "--program", str(tmp_path / "none")], "the netlist's STIL text isn't there")):
         assert main(["atpg", *words, "-o", str(tmp_path / "out.stil")]) == 1
         assert why in capsys.readouterr().err
+    stil = pathlib.Path(s27.stil)
+    text = stil.read_text()
+    for before, after, why in (('ScanIn "SI"; ', "", "the chain `c1` has no ScanIn"),
+                               ("\"_po\" = '\"G17\"'", "\"k\" = '\"G17\"'; \"_po\" = '\"k\"'", "and `k` is none"),
+                               ('"capture" {\n', '"other" {\n', "isn't of the form that `netlist --scan N` writes")):
+        assert before in text
+        (tmp_path / "other.stil").write_text(text.replace(before, after).replace('Call "capture"', 'Call "other"' if "other" in after else 'Call "capture"'))
+        assert main(["atpg", s27.bench, s27.plan, "--program", str(tmp_path / "other.stil"), "-o", str(tmp_path / "out.stil")]) == 1
+        assert why in capsys.readouterr().err
     bench = pathlib.Path(s27.bench)
     bench.write_text(bench.read_text().replace("B6 = AND(SE, G5)", "B6 = AND(SE, G0)"))
     assert main(["atpg", s27.bench, s27.plan, "--program", s27.stil, "-o", str(tmp_path / "out.stil")]) == 1

@@ -42,7 +42,11 @@ class Floor:
         for path, written in zip(paths, (text, plans.write_rows(rows))):
             with open(path, "w", encoding="latin-1", newline="") as out:
                 out.write(written)
-        return learn.learn(*paths).text
+        try:
+            return learn.learn(*paths).text
+        except Fault as fault:
+            # (it is of the loads, whose text no one has seen)
+            raise Fault(fault.status, fault.text, self.plan.file) from fault
 
     def found(self, program: str, faults: list[Stuck]) -> dict[Stuck, Found]:
         """The stuck nets that a program finds."""

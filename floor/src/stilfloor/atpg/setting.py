@@ -107,6 +107,10 @@ def setting_of(bench: str, plan_file: str, program: str) -> Setting:
     binds = {row[1]: row[2] for row in plan.rows if row[0] == "bind"}
     groups = Groups(outline(text)).members
     inputs, outputs = ([(signal, binds.get(signal, signal)) for signal in (name.strip('"') for name in groups.get(group, []))] for group in ("_pi", "_po"))
+    names = {name for _, name in code.signals}
+    strange = next((signal for signal, _ in [*inputs, *outputs] if signal not in names), None)
+    if strange is not None:
+        raise Fault(REFUSED, f"the groups `_pi` and `_po` name signals one by one, and `{strange}` is none", program)
     setting = Setting(circuit_of(bench), bench, program, plan, front, back, chains, inputs, outputs)
     _Probe(setting, program, binds).look()
     return setting
@@ -120,7 +124,10 @@ def _chains(text: str, code: saved.Code, program: str) -> list[Chain]:
     for chain in every(outline(text)):
         if chain.keyword == "ScanChain":
             enters.update({chain.name: part.name for part in chain.block or [] if part.keyword == "ScanIn"})
-    return [Chain(chain.name, enters.get(chain.name, ""), code.signals[chain.out][1], chain.length) for chain in code.executives[0].chains]
+    lost = next((chain.name for chain in code.executives[0].chains if chain.name not in enters), None)
+    if lost is not None:
+        raise Fault(REFUSED, f"the chain `{lost}` has no ScanIn, so nothing can be loaded", program)
+    return [Chain(chain.name, enters[chain.name], code.signals[chain.out][1], chain.length) for chain in code.executives[0].chains]
 
 
 def _around(text: str, program: str) -> tuple[str, str]:
@@ -153,12 +160,16 @@ class _Probe:
         setting.sides = [(chain.scan_in, binds.get(chain.scan_in, chain.scan_in)) for chain in setting.chains]
         loads = [Load([bit * chain.length for chain in setting.chains], bit * len(setting.inputs), bit * len(setting.sides)) for bit in "01"]
         self.code, self.other = (compiled(setting.text([load]), program) for load in loads)
-        steps = list(saved.steps(self.code.executives[0]))
+        self.shift, self.capture = self._steps(self.code)
+
+    def _steps(self, code: saved.Code) -> tuple[saved.Step, saved.Step]:
+        """The first step of a load, and the one behind it, which captures."""
+        steps = list(saved.steps(code.executives[0]))
         first = next((number for number, step in enumerate(steps) if step.mark), len(steps))
         behind = next((number for number in range(first, len(steps)) if not steps[number].mark), len(steps))
         if behind >= len(steps):
-            raise Fault(REFUSED, "a load and a capture of this text don't make a shift and a cycle behind it", program)
-        self.shift, self.capture = steps[first], steps[behind]
+            raise Fault(REFUSED, "a load and a capture of this text don't make a shift and a cycle behind it", self.program)
+        return steps[first], steps[behind]
 
     def _level(self, step: saved.Step, signal: int, at: int) -> int | None:
         """The level that a signal is driven to at a time of a cycle."""
@@ -206,8 +217,7 @@ class _Probe:
 
     def _judge_side(self, chain: Chain, signal: int, rise: int) -> None:
         """A scan-in that a C in front of the capture sets may be chosen; another one has the level that it has."""
-        place = next(number for number, step in enumerate(saved.steps(self.code.executives[0])) if step == self.capture)
-        behind = list(saved.steps(self.other.executives[0]))[place]
+        behind = self._steps(self.other)[1]
         net = self.binds.get(chain.scan_in, chain.scan_in)
         levels = self._level(self.capture, signal, rise), self._level_in(self.other, behind, signal, rise)
         if levels != (0, 1):
