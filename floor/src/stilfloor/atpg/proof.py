@@ -4,6 +4,11 @@ Each step adds a clause that must follow by unit propagation: where all of its l
 A step of any other kind is no proof. What the proof takes away stays, since more clauses prove no less.
 """
 
+import time
+
+# a proof that takes longer to check counts as none
+MOST_SECONDS = 120
+
 
 class Checker:
     """The clauses that are known, each with two literals that are watched, and the literals that they force."""
@@ -94,6 +99,7 @@ def _clauses(text: str) -> list[list[int]]:
 def is_proof(clauses: str, proof: str) -> bool:
     """Whether the proof, a clause a line, shows that the clauses have no solution."""
     checker = Checker()
+    ends = time.monotonic() + MOST_SECONDS
     try:
         for clause in _clauses(clauses):
             checker.add(clause)
@@ -103,7 +109,7 @@ def is_proof(clauses: str, proof: str) -> bool:
             words = line.split()
             if not words or words[0] == "d":
                 continue
-            if words[-1] != "0":
+            if words[-1] != "0" or time.monotonic() > ends:
                 return False
             step = [int(word) for word in words[:-1]]
             if not checker.follows(step):
