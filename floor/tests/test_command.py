@@ -16,7 +16,8 @@ LOG = str(EXAMPLES / "s27scan" / "lot.datalog")
 
 
 @pytest.mark.parametrize("words", [["netlist"], ["learn"], ["diagnose"], ["plot"], ["plot", "lot"], ["plot", "fails"], ["plot", "grade"],
-                                   ["plot", "events"], ["report"], ["export"], ["lint"], ["fit"], ["testbench"], ["server"], ["plan-time"]])
+                                   ["plot", "events"], ["report"], ["export"], ["lint"], ["fit"], ["testbench"], ["server"], ["plan-time"],
+                                   ["atpg"], ["from-vcd"], ["vectors"], ["coverage"]])
 def test_each_word_has_help_with_an_example(words: list[str], capsys: pytest.CaptureFixture[str]) -> None:
     with pytest.raises(SystemExit) as ended:
         main([*words, "--help"])

@@ -190,7 +190,8 @@ def test_names_of_verilog_files_are_no_words_of_a_script(tmp_path: pathlib.Path,
         pathlib.Path(files[-1]).write_text(f'module m{number}(input [99:0] a, output y);\n`include "part.vh"\nendmodule\n')
     uses = "".join(f"m{number} u{number}(a, y[{number}]);\n" for number in range(len(NAMES)))
     pathlib.Path("top.v").write_text(f"module top(input [99:0] a, output [99:0] y);\n{uses}endmodule\n")
-    printed = told(["netlist", "top.v", *files, "-o", "out"], capsys)
+    # (iverilog looks for what each file includes in the folders of all of them)
+    printed = told(["netlist", "top.v", *files, "-o", "out", "--unchecked"], capsys)
     assert "100 gates" in printed or "gates" in printed
     bench = pathlib.Path("out/top.bench").read_text()
     assert "y[99] = NOT(a[99])" in bench and bench.split("\n")[1] == "INPUT(a[0])"
@@ -216,8 +217,55 @@ def test_names_of_modules_and_nets_are_names(tmp_path: pathlib.Path, capsys: pyt
                       f"always @(posedge c) y <= \\{name}w ; endmodule\n" for name in parts)
     last = len(parts) - 1
     pathlib.Path("top.v").write_text(f"{modules}module top(input c, input [{last}:0] a, output [{last}:0] y);\n{uses}endmodule\n")
-    told(["netlist", "top.v", "-o", "out", "--scan", "2"], capsys)
+    told(["netlist", "top.v", "-o", "out", "--scan", "2", "--pins", "--unchecked"], capsys)
     assert sorted(path.name for path in tmp_path.iterdir()) == ["out", "top.v"]
+
+
+@needs_yosys
+def test_names_of_libraries_and_held_inputs_are_names(tmp_path: pathlib.Path, capsys: pytest.CaptureFixture[str]) -> None:
+    for name in NAMES[::11]:
+        for end, source in ((".lib", "cells.lib"), (".v", "s27cells.v"), (".l.v", "cells.v")):
+            shutil.copy(DATA / source, f"{name}{end}")
+        words = ["netlist", f"./{name}.v", "--liberty", f"./{name}.lib", "--as-written", "--libs", f"./{name}.l.v", "-o", "out", "--force"]
+        assert "200 random vectors agree" in told([*words, "--hold", "RN=1"], capsys) or not shutil.which("iverilog")
+        assert "is no input of" in told([*words, f"--hold={name}=1"], capsys, 1)
+        assert "is no identifier" in told([*words, f"--top={name}"], capsys, 2)
+        (tmp_path / f"{name}.lib").write_text("library (")
+        assert f"{shown(f'./{name}.lib')}:" in told(words, capsys, 1)
+
+
+def test_names_of_dumps_and_tables_and_in_them_are_names(tmp_path: pathlib.Path, capsys: pytest.CaptureFixture[str]) -> None:
+    head = "$timescale 1ns $end\n$scope module tb $end\n$var reg 1 ! CK $end\n"
+    parts = [name for name in NAMES if plain(name) and not name.startswith("$end")]
+    variables = "".join(f"$var reg 1 c{number} \\{name} $end\n" for number, name in enumerate(parts))
+    for name in NAMES:
+        pathlib.Path(f"./{name}.vcd").write_text(f"{head}{variables}$upscope $end\n$enddefinitions $end\n#0\n0!\n#5\n1!\n#7\n0!\n#15\n1!\n")
+        pathlib.Path(f"./{name}.json").write_text(json.dumps([{name.encode("utf-8", "replace").decode(): 0}]))
+    for name in NAMES[::9]:
+        status = 0 if plain(name) and '"' not in name else 1
+        line = told(["from-vcd", "--clock=CK", f"--out={name}", "-o", "out.stil", "--", f"./{name}.vcd"], capsys, status)
+        assert line.count("\n") == 1
+        told(["from-vcd", f"--clock={name}", f"--scope={name}", "--", f"./{name}.vcd"], capsys, 1)
+        told(["vectors", f"--clock={name}", "-o", "out.stil", "--", f"./{name}.json"], capsys, 0 if printing(name) else 1)
+        made = told(["vectors", "--clock=CK", "-o", "out.stil", "--", f"./{name}.json"], capsys, 0 if printing(name) else 1)
+        assert made.count("\n") == 1
+    assert ": error: `" in told(["from-vcd", "--clock=CK", "./-o.vcd"], capsys, 1)
+
+
+@pytest.mark.skipif(not shutil.which("cadical"), reason="cadical isn't there: scan tests are left out")
+def test_names_of_a_scan_test_are_names(tmp_path: pathlib.Path, capsys: pytest.CaptureFixture[str], s27: Lot) -> None:
+    for name in NAMES[::24]:
+        for end, source in ((".bench", s27.bench), (".stil", s27.stil), (".csv", s27.plan)):
+            shutil.copy(source, f"{name}{end}")
+        words = ["atpg", f"./{name}.bench", f"./{name}.csv", "--loads", "1", "-o", f"./{name}.out"]
+        assert "faults are found" in told(words, capsys)
+        assert pathlib.Path(f"./{name}.out").read_text().startswith("STIL 1.0")
+        assert "faults 58: " in told(["coverage", f"./{name}.out", f"./{name}.csv", "--plot", f"./{name}.svg", "-o", f"./{name}.txt"], capsys) + \
+            pathlib.Path(f"./{name}.txt").read_text()
+        for word in (name, f"none{name}"):
+            told(["coverage", f"--grade={word}", "--", f"./{name}.out", f"./{name}.csv"], capsys, 3)
+            line = told(["atpg", f"--program={word}", "--", word, word], capsys, 1 if word.startswith("none") else 3 if pathlib.Path(word).exists() else 1)
+            assert line.count("\n") == 1 and ": error: " in line
 
 
 @needs_yosys

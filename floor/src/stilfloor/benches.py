@@ -15,11 +15,12 @@ GATES = {
 
 @dataclass(slots=True)
 class Gate:
-    """A gate line: its net, its kind, and the nets that it reads."""
+    """A gate line: its net, its kind, the nets that it reads, and the pins at which it does, where a cell has names for them."""
 
     net: str
     kind: str
     inputs: list[str]
+    labels: list[str] = field(default_factory=list)
 
     def __str__(self) -> str:
         return f"{self.net} = {self.kind}({', '.join(self.inputs)})"
@@ -37,26 +38,39 @@ class ScanChain:
 
 @dataclass(slots=True)
 class Bench:
-    """A netlist: its clock, inputs, ties (inputs with their constant value), outputs, gates and chains."""
+    """A netlist: its clock, inputs, ties and held ones (inputs with their constant value), outputs, gates and chains, and notes on it."""
 
     name: str
     clock: str | None = None
     inputs: list[str] = field(default_factory=list)
     ties: dict[str, str] = field(default_factory=dict)
+    held: dict[str, str] = field(default_factory=dict)
     outputs: list[str] = field(default_factory=list)
     gates: list[Gate] = field(default_factory=list)
     chains: list[ScanChain] = field(default_factory=list)
     enable: str = ""
+    notes: list[str] = field(default_factory=list)
+    # the net of each bit of the design's ports
+    ports: dict[str, str] = field(default_factory=dict)
+    # what is said of it beside its text
+    told: list[str] = field(default_factory=list)
+
+    @property
+    def constants(self) -> dict[str, str]:
+        """The inputs that a test drives to one value."""
+        return {**self.ties, **self.held}
 
     def text(self, source: str) -> str:
         """The netlist's text; `source` says in its first line from what it is made."""
         extra = [self.enable] if self.enable else []
-        inputs = [*self.inputs, *self.ties, *extra, *(chain.scan_in for chain in self.chains)]
+        inputs = [*self.inputs, *self.constants, *extra, *(chain.scan_in for chain in self.chains)]
         if self.clock and any(self.clock in gate.inputs for gate in self.gates):
             inputs.insert(0, self.clock)
         ends = [chain.cells[-1] for chain in self.chains]
         outputs = [*self.outputs, *(end for end in dict.fromkeys(ends) if end not in self.outputs)]
         lines = [f"# {remark(self.name)}, made from {source}"]
+        lines += [f"# {net} is held at {value}: the netlist is that of a test that never drives it otherwise" for net, value in self.held.items()]
+        lines += [f"# {remark(note)}" for note in self.notes]
         lines += [f"INPUT({net})" for net in inputs] + [f"OUTPUT({net})" for net in outputs]
         return "\n".join([*lines, *map(str, self.gates)]) + "\n"
 
@@ -89,15 +103,17 @@ class Maker:
         self.nets: dict[Bit, str] = {}
         self.bench = Bench(design.name)
         self.clock = design.clock
+        self.held = design.held
+        self.resets = design.resets
+        self.wishes = bit_names(design.module)
 
     def make(self) -> Bench:
         """The netlist."""
         outputs = self._ports()
-        wishes = bit_names(self.module)
         for cell in self.module["cells"].values():
             for bit in cell["connections"]["Y" if "Y" in cell["connections"] else "Q"]:
                 if bit not in self.nets:
-                    wish = wishes.get(bit, "n")
+                    wish = self.wishes.get(bit, "n")
                     self.nets[bit] = self.names.new("n" if wish.startswith("$") else wish)
         for cell in sorted(self.module["cells"].values(), key=lambda cell: cell["type"] != "$_DFF_P_"):
             self.bench.gates.append(self._gate(cell))
@@ -113,10 +129,13 @@ class Maker:
             for place, bit in enumerate(port["bits"]):
                 wish = indexed(title, port, place)
                 name = self.names.new(wish)
+                self.bench.ports[wish] = name
                 if port["direction"] == "input":
                     self.nets[bit] = name
                     if wish == self.clock:
                         self.bench.clock = name
+                    elif wish in self.held:
+                        self.bench.held[name] = self.held[wish]
                     else:
                         self.bench.inputs.append(name)
                 else:
@@ -136,7 +155,7 @@ class Maker:
             self.bench.ties[name] = str(bit)
             return name
         if bit not in self.nets or isinstance(bit, str):
-            known = bit_names(self.module).get(bit, str(bit))
+            known = self.wishes.get(bit, str(bit))
             text = f"nothing drives `{known}`" if isinstance(bit, int) else f"a constant `{bit}` is left in the design"
             raise Fault(REFUSED, f"{text}: a bench die's nets are driven to 0 or 1", self.file)
         return self.nets[bit]
@@ -156,13 +175,38 @@ def natural(name: str) -> list[tuple[int, str]]:
     return [(int(part), "") if part.isdigit() else (-1, part) for part in re.split(r"(\d+)", name)]
 
 
-def make_bench(design: Design, file: str, chains: int) -> Bench:
-    """The netlist of a design, with so many scan chains."""
-    maker = Maker(design, file)
+def make_bench(maker: Maker, chains: int, has_pins: bool = False) -> Bench:
+    """The netlist of a design, with so many scan chains; with pins, each pin at a net with several readers has a net of its own."""
     bench = maker.make()
     if chains:
-        _add_chains(bench, maker.names, chains, file)
+        _add_chains(bench, maker.names, chains, maker.file)
+    if has_pins:
+        _add_pins(bench, maker.names)
     return bench
+
+
+def _add_pins(bench: Bench, names: Names) -> None:
+    """Puts a buffer in front of each pin that isn't the only reader of its net; the buffer's net has the pin's name."""
+    readers: dict[str, set[str]] = {net: {""} for net in bench.outputs}
+    for chain in bench.chains:
+        readers.setdefault(chain.cells[-1], set()).add("")
+    for gate in bench.gates:
+        gate.labels = gate.labels or [f"{gate.net}/{_letter(gate, place)}" for place in range(len(gate.inputs))]
+        for net, label in zip(gate.inputs, gate.labels):
+            readers.setdefault(net, set()).add(label or f" {gate.net}")
+    made: dict[str, str] = {}
+    for gate in list(bench.gates):
+        for place, (net, label) in enumerate(zip(gate.inputs, gate.labels)):
+            if label and len(readers[net]) > 1:
+                if label not in made:
+                    made[label] = names.new(label)
+                    bench.gates.append(Gate(made[label], "BUFF", [net]))
+                gate.inputs[place] = made[label]
+
+
+def _letter(gate: Gate, place: int) -> str:
+    """The name of a gate's pin."""
+    return "D" if gate.kind == "DFF" else "ABCDEFGHIJKLMNOPQRSTUVWXYZ"[place : place + 1] or f"in{place}"
 
 
 def _add_chains(bench: Bench, names: Names, count: int, file: str) -> None:
@@ -189,7 +233,7 @@ def _add_chains(bench: Bench, names: Names, count: int, file: str) -> None:
 def _put_choice(bench: Bench, names: Names, register: Gate, mission: str, before: str) -> None:
     """Lets a flip-flop take the net before it in its chain where the scan enable is 1."""
     kept, shifted, choice = (names.new(f"{register.net}_{part}") for part in ("mission", "shift", "next"))
-    bench.gates.append(Gate(kept, "AND", [mission, register.inputs[0]]))
+    bench.gates.append(Gate(kept, "AND", [mission, register.inputs[0]], ["" if not register.labels else f"{kept}/A", *register.labels]))
     bench.gates.append(Gate(shifted, "AND", [bench.enable, before]))
     bench.gates.append(Gate(choice, "OR", [kept, shifted]))
-    register.inputs = [choice]
+    register.inputs, register.labels = [choice], []

@@ -10,7 +10,7 @@ from typing import IO, TYPE_CHECKING
 
 from stilfloor import __version__
 from stilfloor.faults import REFUSED, STATUSES, UNREADABLE, USAGE, Fault, shown
-from stilfloor.more_words import add_words
+from stilfloor.more_words import add_netlist_options, add_words, netlist
 from stilfloor.names import replacing
 
 if TYPE_CHECKING:
@@ -61,6 +61,7 @@ def _add_making(words: "argparse._SubParsersAction[argparse.ArgumentParser]") ->
     word.add_argument("--scan", type=_number, default=0, metavar="N", help="put the flip-flops into N scan chains")
     word.add_argument("--vectors", type=_number, default=16, metavar="N", help="random vectors, or loads, to begin with (16)")
     word.add_argument("--seed", type=int, default=1, metavar="S", help="the seed of the random vectors (1)")
+    add_netlist_options(word)
     word.add_argument("-o", dest="folder", default=".", metavar="DIR", help="the folder to write into (where you stand)")
     word.add_argument("--force", action="store_true", help="write over files that are there")
     word = _add(words, "learn", "take expected values from the plan's first die: looks written L become what it shows",
@@ -177,26 +178,12 @@ def say(text: str) -> None:
     print(text, file=sys.stderr)
 
 
-def netlist(words: argparse.Namespace) -> int:
-    """The word `netlist`."""
-    from stilfloor.netlist import Start, make
-
-    bench, paths = make(Start(words.files, words.top, words.scan, words.vectors, words.seed), words.folder, words.force)
-    registers = sum(gate.kind == "DFF" for gate in bench.gates)
-    say(f"{bench.name}: {len(bench.gates)} gates, of which {registers} flip-flops"
-        + (f", in chains of {', '.join(str(len(chain.cells)) for chain in bench.chains)}" if bench.chains else "")
-        + (f"; constants are driven at {', '.join(bench.ties)}" if bench.ties else ""))
-    for path in paths:
-        print(path)
-    return 0
-
-
 def learn(words: argparse.Namespace) -> int:
     """The word `learn`."""
     from stilfloor.learn import learn as learnt_from
 
     learnt = learnt_from(words.program, words.plan)
-    _put(words.out, iter([learnt.text]), "latin-1")
+    put(words.out, iter([learnt.text]), "latin-1")
     for note in learnt.notes:
         say(note)
     counts = learnt.counts
@@ -232,7 +219,7 @@ def testbench(words: argparse.Namespace) -> int:
     return told.status
 
 
-def _put(path: str | None, pieces: Iterator[str], encoding: str = "utf-8") -> None:
+def put(path: str | None, pieces: Iterator[str], encoding: str = "utf-8") -> None:
     """Writes pieces into a file, or to standard output."""
     try:
         if path is None:
@@ -259,7 +246,7 @@ def diagnose(words: argparse.Namespace) -> int:
     owner = Owner(doctor.plan, doctor.code)
     with records.datalog(words.datalog) as dies:
         found = diagnosed(doctor, owner.held(dies), words.site, words.die)
-        _put(None, as_json(found) if words.json else _told(found, doctor))
+        put(None, as_json(found) if words.json else _told(found, doctor))
     for line in doctor.notes if words.json else []:
         say(line)
     for line in doctor.site_lines():

@@ -3,36 +3,48 @@
 import os
 import random
 import tempfile
-from dataclasses import dataclass
+from dataclasses import dataclass, field
 
 from stilfloor import tester
-from stilfloor.benches import Bench, make_bench
+from stilfloor.benches import Bench, Maker, make_bench
+from stilfloor.cells import CellMaker
+from stilfloor.compared import Sources, compare
+from stilfloor.equiv import prove
 from stilfloor.faults import REFUSED, UNREADABLE, Fault
 from stilfloor.names import remark, replacing
 from stilfloor.plans import MOST_KEPT, write_rows
 from stilfloor.sentences import refusal
-from stilfloor.verilog import read_design
+from stilfloor.verilog import Design, Given, read_design
 
 TABLE = "_default_WFT_"
 
 
 @dataclass(slots=True)
 class Start:
-    """What is asked for: the modules' files, the top module, the number of chains and of random vectors, and their seed."""
+    """What is asked for: the modules' files, the top module, the number of chains and of random vectors, and their seed; a Liberty file,
+    whether cells stay as they are written, whether pins get nets, held inputs, the cells' Verilog, and whether it is held against the Verilog."""
 
     files: list[str]
     top: str | None = None
     chains: int = 0
     vectors: int = 16
     seed: int = 1
+    liberty: str | None = None
+    as_written: bool = False
+    has_pins: bool = False
+    held: dict[str, str] = field(default_factory=dict)
+    libraries: list[str] = field(default_factory=list)
+    is_compared: bool = True
+    is_proved: bool = False
 
 
 def make(start: Start, folder: str, force: bool = False) -> tuple[Bench, list[str]]:
     """Writes TOP.bench, TOP.stil and TOP.csv into the folder; the netlist, and the files' names."""
-    design = read_design(start.files, start.top)
+    design = read_design(Given(start.files, start.top, start.liberty, start.as_written, start.held))
     if "/" in design.name:
         raise Fault(REFUSED, f"the module `{design.name}` can't name files, as it has a slash: rename it", start.files[0])
-    bench = make_bench(design, start.files[0], start.chains)
+    maker = CellMaker(design, start.files[0]) if start.as_written else Maker(design, start.files[0])
+    bench = make_bench(maker, start.chains, start.has_pins)
     paths = [_path(folder, bench.name + end) for end in (".bench", ".stil", ".csv")]
     if any(not 0x21 <= ord(character) <= 0x7E for character in paths[0]) or len(paths[0]) > 255:
         raise Fault(REFUSED, "a plan can't name this file, which has blanks or is too long: choose another folder", paths[0])
@@ -42,6 +54,7 @@ def make(start: Start, folder: str, force: bool = False) -> tuple[Bench, list[st
     source = remark(" ".join(start.files))
     texts = [bench.text(source), stil_text(bench, source, start), plan_text(bench, paths[0], start)]
     _try_out(bench, [*texts[:2], plan_text(bench, "n.bench", start)], start.files[0])
+    bench.told = [*design.notes, *_compared(bench, design, maker, start)]
     try:
         os.makedirs(folder, exist_ok=True)
     except OSError as error:
@@ -50,6 +63,15 @@ def make(start: Start, folder: str, force: bool = False) -> tuple[Bench, list[st
         with replacing(path, "latin-1") as out:
             out.write(text)
     return bench, paths
+
+
+def _compared(bench: Bench, design: Design, maker: Maker, start: Start) -> list[str]:
+    """What is said of the netlist beside the Verilog as it was given."""
+    if not start.is_compared:
+        return ["nothing was compared with the Verilog, as --unchecked says"]
+    sources = Sources(design.name, start.files, start.libraries, design.cells, maker.resets, start.seed)
+    told = [compare(bench, sources)]
+    return told + ([prove(bench, sources, start.liberty)] if start.is_proved else [])
 
 
 def _path(folder: str, name: str) -> str:
@@ -89,7 +111,7 @@ def stil_text(bench: Bench, source: str, start: Start) -> str:
 
 def _signals(bench: Bench) -> str:
     lines = [f'  "{bench.clock}" In;'] if bench.clock else []
-    lines += [f'  "{name}" In;' for name in [*bench.inputs, *bench.ties, *([bench.enable] if bench.enable else [])]]
+    lines += [f'  "{name}" In;' for name in [*bench.inputs, *bench.constants, *([bench.enable] if bench.enable else [])]]
     lines += [f'  "{chain.scan_in}" In {{ ScanIn; }}' for chain in bench.chains]
     lines += [f'  "{name}" Out;' for name in bench.outputs]
     lines += [f'  "{chain.scan_out}" Out {{ ScanOut; }}' for chain in bench.chains]
@@ -118,7 +140,7 @@ def _timing(bench: Bench) -> str:
         lines.append("      \"_pi\" { 01N { '0ns' D/U/N; } }")
     for name in [*([bench.enable] if bench.enable else []), *(chain.scan_in for chain in bench.chains)]:
         lines.append(f"      \"{name}\" {{ 01N {{ '0ns' D/U/N; }} }}")
-    lines += [f"      \"{name}\" {{ {value} {{ '0ns' {'DU'[int(value)]}; }} }}" for name, value in bench.ties.items()]
+    lines += [f"      \"{name}\" {{ {value} {{ '0ns' {'DU'[int(value)]}; }} }}" for name, value in bench.constants.items()]
     lines += [f"      \"{name}\" {{ LHTX {{ '40ns' L/H/T/X; }} }}"
               for name, some in (("_po", bench.outputs), ("_so", bench.chains)) if some]
     return "\n".join([*lines, "    }", "  }", "}"])
@@ -144,7 +166,7 @@ def repeated(letter: str, count: int) -> str:
 
 def _pattern(bench: Bench, start: Start) -> str:
     bits = random.Random(start.seed)
-    first = "".join(f' "{name}"={value};' for name, value in bench.ties.items())
+    first = "".join(f' "{name}"={value};' for name, value in bench.constants.items())
     if bench.clock:
         first = f' "{bench.clock}"={"0" if bench.chains else "P"};' + first
     if bench.chains:

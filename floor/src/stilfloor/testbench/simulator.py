@@ -12,6 +12,8 @@ from stilfloor.testbench.names import HARMLESS, escaped
 from stilfloor.testbench.ports import Design, read_design
 
 PROBE = "probe.v"
+# (no design has a module of this name, and some have one of the name `testbench`)
+PROBED = "stilfloor_probe"
 RUN, LOG = "testbench.vvp", "testbench.log"
 MADE = (RUN, LOG)
 # so much of what a simulation says is told where it ends too early
@@ -57,10 +59,10 @@ def link(files: list[str], libraries: list[str], room: str) -> Sources:
     return sources
 
 
-def compile_in(sources: Sources, first: list[str], out: str) -> None:
-    """Compiles what stands in a folder: these files behind the design's."""
+def compile_in(sources: Sources, first: list[str], out: str, top: str = "testbench") -> None:
+    """Compiles what stands in a folder: these files behind the design's, with this module at the top."""
     check_tools()
-    words = ["iverilog", "-g2012" if sources.has_system else "-g2005", "-o", out, "-s", "testbench"]
+    words = ["iverilog", "-g2012" if sources.has_system else "-g2005", "-o", out, "-s", top]
     done = subprocess.run([*words, "timescale.v", *sources.words, *first], cwd=sources.room, capture_output=True, check=False)
     if done.returncode:
         raise _complaints(done.stderr.decode("utf-8", "replace") + done.stdout.decode("utf-8", "replace"), sources)
@@ -100,8 +102,8 @@ def design_of(top: str, files: list[str], libraries: list[str]) -> Design:
     with tempfile.TemporaryDirectory() as room:
         sources = link(files, libraries, room)
         with open(os.path.join(room, PROBE), "w", encoding="ascii") as out:
-            out.write(f"module testbench;\n    {escaped(top)} dut();\nendmodule\n")
-        compile_in(sources, [PROBE], "probe")
+            out.write(f"module {PROBED};\n    {escaped(top)} dut();\nendmodule\n")
+        compile_in(sources, [PROBE], "probe", PROBED)
         with open(os.path.join(room, "probe"), encoding="latin-1") as code:
             return read_design(code.read(), top)
 

@@ -1,0 +1,1 @@
+"""Vectors of simulations and tables as STIL texts."""
