@@ -1,5 +1,5 @@
 -- Cycles of an executive are played one after another, or one of them loses contact.
-use Rattle.std.proofs.Common.{◌≡◌, ℕ, zero, suc, ◌+◌, ◌-◌, ◌<◌, List, [], ◌∷◌, ◌++◌, take, drop, Option, Some, refl, sym, ap, ◌∙◌, subst, arith}
+use Rattle.std.proofs.Common.{◌≡◌, ℕ, zero, suc, ◌+◌, List, [], ◌∷◌, ◌++◌, take, drop, Option, Some, refl, sym, ap, ◌∙◌, subst, arith}
 use Rattle.std.specs.Prelude.{slice_get}
 use Rattle.std.specs.Option.{option_map_or}
 use Rattle.std.proofs.lemmas.List.{append-nil, append_assoc}
@@ -223,27 +223,3 @@ take-given {X} xs later x is = ap (λ (l : List X). take 1 l) is
 
 pub drop-given : {X : Type 0} (xs later : List X) (x : X) → xs ≡ x ∷ later → drop 1 xs ≡ later
 drop-given {X} xs later x is = ap (λ (l : List X). drop 1 l) is
-
--- one more of the cycles that are to come is played
-pub plays-more : (stand : Stand) (exec exec' i : ℕ) (xs coming : List Cycle) (old mid new : Between) → exec' ≡ exec → coming ≡ drop i xs
-    → PlaysCycles stand exec (take i xs) old mid → PlaysCycles stand exec' (take 1 coming) mid new
-    → PlaysCycles stand exec (take (i + 1) xs) old new
-plays-more stand exec exec' i xs coming old mid new same left first then =
-    let a = subst (λ (e : ℕ). PlaysCycles stand e (take 1 coming) mid new) same then in
-    let b = subst (λ (l : List Cycle). PlaysCycles stand exec (take 1 l) mid new) left a in
-    subst (λ (l : List Cycle). PlaysCycles stand exec l old new) (sym (take-next i xs))
-    (plays-append stand exec (take i xs) old mid new first (take 1 (drop i xs)) b)
-
--- or one of them stops
-pub stops-more : (stand : Stand) (exec exec' i n : ℕ) (xs coming : List Cycle) (old mid new : Between) (why : Stop) → i < n → exec' ≡ exec
-    → coming ≡ drop i xs
-    → PlaysCycles stand exec (take i xs) old mid → StopsAmong stand exec' (take 1 coming) mid new why
-    → StopsAmong stand exec (take n xs) old new why
-stops-more stand exec exec' i n xs coming old mid new why within same left first stops =
-    let a = subst (λ (e : ℕ). StopsAmong stand e (take 1 coming) mid new why) same stops in
-    let b = subst (λ (l : List Cycle). StopsAmong stand exec (take 1 l) mid new why) left a in
-    let rest = n - i - 1 in
-    let all : i + (1 + rest) ≡ n = omega (arith, within) in
-    subst (λ (m : ℕ). StopsAmong stand exec (take m xs) old new why) all
-    (subst (λ (l : List Cycle). StopsAmong stand exec l old new why) (sym (take-among i rest xs))
-    (stops-behind stand exec (take i xs) (take 1 (drop i xs)) (take rest (drop 1 (drop i xs))) old mid new why first b))

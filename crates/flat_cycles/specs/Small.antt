@@ -6,7 +6,7 @@ use Rattle.packed_code.specs.Cycles.{exec_of}
 use Rattle.flat_parts.specs.FlatText.{executives}
 use Rattle.flat_fine.specs.Fits.{AreShallow}
 
--- what the flat tree of an executive measures at most, where Loops nest so many deep: each of them doubles what is in it
+-- what the flat tree of an executive measures at most, where Loops nest so many deep: each doubles what is in it
 abbrev pub measure_at : Program → ℕ → ℕ → ℕ
 measure_at code left exec = 2 * (2 ^ left * length (exec_of code exec).instrs)
 

@@ -1,14 +1,9 @@
 -- The line of a fail, read from its end: what stands from a byte on, by what stands behind it.
-use Rattle.std.proofs.Common.{◌≡◌, ℕ, ◌+◌, ◌<◌, Bool, true, false, ◌||◌, ◌&&◌, List, [], ◌∷◌, ◌++◌, length, drop, get_or, refl, sym, ap, subst, ◌∙◌, inl, inr}
+use Rattle.std.proofs.Common.{◌≡◌, ℕ, ◌+◌, Bool, true, false, ◌&&◌, List, [], ◌∷◌, ◌++◌, refl, sym, ap, ◌∙◌, inl, inr}
 use Rattle.std.specs.Prelude.{◌==◌, codes}
 use Rattle.std.proofs.lemmas.Bool.{cases_Bool, and_parts, eqb-true, false≢true}
-use Rattle.std.proofs.lemmas.List.{drop_more}
-use Rattle.tester_types.specs.Printing.{is_bare}
 use Rattle.part_lines.specs.Lines.{is_one_line}
-use Rattle.log_parts.specs.declared.fails.Name.{Name}
-use Rattle.log_parts.specs.declared.fails.Ends.{Ends}
-use Rattle.log_parts.specs.Tries.{is_quote, from_cycle, word_then, is_fail_line}
-use Rattle.log_parts.specs.Step.{IsName, AreEnds}
+use Rattle.log_parts.specs.Tries.{from_cycle, word_then, is_fail_line}
 
 -- ---- the fail's word
 
@@ -43,24 +38,3 @@ pub fail_words : (line words : List ℕ) → is_one_line line ≡ true → line 
 fail_words line words one is =
     sym (ap (λ (l : List ℕ). word_then (codes "fail ") from_cycle l && is_one_line line) is
     ∙ ap (λ (b : Bool). from_cycle words && b) one ∙ and_true (from_cycle words))
-
--- ---- a byte more
-
--- of a name
-pub name_before : (byte : ℕ) (behind now : Name) (follows : Bool)
-    → now.bare ≡ (is_bare byte && (behind.bare || follows))
-    → now.quoted ≡ (behind.quoted || (is_quote byte && follows))
-    → now.named ≡ ((is_bare byte && (behind.bare || follows)) || (is_quote byte && behind.quoted))
-    → (is_next : List ℕ → Bool) (rest : List ℕ) → IsName is_next rest behind → follows ≡ is_next rest
-    → IsName is_next (byte ∷ rest) now
-name_before byte behind now follows bare quoted named is_next rest is f = record {
-  bare = bare ∙ (λ i. is_bare byte && (is.bare i || f i));
-  quoted = quoted ∙ (λ i. is.quoted i || (is_quote byte && f i));
-  named = named ∙ (λ i. (is_bare byte && (is.bare i || f i)) || (is_quote byte && is.quoted i));
-}
-
--- the bytes from a place on are the one there and those behind it
-pub ends_more : (words : List ℕ) (at : ℕ) (d : ℕ) (ends : Ends) → at < length words
-    → AreEnds (get_or words at d ∷ drop (at + 1) words) ends → AreEnds (drop at words) ends
-ends_more words at d ends within are =
-    subst (λ (l : List ℕ). AreEnds l ends) (sym (drop_more words at d within)) are

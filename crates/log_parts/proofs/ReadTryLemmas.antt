@@ -155,14 +155,6 @@ more_read number next a b c d line is so_far head read rest =
       lines = omega (arith, more, again, so_far.lines);
     }
 
--- the number of the next one fits
-pub number_fits : (number : ℕ) (a b c d : Reading) (line : List ℕ) → TriesAreRead number a b → HasRead b c (ended line) → TryIsRead c d →
-    number + 1 ≤ 2 ^ 64 - 1
-number_fits number a b c d line so_far read rest =
-    let more = line_more b c [] line read in
-    let again = line_more c d (flat_map ended rest.fails) rest.verdict rest.read in
-    omega (arith, more, again, so_far.lines, rest.fits)
-
 -- one more stopped
 pub more_stops : (number : ℕ) (a b c : Reading) (line : List ℕ) (e : LineFault) → TriesAreRead number a b → IsTryLine number line →
     HasRead b c (ended line) →

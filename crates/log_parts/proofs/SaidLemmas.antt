@@ -114,10 +114,6 @@ word_plan line front word last other by =
     let same = one_last_word front by.front word (codes "plan") last.one refl (sym last.is ∙ by.is) in
     false≢true (sym other ∙ (bytes_eq-Decides word (codes "plan")).1 same.1)
 
--- a line without a blank is none
-pub blank_plan : (line : List ℕ) → list_any is_gap line ≡ false → IsByPlan line → ⊥
-blank_plan line none by = no_last_word line by.front (codes "plan") none by.is
-
 -- ---- the first line of a try
 
 -- what stands before its fails

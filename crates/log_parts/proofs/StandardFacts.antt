@@ -1,5 +1,5 @@
 -- Datalogs that the definitions must give, and a fault that they must have.
-use Rattle.std.proofs.Common.{◌≡◌, ℕ, true, false, List, [], ◌∷◌, get_or, codes, refl, sym, ap, ◌∙◌, arith}
+use Rattle.std.proofs.Common.{◌≡◌, ℕ, true, false, List, [], ◌∷◌, ◌++◌, get_or, codes, refl, sym, ap, ◌∙◌, arith}
 use Rattle.std.specs.Fmt.{digits}
 use Rattle.std.proofs.lemmas.Bool.{false≢true}
 use Rattle.part_lines.specs.Lines.{begins_so}
@@ -18,7 +18,8 @@ use Rattle.log_parts.proofs.TotalLemmas.{behind_end, text_fault}
 pub two_sites : log_text ((codes "a" ∷ []) ∷ (codes "b c" ∷ []) ∷ [])
     ((record { body = codes "try 1 cycles 6 fails 0" ∷ codes "verdict pass" ∷ []; bin = 1 } ∷ [])
     ∷ (record { body = codes "try 1 cycles 0 fails 0" ∷ codes "verdict contact 7" ∷ []; bin = 7 } ∷ []) ∷ [])
-    ≡ codes "site 0\ndie a\ntry 1 cycles 6 fails 0\nverdict pass\nbin 1\nsite 1\ndie \"b c\"\ntry 1 cycles 0 fails 0\nverdict contact 7\nbin 7\ntotal 1 1\ntotal 7 1\n"
+    ≡ codes "site 0\ndie a\ntry 1 cycles 6 fails 0\nverdict pass\nbin 1\n"
+    ++ codes "site 1\ndie \"b c\"\ntry 1 cycles 0 fails 0\nverdict contact 7\nbin 7\ntotal 1 1\ntotal 7 1\n"
 unfolding log_text totals_text digits
 two_sites = refl
 

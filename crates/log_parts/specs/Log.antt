@@ -60,8 +60,8 @@ AreLogs [] (log ∷ logs) = ⊥
 AreLogs (names ∷ later) [] = ⊥
 AreLogs (names ∷ later) (log ∷ logs) = AreDieLogs names log × AreLogs later logs
 
--- The text is a datalog of dies with these names, site by site, whose lines say this. How many cycles and fails the line of
--- a try tells, and which executive, batch or time a fail or a verdict, are any numbers.
+-- The text is a datalog of dies with these names, site by site, whose lines say this. How many cycles and fails the
+-- line of a try tells, and which executive, batch or time a fail or a verdict, are any numbers.
 pub record IsLog (names : List (List (List ℕ))) (text : List ℕ) (logs : List (List DieLog)) : Type 0 where
   pub are : AreLogs names logs
   pub is : text ≡ log_text names logs

@@ -321,9 +321,6 @@ module _ (code : Program) (program : IsProgram code) (longest : ℕ)
           let c : length (codes "\";") ≡ 2 = refl in
           omega (arith, t, r, n, a, b, c, five_long (codes "W \"w") (decimal table) (codes "\"; Call \"r") (decimal row) (codes "\";"))
 
-  instr_most : Instr → ℕ
-  instr_most i = 88
-
   -- what stands for an instruction is short
   instrs_long : (depth : ℕ) (begun : Bool) (is : List Instr) → IsRest depth begun is → size (flat_map (instr_lines code) is) ≤ 88 * length is
   instrs_long depth begun [] rest = absurd rest

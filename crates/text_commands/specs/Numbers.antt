@@ -1,4 +1,5 @@
--- Plain numbers of a text's blocks, by which it can be told beforehand that its code is saved and its flat text written.
+-- Plain numbers of a text's blocks, by which it can be told beforehand that its code is saved and its flat text
+-- written.
 use Rattle.std.specs.Prelude.{◌≡◌, ℕ, suc, ◌+◌, ◌*◌, ◌^◌, ◌<◌, ◌≤◌, Bool, true, ◌&&◌, List, [], length, map, sum_by}
 use Rattle.std.specs.List.{AllByRecursion, flat_map, list_all}
 use Rattle.text_bytes.specs.Limits.{most_bytes, most_tables, most_waves, most_walked, most_measure}
@@ -44,8 +45,8 @@ exec_bytes blocks e = length e.name + sum_by chain_names (text_chains blocks e)
 abbrev pub signal_bytes : Blocks → ℕ
 signal_bytes blocks = sum_by (λ (s : Signal). length s.text) (names_of blocks).signals
 
--- the numbers of a text: how many signals, executives, tables, waves, events, rows, instructions, chains and cells it has,
--- and how many bytes their names
+-- the numbers of a text: how many signals, executives, tables, waves, events, rows, instructions, chains and cells it
+-- has, and how many bytes their names
 abbrev pub numbers_of : Blocks → Numbers
 numbers_of blocks = record {
   signals = length (names_of blocks).signals;
@@ -67,8 +68,8 @@ numbers_of blocks = record {
 abbrev pub IsSavable : Blocks → Type 0
 IsSavable blocks = saved_most (numbers_of blocks) ≤ limit
 
--- the most bytes of a flat text with such numbers: the names of its signals have so many bytes together, and none has more
--- than `longest`
+-- the most bytes of a flat text with such numbers: the names of its signals have so many bytes together, and none has
+-- more than `longest`
 abbrev pub flat_most : ℕ → ℕ → Numbers → ℕ
 flat_most longest bytes n =
     40 + n.names + 12 * n.signals + 240 * n.executives + 88 * n.instructions + n.rows * (36 + 6 * n.signals + bytes)
