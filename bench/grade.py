@@ -61,7 +61,7 @@ def memory(folder, seconds):
     """How many MiB a grade takes at most in its first seconds."""
     child = subprocess.Popen([program, "grade", "p.stil", "p.csv"], cwd=folder, stdout=subprocess.DEVNULL)
     time.sleep(seconds)
-    child.send_signal(signal.SIGKILL)
+    os.kill(child.pid, signal.SIGKILL)
     _, _, usage = os.wait4(child.pid, 0)
     return usage.ru_maxrss / 1024
 

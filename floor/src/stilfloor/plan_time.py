@@ -17,8 +17,8 @@ from stilfloor.sentences import refusal
 
 # how many seconds of a processor a sample should take, and all samples of a grade together
 ENOUGH, ALL = 1.0, 6.0
-MOST_PARTS = 4096
-# so many faults are tried beside each other where a grade does that, so a sample of fewer doesn't tell what one costs
+MOST_PARTS, MOST_SAMPLES = 4096, 64
+# so many faults are tried at once, so a sample has as many: fewer cost as much, and a few more twice as much
 BESIDE = 64
 
 
@@ -120,12 +120,12 @@ class Sampler:
     def faults(self, begins: float) -> tuple[int, float]:
         """How many faults the first die has, and the seconds of all of them together."""
         lots, count = find_lots(), 2 * self._nets()
-        parts = min(MOST_PARTS, max(1, count))
-        while True:
+        # (each worker tries faults of its own, however few they are)
+        parts = max(1, min(MOST_PARTS, count, max(-(-count // BESIDE), len(os.sched_getaffinity(0)))))
+        took = self._part(lots, parts // 2 + 1, parts) - begins
+        while took < ENOUGH / 16 and parts > MOST_SAMPLES:
+            parts = parts // 8
             took = self._part(lots, parts // 2 + 1, parts) - begins
-            if took >= ENOUGH or parts * BESIDE <= count or parts == 1:
-                break
-            parts = max(1, parts // 8)
         some = self._others(lots, parts, begins, took)
         return count, max(0.0, sum(some) / len(some)) * parts
 
@@ -133,7 +133,7 @@ class Sampler:
         """The seconds of parts that are spread over the grade, up to some seconds together."""
         some = [took]
         # (each next one lies in the middle of the widest gap, as a fraction in binary with its digits turned round)
-        for number in range(1, min(parts, 64)):
+        for number in range(1, min(parts, MOST_SAMPLES)):
             if sum(some) >= ALL:
                 break
             place = sum((number >> digit & 1) / (2 << digit) for digit in range(8))
@@ -155,15 +155,25 @@ def estimate(program: str, file: str, is_grade: bool) -> tuple[Numbers, int, Wor
     numbers = numbers_of(program, plan)
     with tempfile.TemporaryDirectory(prefix="stilfloor-") as room:
         path = os.path.join(room, "program.saved")
+        data = saved.bytes_of(program)
         with open(path, "wb") as out:
-            out.write(saved.bytes_of(program))
+            out.write(data)
+        reads = _reads(program, data)
         sampler = Sampler(path, plan, room)
         costs = {netlist: sampler.die(netlist, numbers.cycles) for netlist in numbers.gates}
         if is_grade:
             begins, cycle = costs[plan.dies[0].netlist]
             count, seconds = sampler.faults(begins)
-            return numbers, count, Work(begins, seconds, cycle * numbers.cycles)
-    return numbers, 0, _lot(plan, numbers, costs)
+            return numbers, count, Work(reads + begins, seconds, cycle * numbers.cycles)
+    work = _lot(plan, numbers, costs)
+    return numbers, 0, Work(reads + work.begins, work.all, work.longest)
+
+
+def _reads(program: str, data: bytes) -> float:
+    """The seconds of reading and compiling a program, where it is a text: its saved form, which samples run, is read at once."""
+    with open(program, "rb") as stream:
+        is_saved = stream.read(len(saved.MAGIC)) == data[:len(saved.MAGIC)]
+    return 0.0 if is_saved else spent([tester.find_program(), "check", program])[0]
 
 
 def _lot(plan: plans.Plan, numbers: Numbers, costs: dict[str, tuple[float, float]]) -> Work:
