@@ -45,12 +45,12 @@ use Rattle.packed_code.proofs.Lists.{all_mapped, all_flat}
 use Rattle.flat_parts.specs.FlatText.{executives}
 use Rattle.flat_parts.specs.Nests.{instrs_in}
 use Rattle.flat_parts.specs.FlatBlocks.{IsExecDecl, AreFlatBlocks}
-use Rattle.flat_fine.specs.Fits.{HasRoom, AreShallow}
+use Rattle.flat_fine.specs.Fits.{HasRoom}
 use Rattle.flat_fine.proofs.ApartLemmas.{In, AreApart, apart_push, no_more_of}
 use Rattle.flat_fine.proofs.ListLemmas.{at_range, zip_at}
 use Rattle.flat_fine.proofs.SignalLemmas.{names_are, signal_count}
-use Rattle.flat_cycles.specs.Small.{measure_at, AreSmall}
-use Rattle.flat_cycles.proofs.MeasureLemmas.{CallsOne, measured, measured_few, nest_size, vector_size}
+use Rattle.flat_cycles.specs.Small.{measure_at, cycles_at, IsRepeated, AreSmall}
+use Rattle.flat_cycles.proofs.MeasureLemmas.{CallsOne, measured, measured_few, measured_cycles, nest_size, vector_size}
 use Rattle.flat_fine.proofs.FaultLemmas.{IsLarge, large_none, large_or, large_unless, large_is, none_where_fit}
 use Rattle.flat_fine.proofs.ExecLemmas.{each_so, exec_fits}
 use Rattle.flat_fine.proofs.ScopeLemmas.{each_at}
@@ -58,7 +58,7 @@ use Rattle.flat_cycles.proofs.FitLemmas.{IsRun}
 use Rattle.flat_cycles.proofs.RowLemmas.{characters_or_none, characters_back}
 use Rattle.flat_cycles.proofs.RunLemmas.{vectors}
 use Rattle.flat_cycles.proofs.PlayLemmas.{IsTextExec, own, exec_less, one_part}
-use Rattle.flat_cycles.proofs.CallLemmas.{code_characters, own_part, own_scope, own_nest, own_runs, own_vector, row_called, pattern_makes, begins_bare}
+use Rattle.flat_cycles.proofs.CallLemmas.{code_characters, own_part, own_scope, own_nest, own_runs, own_cycles, own_vector, row_called, pattern_makes, begins_bare}
 use Rattle.flat_cycles.proofs.TableLemmas.{TimesAre}
 use Rattle.flat_cycles.proofs.EntryLemmas.{IsEntry, entries, entries_fit, vector_same}
 use Rattle.flat_cycles.proofs.SteadyLemmas.{Passes, nest_steady}
@@ -127,7 +127,8 @@ rows_few : (all before rows : List (List ℕ)) → AreApart before → AllByRecu
     → AllByRecursion (λ x. In x all) rows → length (distinct_rows before rows) ≤ length all
 rows_few all before [] apart there each = no_more_of before all apart there
 rows_few all before (row ∷ rows) apart there each =
-    rows_few all (cond (has_name before row) before (before ++ row ∷ [])) rows (apart_by (has_name before row) before row refl apart)
+    rows_few all (cond (has_name before row) before (before ++ row ∷ [])) rows
+    (apart_by (has_name before row) before row refl apart)
     (in_by (has_name before row) all before row each.0 there) each.1
 
 -- ---- the fault of an executive
@@ -145,7 +146,8 @@ module _ (Fit : Type 0) (signals : ℕ) (rows : List (List ℕ)) (room : length 
   rows_room xs fine =
       let few = rows_few rows [] (flat_map (λ (e : Executive). map row_of (vectors_of signals e)) xs) tt tt
       (all_flat (λ row. In row rows) (λ (e : Executive). map row_of (vectors_of signals e)) xs
-      (each_so (IsFine signals rows) (λ (e : Executive). AllByRecursion (λ row. In row rows) (map row_of (vectors_of signals e))) xs
+      (each_so (IsFine signals rows) (λ (e : Executive). AllByRecursion (λ row. In row rows)
+      (map row_of (vectors_of signals e))) xs
       (λ e is. is.inside) fine)) in
       let less = times_rise (length (rows_of signals xs)) (length rows) signals few in
       le-leb (length (rows_of signals xs) * signals) most_row_characters (omega (arith, less, room))
@@ -172,7 +174,8 @@ module _ (Fit : Type 0) (signals : ℕ) (rows : List (List ℕ)) (room : length 
       (large_unless Fit fits large None refl (λ fit. rows_room (before ++ (x ∷ [])) all) tt)))
 
   -- and of several
-  executives_large : (before more : List Executive) → AllByRecursion (IsFine signals rows) before → AllByRecursion (IsFine signals rows) more
+  executives_large : (before more : List Executive) → AllByRecursion (IsFine signals rows) before
+      → AllByRecursion (IsFine signals rows) more
       → (Fit → sum_by measure_of before + sum_by measure_of more ≤ most_measure)
       → IsLarge Fit (compile_faults signals before more)
   executives_large before [] done fine measures = tt
@@ -306,11 +309,12 @@ module _ {V : Type 0} (times : Times V) (times_are : TimesAre times) (code : Pro
   row_measures table row count fits spot =
       let called = row_called code blocks exec e text table row count fits in
       ap (λ (o : Option Statements). measure (flat_calls part.setting deepest_calls o spot).flat) called.body
-      ∙ vector_size code (own_scope code blocks exec e text) part.setting (flat_calls part.setting 63) called.line called.gifts spot
+      ∙ vector_size code (own_scope code blocks exec e text) part.setting
+      (flat_calls part.setting 63) called.line called.gifts spot
 
-  -- its flat tree is as large as its instructions say
-  pub measure_few : (left : ℕ) → HasRoom left (own_nest code blocks exec e text) → measure_of x ≤ measure_at code left exec
-  measure_few left room =
+  -- its flat tree is no larger than what its instructions measure
+  tree_few : measure_of x ≤ measured (own_nest code blocks exec e text)
+  tree_few =
       let scope = own_scope code blocks exec e text in
       let nest = own_nest code blocks exec e text in
       let inner = flat_calls part.setting deepest_calls in
@@ -322,59 +326,100 @@ module _ {V : Type 0} (times : Times V) (times_are : TimesAre times) (code : Pro
       (own_runs code blocks exec e text (CallsOne code scope part.setting inner) row_measures)) in
       let one : measure_of x ≡ 0 + measure (tree_of part).flat =
       ap (λ (all : List Part). measure_in (map tree_of all)) (one_part code blocks exec e text) in
+      omega (arith, size, one)
+
+  -- nor than they measure at most, by how deep they nest
+  pub measure_few : (left : ℕ) → HasRoom left (own_nest code blocks exec e text) → measure_of x ≤ measure_at code left exec
+  measure_few left room =
+      let nest = own_nest code blocks exec e text in
+      let size = tree_few in
       let few = measured_few nest left room in
       let count : length (exec_of code exec).instrs ≡ length (instrs_in nest) + 1 =
       ap length (own code blocks exec e text).pattern_is.instrs ∙ length-append (instrs_in nest) (Done ∷ []) in
       let whole : measure_at code left exec ≡ 2 * (2 ^ left * length (instrs_in nest)) + 2 * 2 ^ left =
       ap (λ (n : ℕ). 2 * (2 ^ left * n)) count ∙ twice (2 ^ left) (length (instrs_in nest)) in
-      omega (arith, size, one, few, whole)
+      omega (arith, size, few, whole)
     where
       twice : (p n : ℕ) → 2 * (p * (n + 1)) ≡ 2 * (p * n) + 2 * p
       twice p n = grind arith
 
+  -- or by its cycles
+  pub cycles_few : IsRepeated (own_nest code blocks exec e text) → measure_of x ≤ cycles_at code exec
+  cycles_few again =
+      let nest = own_nest code blocks exec e text in
+      let size = tree_few in
+      let few = (measured_cycles nest
+      (own_runs code blocks exec e text (λ table row times. 0 < times) (λ table row times fits. fits.some)) again).0 in
+      let same = ap (λ (l : List Entry). length l) (own_cycles code blocks exec e text) in
+      omega (arith, size, few, same)
+
 -- what the pass finds, where the numbers fit under some condition
-module _ {V : Type 0} (times : Times V) (times_are : TimesAre times) (code : Program) (blocks : Blocks) (program : IsProgram code)
+module _ {V : Type 0} (times : Times V) (times_are : TimesAre times) (code : Program) (blocks : Blocks)
+    (program : IsProgram code)
     (flat : AreFlatBlocks code blocks) where
   -- the measures of the executives, one by one
-  measures_few : (left : ℕ) → AreShallow left code → (numbers : List ℕ) (es : List ExecDecl)
-      → AllZip (λ exec e. slice_get blocks.executives exec ≡ Some e) numbers es
-      → sum_by measure_of (map (executive_of times blocks) es) ≤ sum_by (measure_at code left) numbers
-  measures_few left shallow [] [] all = omega arith
-  measures_few left shallow [] (e ∷ es) all = absurd all
-  measures_few left shallow (n ∷ numbers) [] all = absurd all
-  measures_few left shallow (n ∷ numbers) (e ∷ es) all =
-      let text : IsTextExec code blocks n e = record { program = program; flat = flat; at = all.0 } in
-      let room = shallow n (own_nest code blocks n e text) (exec_less code blocks n e text) (own code blocks n e text).pattern_is.instrs in
-      let few = measure_few times times_are code blocks n e text left room in
-      let behind = measures_few left shallow numbers es all.1 in
+  measures_few : (most : ℕ → ℕ)
+      → ((n : ℕ) (e : ExecDecl) → slice_get blocks.executives n ≡ Some e → measure_of (executive_of times blocks e) ≤ most n)
+      → (numbers : List ℕ) (es : List ExecDecl) → AllZip (λ exec e. slice_get blocks.executives exec ≡ Some e) numbers es
+      → sum_by measure_of (map (executive_of times blocks) es) ≤ sum_by most numbers
+  measures_few most each [] [] all = omega arith
+  measures_few most each [] (e ∷ es) all = absurd all
+  measures_few most each (n ∷ numbers) [] all = absurd all
+  measures_few most each (n ∷ numbers) (e ∷ es) all =
+      let few = each n e all.0 in
+      let behind = measures_few most each numbers es all.1 in
       omega (
         arith,
         few,
         behind,
-        sum_by-cons (measure_at code left) n numbers,
+        sum_by-cons most n numbers,
         sum_by-cons measure_of (executive_of times blocks e) (map (executive_of times blocks) es),
       )
 
   numbered_executives : AllZip (λ exec e. slice_get blocks.executives exec ≡ Some e) (executives code) blocks.executives
   numbered_executives =
-      zip_at (IsExecDecl code) (λ exec e. slice_get blocks.executives exec ≡ Some e) (executives code) blocks.executives flat.executives
+      zip_at (IsExecDecl code) (λ exec e. slice_get blocks.executives exec ≡ Some e)
+      (executives code) blocks.executives flat.executives
       (λ i exec e there at.
       let r = at_range (length code.execs) i exec there in
       subst (λ (n : ℕ). slice_get blocks.executives n ≡ Some e) (sym r.0) at)
+
+  few_measures : (left : ℕ) → AreSmall code left
+      → sum_by measure_of [] + sum_by measure_of (executives_of times blocks) ≤ most_measure
+  few_measures left small =
+      elim small.measured [
+        | inl most ↦
+            let few = measures_few (measure_at code left)
+            (λ n e at.
+            let text : IsTextExec code blocks n e = record { program = program; flat = flat; at = at } in
+            measure_few times times_are code blocks n e text left
+            (small.shallow n (own_nest code blocks n e text) (exec_less code blocks n e text)
+            (own code blocks n e text).pattern_is.instrs))
+            (executives code) blocks.executives numbered_executives in
+            omega (arith, few, most)
+        | inr most ↦
+            let few = measures_few (cycles_at code)
+            (λ n e at.
+            let text : IsTextExec code blocks n e = record { program = program; flat = flat; at = at } in
+            cycles_few times times_are code blocks n e text
+            (most.0 n (own_nest code blocks n e text) (exec_less code blocks n e text)
+            (own code blocks n e text).pattern_is.instrs))
+            (executives code) blocks.executives numbered_executives in
+            let bound = most.1 in
+            omega (arith, few, bound)
+      ]
 
   sixth_large : (Fit : Type 0) (left : ℕ) → (Fit → AreSmall code left) → IsLarge Fit (sixth_fault times blocks)
   sixth_large Fit left fits =
       let signals = length (names_of blocks).signals in
       let many : signals ≡ length code.signals = signal_count code (names_of blocks) (names_are code blocks flat) in
       executives_large Fit signals code.rows
-      (subst (λ (n : ℕ). length code.rows * n ≤ most_row_characters) (sym many) program.few_rows) [] (executives_of times blocks) tt
+      (subst (λ (n : ℕ). length code.rows * n ≤ most_row_characters) (sym many) program.few_rows) []
+      (executives_of times blocks) tt
       (all_mapped (IsFine signals code.rows) (executive_of times blocks) blocks.executives
       (each_at (λ e. IsFine signals code.rows (executive_of times blocks e)) blocks.executives
       (λ exec e at. own_fine times times_are code blocks exec e (record { program = program; flat = flat; at = at }))))
-      (λ fit.
-      let few = measures_few left (fits fit).shallow (executives code) blocks.executives numbered_executives in
-      let most = (fits fit).measured in
-      omega (arith, few, most))
+      (λ fit. few_measures left (fits fit))
 
 -- what the pass finds
 pub only_too_large : {V : Type 0} (times : Times V) → TimesAre times → (code : Program) (blocks : Blocks) (fault : StilFault)

@@ -1,6 +1,9 @@
 -- How large the flat tree of a pattern of a flat text is, by how its instructions nest.
-use Rattle.std.proofs.Common.{◌≡◌, ℕ, zero, suc, ◌+◌, ◌-◌, ◌*◌, ◌^◌, ◌<◌, ◌≤◌, Bool, true, false, cond, nat_lt, List, [], ◌∷◌, ◌++◌, length, slice_get, Option, Some, None, refl, sym, ap, subst, ◌∙◌, arith, length-append}
+use Rattle.std.proofs.Common.{◌≡◌, ℕ, zero, suc, ◌+◌, ◌-◌, ◌*◌, ◌^◌, ◌<◌, ◌≤◌, Bool, true, false, cond, nat_lt, List, [], ◌∷◌, ◌++◌, length, replicate, slice_get, Option, Some, None, refl, sym, ap, subst, ◌∙◌, arith, length-append}
+use Rattle.packed_code.specs.declared.instr.Entry.{Entry}
 use Rattle.packed_code.specs.declared.instr.Instr.TheVariants.{End}
+use Rattle.packed_code.specs.Meaning.{repeated}
+use Rattle.packed_code.specs.Nesting.{cycle_of}
 use Rattle.packed_code.specs.Program.{Program}
 use Rattle.stil_ast.specs.Data.Places.{of_pattern, of_procedure}
 use Rattle.stil_ast.specs.declared.body.Assignment.{Assignment}
@@ -17,7 +20,8 @@ use Rattle.stil_ast.specs.Meaning.Flat.{Flat, measure}
 use Rattle.stil_ast.specs.Meaning.Flattening.{joined, gifts_front, entry_front, Spot, Piece, flat_list}
 use Rattle.flat_parts.specs.Nests.{RunLines, Nest, nothing, run, loop, instrs_in, row_name, written_in}
 use Rattle.flat_fine.specs.Fits.{HasRoom}
-use Rattle.flat_cycles.proofs.RunLemmas.{OfRuns}
+use Rattle.flat_cycles.proofs.RunLemmas.{OfRuns, nest_cycles}
+use Rattle.flat_cycles.specs.Small.{IsRepeated}
 
 -- one tree after another
 measure_both : (a b : Flat) → measure (joined a b) ≡ measure a + measure b
@@ -41,7 +45,7 @@ measure_gifts (g ∷ gifts) rest = measure_entry g.entry g.signal (gifts_front g
 -- how much instructions measure at most
 abbrev pub measured : Nest → ℕ
 measured nothing = 0
-measured (run lines table row mark times rest) = 4 + measured rest
+measured (run lines table row mark times rest) = cond {A = ℕ} (nat_lt 1 times) 4 1 + measured rest
 measured (loop line times body rest) = 2 * measured body + 2 + measured rest
 
 power_less : (left : ℕ) → 0 < left → 2 ^ left ≡ 2 * 2 ^ (left - 1)
@@ -52,6 +56,10 @@ some_power : (left : ℕ) → 1 ≤ 2 ^ left
 some_power zero = omega arith
 some_power (suc left) = let less = some_power left in omega (arith, less)
 
+run_few : (b : Bool) → cond {A = ℕ} b 4 1 ≤ 4
+run_few true = omega arith
+run_few false = omega arith
+
 -- for each instruction as much as the Loops round it let it count
 pub measured_few : (nest : Nest) (left : ℕ) → HasRoom left nest → measured nest ≤ 2 * (2 ^ left * length (instrs_in nest))
 measured_few nothing left room = omega arith
@@ -60,7 +68,7 @@ measured_few (run lines table row mark times rest) left room =
     let power = power_less left room.0 in
     let some = some_power (left - 1) in
     let more : 2 ^ left * suc (length (instrs_in rest)) ≡ 2 ^ left * length (instrs_in rest) + 2 ^ left = grind arith in
-    omega (arith, behind, power, some, more)
+    omega (arith, behind, power, some, more, run_few (nat_lt 1 times))
 measured_few (loop line times body rest) left room =
     let inside = measured_few body (left - 1) room.1 in
     let behind = measured_few rest left room.2 in
@@ -78,6 +86,49 @@ measured_few (loop line times body rest) left room =
     spread_out : (q p n k : ℕ) → q ≡ 2 * p → q * (n + k + 2) ≡ 2 * (p * n) + q * k + 4 * p
     spread_out q p n k e = rw e (grind arith)
 
+-- so many passes
+passes_long : (times : ℕ) (cycles : List Entry) → length (repeated times cycles) ≡ times * length cycles
+unfolding repeated
+passes_long zero cycles = omega arith
+passes_long (suc times) cycles =
+    let behind = passes_long times cycles in
+    let more : suc times * length cycles ≡ times * length cycles + length cycles = grind arith in
+    omega (arith, behind, more, length-append cycles (repeated times cycles))
+
+replicas_long : (times : ℕ) (entry : Entry) → length (replicate times entry) ≡ times
+replicas_long zero entry = refl
+replicas_long (suc times) entry = let behind = replicas_long times entry in omega (arith, behind)
+
+twice_few : (times n : ℕ) → 1 < times → 2 * n ≤ times * n
+twice_few zero n few = absurd (omega (arith, few))
+twice_few (suc zero) n few = absurd (omega (arith, few))
+twice_few (suc (suc times)) n few = let whole : suc (suc times) * n ≡ 2 * n + times * n = grind arith in omega (arith, whole)
+
+run_cycles : (times : ℕ) → 0 < times → cond {A = ℕ} (nat_lt 1 times) 4 1 + 2 ≤ 4 * times
+run_cycles zero some = absurd (omega (arith, some))
+run_cycles (suc zero) some = omega arith
+run_cycles (suc (suc times)) some = let few = run_few (nat_lt 1 (suc (suc times))) in omega (arith, few)
+
+-- Where each Loop is repeated, a Run of so many Loops runs as often as their passes multiply, so the measure is no more
+-- than four a cycle, and even less where there is any.
+pub measured_cycles : (nest : Nest) → OfRuns (λ table row times. 0 < times) nest → IsRepeated nest
+    → (measured nest ≤ 4 * length (nest_cycles nest))
+    × (0 < length (instrs_in nest) → measured nest + 2 ≤ 4 * length (nest_cycles nest))
+measured_cycles nothing some again = (omega arith, λ any. absurd (omega (arith, any)))
+measured_cycles (run lines table row mark times rest) some again =
+    let behind = (measured_cycles rest some.1 again).0 in
+    let here = run_cycles times some.0 in
+    let one = length-append (replicate times (cycle_of table row mark)) (nest_cycles rest) in
+    let all = replicas_long times (cycle_of table row mark) in
+    (omega (arith, behind, here, one, all), λ any. omega (arith, behind, here, one, all))
+measured_cycles (loop line times body rest) some again =
+    let inside = (measured_cycles body some.0 again.2).1 again.1 in
+    let behind = (measured_cycles rest some.1 again.3).0 in
+    let one = length-append (repeated times (nest_cycles body)) (nest_cycles rest) in
+    let all = passes_long times (nest_cycles body) in
+    let twice = twice_few times (length (nest_cycles body)) again.0 in
+    (omega (arith, inside, behind, one, all, twice), λ any. omega (arith, inside, behind, one, all, twice))
+
 module _ (code : Program) (scope : Scope) (t : Setting) (inner : Option Statements → Spot → Piece) where
   -- a row's procedure measures a vector
   abbrev pub CallsOne : ℕ → ℕ → ℕ → Type 0
@@ -91,11 +142,12 @@ module _ (code : Program) (scope : Scope) (t : Setting) (inner : Option Statemen
   abbrev called_at : ℕ → Spot
   called_at line = record { args = arguments (length t.outs) []; place = origin of_pattern line }
 
-  calls_size : (several : Bool) (lines : RunLines) (table row times most : ℕ) (rest : Written) (spot : Spot) → CallsOne table row times
+  calls_size : (several : Bool) (lines : RunLines) (table row times most : ℕ) (rest : Written) (spot : Spot)
+      → CallsOne table row times
       → ((now : Spot) → flat_size rest now ≤ most)
       → flat_size (cond several
       (written.looped lines.loop times (written.single lines.call (Call (row_name code row) []) written.no_more) rest)
-      (written.single lines.call (Call (row_name code row) []) rest)) spot ≤ 4 + most
+      (written.single lines.call (Call (row_name code row) []) rest)) spot ≤ cond {A = ℕ} several 4 1 + most
   calls_size true lines table row times most rest spot one again =
       let called = one (called_at lines.call) in
       let behind = again (record { args = spot.args; place = origin of_pattern lines.loop }) in
@@ -121,8 +173,10 @@ module _ (code : Program) (scope : Scope) (t : Setting) (inner : Option Statemen
 -- a procedure of one vector measures one, whatever it is given
 pub vector_size : (code : Program) (scope : Scope) (t : Setting) (inner : Option Statements → Spot → Piece) (line : ℕ)
     (gifts : List Assignment) (spot : Spot)
-    → measure (flat_list t inner (resolved scope of_procedure (written.single line (VectorStep gifts) written.no_more)) spot).flat ≡ 1
+    → measure (flat_list t inner (resolved scope of_procedure
+    (written.single line (VectorStep gifts) written.no_more)) spot).flat ≡ 1
 vector_size code scope t inner line gifts spot =
     let d = deal (resolved_assigns scope.names gifts) spot.args in
-    let last = flat.cycle (mark_of t.scan_outs (takers (resolved_assigns scope.names gifts)) d.args) (origin of_procedure line) flat.done in
+    let last = flat.cycle (mark_of t.scan_outs (takers (resolved_assigns scope.names gifts)) d.args)
+    (origin of_procedure line) flat.done in
     measure_both (gifts_front d.gifts last) flat.done ∙ ap (λ (n : ℕ). n + 0) (measure_gifts d.gifts last)

@@ -39,11 +39,13 @@ all_stay x (y ∷ xs) front back others there =
     (stays x y front back others.0 there.0, all_stay x xs front back others.1 there.1)
 
 -- so what they sum up to is no more
-pub fewer : {A : Type 0} (f : A → ℕ) (xs ys : List A) → AreApart xs → AllByRecursion (λ x. In x ys) xs → sum_by f xs ≤ sum_by f ys
+pub fewer : {A : Type 0} (f : A → ℕ) (xs ys : List A) → AreApart xs → AllByRecursion (λ x. In x ys) xs
+    → sum_by f xs ≤ sum_by f ys
 fewer f [] ys apart there = omega arith
 fewer {A} f (x ∷ xs) ys apart there =
     let s = stands x ys there.0 in
-    let whole : sum_by f ys ≡ sum_by f s.front + sum_by f (x ∷ s.back) = ap (sum_by f) s.is ∙ sum_by-append f s.front (x ∷ s.back) in
+    let whole : sum_by f ys ≡ sum_by f s.front + sum_by f (x ∷ s.back) =
+    ap (sum_by f) s.is ∙ sum_by-append f s.front (x ∷ s.back) in
     let rest =
     fewer f xs (s.front ++ s.back) apart.1
     (all_stay x xs s.front s.back apart.0 (subst (λ (l : List A). AllByRecursion (λ y. In y l) xs) s.is there.1)) in
@@ -61,7 +63,8 @@ no_more_of {A} xs ys apart there = omega (arith, fewer (λ (x : A). 1) xs ys apa
 -- one more behind them
 pub apart_push : {A : Type 0} (xs : List A) (y : A) → AreApart xs → AllByRecursion (λ x. x ≡ y → ⊥) xs → AreApart (xs ++ y ∷ [])
 apart_push [] y apart others = (tt, tt)
-apart_push {A} (x ∷ xs) y apart others = (all_push (λ (z : A). x ≡ z → ⊥) xs y apart.0 others.0, apart_push xs y apart.1 others.1)
+apart_push {A} (x ∷ xs) y apart others =
+    (all_push (λ (z : A). x ≡ z → ⊥) xs y apart.0 others.0, apart_push xs y apart.1 others.1)
   where
     all_push : (P : A → Type 0) (zs : List A) (w : A) → AllByRecursion P zs → P w → AllByRecursion P (zs ++ w ∷ [])
     all_push P [] w all last = (last, tt)

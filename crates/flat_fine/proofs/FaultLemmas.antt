@@ -28,7 +28,8 @@ none_first of [] each = refl
 none_first of (x ∷ items) each = none_both (of x) (first_in of items) each.0 (none_first of items each.1)
 
 -- what a fault is
-pub large_is : (Fit : Type 0) (o : Option StilFault) (fault : StilFault) → IsLarge Fit o → o ≡ Some fault → fault.kind ≡ TooLarge
+pub large_is : (Fit : Type 0) (o : Option StilFault) (fault : StilFault) → IsLarge Fit o → o ≡ Some fault
+    → fault.kind ≡ TooLarge
 large_is Fit o fault large e = (subst (IsLarge Fit) e large).0
 
 -- where the numbers fit there is none
@@ -72,11 +73,13 @@ module _ (Fit : Type 0) where
 
   pub passes_kept : (most : ℕ) (test : Bool) (fault : StilFault) (next : Walked → Checked) (w : Walked) → test ≡ true
       → Passes Fit most (next w) → Passes Fit most (rule test fault next w)
-  passes_kept most test fault next w holds behind = subst (λ (b : Bool). Passes Fit most (rule b fault next w)) (sym holds) behind
+  passes_kept most test fault next w holds behind =
+      subst (λ (b : Bool). Passes Fit most (rule b fault next w)) (sym holds) behind
 
   pub passes_bar : (most : ℕ) (test : Bool) (fault : StilFault) (next : Walked → Checked) (w : Walked) → test ≡ false
       → Passes Fit most (next w) → Passes Fit most (bar_if test fault next w)
-  passes_bar most test fault next w fails behind = subst (λ (b : Bool). Passes Fit most (bar_if b fault next w)) (sym fails) behind
+  passes_bar most test fault next w fails behind =
+      subst (λ (b : Bool). Passes Fit most (bar_if b fault next w)) (sym fails) behind
 
   pub passes_back : (most : ℕ) (w : Walked) (c : Checked) → Passes Fit most c → Passes Fit most (back_from w c)
   passes_back most w (fine now) passes = passes

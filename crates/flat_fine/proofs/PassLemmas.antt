@@ -90,7 +90,8 @@ module _ (code : Program) (blocks : Blocks) (exec : ℕ) (e : ExecDecl) (program
 
   -- one executive, behind others
   pub exec_large : (before : List ExecDecl) → (Fit → sum_by (exec_walked blocks) before + walk_of code exec ≤ most_walked)
-      → (Fit → sum_by (exec_waves blocks) before + exec_waves blocks e ≤ most_waves) → IsLarge Fit (exec_fault times_of blocks before e)
+      → (Fit → sum_by (exec_waves blocks) before + exec_waves blocks e ≤ most_waves)
+      → IsLarge Fit (exec_fault times_of blocks before e)
   exec_large before walks waves =
       let tables = tables_fault (timed_of times_of blocks e) (sum_by (exec_waves blocks) before) in
       let checked = check_patterns blocks e (played blocks e) (sum_by (exec_walked blocks) before) in
@@ -110,7 +111,8 @@ module _ (code : Program) (blocks : Blocks) (exec : ℕ) (e : ExecDecl) (program
 record IsBound (code : Program) (blocks : Blocks) (Fit : Type 0) (exec : ℕ) (e : ExecDecl) : Type 0 where
   walked : exec_walked blocks e ≤ walk_of code exec
   large : (before : List ExecDecl) → (Fit → sum_by (exec_walked blocks) before + walk_of code exec ≤ most_walked)
-      → (Fit → sum_by (exec_waves blocks) before + exec_waves blocks e ≤ most_waves) → IsLarge Fit (exec_fault times_of blocks before e)
+      → (Fit → sum_by (exec_waves blocks) before + exec_waves blocks e ≤ most_waves)
+      → IsLarge Fit (exec_fault times_of blocks before e)
 
 -- executives behind others, which have walked no more than this
 execs_large : (code : Program) (blocks : Blocks) (Fit : Type 0) (before rest : List ExecDecl) (numbers : List ℕ) (spent : ℕ)

@@ -102,7 +102,8 @@ cost_few signals (loop line times body rest) =
     ∙ times_both (length (instrs_in body)) (length (instrs_in rest)) (4 + signals) in
     omega (arith, inside, behind, all)
 
-module _ (scope : Scope) (code : Program) (program : IsProgram code) (are : AreNames code scope.names) (depth : ℕ) (Fit : Type 0) where
+module _ (scope : Scope) (code : Program) (program : IsProgram code) (are : AreNames code scope.names) (depth : ℕ)
+    (Fit : Type 0) where
   abbrev inner : Standing → Written → Walked → Checked
   inner = check_calls scope depth
 
@@ -124,7 +125,8 @@ module _ (scope : Scope) (code : Program) (program : IsProgram code) (are : AreN
       passes_rule Fit most (nat_lt s.calls deepest_calls) (fault_on scope s line TooLarge)
       (bar_if s.in_shift (fault_on scope s line ShiftForm) (check_body scope inner s line c [] c.found)) w refl
       (λ fit. ap (λ (n : ℕ). nat_lt n deepest_calls) top)
-      (passes_bar Fit most s.in_shift (fault_on scope s line ShiftForm) (check_body scope inner s line c [] c.found) w out.no_shift
+      (passes_bar Fit most s.in_shift (fault_on scope s line ShiftForm)
+      (check_body scope inner s line c [] c.found) w out.no_shift
       (subst (λ (o : Option BodyDef). Passes Fit most (check_body scope inner s line c [] o w)) (sym known.found)
       (passes_bar Fit most (list_any (same_callee c) s.running) (fault_on scope s line Cyclic) behind w
       (ap (list_any (same_callee c)) out.none_runs)
@@ -155,15 +157,18 @@ module _ (scope : Scope) (code : Program) (program : IsProgram code) (are : AreN
       let barred = bar_if s.in_shift (fault_on scope s line ShiftForm) (check_list scope inner (inside_loop s) body) in
       let deep = rule (nat_lt s.loops deepest_loops) (fault_on scope s line TooLarge) barred in
       passes_then Fit mid most (counted scope s line deep w) (check_list scope inner s rest)
-      (passes_rule Fit mid (may_walk (w.count + 1)) (fault_on scope s line TooLarge) (λ (now : Walked). deep (one_more now)) w refl
+      (passes_rule Fit mid (may_walk (w.count + 1)) (fault_on scope s line TooLarge)
+      (λ (now : Walked). deep (one_more now)) w refl
       (walks (w.count + 1) mid fits low)
       (passes_rule Fit mid (nat_lt s.loops deepest_loops) (fault_on scope s line TooLarge) barred (one_more w) refl
       (λ fit. lt-ltb s.loops deepest_loops (shallow fit))
-      (passes_bar Fit mid s.in_shift (fault_on scope s line ShiftForm) (check_list scope inner (inside_loop s) body) (one_more w)
+      (passes_bar Fit mid s.in_shift (fault_on scope s line ShiftForm) (check_list scope inner (inside_loop s) body)
+      (one_more w)
       out.no_shift inside))) again
 
   -- a row, called so many times
-  called_passes : (s : Standing) (lines : RunLines) (row times mid most : ℕ) (rest : Written) (w : Walked) → IsOutside s → s.calls ≡ 0
+  called_passes : (s : Standing) (lines : RunLines) (row times mid most : ℕ) (rest : Written) (w : Walked) → IsOutside s
+      → s.calls ≡ 0
       → IsRowKnown scope code row → (Fit → s.loops < deepest_loops) → w.count + 3 + signals ≤ mid → (Fit → mid ≤ most_walked)
       → ((now : Walked) → now.count ≤ mid → Passes Fit most (check_list scope inner s rest now))
       → Passes Fit most (check_list scope inner s (called lines (row_name code row) times rest) w)
@@ -180,7 +185,8 @@ module _ (scope : Scope) (code : Program) (program : IsProgram code) (are : AreN
       by_count false = single_passes s lines.call row mid most rest w out top known (omega (arith, low)) fits again
 
   -- a W, and those behind it
-  wave_passes : (s : Standing) (line table most : ℕ) (rest : Written) (w : Walked) → has_name scope.tables (table_name code table) ≡ true
+  wave_passes : (s : Standing) (line table most : ℕ) (rest : Written) (w : Walked)
+      → has_name scope.tables (table_name code table) ≡ true
       → w.count + 1 ≤ most → (Fit → most ≤ most_walked)
       → ((now : Walked) → now.count ≤ w.count + 1 → Passes Fit most (check_list scope inner s rest now))
       → Passes Fit most (check_list scope inner s (single line (Wave (table_name code table)) rest) w)
@@ -190,7 +196,8 @@ module _ (scope : Scope) (code : Program) (program : IsProgram code) (are : AreN
       (passes_rule Fit (w.count + 1) (may_walk (w.count + 1)) (fault_on scope s line TooLarge)
       (λ (now : Walked). check_step scope inner s line (Wave (table_name code table)) (one_more now)) w refl
       (walks (w.count + 1) most fits low)
-      (passes_kept Fit (w.count + 1) (has_name scope.tables (table_name code table)) (fault_on scope s line UnknownName) fine (one_more w)
+      (passes_kept Fit (w.count + 1) (has_name scope.tables (table_name code table))
+      (fault_on scope s line UnknownName) fine (one_more w)
       known (omega arith))) again
 
   -- instructions, where so many loops more may be open
@@ -206,7 +213,8 @@ module _ (scope : Scope) (code : Program) (program : IsProgram code) (are : AreN
       (λ now less. called_passes s lines row times mid most (written_in code rest) now out top fit.0.row_known
       (λ f. let d = deep f in let r = (room f).0 in omega (arith, d, r)) (omega (arith, less))
       (λ f. let m = fits f in omega (arith, low, m))
-      (λ later behind. nest_passes rest s left most later out top deep (λ f. (room f).1) (omega (arith, low, behind)) fits fit.1))
+      (λ later behind. nest_passes rest s left most later out top deep (λ f. (room f).1)
+      (omega (arith, low, behind)) fits fit.1))
   nest_passes (loop line times body rest) s left most w out top deep room low fits fit =
       let mid = w.count + 1 + cost signals body in
       let within : Fit → mid ≤ most_walked = λ f. let m = fits f in omega (arith, low, m) in

@@ -67,11 +67,13 @@ module _ (scope : Scope) (code : Program) (program : IsProgram code) (are : AreN
       let second = rule (width_fits a) (fault_on scope s d.line Width) third in
       let known : reference_kind scope.names d.reference ≡ None =
       ap (λ (x : Assignment). reference_kind scope.names x.reference) is ∙ reference_known code scope.names signal program are less in
-      subst (λ (k : Option StilKind). Passes Fit most (rule_kind k (fault_on scope s d.line) (after (resolved_assign scope.names d)) w)) (sym known)
+      subst (λ (k : Option StilKind). Passes Fit most (rule_kind k (fault_on scope s d.line)
+      (after (resolved_assign scope.names d)) w)) (sym known)
       (subst (λ (x : Assign). Passes Fit most (after x w)) (sym (one_is signal c d less is))
       (passes_rule Fit most (may_walk (w.count + 1)) (fault_on scope s d.line TooLarge) _ w refl
       (λ fit. le-leb (w.count + 1) most_walked (few fit))
-      (passes_bar Fit most (hash_misplaced s a w.hashes) (fault_on scope s d.line ShiftForm) second w (no_hash signal c w.hashes)
+      (passes_bar Fit most (hash_misplaced s a w.hashes) (fault_on scope s d.line ShiftForm) second w
+      (no_hash signal c w.hashes)
       (passes_kept Fit most (width_fits a) (fault_on scope s d.line Width) third w refl
       (passes_kept Fit most (data_there s a w.args) (fault_on scope s d.line NoData) last w
       (or_right s.without_pass (all_there (signal ∷ []) (a_character c ∷ []) w.args) refl) (omega arith))))))
@@ -89,7 +91,8 @@ module _ (scope : Scope) (code : Program) (program : IsProgram code) (are : AreN
       (assign_passes signal c d w less all.0 few) (λ now low. again gifts now low all.1)
 
   -- those of a row
-  assigns_pass : (signal most : ℕ) (row : List ℕ) (gifts : List Assignment) (w : Walked) → signal + length row ≤ length code.signals
+  assigns_pass : (signal most : ℕ) (row : List ℕ) (gifts : List Assignment) (w : Walked)
+      → signal + length row ≤ length code.signals
       → w.count + length row ≤ most → (Fit → most ≤ most_walked)
       → AllZip IsGift (given_from code signal row) gifts → Passes Fit most (check_assigns scope s gifts w)
   assigns_pass signal most [] [] w few low fits all = omega (arith, low)
@@ -102,7 +105,8 @@ module _ (scope : Scope) (code : Program) (program : IsProgram code) (are : AreN
         | inr f ↦
             more_pass signal c most (given_from code (signal + 1) row) gifts w (omega (arith, few))
             (λ fit. let room = fits fit in omega (arith, low, room))
-            (λ others now less rest. assigns_pass (signal + 1) most row others now (omega (arith, few)) (omega (arith, low, less)) fits rest)
+            (λ others now less rest. assigns_pass (signal + 1) most row others now (omega (arith, few))
+            (omega (arith, low, less)) fits rest)
             (subst (λ (given : List Given). AllZip IsGift given gifts) (given_some code signal c row f) all)
       ]
 
@@ -114,9 +118,11 @@ module _ (scope : Scope) (code : Program) (program : IsProgram code) (are : AreN
   row_passes zero number most d w long low fits is = omega (arith, low)
   row_passes (suc depth) number most d w long low fits is =
       subst (λ (body : Written). Passes Fit most (check_list scope (check_calls scope depth) s body w)) (sym is.body)
-      (passes_then Fit most most (counted scope s is.line (check_step scope (check_calls scope depth) s is.line (Vector is.gifts)) w)
+      (passes_then Fit most most (counted scope s is.line (check_step scope (check_calls scope depth) s is.line
+      (Vector is.gifts)) w)
       (check_list scope (check_calls scope depth) s no_more)
       (passes_rule Fit most (may_walk (w.count + 1)) (fault_on scope s is.line TooLarge) _ w refl
       (λ fit. let room = fits fit in le-leb (w.count + 1) most_walked (omega (arith, low, room)))
-      (assigns_pass 0 most (row_numbered code number) is.gifts (one_more w) (omega (arith, long)) (omega (arith, long, low)) fits is.each))
+      (assigns_pass 0 most (row_numbered code number) is.gifts (one_more w) (omega (arith, long))
+      (omega (arith, long, low)) fits is.each))
       (λ now less. less))

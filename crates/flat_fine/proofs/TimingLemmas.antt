@@ -52,7 +52,8 @@ upwards_rise f a (suc m) (suc n) less =
       upwards_rise f (suc a) m n (omega (arith, less)),
     )
 
-waves_rise : (names : Names) (tables : List TableDecl) (m n : ℕ) → m ≤ n → waves_of_first names tables m ≤ waves_of_first names tables n
+waves_rise : (names : Names) (tables : List TableDecl) (m n : ℕ) → m ≤ n
+    → waves_of_first names tables m ≤ waves_of_first names tables n
 waves_rise names tables m n less =
     upwards_rise (λ table. waves.wave_count (waveforms names tables table) (length names.signals)) 0 m n less
 
@@ -73,7 +74,8 @@ table_large vars names place tables code before k number d table earlier program
     large_or Fit (first_in (inherit_fault place tables) d.inherits) (with_period t d.line (period_text tables k) rest)
     (large_none Fit (first_in (inherit_fault place tables) d.inherits) (ap (first_in (inherit_fault place tables)) is.inherits))
     (subst (λ (o : Option Quoted). IsLarge Fit (with_period t d.line o rest)) (sym text)
-    (subst (λ (r : Result ℤ StilFault). IsLarge Fit (with_time r next)) (sym (time_is table.period fits.period vars place is.period_line))
+    (subst (λ (r : Result ℤ StilFault). IsLarge Fit (with_time r next))
+    (sym (time_is table.period fits.period vars place is.period_line))
     (subst (λ (b : Bool). IsLarge Fit (unless b (fault_at (on_line place is.period_line) OutOfRange) (rest (pos table.period))))
     (sym (and_from (int_le (pos 1) (pos table.period)) (int_le (pos table.period) (pos longest_period))
     (le-leb 1 table.period (omega (arith, fits.some))) (le-leb table.period longest_period fits.period)))
@@ -112,8 +114,10 @@ tables_large code blocks exec e before program flat less is Fit room =
     let same : exec_waves blocks e ≡ waves_of_first names tables (length tables) =
     ap (λ (ts : List TableDecl). waves_of_first names ts (length ts)) (tables_are code blocks exec e is) in
     omega (arith, whole, some, same)) in
-    subst (λ (ts : List TableDecl). IsLarge Fit (tables_fault (timed (exec_value times_of blocks e) names (timing_place e) ts) before))
+    subst (λ (ts : List TableDecl). IsLarge Fit (tables_fault
+    (timed (exec_value times_of blocks e) names (timing_place e) ts) before))
     (sym (tables_are code blocks exec e is))
-    (large_first Fit (table_fault (timed (exec_value times_of blocks e) names (timing_place e) tables) before) (enumerate_from 0 tables)
+    (large_first Fit (table_fault (timed (exec_value times_of blocks e) names (timing_place e) tables) before)
+    (enumerate_from 0 tables)
     (each_numbered (λ (p : ℕ × TableDecl). IsLarge Fit (table_fault
     (timed (exec_value times_of blocks e) names (timing_place e) tables) before p)) tables each))

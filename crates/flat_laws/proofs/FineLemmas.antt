@@ -50,10 +50,12 @@ more_room (loop line times body rest) less more rise room =
     )
 
 -- what is read has no fault
-blocks_fine : (code : Program) (left : ℕ) (blocks : Blocks) → IsProgram code → IsWithinLimits code left → AreFlatBlocks code blocks
+blocks_fine : (code : Program) (left : ℕ) (blocks : Blocks) → IsProgram code → IsWithinLimits code left
+    → AreFlatBlocks code blocks
     → blocks_fault times_of blocks ≡ None
 blocks_fine code left blocks whole within are =
-    none_both (fourth_fault blocks) (or_else (fifth_fault times_of blocks) (sixth_fault times_of blocks)) (names_fine code blocks whole are)
+    none_both (fourth_fault blocks) (or_else (fifth_fault times_of blocks) (sixth_fault times_of blocks))
+    (names_fine code blocks whole are)
     (none_both (fifth_fault times_of blocks) (sixth_fault times_of blocks)
     (few_are_fine code blocks whole are (record {
       walked = within.walked;
@@ -64,7 +66,8 @@ blocks_fine code left blocks whole within are =
     (small_are_fine times_of time_is code blocks left whole are
     (record { shallow = within.shallow; measured = within.measured })))
 
-module _ (code : Program) (nests : ℕ → Nest) (whole : IsProgram code) (plain : has_plain_names code ≡ true) (are : AreNests code nests)
+module _ (code : Program) (nests : ℕ → Nest) (whole : IsProgram code) (plain : has_plain_names code ≡ true)
+    (are : AreNests code nests)
     (left : ℕ) (within : IsWithinLimits code left) where
   -- no Timing has too many tables
   no_fault : (which : TextFault) → IsBeyond code which → ⊥
@@ -90,7 +93,8 @@ module _ (code : Program) (nests : ℕ → Nest) (whole : IsProgram code) (plain
       let r = at_range (length code.execs) number exec at in
       within.shallow exec (nests exec) (omega (arith, r.0, r.1)) (are exec (omega (arith, r.0, r.1)))))
       (flat_shaped code nests) in
-      let b = reading (blocks_of (text code nests whole plain are) (tokens code nests whole plain are) (entries (forest code nests whole plain are)))
+      let b = reading (blocks_of (text code nests whole plain are) (tokens code nests whole plain are)
+      (entries (forest code nests whole plain are)))
       (read code nests whole plain are) in
       let is : IsReadAs (flat_text code) b.0 = record {
         tokens = tokens code nests whole plain are;

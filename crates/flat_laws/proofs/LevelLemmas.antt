@@ -41,7 +41,8 @@ low_fits depth (braced head body more) shaped low =
 abbrev Low : ℕ → (Said → Said) → Type 0
 Low depth said = (more : Said) → IsLow depth more → IsLow depth (said more)
 
-low_each : {X : Type 0} (depth : ℕ) (said : X → Said → Said) → ((x : X) → Low depth (said x)) → (xs : List X) → Low depth (each_said said xs)
+low_each : {X : Type 0} (depth : ℕ) (said : X → Said → Said) → ((x : X) → Low depth (said x)) → (xs : List X)
+    → Low depth (each_said said xs)
 low_each depth said one [] more low = low
 low_each depth said one (x ∷ xs) more low = one x (each_said said xs more) (low_each depth said one xs more low)
 
@@ -50,15 +51,36 @@ wave_low code wave more low =
     (omega arith, (omega arith, low_each 5 event_said (λ e rest l. l) wave.events no_more tt, tt), low)
 
 table_low : (code : Program) (number : ℕ) → Low 1 (table_said code number)
-table_low code number more low =
-    (omega arith, (omega arith, low_each 3 (wave_said code) (wave_low code) (table_numbered code number).waves no_more tt, tt), low)
+table_low code number more low = (
+  omega arith,
+  (
+    omega arith,
+    low_each 3 (wave_said code) (wave_low code)
+        (table_numbered code number).waves no_more tt,
+    tt,
+  ),
+  low,
+)
 
 timing_low : (code : Program) (exec : ℕ) → Low 0 (timing_said code exec)
-timing_low code exec more low = (omega arith, low_each 1 (table_said code) (table_low code) (own_numbers code exec) no_more tt, low)
+timing_low code exec more low = (
+  omega arith,
+  low_each 1 (table_said code) (table_low code)
+      (own_numbers code exec) no_more tt,
+  low,
+)
 
 row_low : (code : Program) (number : ℕ) → Low 1 (row_said code number)
-row_low code number more low =
-    (omega arith, (omega arith, low_each 3 gift_said (λ g rest l. l) (given_from code 0 (row_numbered code number)) no_more tt, tt), low)
+row_low code number more low = (
+  omega arith,
+  (
+    omega arith,
+    low_each 3 gift_said (λ g rest l. l)
+        (given_from code 0 (row_numbered code number)) no_more tt,
+    tt,
+  ),
+  low,
+)
 
 rows_low : (code : Program) → Low 0 (rows_said code)
 rows_low code more low =
@@ -67,12 +89,14 @@ rows_low code more low =
 -- a call, so many times
 calls_by : (depth : ℕ) (name : List ℕ) (times : ℕ) (many : Bool) (more : Said) → depth < most_levels → IsLow depth more
     → IsLow depth
-    (cond many (braced (loop_head times) (spaced (call_said name (spaced no_more))) (next_line more)) (call_said name (next_line more)))
+    (cond many (braced (loop_head times) (spaced (call_said name (spaced no_more))) (next_line more))
+    (call_said name (next_line more)))
 calls_by depth name times true more room low = (room, tt, low)
 calls_by depth name times false more room low = low
 
 -- instructions
-nest_low : (code : Program) (nest : Nest) (depth left : ℕ) → depth + left ≤ most_levels → HasRoom left nest → Low depth (nest_said code nest)
+nest_low : (code : Program) (nest : Nest) (depth left : ℕ) → depth + left ≤ most_levels → HasRoom left nest
+    → Low depth (nest_said code nest)
 nest_low code nothing depth left few room more low = low
 nest_low code (run lines table row mark times rest) depth left few room more low =
     let some = room.0 in

@@ -32,7 +32,8 @@ use Rattle.flat_laws.specs.Limits.{waves_at}
 
 -- what is made of numbered items, beside other items
 zip_made : {A B C : Type 0} (P : A → B → Type 0) (R : A → C → Type 0) (make : ℕ × B → C) (from : ℕ) (xs : List A) (ys : List B)
-    → AllZip P xs ys → ((i : ℕ) (x : A) (y : B) → slice_get xs i ≡ Some x → slice_get ys i ≡ Some y → P x y → R x (make (i + from, y)))
+    → AllZip P xs ys → ((i : ℕ) (x : A) (y : B) → slice_get xs i ≡ Some x → slice_get ys i ≡ Some y → P x y → R x
+    (make (i + from, y)))
     → AllZip R xs (map make (enumerate_from from ys))
 zip_made P R make from [] [] all so = tt
 zip_made P R make from [] (y ∷ ys) all so = absurd all
@@ -44,7 +45,8 @@ zip_made P R make from (x ∷ xs) (y ∷ ys) all so = (
 )
 
 -- tables with so many waves each
-sum_same : (many : ℕ → ℕ) (numbers : List ℕ) (tables : List Table) → AllZip (λ n (t : Table). length t.waves ≡ many n) numbers tables
+sum_same : (many : ℕ → ℕ) (numbers : List ℕ) (tables : List Table)
+    → AllZip (λ n (t : Table). length t.waves ≡ many n) numbers tables
     → wave_count tables ≡ sum_by many numbers
 sum_same many [] [] all = refl
 sum_same many [] (t ∷ tables) all = absurd all
@@ -58,17 +60,20 @@ module _ (code : Program) (blocks : Blocks) (exec : ℕ) (e : ExecDecl) (text : 
   -- a table of the text has the waves of the code's
   waves_same : (k number : ℕ) (d : TableDecl) → slice_get (own_numbers code exec) k ≡ Some number
       → slice_get (exec_tables blocks e) k ≡ Some d → IsNumberedTable code number d
-      → length (made_table times_of (exec_value times_of blocks e) (names_of blocks) (timing_place e) (exec_tables blocks e) (k, d)).waves
+      → length (made_table times_of (exec_value times_of blocks e) (names_of blocks) (timing_place e)
+      (exec_tables blocks e) (k, d)).waves
       ≡ length (table_numbered code number).waves
   waves_same k number d there at is =
       let names = names_of blocks in
       let own = at_own code exec k number there in
       let place = slice_index_or (table_order code) number 0 in
-      let old = slice_get-there code.tables place (table_is_there code text.program exec (exec_less code blocks exec e text) place own.0) in
+      let old = slice_get-there code.tables place (table_is_there code text.program exec
+      (exec_less code blocks exec e text) place own.0) in
       let same : table_numbered code number ≡ old.0 = get_or_from_slice_get code.tables place old.0 no_table old.1 in
       let made =
       table_made times_of time_is (exec_value times_of blocks e) (timing_place e) code names (known code blocks exec e text)
-      (exec_tables blocks e) k number d (take place code.tables) old.0 (signal_count code names (names_are code blocks text.flat)) at
+      (exec_tables blocks e) k number d (take place code.tables) old.0
+      (signal_count code names (names_are code blocks text.flat)) at
       (subst (λ (t : Table). IsTableDecl code number t d) same is)
       (fits_behind (IsTable (length code.signals)) [] code.tables place old.0 text.program.tables old.1) in
       ap (λ (ws : List Wave). length ws) made.waves ∙ sym (ap (λ (t : Table). length t.waves) same)
@@ -101,7 +106,8 @@ pub text_waves : (code : Program) (blocks : Blocks) → IsProgram code → AreFl
     → sum_by (exec_waves blocks) blocks.executives ≡ sum_by (waves_at code) (executives code)
 text_waves code blocks program flat =
     all_waves code blocks (executives code) blocks.executives
-    (zip_at (IsExecDecl code) (λ exec e. exec_waves blocks e ≡ waves_at code exec) (executives code) blocks.executives flat.executives
+    (zip_at (IsExecDecl code) (λ exec e. exec_waves blocks e ≡ waves_at code exec)
+    (executives code) blocks.executives flat.executives
     (λ i exec e there at.
     let r = at_range (length code.execs) i exec there in
     subst (λ (n : ℕ). exec_waves blocks e ≡ waves_at code n) (sym r.0)

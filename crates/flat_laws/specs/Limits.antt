@@ -1,12 +1,12 @@
 -- When the flat text of a code is within all limits of texts but that of its length.
 use Rattle.std.specs.Prelude.{ℕ, ◌<◌, ◌≤◌, length, sum_by}
-use Rattle.text_bytes.specs.Limits.{most_tables, most_waves, most_walked, most_measure}
+use Rattle.text_bytes.specs.Limits.{most_tables, most_waves, most_walked}
 use Rattle.stil_tree.specs.Grammar.{most_levels}
 use Rattle.packed_code.specs.Program.{Program}
 use Rattle.flat_parts.specs.FlatText.{executives}
 use Rattle.flat_parts.specs.FlatBlocks.{table_numbered, own_numbers}
 use Rattle.flat_fine.specs.Fits.{AreShallow, walk_of}
-use Rattle.flat_cycles.specs.Small.{measure_at}
+use Rattle.flat_cycles.specs.Small.{IsMeasured}
 
 -- how many waves the tables have that the Runs of an executive name
 abbrev pub waves_at : Program → ℕ → ℕ
@@ -20,4 +20,4 @@ pub record IsWithinLimits (code : Program) (left : ℕ) : Type 0 where
   pub tables : (exec : ℕ) → exec < length code.execs → length (own_numbers code exec) ≤ most_tables
   pub waves : sum_by (waves_at code) (executives code) ≤ most_waves
   pub walked : sum_by (walk_of code) (executives code) ≤ most_walked
-  pub measured : sum_by (measure_at code left) (executives code) ≤ most_measure
+  pub measured : IsMeasured code left

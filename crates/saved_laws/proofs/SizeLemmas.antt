@@ -46,7 +46,8 @@ long-text t = omega (arith, length-append (number w16 (length t)) t, long-16 (le
 
 -- ---- lists of parts
 
-signals-long : (ss : List CodeSignal) → length (flat_map signal ss) ≡ 3 * length ss + sum_by (λ (s : CodeSignal). length s.name) ss
+signals-long : (ss : List CodeSignal) → length (flat_map signal ss) ≡ 3 * length ss + sum_by
+    (λ (s : CodeSignal). length s.name) ss
 signals-long [] = refl
 signals-long (s ∷ ss) =
     omega (
@@ -120,7 +121,8 @@ chains-long (c ∷ cs) =
     omega (
       arith,
       length-append (chain c) (flat_map chain cs),
-      length-append (text c.name) (number w16 c.out ++ (number w32 c.length ++ (number w32 (length c.cells) ++ flat_map text c.cells))),
+      length-append (text c.name) (number w16 c.out ++ (number w32 c.length ++
+          (number w32 (length c.cells) ++ flat_map text c.cells))),
       long-text c.name,
       length-append (number w16 c.out) (number w32 c.length ++ (number w32 (length c.cells) ++ flat_map text c.cells)),
       long-16 c.out,
@@ -146,9 +148,11 @@ execs-long (e ∷ es) =
     omega (
       arith,
       length-append (exec e) (flat_map exec es),
-      length-append (text e.name) (number w16 (length e.chains) ++ (flat_map chain e.chains ++ (number w32 (length e.instrs) ++ flat_map instr e.instrs))),
+      length-append (text e.name) (number w16 (length e.chains) ++
+          (flat_map chain e.chains ++ (number w32 (length e.instrs) ++ flat_map instr e.instrs))),
       long-text e.name,
-      length-append (number w16 (length e.chains)) (flat_map chain e.chains ++ (number w32 (length e.instrs) ++ flat_map instr e.instrs)),
+      length-append (number w16 (length e.chains))
+          (flat_map chain e.chains ++ (number w32 (length e.instrs) ++ flat_map instr e.instrs)),
       long-16 (length e.chains),
       length-append (flat_map chain e.chains) (number w32 (length e.instrs) ++ flat_map instr e.instrs),
       chains-long e.chains,
@@ -171,7 +175,8 @@ row-long Two signals before r fits =
     elim (cases_Bool (is_difference before r)) [
       | inl changed ↦
           let cs = changes 0 (last_row before) r in
-          let short = ltb-true (3 * length cs + 2) (length r) (and_parts (ltb 0 (length before)) (is_shorter (length cs) (length r)) changed).1 in
+          let short = ltb-true (3 * length cs + 2) (length r)
+          (and_parts (ltb 0 (length before)) (is_shorter (length cs) (length r)) changed).1 in
           rw changed (omega (arith, fits.places, short, length-difference cs))
       | inr whole ↦ rw whole (omega (arith, fits.places))
     ]
@@ -199,7 +204,8 @@ earlier-long p =
       arith,
       long-16 (length p.signals),
       long-16 (length p.tables),
-      length-append (number w16 (length p.signals)) (flat_map signal p.signals ++ (number w16 (length p.tables) ++ flat_map table p.tables)),
+      length-append (number w16 (length p.signals))
+          (flat_map signal p.signals ++ (number w16 (length p.tables) ++ flat_map table p.tables)),
       length-append (flat_map signal p.signals) (number w16 (length p.tables) ++ flat_map table p.tables),
       length-append (number w16 (length p.tables)) (flat_map table p.tables),
     )
@@ -211,7 +217,8 @@ later-long version p =
       arith,
       long-32 (length p.rows),
       long-16 (length p.execs),
-      length-append (number w32 (length p.rows)) (behind (row version) [] p.rows ++ (number w16 (length p.execs) ++ flat_map exec p.execs)),
+      length-append (number w32 (length p.rows)) (behind (row version) [] p.rows ++
+          (number w16 (length p.execs) ++ flat_map exec p.execs)),
       length-append (behind (row version) [] p.rows) (number w16 (length p.execs) ++ flat_map exec p.execs),
       length-append (number w16 (length p.execs)) (flat_map exec p.execs),
     )
@@ -222,4 +229,5 @@ saved_short version p is =
     let tables = tables-long p.tables in
     let rows = rows-long version (length p.signals) [] p.rows is.rows in
     let execs = execs-long p.execs in
-    omega (arith, length-append (earlier p) (later version p), earlier-long p, later-long version p, signals, tables, rows, execs)
+    omega
+    (arith, length-append (earlier p) (later version p), earlier-long p, later-long version p, signals, tables, rows, execs)

@@ -102,7 +102,8 @@ not_flat Events bytes accepted flat = let wrong = flat.flattens in cc
 not_flat Save bytes accepted flat = let wrong = flat.flattens in cc
 not_flat Flat bytes accepted flat =
     let is = flat.flat in
-    let same = one_text_fault (flat_text flat.code) (Some is.fault) None is.first (accepted.1 flat.code flat.is flat.whole).fine in cc
+    let same = one_text_fault (flat_text flat.code) (Some is.fault) None is.first
+    (accepted.1 flat.code flat.is flat.whole).fine in cc
 
 bytes_done : (command : Command) (file bytes : List ℕ) (status : Status) (text : List ℕ) → IsAccepted command bytes
     → BytesWant command file bytes status text → IsDone status

@@ -87,9 +87,19 @@ event_long e few =
     let a : length (codes "'") ≡ 1 = refl in
     let b : length (codes "fs' ") ≡ 4 = refl in
     let c : length (codes "; ") ≡ 2 = refl in
-    omega (arith, digits, letter, a, b, c, five_long (codes "'") (decimal e.time) (codes "fs' ") (act_letter e.act) (codes "; "))
+    omega (
+      arith,
+      digits,
+      letter,
+      a,
+      b,
+      c,
+      five_long (codes "'") (decimal e.time) (codes "fs' ") (act_letter e.act)
+          (codes "; "),
+    )
 
-braced_long : (before items behind : List ℕ) → length (braced before items behind) ≡ length before + length items + length behind + 3
+braced_long : (before items behind : List ℕ)
+    → length (braced before items behind) ≡ length before + length items + length behind + 3
 braced_long before items behind =
     let a : length (codes "{ ") ≡ 2 = refl in
     let b : length (codes "}") ≡ 1 = refl in
@@ -135,7 +145,8 @@ module _ (code : Program) (program : IsProgram code) (longest : ℕ)
       → length (wave_line code w) + 1 ≤ longest + 14 + 32 * length w.events
   wave_long w times =
       let items = items_long event_item (λ (e : Event). 28) w.events
-      (each_so (λ (e : Event). e.time ≤ longest_period) (λ (e : Event). length (event_item e) ≤ 28) w.events event_long times) in
+      (each_so (λ (e : Event). e.time ≤ longest_period)
+      (λ (e : Event). length (event_item e) ≤ 28) w.events event_long times) in
       let many = sum_same_each 28 w.events in
       let name = name_long w.signal in
       let end : length (codes " }") ≡ 2 = refl in
@@ -222,7 +233,8 @@ module _ (code : Program) (program : IsProgram code) (longest : ℕ)
       (range_with_len 0 (length (table_order code)))
       (each_at (λ number. size (own_table code exec number) ≤ most_at (slice_index_or (table_order code) number 0))
       (range_with_len 0 (length (table_order code)))
-      (λ i number at. let r = at_range (length (table_order code)) i number at in own_long exec number (omega (arith, r.0, r.1, few)))) in
+      (λ i number at. let r = at_range (length (table_order code)) i number at in own_long exec number
+      (omega (arith, r.0, r.1, few)))) in
       let sums = tables_few code program most_at (table_most longest)
       (λ i t at. let same = ap (λ (o : Option Table). option_map_or (table_most longest) o 0) at in omega (arith, same)) in
       let head = opening_long (codes "Timing \"t") exec small in
@@ -233,7 +245,8 @@ module _ (code : Program) (program : IsProgram code) (longest : ℕ)
         sums,
         head,
         a,
-        size_block (opening (codes "Timing \"t") exec) (flat_map (own_table code exec) (range_with_len 0 (length (table_order code)))),
+        size_block (opening (codes "Timing \"t") exec)
+            (flat_map (own_table code exec) (range_with_len 0 (length (table_order code)))),
       )
 
   -- ---- rows
@@ -251,11 +264,13 @@ module _ (code : Program) (program : IsProgram code) (longest : ℕ)
 
   items_few : (row : List ℕ) → length (character_items code row) ≤ length code.signals * 6 + names
   items_few row =
-      let long = items_long (signal_item code row) (λ (s : ℕ). 6 + length (name_of code s)) (range_with_len 0 (length code.signals))
+      let long = items_long (signal_item code row) (λ (s : ℕ). 6 + length (name_of code s))
+      (range_with_len 0 (length code.signals))
       (all_of_any (λ s. length (signal_item code row s) ≤ 6 + length (name_of code s)) (range_with_len 0 (length code.signals))
       (λ s. item_by (slice_index_or row s 0 == 0) (name_of code s) (slice_index_or row s 0))) in
       let places = by_places (λ (s : ℕ). 6 + length (name_of code s)) (λ (s : CodeSignal). 6 + length s.name) code.signals
-      (λ i s at. let same = ap (λ (o : Option CodeSignal). length (option_map_or (λ (x : CodeSignal). x.name) o [])) at in omega (arith, same)) in
+      (λ i s at. let same = ap (λ (o : Option CodeSignal). length
+      (option_map_or (λ (x : CodeSignal). x.name) o [])) at in omega (arith, same)) in
       omega (arith, long, places, sum_both 6 (λ (s : CodeSignal). length s.name) code.signals)
 
   row_long : (number : ℕ) → number < 2 ^ 64 → length (row_line code number) + 1 ≤ 36 + (length code.signals * 6 + names)
@@ -314,7 +329,18 @@ module _ (code : Program) (program : IsProgram code) (longest : ℕ)
           let b : length (codes "\"; Loop ") ≡ 8 = refl in
           let c : length (codes " { Call \"r") ≡ 10 = refl in
           let d : length (codes "\"; }") ≡ 4 = refl in
-          omega (arith, t, r, n, a, b, c, d, seven_long (codes "W \"w") (decimal table) (codes "\"; Loop ") (decimal times) (codes " { Call \"r") (decimal row) (codes "\"; }"))
+          omega (
+            arith,
+            t,
+            r,
+            n,
+            a,
+            b,
+            c,
+            d,
+            seven_long (codes "W \"w") (decimal table) (codes "\"; Loop ")
+                (decimal times) (codes " { Call \"r") (decimal row) (codes "\"; }"),
+          )
       by_test false t r n =
           let a : length (codes "W \"w") ≡ 4 = refl in
           let b : length (codes "\"; Call \"r") ≡ 10 = refl in
@@ -322,7 +348,8 @@ module _ (code : Program) (program : IsProgram code) (longest : ℕ)
           omega (arith, t, r, n, a, b, c, five_long (codes "W \"w") (decimal table) (codes "\"; Call \"r") (decimal row) (codes "\";"))
 
   -- what stands for an instruction is short
-  instrs_long : (depth : ℕ) (begun : Bool) (is : List Instr) → IsRest depth begun is → size (flat_map (instr_lines code) is) ≤ 88 * length is
+  instrs_long : (depth : ℕ) (begun : Bool) (is : List Instr) → IsRest depth begun is
+      → size (flat_map (instr_lines code) is) ≤ 88 * length is
   instrs_long depth begun [] rest = absurd rest
   instrs_long depth begun (Run table row mark times ∷ is) rest =
       let behind = instrs_long depth false is rest.2 in
@@ -332,7 +359,8 @@ module _ (code : Program) (program : IsProgram code) (longest : ℕ)
       let place = place_few (row_order code) row in
       let times_few = rest.1 in
       let line = run_line (number_in (table_order code) table) (number_in (row_order code) row) times in
-      let here = run_long (number_in (table_order code) table) (number_in (row_order code) row) times (omega (arith, few, at)) (omega (arith, low, place)) (omega (arith, times_few)) in
+      let here = run_long (number_in (table_order code) table) (number_in (row_order code) row) times
+      (omega (arith, few, at)) (omega (arith, low, place)) (omega (arith, times_few)) in
       omega (arith, behind, here, size_cons line (flat_map (instr_lines code) is))
   instrs_long depth begun (Loop times ∷ is) rest =
       let behind = instrs_long (suc depth) true is rest.3 in
@@ -340,7 +368,16 @@ module _ (code : Program) (program : IsProgram code) (longest : ℕ)
       let digits = digits_few times (omega (arith, most)) in
       let a : length (codes "Loop ") ≡ 5 = refl in
       let b : length (codes " {") ≡ 2 = refl in
-      omega (arith, behind, digits, a, b, size_cons (codes "Loop " ++ decimal times ++ codes " {") (flat_map (instr_lines code) is), three_long (codes "Loop ") (decimal times) (codes " {"))
+      omega (
+        arith,
+        behind,
+        digits,
+        a,
+        b,
+        size_cons (codes "Loop " ++ decimal times ++ codes " {")
+            (flat_map (instr_lines code) is),
+        three_long (codes "Loop ") (decimal times) (codes " {"),
+      )
   instrs_long depth begun (End ∷ is) rest =
       let behind = instrs_long (depth - 1) false is rest.2 in
       let a : length (codes "}") ≡ 1 = refl in
@@ -348,13 +385,21 @@ module _ (code : Program) (program : IsProgram code) (longest : ℕ)
   instrs_long depth begun (Done ∷ []) rest = let none = size_nil in omega (arith, none)
   instrs_long depth begun (Done ∷ i ∷ is) rest = absurd (let e = rest.1 in cc)
 
-  pattern_long : (exec : ℕ) → exec < length code.execs → size (pattern_lines code exec) ≤ 36 + 88 * length (exec_of code exec).instrs
+  pattern_long : (exec : ℕ) → exec < length code.execs
+      → size (pattern_lines code exec) ≤ 36 + 88 * length (exec_of code exec).instrs
   pattern_long exec less =
       let few = program.few_execs in
       let all = instrs_long 0 false (exec_of code exec).instrs (exec_fits code program exec less).whole.rest in
       let head = opening_long (codes "Pattern \"p") exec (omega (arith, less, few)) in
       let a : length (codes "Pattern \"p") ≡ 10 = refl in
-      omega (arith, all, head, a, size_block (opening (codes "Pattern \"p") exec) (flat_map (instr_lines code) (exec_of code exec).instrs))
+      omega (
+        arith,
+        all,
+        head,
+        a,
+        size_block (opening (codes "Pattern \"p") exec)
+            (flat_map (instr_lines code) (exec_of code exec).instrs),
+      )
 
   -- ---- bursts and executives
 
@@ -364,7 +409,15 @@ module _ (code : Program) (program : IsProgram code) (longest : ℕ)
       let a : length (codes "PatternBurst \"b") ≡ 15 = refl in
       let b : length (codes "\" { PatList { \"p") ≡ 16 = refl in
       let c : length (codes "\"; } }") ≡ 6 = refl in
-      omega (arith, digits, a, b, c, five_long (codes "PatternBurst \"b") (decimal exec) (codes "\" { PatList { \"p") (decimal exec) (codes "\"; } }"))
+      omega (
+        arith,
+        digits,
+        a,
+        b,
+        c,
+        five_long (codes "PatternBurst \"b") (decimal exec)
+            (codes "\" { PatList { \"p") (decimal exec) (codes "\"; } }"),
+      )
 
   title_long : (name : List ℕ) → length (title name) ≤ length name + 3
   title_long [] = omega arith
@@ -424,17 +477,21 @@ module _ (code : Program) (program : IsProgram code) (longest : ℕ)
       let count = length-range_with_len 0 (length code.execs) in
       let many = sum_same_each (35 + tables) all in
       let some = sum_same_each 78 all in
-      let pieces = by_places (λ (exec : ℕ). 36 + 88 * length (exec_of code exec).instrs) (λ (x : Exec). 36 + 88 * length x.instrs) code.execs
+      let pieces = by_places (λ (exec : ℕ). 36 + 88 * length (exec_of code exec).instrs)
+      (λ (x : Exec). 36 + 88 * length x.instrs) code.execs
       (λ i x at.
-      let same = ap (λ (y : Exec). length y.instrs) (get_or_from_slice_get code.execs i x (record { name = []; chains = []; instrs = [] }) at) in
+      let same = ap (λ (y : Exec). length y.instrs) (get_or_from_slice_get code.execs i x
+      (record { name = []; chains = []; instrs = [] }) at) in
       omega (arith, same)) in
       let titles = by_places (λ (exec : ℕ). 89 + length (exec_of code exec).name) (λ (x : Exec). 89 + length x.name) code.execs
       (λ i x at.
-      let same = ap (λ (y : Exec). length y.name) (get_or_from_slice_get code.execs i x (record { name = []; chains = []; instrs = [] }) at) in
+      let same = ap (λ (y : Exec). length y.name) (get_or_from_slice_get code.execs i x
+      (record { name = []; chains = []; instrs = [] }) at) in
       omega (arith, same)) in
       let head : length (codes "STIL 1.0;") ≡ 9 = refl in
       let opens : length (codes "Signals {") ≡ 9 = refl in
-      let product : length code.execs * (238 + tables) ≡ 203 * length code.execs + length code.execs * (35 + tables) = grind arith in
+      let product : length code.execs * (238 + tables) ≡ 203 * length code.execs + length code.execs * (35 + tables) =
+      grind arith in
       let own : length all * (35 + tables) ≡ length code.execs * (35 + tables) = ap (λ (n : ℕ). n * (35 + tables)) count in
       let rest = signal_lines code in
       let t = flat_map (timing_lines code) all in
@@ -472,8 +529,15 @@ module _ (code : Program) (program : IsProgram code) (longest : ℕ)
         size_both rest t,
       )
     where
-      times_out : (xs : List Exec) → sum_by (λ (x : Exec). 88 * length x.instrs) xs ≡ 88 * sum_by (λ (x : Exec). length x.instrs) xs
+      times_out : (xs : List Exec) → sum_by (λ (x : Exec). 88 * length x.instrs) xs ≡ 88 * sum_by
+          (λ (x : Exec). length x.instrs) xs
       times_out [] = refl
       times_out (x ∷ xs) =
           let behind = times_out xs in
-          omega (arith, behind, sum_by-cons (λ (y : Exec). 88 * length y.instrs) x xs, sum_by-cons (λ (y : Exec). length y.instrs) x xs)
+          omega (
+            arith,
+            behind,
+            sum_by-cons (λ (y : Exec). 88 * length y.instrs) x xs,
+            sum_by-cons
+                (λ (y : Exec). length y.instrs) x xs,
+          )

@@ -48,7 +48,8 @@ rows_listed blocks [] [] are = refl
 rows_listed blocks [] (x ∷ xs) are = absurd are
 rows_listed blocks (e ∷ es) [] are = absurd are
 rows_listed blocks (e ∷ es) (x ∷ xs) are =
-    ap (λ (vs : List Vector). map row_of vs ++ flat_map (λ (x : Executive). map row_of (vectors_of (length (names_of blocks).signals) x)) xs)
+    ap (λ (vs : List Vector). map row_of vs ++ flat_map
+    (λ (x : Executive). map row_of (vectors_of (length (names_of blocks).signals) x)) xs)
     are.0.vectors_are
     ∙ ap (λ (l : List (List ℕ)). map row_of (exec_vectors blocks e) ++ l) (rows_listed blocks es xs are.1)
 
@@ -71,12 +72,14 @@ module _ (blocks : Blocks) (code : Program) (is : IsBlocksCode blocks code) wher
   rows_same = is.code_is.rows ∙ ap (distinct_rows []) (rows_listed blocks blocks.executives is.executives is.are)
 
   -- its executives, one by one
-  module _ (f : Exec → ℕ) (g : ExecDecl → ℕ) (so : (n : ℕ) (d : ExecDecl) → slice_get blocks.executives n ≡ Some d → f (exec_of code n) ≤ g d) where
+  module _ (f : Exec → ℕ) (g : ExecDecl → ℕ) (so : (n : ℕ) (d : ExecDecl) → slice_get blocks.executives n ≡ Some d → f
+      (exec_of code n) ≤ g d) where
     pub execs_few : sum_by f code.execs ≤ sum_by g blocks.executives
     execs_few =
         sums_beside f g code.execs blocks.executives (execs_are blocks code is)
         (λ n x d there at.
-        let same : exec_of code n ≡ x = get_or_from_slice_get code.execs n x (record { name = []; chains = []; instrs = [] }) there in
+        let same : exec_of code n ≡ x = get_or_from_slice_get code.execs n x
+        (record { name = []; chains = []; instrs = [] }) there in
         subst (λ (y : Exec). f y ≤ g d) same (so n d at))
 
   chains_of : (n : ℕ) (d : ExecDecl) → slice_get blocks.executives n ≡ Some d → (exec_of code n).chains ≡ text_chains blocks d
@@ -86,15 +89,18 @@ module _ (blocks : Blocks) (code : Program) (is : IsBlocksCode blocks code) wher
   few_instructions =
       execs_few (λ (x : Exec). length x.instrs) (instructions_of blocks) (λ n d at. (exec_at blocks code is n d at).least)
 
-  few_chains : sum_by (λ (x : Exec). length x.chains) code.execs ≤ sum_by (λ (e : ExecDecl). length (text_chains blocks e)) blocks.executives
+  few_chains : sum_by (λ (x : Exec). length x.chains) code.execs ≤ sum_by
+      (λ (e : ExecDecl). length (text_chains blocks e)) blocks.executives
   few_chains =
       execs_few (λ (x : Exec). length x.chains) (λ (e : ExecDecl). length (text_chains blocks e))
       (λ n d at. let same = ap (λ (cs : List CodeChain). length cs) (chains_of n d at) in omega (arith, same))
 
-  few_cells : sum_by (λ (x : Exec). cells_in x.chains) code.execs ≤ sum_by (λ (e : ExecDecl). cells_in (text_chains blocks e)) blocks.executives
+  few_cells : sum_by (λ (x : Exec). cells_in x.chains) code.execs ≤ sum_by
+      (λ (e : ExecDecl). cells_in (text_chains blocks e)) blocks.executives
   few_cells =
       execs_few (λ (x : Exec). cells_in x.chains) (λ (e : ExecDecl). cells_in (text_chains blocks e))
-      (λ n d at. let same : cells_in (exec_of code n).chains ≡ cells_in (text_chains blocks d) = ap (λ (cs : List CodeChain). cells_in cs) (chains_of n d at) in omega (arith, same))
+      (λ n d at. let same : cells_in (exec_of code n).chains ≡ cells_in (text_chains blocks d) =
+      ap (λ (cs : List CodeChain). cells_in cs) (chains_of n d at) in omega (arith, same))
 
   pub few_names : sum_by exec_names code.execs ≤ sum_by (exec_bytes blocks) blocks.executives
   few_names =

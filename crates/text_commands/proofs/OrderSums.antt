@@ -61,9 +61,11 @@ in_range : (from count n : ℕ) → n < count → In (from + n) (range_with_len 
 in_range from zero n less = absurd (omega (arith, less))
 in_range from (suc count) zero less = inl (omega arith)
 in_range from (suc count) (suc n) less =
-    inr (subst (λ (m : ℕ). In m (range_with_len (from + 1) count)) (omega arith) (in_range (from + 1) count n (omega (arith, less))))
+    inr (subst (λ (m : ℕ). In m (range_with_len (from + 1) count)) (omega arith)
+    (in_range (from + 1) count n (omega (arith, less))))
 
-all_in_range : (count : ℕ) (ns : List ℕ) → AllByRecursion (λ n. n < count) ns → AllByRecursion (λ n. In n (range_with_len 0 count)) ns
+all_in_range : (count : ℕ) (ns : List ℕ) → AllByRecursion (λ n. n < count) ns
+    → AllByRecursion (λ n. In n (range_with_len 0 count)) ns
 all_in_range count ns all =
     each_so (λ n. n < count) (λ n. In n (range_with_len 0 count)) ns
     (λ n less. subst (λ (m : ℕ). In m (range_with_len 0 count)) (omega arith) (in_range 0 count n less)) all
@@ -89,13 +91,15 @@ ordered_few f g xs order apart within so =
 
 -- ---- the tables and rows of a code
 
-run_tables_in : (tables : _) (rows : List (List ℕ)) (i : Instr) → IsInstr tables rows i → AllByRecursion (λ n. n < length tables) (run_table i)
+run_tables_in : (tables : _) (rows : List (List ℕ)) (i : Instr) → IsInstr tables rows i
+    → AllByRecursion (λ n. n < length tables) (run_table i)
 run_tables_in tables rows (Run table row mark times) fits = (fits.0, tt)
 run_tables_in tables rows (Loop times) fits = tt
 run_tables_in tables rows End fits = tt
 run_tables_in tables rows Done fits = tt
 
-run_rows_in : (tables : _) (rows : List (List ℕ)) (i : Instr) → IsInstr tables rows i → AllByRecursion (λ n. n < length rows) (run_row i)
+run_rows_in : (tables : _) (rows : List (List ℕ)) (i : Instr) → IsInstr tables rows i
+    → AllByRecursion (λ n. n < length rows) (run_row i)
 run_rows_in tables rows (Run table row mark times) fits = (fits.1, tt)
 run_rows_in tables rows (Loop times) fits = tt
 run_rows_in tables rows End fits = tt
@@ -133,10 +137,13 @@ module _ (code : Program) (program : IsProgram code) where
   pub tables_few : (f : ℕ → ℕ) (g : _ → ℕ) → ((i : ℕ) (t : _) → slice_get code.tables i ≡ Some t → f i ≤ g t)
       → sum_by (λ (number : ℕ). f (slice_index_or (table_order code) number 0)) (range_with_len 0 (length (table_order code)))
       ≤ sum_by g code.tables
-  tables_few f g so = ordered_few f g code.tables (table_order code) (apart_firsts (flat_map tables_in code.execs)) tables_within so
+  tables_few f g so = ordered_few f g code.tables (table_order code)
+      (apart_firsts (flat_map tables_in code.execs)) tables_within so
 
   -- there are no more of them, and no more rows
-  pub few_rows : sum_by (λ (number : ℕ). 1) (range_with_len 0 (length (row_order code))) ≤ sum_by (λ (row : List ℕ). 1) code.rows
+  pub few_rows : sum_by (λ (number : ℕ). 1) (range_with_len 0 (length (row_order code))) ≤ sum_by
+      (λ (row : List ℕ). 1) code.rows
   few_rows =
-      ordered_few (λ (n : ℕ). 1) (λ (row : List ℕ). 1) code.rows (row_order code) (apart_firsts (flat_map rows_in code.execs)) rows_within
+      ordered_few (λ (n : ℕ). 1) (λ (row : List ℕ). 1) code.rows (row_order code)
+      (apart_firsts (flat_map rows_in code.execs)) rows_within
       (λ i x at. omega arith)

@@ -20,7 +20,8 @@ blocks_or none (read_as blocks) = blocks
 pub code_of_blocks : (bytes : List ℕ) (blocks : Blocks) (code : Program) → IsTextOf bytes blocks → IsProgramOf bytes code
     → IsBlocksCode blocks code
 code_of_blocks bytes blocks code text is =
-    let same : blocks ≡ is.blocks = ap (blocks_or blocks) (one_front bytes (read_as blocks) (read_as is.blocks) text.read is.text.read) in
+    let same : blocks ≡ is.blocks = ap (blocks_or blocks) (one_front bytes (read_as blocks)
+    (read_as is.blocks) text.read is.text.read) in
     subst (λ (b : Blocks). IsBlocksCode b code) (sym same) is.compiled
 
 pub saved_by_numbers : SavedByNumbers

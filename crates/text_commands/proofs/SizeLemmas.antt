@@ -22,7 +22,8 @@ size_cons line lines =
 
 pub size_both : (xs ys : List (List ℕ)) → size (xs ++ ys) ≡ size xs + size ys
 size_both xs ys =
-    let whole = ap (λ (l : List ℕ). length l) (text_of-append xs ys) in omega (arith, whole, length-append (text_of xs) (text_of ys))
+    let whole = ap (λ (l : List ℕ). length l) (text_of-append xs ys) in omega
+    (arith, whole, length-append (text_of xs) (text_of ys))
 
 pub size_block : (opening : List ℕ) (lines : List (List ℕ)) → size (block opening lines) ≡ length opening + 3 + size lines
 size_block opening lines =
@@ -36,7 +37,8 @@ size_block opening lines =
     )
 
 -- the lines of items
-pub size_flat : {X : Type 0} (lines : X → List (List ℕ)) (f : X → ℕ) (xs : List X) → AllByRecursion (λ x. size (lines x) ≤ f x) xs
+pub size_flat : {X : Type 0} (lines : X → List (List ℕ)) (f : X → ℕ) (xs : List X)
+    → AllByRecursion (λ x. size (lines x) ≤ f x) xs
     → size (flat_map lines xs) ≤ sum_by f xs
 size_flat lines f [] all = let none = size_nil in omega (arith, none)
 size_flat lines f (x ∷ xs) all =

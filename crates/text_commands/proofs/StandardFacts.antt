@@ -1,5 +1,5 @@
 -- A text whose only executive runs forty equal vectors in a row meets the bounds of `save` and of `flat`.
-use Rattle.std.proofs.Common.{◌≡◌, ℕ, zero, suc, ◌+◌, ◌*◌, ◌^◌, true, List, [], ◌∷◌, refl, ap, ◌∙◌, codes, map, arith}
+use Rattle.std.proofs.Common.{◌≡◌, ℕ, zero, suc, ◌+◌, ◌*◌, ◌^◌, true, List, [], ◌∷◌, refl, ap, ◌∙◌, codes, map, arith, inl}
 use Rattle.tester_types.specs.declared.signal.Direction.TheVariants.{In}
 use Rattle.stil_ast.specs.Data.Written.{Written, no_more, single}
 use Rattle.stil_ast.specs.Meaning.Statements.{a_character}
@@ -23,7 +23,8 @@ vectors (suc n) = single 11 (Vector (assign 11 (codes "a") (a_character 49 ∷ [
 
 -- one signal, one table, and a pattern of forty of them
 abbrev forty : Blocks
-forty = text_of (signal (codes "a") In ∷ []) [] (table (codes "w") (codes "100ns") (driven (by_name (codes "a")) ∷ []) ∷ []) [] []
+forty = text_of (signal (codes "a") In ∷ []) [] (table (codes "w") (codes "100ns")
+    (driven (by_name (codes "a")) ∷ []) ∷ []) [] []
     (single 10 (Wave (codes "w")) (vectors 40))
 
 forty_signals : (numbers_of forty).signals ≡ 1
@@ -107,10 +108,11 @@ forty_is_flattable = record {
   measured =
       let product : 2 * (2 ^ suc 4 * (numbers_of forty).instructions) ≡ 2624 =
       ap (λ (n : ℕ). 2 * (2 ^ suc 4 * n)) forty_instructions in
-      omega (arith, product);
+      inl (omega (arith, product));
   short =
       let rows : (numbers_of forty).rows * (36 + 6 * (numbers_of forty).signals + signal_bytes forty) ≡ 43 = refl in
-      let tables : (numbers_of forty).executives * (90 * (numbers_of forty).tables + (numbers_of forty).waves * 15 + 32 * (numbers_of forty).events) ≡ 184 =
+      let tables : (numbers_of forty).executives *
+      (90 * (numbers_of forty).tables + (numbers_of forty).waves * 15 + 32 * (numbers_of forty).events) ≡ 184 =
       ap (λ (n : ℕ). 1 * (90 * 1 + 2 * 15 + 32 * n)) forty_events in
       omega (arith, forty_names, forty_signals, forty_executives, forty_instructions, rows, tables);
 }

@@ -1,6 +1,6 @@
 -- Plain numbers of a text's blocks, by which it can be told beforehand that its code is saved and its flat text
 -- written.
-use Rattle.std.specs.Prelude.{◌≡◌, ℕ, suc, ◌+◌, ◌*◌, ◌^◌, ◌<◌, ◌≤◌, Bool, true, ◌&&◌, List, [], length, map, sum_by}
+use Rattle.std.specs.Prelude.{◌≡◌, ◌⊎◌, ℕ, suc, ◌+◌, ◌*◌, ◌^◌, ◌<◌, ◌≤◌, Bool, true, ◌&&◌, List, [], length, map, sum_by}
 use Rattle.std.specs.List.{AllByRecursion, flat_map, list_all}
 use Rattle.text_bytes.specs.Limits.{most_bytes, most_tables, most_waves, most_walked, most_measure}
 use Rattle.tester_types.specs.declared.wave.Table.{Table}
@@ -8,6 +8,7 @@ use Rattle.stil_tree.specs.Grammar.{most_levels}
 use Rattle.stil_ast.specs.Meaning.Signals.{Signal, names_of}
 use Rattle.stil_ast.specs.Meaning.Executive.{table_list, chain_list, exec_vectors, executive_of}
 use Rattle.stil_ast.specs.Meaning.ExecutiveData.{row_of, distinct_rows, measure_of}
+use Rattle.stil_ast.specs.Faults.FrontFaults.{cycle_count}
 use Rattle.stil_ast.specs.declared.blocks.Blocks.{Blocks}
 use Rattle.stil_ast.specs.declared.executive.ExecDecl.{ExecDecl}
 use Rattle.time_expr.specs.TimesOf.{times_of}
@@ -45,6 +46,10 @@ exec_bytes blocks e = length e.name + sum_by chain_names (text_chains blocks e)
 abbrev pub signal_bytes : Blocks → ℕ
 signal_bytes blocks = sum_by (λ (s : Signal). length s.text) (names_of blocks).signals
 
+-- the cycles of all executives
+abbrev pub text_cycles : Blocks → ℕ
+text_cycles blocks = sum_by (cycle_count blocks) blocks.executives
+
 -- the numbers of a text: how many signals, executives, tables, waves, events, rows, instructions, chains and cells it
 -- has, and how many bytes their names
 abbrev pub numbers_of : Blocks → Numbers
@@ -81,8 +86,9 @@ has_plain_texts blocks =
     list_all (λ (s : Signal). is_plain s.text) (names_of blocks).signals
     && list_all (λ (e : ExecDecl). is_plain e.name) blocks.executives
 
--- The flat text is short and within all other limits. `left` is how deep its Loops may nest, a repeated vector among
--- them: the measure of each executive is below 2 ^ (left + 1) - 2. No signal's name has more than `longest` bytes.
+-- The flat text is short and within all other limits. The Loops of the code nest `left` deep at most, as the measure of
+-- each executive is below 2 ^ (left + 2) - 2; a vector that is run several times in a row is a Loop more in the flat
+-- text. The measures are small by that depth or by the cycles. No signal's name has more than `longest` bytes.
 pub record IsFlattable (blocks : Blocks) (left longest : ℕ) : Type 0 where
   pub plain : has_plain_texts blocks ≡ true
   pub names : AllByRecursion (λ (s : Signal). length s.text ≤ longest) (names_of blocks).signals
@@ -92,5 +98,6 @@ pub record IsFlattable (blocks : Blocks) (left longest : ℕ) : Type 0 where
   pub tables : (numbers_of blocks).tables ≤ most_tables
   pub waves : (numbers_of blocks).executives * (numbers_of blocks).waves ≤ most_waves
   pub walked : (numbers_of blocks).instructions * (4 + (numbers_of blocks).signals) ≤ most_walked
-  pub measured : 2 * (2 ^ suc left * (numbers_of blocks).instructions) ≤ most_measure
+  pub measured : (2 * (2 ^ suc left * (numbers_of blocks).instructions) ≤ most_measure)
+      ⊎ (4 * text_cycles blocks ≤ most_measure)
   pub short : flat_most longest (signal_bytes blocks) (numbers_of blocks) ≤ most_bytes

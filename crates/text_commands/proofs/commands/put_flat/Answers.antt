@@ -31,6 +31,7 @@ pub returns-clause-answers : goal.returns-clause-answers
 returns-clause-answers g c = record {
   status = flat_status c.in-Err.fault;
   text = flat_line c.args.file.now c.in-Err.fault;
-  wanted = want_fault c.args.file.now c.args.code.now c.in-Err.fault c.signals-conditions.ensures.conditions c.in-Err.ensures.cause c.in-Err.ensures.limit;
+  wanted =
+      want_fault c.args.file.now c.args.code.now c.in-Err.fault c.signals-conditions.ensures.conditions c.in-Err.ensures.cause c.in-Err.ensures.limit;
   ends = c.put_flat_fault.ensures.ends;
 }
