@@ -7,12 +7,14 @@ use Rattle.bench_net.specs.Fault.{IsFault as IsNetFault}
 use Rattle.packed_code.specs.Program.{Program}
 use Rattle.plan_rows.specs.declared.fault.PlanFault.{PlanFault}
 use Rattle.plan_rows.specs.declared.fault.PlanFault.TheVariants as plans
-use Rattle.plan_rows.specs.Plan.{IsFault as IsPlanFault}
-use Rattle.plan_rows.specs.Rows.{sites_of}
+use Rattle.plan_rows.specs.Plan.{IsPlan, IsFault as IsPlanFault}
+use Rattle.plan_rows.specs.Rows.{sites_of, files_of}
+use Rattle.plan_rows.specs.declared.row.Row.{Row}
 use Rattle.lot_plan.specs.Bound.{Bound}
 use Rattle.lot_plan.specs.Refusal.{refusal}
 use Rattle.die_sim.specs.Socket.{Told}
 use Rattle.drill_fine.specs.Texts.{stil_text, net_text, plan_text}
+use Rattle.drill_fine.proofs.LawLemmas.{four_sites}
 use Rattle.stil_ast.specs.declared.fault.StilFault.{StilFault}
 use Rattle.stil_ast.specs.Data.Refusal.{StilRefusal}
 use Rattle.answers.specs.declared.short.Short.TheVariants as stil
@@ -30,6 +32,12 @@ use Rattle.stil_tool.specs.Drill.IsTextRefused.{no_memory, of_program, of_plan, 
 use Rattle.stil_tool.specs.Drill.IsDrillRefused.{of_text, few_sockets}
 use Rattle.stil_tool.specs.Drill.DrillComes.{is_run, is_refused}
 use Rattle.tool_inputs.proofs.InputLemmas.{text_refusal}
+
+-- ---- the plan
+
+-- it has one file
+pub one_file : (n : ℕ) (rows : List Row) → n ≤ 200 → IsPlan (plan_text n) rows → length (files_of rows) ≡ 1
+one_file n rows few is = ap (λ (rs : List Row). length (files_of rs)) (four_sites n rows few is).0
 
 -- ---- the words
 

@@ -88,16 +88,14 @@ fn shared(alloc: Global, net: Netlist) -> Result<Vec<Arc<Netlist>>, AllocError>
     Ok(nets)
 }
 
-/// Reads the three texts, and binds the plan. A plan of other than one file would be answered as want of memory.
+/// Reads the three texts, and binds the plan, which has one file.
 fn prepare(alloc: Global, number: u8) -> Result<ReadyLot, Refusal>
+    requires { number ≤ 200 }
     ensures { MatchResult result (λ lot. IsDrillReady number lot.code lot.plan) (IsTextRefused number) }
 {
     let code = code(alloc, number)?;
     let plan = plan(alloc, number)?;
     let net = net(alloc, number)?;
-    if plan.files().len() != 1 {
-        return Err(Refusal::NoMemory);
-    }
     let Ok(nets) = shared(alloc, net) else {
         return Err(Refusal::NoMemory);
     };
@@ -179,6 +177,7 @@ pub(crate) fn drill<K: Sink, D: Desk, G: Gate, R: Threads + Wait + Sync>(
     gate: &G,
     out: &mut K,
 ) -> Status
+    requires { number ≤ 200 }
     ensures answers { Answers (DrillComes ⟦<SocketBox as Socket>⟧.told number
         (record { sockets = sockets.old.items; stops = D.stops desk.old; asked = D.asked desk.old })
         (record { sockets = sockets.new.items; stops = D.stops desk.new; asked = D.asked desk.new }))

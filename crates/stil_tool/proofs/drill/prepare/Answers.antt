@@ -1,16 +1,16 @@
-use Rattle.std.proofs.Common.{◌≡◌, ℕ, List, length, map, refl, sym, ap, ◌∙◌, arith}
+use Rattle.std.proofs.Common.{◌≡◌, List, length, map, refl, sym, ap, ◌∙◌}
 use Rattle.std.specs.Arc.{arc_value}
 use Rattle.std.proofs.lemmas.List.{length-map}
 use Rattle.bench_net.specs.Circuit.{Circuit}
 use Rattle.tool_inputs.specs.Inputs.{Inputs}
-use Rattle.stil_tool.proofs.DrillLemmas.{unbound_refused}
+use Rattle.stil_tool.proofs.DrillLemmas.{unbound_refused, one_file}
 use Rattle.stil_tool.proofs.drill.prepare.Goals as goal
 
 pub bind-requires : goal.bind-requires
 bind-requires c =
     let one : length c.in-Ok.nets.items ≡ 1 =
     sym (length-map c.in-Ok.nets.items arc_value) ∙ ap (λ (l : List Circuit). length l) c.in-Ok.ensures in
-    omega (arith, one, c.if-len-ne1.false, c.len.ensures, ap (λ (l : List (List ℕ)). length l) c.files.ensures.files)
+    one ∙ sym (one_file c.args.number c.in_ok-plan.plan c.requires c.in_ok-plan.ensures)
 
 pub returns-in-Ok-bind : goal.returns-in-Ok-bind
 returns-in-Ok-bind c =

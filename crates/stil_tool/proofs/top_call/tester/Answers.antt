@@ -18,6 +18,9 @@ returns-in-Lot-clause-answers g c =
 pub returns-in-Lot-clause-complete_lot : goal.returns-in-Lot-clause-complete_lot
 returns-in-Lot-clause-complete_lot g c = λ fine. lot_completes _ _ _ _ _ _ _ _ _ _ _ _ (returns-in-Lot-clause-answers g c) fine
 
+pub drill-requires : goal.drill-requires
+drill-requires g c = c.in-Drill.ensures.few
+
 pub returns-in-Drill-clause-answers : goal.returns-in-Drill-clause-answers
 returns-in-Drill-clause-answers g c =
     let a = c.drill.ensures.answers in
