@@ -1,5 +1,5 @@
 -- How large the flat tree of a pattern of a flat text is, by how its instructions nest.
-use Rattle.std.proofs.Common.{◌≡◌, ℕ, zero, suc, ◌+◌, ◌-◌, ◌*◌, ◌^◌, ◌<◌, ◌≤◌, Bool, true, false, cond, nat_lt, List, [], ◌∷◌, ◌++◌, length, replicate, slice_get, Option, Some, None, refl, sym, ap, subst, ◌∙◌, arith, length-append}
+use Rattle.std.proofs.Common.{◌≡◌, ℕ, zero, suc, ◌+◌, ◌-◌, ◌*◌, ◌^◌, ◌<◌, ◌≤◌, Bool, true, false, cond, nat_lt, List, [], ◌∷◌, length, replicate, slice_get, Option, refl, ap, ◌∙◌, arith, length-append}
 use Rattle.packed_code.specs.declared.instr.Entry.{Entry}
 use Rattle.packed_code.specs.declared.instr.Instr.TheVariants.{End}
 use Rattle.packed_code.specs.Meaning.{repeated}
@@ -17,21 +17,12 @@ use Rattle.stil_ast.specs.Meaning.Resolved.{Scope, body_number, resolved, resolv
 use Rattle.stil_ast.specs.Meaning.Running.{Setting}
 use Rattle.stil_ast.specs.Meaning.Flat as flat
 use Rattle.stil_ast.specs.Meaning.Flat.{Flat, measure}
-use Rattle.stil_ast.specs.Meaning.Flattening.{joined, gifts_front, entry_front, Spot, Piece, flat_list}
+use Rattle.stil_ast.specs.Meaning.Flattening.{gifts_front, entry_front, Spot, Piece, flat_list}
+use Rattle.flat_tree.proofs.FlatLemmas.{measure-joined}
 use Rattle.flat_parts.specs.Nests.{RunLines, Nest, nothing, run, loop, instrs_in, row_name, written_in}
 use Rattle.flat_fine.specs.Fits.{HasRoom}
 use Rattle.flat_cycles.proofs.RunLemmas.{OfRuns, nest_cycles}
 use Rattle.flat_cycles.specs.Small.{IsRepeated}
-
--- one tree after another
-measure_both : (a b : Flat) → measure (joined a b) ≡ measure a + measure b
-measure_both flat.done b = omega arith
-measure_both (flat.table t rest) b = measure_both rest b
-measure_both (flat.character signal x rest) b = measure_both rest b
-measure_both (flat.back signal rest) b = measure_both rest b
-measure_both (flat.cycle mark spot rest) b = omega (arith, measure_both rest b)
-measure_both (flat.repeat count body rest) b = omega (arith, measure_both rest b)
-measure_both (flat.save putting body rest) b = omega (arith, measure_both rest b)
 
 -- what signals are given counts nothing
 pub measure_gifts : (gifts : List Gift) (rest : Flat) → measure (gifts_front gifts rest) ≡ measure rest
@@ -179,4 +170,4 @@ vector_size code scope t inner line gifts spot =
     let d = deal (resolved_assigns scope.names gifts) spot.args in
     let last = flat.cycle (mark_of t.scan_outs (takers (resolved_assigns scope.names gifts)) d.args)
     (origin of_procedure line) flat.done in
-    measure_both (gifts_front d.gifts last) flat.done ∙ ap (λ (n : ℕ). n + 0) (measure_gifts d.gifts last)
+    measure-joined (gifts_front d.gifts last) flat.done ∙ ap (λ (n : ℕ). n + 0) (measure_gifts d.gifts last)

@@ -89,8 +89,8 @@ table_sayable code is names number =
 
 -- ---- the tables that Runs name
 
--- each number once
-all_firsts : (P : ℕ → Type 0) (numbers : List ℕ) → AllByRecursion P numbers → AllByRecursion P (firsts numbers)
+-- what holds of all numbers holds where each of them stands once
+pub all_firsts : (P : ℕ → Type 0) (numbers : List ℕ) → AllByRecursion P numbers → AllByRecursion P (firsts numbers)
 unfolding firsts
 all_firsts P [] all = tt
 all_firsts P (number ∷ numbers) all =

@@ -1,29 +1,22 @@
 -- What is printed of numbers and names is read in the line of a fail.
-use Rattle.std.proofs.Common.{◌≡◌, ℕ, nat_lt, Bool, true, false, ◌||◌, ◌&&◌, List, [], ◌∷◌, ◌++◌, length, refl, ap, ◌∙◌, append_assoc}
+use Rattle.std.proofs.Common.{◌≡◌, ℕ, nat_lt, Bool, true, false, ◌||◌, ◌&&◌, List, [], ◌∷◌, ◌++◌, length, ap, ◌∙◌, append_assoc}
 use Rattle.std.specs.List.{list_all}
-use Rattle.std.proofs.lemmas.Bool.{and_parts, and_from, cond_both, false≢true}
+use Rattle.std.proofs.lemmas.Bool.{and_parts, and_from, cond_both, or_left, or_right, false≢true}
 use Rattle.text_bytes.specs.Bytes.{is_digit}
 use Rattle.text_bytes.specs.Numbers.{are_digits}
 use Rattle.tester_types.specs.Printing.{is_bare, quoted, printed_name}
 use Rattle.log_parts.specs.Tries.{bytes_then, digits_then, bare_then, byte_then, is_quote, quoted_then, named_then}
-
-or_first : (x y : Bool) → x ≡ true → (x || y) ≡ true
-or_first x y e = ap (λ (b : Bool). b || y) e
-
-or_second : (x y : Bool) → y ≡ true → (x || y) ≡ true
-or_second true y e = refl
-or_second false y e = e
 
 -- bytes of a kind, and what follows
 bytes_fit : (kind : ℕ → Bool) (follows : List ℕ → Bool) (byte : ℕ) (bytes rest : List ℕ) → list_all kind (byte ∷ bytes) ≡ true
     → follows rest ≡ true → bytes_then kind follows (byte ∷ (bytes ++ rest)) ≡ true
 bytes_fit kind follows byte [] rest all fits =
     and_from (kind byte) (bytes_then kind follows rest || follows rest) (and_parts (kind byte) true all).0
-    (or_second (bytes_then kind follows rest) (follows rest) fits)
+    (or_right (bytes_then kind follows rest) (follows rest) fits)
 bytes_fit kind follows byte (next ∷ bytes) rest all fits =
     let parts = and_parts (kind byte) (list_all kind (next ∷ bytes)) all in
     and_from (kind byte) (bytes_then kind follows (next ∷ (bytes ++ rest)) || follows (next ∷ (bytes ++ rest))) parts.0
-    (or_first (bytes_then kind follows (next ∷ (bytes ++ rest))) (follows (next ∷ (bytes ++ rest)))
+    (or_left (bytes_then kind follows (next ∷ (bytes ++ rest))) (follows (next ∷ (bytes ++ rest)))
     (bytes_fit kind follows next bytes rest parts.1 fits))
 
 -- digits
@@ -37,16 +30,16 @@ digits_fit follows (byte ∷ bytes) rest are fits =
 -- bytes up to a double quote
 quoted_fit : (follows : List ℕ → Bool) (name rest : List ℕ) → follows rest ≡ true
     → quoted_then follows (name ++ 34 ∷ rest) ≡ true
-quoted_fit follows [] rest fits = or_second (quoted_then follows rest) (follows rest) fits
+quoted_fit follows [] rest fits = or_right (quoted_then follows rest) (follows rest) fits
 quoted_fit follows (byte ∷ name) rest fits =
-    or_first (quoted_then follows (name ++ 34 ∷ rest)) (is_quote byte && follows (name ++ 34 ∷ rest))
+    or_left (quoted_then follows (name ++ 34 ∷ rest)) (is_quote byte && follows (name ++ 34 ∷ rest))
     (quoted_fit follows name rest fits)
 
 -- a name in double quotes
 in_quotes : (follows : List ℕ → Bool) (name rest : List ℕ) → follows rest ≡ true
     → named_then follows (quoted name ++ rest) ≡ true
 in_quotes follows name rest fits =
-    or_second (bare_then follows (quoted name ++ rest)) (byte_then is_quote (quoted_then follows) (quoted name ++ rest))
+    or_right (bare_then follows (quoted name ++ rest)) (byte_then is_quote (quoted_then follows) (quoted name ++ rest))
     (ap (quoted_then follows) (append_assoc name (34 ∷ []) rest) ∙ quoted_fit follows name rest fits)
 
 -- a name as it is printed
@@ -56,6 +49,6 @@ named_fit follows [] rest fits = in_quotes follows [] rest fits
 named_fit follows (byte ∷ bytes) rest fits =
     cond_both (list_all is_bare (byte ∷ bytes)) (byte ∷ bytes) (quoted (byte ∷ bytes))
     (λ (l : List ℕ). named_then follows (l ++ rest) ≡ true)
-    (λ bare. or_first (bare_then follows (byte ∷ (bytes ++ rest))) (byte_then is_quote (quoted_then follows) (byte ∷ (bytes ++ rest)))
+    (λ bare. or_left (bare_then follows (byte ∷ (bytes ++ rest))) (byte_then is_quote (quoted_then follows) (byte ∷ (bytes ++ rest)))
     (bytes_fit is_bare follows byte bytes rest bare fits))
     (λ _. in_quotes follows (byte ∷ bytes) rest fits)

@@ -30,19 +30,19 @@ length-flat_map-le f most (x ∷ xs) all = omega (arith, length-append (f x) (fl
 
 -- ---- parts
 
-length-16 : (n : ℕ) → length (number w16 n) ≡ 2
+pub length-16 : (n : ℕ) → length (number w16 n) ≡ 2
 unfolding number
 length-16 n = refl
 
-length-32 : (n : ℕ) → length (number w32 n) ≡ 4
+pub length-32 : (n : ℕ) → length (number w32 n) ≡ 4
 unfolding number
 length-32 n = refl
 
-length-64 : (n : ℕ) → length (number w64 n) ≡ 8
+pub length-64 : (n : ℕ) → length (number w64 n) ≡ 8
 unfolding number
 length-64 n = refl
 
-length-8 : (n : ℕ) → length (number w8 n) ≡ 1
+pub length-8 : (n : ℕ) → length (number w8 n) ≡ 1
 unfolding number
 length-8 n = refl
 
@@ -103,7 +103,7 @@ pub length-difference : (cs : List (ℕ × ℕ)) → length (difference cs) ≡ 
 length-difference cs =
     omega (arith, length-append (number w16 (length cs)) (flat_map change cs), length-16 (length cs), length-changes cs)
 
-length-row : (version : Version) (signals : ℕ) (before : List (List ℕ)) (r : List ℕ) → IsRow signals before r
+pub length-row : (version : Version) (signals : ℕ) (before : List (List ℕ)) (r : List ℕ) → IsRow signals before r
     → length (row version before r) ≤ suc signals
 length-row One signals before r fits = omega (arith, fits.places)
 length-row Two signals before r fits =

@@ -1,6 +1,5 @@
 -- A saved form is no longer than its code's numbers say: `saved_short`.
-use Rattle.std.proofs.Common.{◌≡◌, ℕ, suc, ◌+◌, ◌*◌, ◌≤◌, ltb, List, [], ◌∷◌, ◌++◌, length, sum_by, refl, arith, inl, inr}
-use Rattle.std.proofs.lemmas.Bool.{cases_Bool, and_parts, ltb-true}
+use Rattle.std.proofs.Common.{◌≡◌, ℕ, suc, ◌+◌, ◌*◌, ◌≤◌, List, [], ◌∷◌, ◌++◌, length, sum_by, refl, arith}
 use Rattle.std.proofs.lemmas.List.{length-append}
 use Rattle.std.proofs.lemmas.List.Sums.{sum_by-cons}
 use Rattle.std.specs.List.{flat_map}
@@ -17,32 +16,14 @@ use Rattle.packed_code.specs.Program.{Exec, Program}
 use Rattle.packed_code.specs.Conditions.{EachBehind, IsRow, wave_count}
 use Rattle.packed_code.proofs.PackedLemmas.{instr_size}
 use Rattle.page_code.specs.declared.version.Version.{Version}
-use Rattle.page_code.specs.declared.version.Version.TheVariants.{One, Two}
-use Rattle.page_code.specs.Changes.{last_row, changes, is_shorter, is_difference}
 use Rattle.page_code.specs.Spelling.{text, signal, event, wave, table, behind, row, chain, exec, earlier, later}
-use Rattle.page_code.proofs.SizeLemmas.{length-difference}
+use Rattle.page_code.proofs.SizeLemmas.{length-8, length-16, length-32, length-64, length-row}
 use Rattle.saved_laws.specs.Size.{events_in, cells_in, chain_names, exec_names, SavedIsShort}
 
 -- ---- fields
 
-long-16 : (n : ℕ) → length (number w16 n) ≡ 2
-unfolding number
-long-16 n = refl
-
-long-32 : (n : ℕ) → length (number w32 n) ≡ 4
-unfolding number
-long-32 n = refl
-
-long-64 : (n : ℕ) → length (number w64 n) ≡ 8
-unfolding number
-long-64 n = refl
-
-long-8 : (n : ℕ) → length (number w8 n) ≡ 1
-unfolding number
-long-8 n = refl
-
 long-text : (t : List ℕ) → length (text t) ≡ 2 + length t
-long-text t = omega (arith, length-append (number w16 (length t)) t, long-16 (length t))
+long-text t = omega (arith, length-append (number w16 (length t)) t, length-16 (length t))
 
 -- ---- lists of parts
 
@@ -65,7 +46,7 @@ events-long (e ∷ es) =
       arith,
       length-append (event e) (flat_map event es),
       length-append (number w64 e.time) (act_code e.act ∷ []),
-      long-64 e.time,
+      length-64 e.time,
       events-long es,
     )
 
@@ -76,9 +57,9 @@ waves-long (w ∷ ws) =
       arith,
       length-append (wave w) (flat_map wave ws),
       length-append (number w16 w.signal) (w.character ∷ (number w8 (length w.events) ++ flat_map event w.events)),
-      long-16 w.signal,
+      length-16 w.signal,
       length-append (number w8 (length w.events)) (flat_map event w.events),
-      long-8 (length w.events),
+      length-8 (length w.events),
       events-long w.events,
       sum_by-cons (λ (w : Wave). length w.events) w ws,
       waves-long ws,
@@ -94,9 +75,9 @@ tables-long (t ∷ ts) =
       length-append (text t.name) (number w64 t.period ++ (number w32 (length t.waves) ++ flat_map wave t.waves)),
       long-text t.name,
       length-append (number w64 t.period) (number w32 (length t.waves) ++ flat_map wave t.waves),
-      long-64 t.period,
+      length-64 t.period,
       length-append (number w32 (length t.waves)) (flat_map wave t.waves),
-      long-32 (length t.waves),
+      length-32 (length t.waves),
       waves-long t.waves,
       sum_by-cons (λ (t : Table). length t.name) t ts,
       sum_by-cons (λ (t : Table). length t.waves) t ts,
@@ -125,11 +106,11 @@ chains-long (c ∷ cs) =
           (number w32 (length c.cells) ++ flat_map text c.cells))),
       long-text c.name,
       length-append (number w16 c.out) (number w32 c.length ++ (number w32 (length c.cells) ++ flat_map text c.cells)),
-      long-16 c.out,
+      length-16 c.out,
       length-append (number w32 c.length) (number w32 (length c.cells) ++ flat_map text c.cells),
-      long-32 c.length,
+      length-32 c.length,
       length-append (number w32 (length c.cells)) (flat_map text c.cells),
-      long-32 (length c.cells),
+      length-32 (length c.cells),
       cells-long c.cells,
       sum_by-cons (λ (c : CodeChain). length c.cells) c cs,
       sum_by-cons chain_names c cs,
@@ -153,11 +134,11 @@ execs-long (e ∷ es) =
       long-text e.name,
       length-append (number w16 (length e.chains))
           (flat_map chain e.chains ++ (number w32 (length e.instrs) ++ flat_map instr e.instrs)),
-      long-16 (length e.chains),
+      length-16 (length e.chains),
       length-append (flat_map chain e.chains) (number w32 (length e.instrs) ++ flat_map instr e.instrs),
       chains-long e.chains,
       length-append (number w32 (length e.instrs)) (flat_map instr e.instrs),
-      long-32 (length e.instrs),
+      length-32 (length e.instrs),
       instrs-long e.instrs,
       sum_by-cons exec_names e es,
       sum_by-cons (λ (x : Exec). length x.chains) e es,
@@ -168,19 +149,6 @@ execs-long (e ∷ es) =
 
 -- ---- rows
 
-row-long : (version : Version) (signals : ℕ) (before : List (List ℕ)) (r : List ℕ) → IsRow signals before r
-    → length (row version before r) ≤ suc signals
-row-long One signals before r fits = omega (arith, fits.places)
-row-long Two signals before r fits =
-    elim (cases_Bool (is_difference before r)) [
-      | inl changed ↦
-          let cs = changes 0 (last_row before) r in
-          let short = ltb-true (3 * length cs + 2) (length r)
-          (and_parts (ltb 0 (length before)) (is_shorter (length cs) (length r)) changed).1 in
-          rw changed (omega (arith, fits.places, short, length-difference cs))
-      | inr whole ↦ rw whole (omega (arith, fits.places))
-    ]
-
 rows-long : (version : Version) (signals : ℕ) (before rs : List (List ℕ)) → EachBehind (IsRow signals) before rs
     → length (behind (row version) before rs) ≤ length rs * signals + length rs
 rows-long version signals before [] each = omega arith
@@ -190,7 +158,7 @@ rows-long version signals before (r ∷ rs) each =
     omega (
       arith,
       length-append (row version before r) (behind (row version) (before ++ r ∷ []) rs),
-      row-long version signals before r each.0,
+      length-row version signals before r each.0,
       behind_it,
       more,
     )
@@ -202,8 +170,8 @@ earlier-long : (p : Program) → length (earlier p)
 earlier-long p =
     omega (
       arith,
-      long-16 (length p.signals),
-      long-16 (length p.tables),
+      length-16 (length p.signals),
+      length-16 (length p.tables),
       length-append (number w16 (length p.signals))
           (flat_map signal p.signals ++ (number w16 (length p.tables) ++ flat_map table p.tables)),
       length-append (flat_map signal p.signals) (number w16 (length p.tables) ++ flat_map table p.tables),
@@ -215,8 +183,8 @@ later-long : (version : Version) (p : Program) → length (later version p)
 later-long version p =
     omega (
       arith,
-      long-32 (length p.rows),
-      long-16 (length p.execs),
+      length-32 (length p.rows),
+      length-16 (length p.execs),
       length-append (number w32 (length p.rows)) (behind (row version) [] p.rows ++
           (number w16 (length p.execs) ++ flat_map exec p.execs)),
       length-append (behind (row version) [] p.rows) (number w16 (length p.execs) ++ flat_map exec p.execs),

@@ -64,7 +64,10 @@ pub fn tester<F: Shelf, K: Sink, D: Desk, G: Gate, R: Threads + Wait + Sync>(
     match job_of(words) {
         Job::Lot(program, plan) => lot(rt, alloc, program, plan, shelf, sockets, desk, gate, out),
         Job::Grade(program, plan) => grade(rt, alloc, program, plan, shelf, gate, out),
-        Job::Drill(number) => drill(rt, alloc, number, sockets, desk, gate, out),
+        Job::Drill(number) => {
+            prove!(number <= 200);
+            drill(rt, alloc, number, sockets, desk, gate, out)
+        }
         Job::Offline => offline(alloc, words, shelf, out),
     }
 }

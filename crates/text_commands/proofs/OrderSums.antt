@@ -5,32 +5,20 @@ use Rattle.std.specs.List.{AllByRecursion, range_with_len}
 use Rattle.std.proofs.lemmas.Bool.{eq-eqb, true≢false}
 use Rattle.std.proofs.lemmas.List.FromFn.{length-range_with_len}
 use Rattle.std.proofs.lemmas.Option.{get_or_from_slice_get}
+use Rattle.text_bytes.proofs.ListLemmas.{all_filter}
 use Rattle.packed_code.specs.declared.instr.Instr.{Instr}
 use Rattle.packed_code.specs.declared.instr.Instr.TheVariants.{Run, Loop, End, Done}
 use Rattle.packed_code.specs.Program.{Exec, Program}
 use Rattle.packed_code.specs.Conditions.{IsInstr, IsExec, IsProgram}
 use Rattle.packed_code.proofs.Lists.{each_all, all_flat}
 use Rattle.flat_parts.specs.Order.{run_table, run_row, tables_in, rows_in, firsts, table_order, row_order}
+use Rattle.flat_said.proofs.FactLemmas.{all_firsts}
 use Rattle.flat_fine.proofs.ApartLemmas.{In, AreApart, fewer}
 use Rattle.flat_fine.proofs.ExecLemmas.{each_so}
 use Rattle.flat_fine.proofs.ListLemmas.{at_range}
 use Rattle.text_commands.proofs.NumberLemmas.{sums_beside}
 
 -- ---- numbers, each once
-
--- what holds of all holds of those that pass a test
-all_filtered : (P : ℕ → Type 0) (test : ℕ → Bool) (ns : List ℕ) → AllByRecursion P ns → AllByRecursion P (filter test ns)
-all_filtered P test [] all = tt
-all_filtered P test (n ∷ ns) all = by_test (test n) (all_filtered P test ns all.1)
-  where
-    by_test : (b : Bool) → AllByRecursion P (filter test ns) → AllByRecursion P (cond b (n ∷ filter test ns) (filter test ns))
-    by_test true rest = (all.0, rest)
-    by_test false rest = rest
-
-all_firsts : (P : ℕ → Type 0) (ns : List ℕ) → AllByRecursion P ns → AllByRecursion P (firsts ns)
-unfolding firsts
-all_firsts P [] all = tt
-all_firsts P (n ∷ ns) all = (all.0, all_filtered P (λ k. not (k == n)) (firsts ns) (all_firsts P ns all.1))
 
 -- others differ
 others_differ : (n : ℕ) (ns : List ℕ) → AllByRecursion (λ k. n ≡ k → ⊥) (filter (λ k. not (k == n)) ns)
@@ -47,7 +35,7 @@ apart_filtered test [] apart = tt
 apart_filtered test (n ∷ ns) apart = by_test (test n) (apart_filtered test ns apart.1)
   where
     by_test : (b : Bool) → AreApart (filter test ns) → AreApart (cond b (n ∷ filter test ns) (filter test ns))
-    by_test true rest = (all_filtered (λ k. n ≡ k → ⊥) test ns apart.0, rest)
+    by_test true rest = (all_filter (λ k. n ≡ k → ⊥) test ns apart.0, rest)
     by_test false rest = rest
 
 apart_firsts : (ns : List ℕ) → AreApart (firsts ns)

@@ -1,4 +1,4 @@
-use Rattle.std.proofs.Common.{refl, inl, inr}
+use Rattle.std.proofs.Common.{refl, arith, inl, inr}
 use Rattle.stil_tool.specs.Tester.TesterWants.{of_lot, of_drill, of_grade, of_other}
 use Rattle.stil_tool.proofs.FineDrillLemmas.{drill_wants, drill_completes}
 use Rattle.stil_tool.proofs.FineLotLemmas.{lot_completes}
@@ -18,8 +18,8 @@ returns-in-Lot-clause-answers g c =
 pub returns-in-Lot-clause-complete_lot : goal.returns-in-Lot-clause-complete_lot
 returns-in-Lot-clause-complete_lot g c = λ fine. lot_completes _ _ _ _ _ _ _ _ _ _ _ _ (returns-in-Lot-clause-answers g c) fine
 
-pub drill-requires : goal.drill-requires
-drill-requires g c = c.in-Drill.ensures.few
+pub prove-unreachable-requires : goal.prove-unreachable-requires
+prove-unreachable-requires g c = omega (arith, c.in-Drill.ensures.few, c.if-prove.true)
 
 pub returns-in-Drill-clause-answers : goal.returns-in-Drill-clause-answers
 returns-in-Drill-clause-answers g c =
