@@ -50,7 +50,7 @@ played-append stand exec going (cycle ∷ ones) others =
     (played-append stand exec next ones others
     ∙ ap (λ (g : Going). played stand exec next ones ++ played stand exec g others) (sym (after_cycles-next stand going cycle ones)))
 
-fails_in-one : (stand : Stand) (exec : ℕ) (going : Going) (cycle : Cycle)
+pub fails_in-one : (stand : Stand) (exec : ℕ) (going : Going) (cycle : Cycle)
     → fails_in (played stand exec going (cycle ∷ [])) ≡ (played_cycle stand exec going cycle).fails
 unfolding fails_in played
 fails_in-one stand exec going cycle = append-nil (played_cycle stand exec going cycle).fails
@@ -187,7 +187,7 @@ pub stops_one : (stand : Stand) (exec : ℕ) (cycle : Cycle) (later : List Cycle
 stops_one stand exec cycle later old new stop.NoMemory stops number = tt
 stops_one stand exec cycle later old new (stop.Contact instant) stops number = loses_one stand exec cycle later old new instant stops number
 
-stops-behind : (stand : Stand) (exec : ℕ) (ones others rest : List Cycle) (old mid new : Between) (why : Stop)
+pub stops-behind : (stand : Stand) (exec : ℕ) (ones others rest : List Cycle) (old mid new : Between) (why : Stop)
     → PlaysCycles stand exec ones old mid → StopsAmong stand exec others mid new why
     → StopsAmong stand exec (ones ++ (others ++ rest)) old new why
 stops-behind stand exec ones others rest old mid new stop.NoMemory first stops = tt

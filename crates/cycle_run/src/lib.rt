@@ -10,7 +10,9 @@ mod sensing;
 mod signals;
 mod stop;
 
-pub use bench::Bench;
+pub use bench::{Bench, unknown_drives};
 pub use cycle::{make_all, make_cycle};
+pub use drives::{collect, remember};
 pub use place::Place;
+pub use signals::bound_signals;
 pub use stop::Stop;

@@ -27,7 +27,8 @@ use Rattle.site_meaning.specs.Alike.{said_cycles, AreCodesAlike, AreCircuitsAlik
 use Rattle.site_meaning.proofs.AlikeDies.{twin, twins, SayExecs, say_all, tried_alike, starting_alike}
 use Rattle.site_meaning.proofs.AlikeLemmas.{binds_alike, of_net}
 use Rattle.site_meaning.proofs.PartLemmas.{dies_in-part_of}
-use Rattle.fault_grade.specs.Grade.{first_fail, first, graded, faults_of_net, nets_in, faults_in, grade_in, first_site, first_part}
+use Rattle.word_run.specs.First.{first_fail}
+use Rattle.fault_grade.specs.Grade.{first, graded, faults_of_net, nets_in, faults_in, grade_in, first_site, first_part}
 use Rattle.fault_grade.specs.Run.{fault_at, run_of}
 use Rattle.fault_grade.specs.declared.graded.Graded.{Graded}
 use Rattle.fault_grade.proofs.DieLemmas.{first-die}
