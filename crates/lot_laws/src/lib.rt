@@ -1,4 +1,4 @@
-//! Laws of lots: what a site records and prints hangs on the program, the site's rows and the netlists of its dies alone.
+//! Laws of lots: what a site records and prints depends on the program, the site's rows and the netlists of its dies alone.
 #![tactic(auto)]
 
 mod laws;

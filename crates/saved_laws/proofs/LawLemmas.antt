@@ -1,4 +1,4 @@
--- What bytes come to when they are loaded, with what that hangs on, and the laws from it.
+-- What bytes come to when they are loaded, with what that depends on, and the laws from it.
 use Rattle.std.proofs.Common.{◌≡◌, ℕ, suc, ◌-◌, ◌<◌, ◌≤◌, Bool, false, cond, eqb, List, [], ◌∷◌, ◌++◌, length, take, drop, Result, Ok, Err, refl, sym, ap, subst, ◌∙◌, append_assoc, arith, inl, inr}
 use Rattle.std.specs.Int.{w16}
 use Rattle.std.proofs.lemmas.Bool.{cases_lt, ne_eqb}

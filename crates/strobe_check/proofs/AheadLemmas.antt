@@ -18,7 +18,7 @@ use Rattle.strobe_check.proofs.HistoryLemmas.{unbound-sensed, bound-sensed}
 
 -- ---- one signal
 
--- whether a signal is watched hangs on the looks at it alone
+-- whether a signal is watched depends on the looks at it alone
 is_watched-alike : (window : Option Look) (signal : ℕ) (xs ys : List (ℕ × Look))
     → looks_of signal xs ≡ looks_of signal ys → is_watched window signal xs ≡ is_watched window signal ys
 is_watched-alike window signal xs ys same =

@@ -30,7 +30,7 @@ pub record JudgedAlike (bound : List Bool) (ones others : List Entry) : Type 0 w
   pub fails : fails bound ones ≡ fails bound others
   pub windows : open_windows bound ones ≡ open_windows bound others
 
--- the fails of a cycle hang on the levels of sensed signals alone
+-- the fails of a cycle depend on the levels of sensed signals alone
 abbrev pub SensedLevelsDecide : Type 0
 SensedLevelsDecide =
     (bound : List Bool) (ones others : List Entry) → Agree bound ones others → JudgedAlike bound ones others

@@ -23,7 +23,7 @@ of_net device image lanes is of = record {
   binds = of.binds ∙ ap (λ (i : Image). i.binds) is;
 }
 
--- what drives a die hangs on its binding alone
+-- what drives a die depends on its binding alone
 driven_alike : (device : Device) (image : Image) (priors : List Drive) (moment : Moment) → IsOfNet device image
     → driven device priors moment ≡ driven (device_of image) priors moment
 driven_alike device image priors moment of = by of.clock of.binds

@@ -153,7 +153,7 @@ windows_to bound entries signal is_bound (suc i) l none =
     (window_step bound (take i entries) (get_or entries i no_entry) signal none_more is_bound
     (windows_to bound entries signal is_bound i (omega (arith, within)) before))
 
--- while nothing fails in a cycle the windows hang on no level
+-- while nothing fails in a cycle the windows depend on no level
 pub windows_are : (bound : List Bool) (entries : List Entry) (signal : ℕ) → get_or bound signal false ≡ true
     → fails bound entries ≡ [] → open_window signal entries ≡ window_behind signal entries
 windows_are bound entries signal is_bound none =

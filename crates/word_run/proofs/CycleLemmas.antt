@@ -243,7 +243,7 @@ first_is device whose along moments =
 
 -- ---- dies of one netlist
 
--- what is looked at hangs on the binding alone
+-- what is looked at depends on the binding alone
 pub same_bound : (device : Device) (image : Image) → IsOfNet device image → bound_of device ≡ bound_of (device_of image)
 same_bound device image of = bound_by of.clock of.binds
   where

@@ -1,5 +1,5 @@
 -- What is checked at a moment of a cycle, by its looks alone: while a die has no fail in a cycle, the windows that are
--- open in it hang on no level, so they are the same in all dies that have none.
+-- open in it depend on no level, so they are the same in all dies that have none.
 use Rattle.std.specs.Prelude.{ℕ, not, List, [], ◌∷◌, ◌++◌, filter, fold, Option, Some, None}
 use Rattle.tester_types.specs.declared.wave.Look.{Look}
 use Rattle.tester_types.specs.declared.level.Level.{Level}
