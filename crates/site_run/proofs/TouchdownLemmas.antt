@@ -32,8 +32,7 @@ use Rattle.site_run.specs.Seat.{running_of}
 use Rattle.site_run.specs.Site.{seat_of, IsSiteOf, IsPolled, without_record}
 use Rattle.site_run.specs.Contact.{EndsAtContact, IsLostInPoll}
 use Rattle.site_run.specs.Touchdown.{IsIdle, IsTouchdown, ArePolls}
-use Rattle.cycle_run.proofs.SocketLemmas.{with-none}
-use Rattle.cycle_run.proofs.StepLemmas.{with-append}
+use Rattle.cycle_run.specs.BatchLaws.{with-none, with-append}
 use Rattle.site_run.proofs.StepsLemmas.{rests_not}
 use Rattle.site_run.proofs.SoFarLemmas.{Follows, poll_follows, poll_tapes}
 
