@@ -7,8 +7,8 @@ use Rattle.tester_types.specs.declared.cycle.Cycle.{Cycle}
 use Rattle.die_sim.specs.Die.{Device}
 use Rattle.site_meaning.specs.Playing.{Stand, Going, along_of, whose_next, moments_in, played_cycle, after_cycle}
 use Rattle.site_meaning.specs.Trials.{after_cycles}
-use Rattle.cycle_run.proofs.BatchLemmas.{after_cycles-next, after_cycles-none, fails_in-one}
-use Rattle.try_play.specs.declared.setup.Setup.{Setup}
+use Rattle.cycle_run.specs.BatchLaws.{after_cycles-next, after_cycles-none, fails_in-one}
+use Rattle.cycle_run.specs.declared.setup.Setup.{Setup}
 use Rattle.die_words.specs.Lane.{bit}
 use Rattle.die_words.proofs.WordLemmas.{and_is, not_is}
 use Rattle.word_run.specs.declared.player.WordPlayer.{WordPlayer}

@@ -8,16 +8,16 @@ ghost use Rattle.die_sim.specs.Die.{Device};
 ghost use Rattle.site_meaning.specs.Playing.{Going, along_of, played_cycle, after_cycle};
 ghost use Rattle.cycle_run.specs.Cycle.{stand_of};
 ghost use Rattle.cycle_run.specs.Step.{IsScheduled, HoldsSchedules};
-ghost use Rattle.try_play.specs.Setup.{IsSetUp, code_in};
+ghost use Rattle.cycle_run.specs.Setup.{IsSetUp, code_in};
 ghost use Rattle.die_words.specs.Lane.{bit};
 ghost use Rattle.word_run.specs.Board.{IsBoardOf, StandsAt, AreWindows, PlaysMoments, is_clear};
 
 use crate::board::{Board, play_moment};
 use crate::looks::close_all;
+use cycle_run::Setup;
 use die_sim::DieImage;
 use edge_gen::Schedules;
 use tester_types::{Cycle, Moment, NoMemory};
-use try_play::Setup;
 
 /// The moments of a cycle, one after another. Of these lanes those are left in whose dies none fails.
 fn play_moments(

@@ -6,10 +6,9 @@ ghost use Rattle.word_run.specs.PlayerLaws.{ready_less, plays_none, plays_more};
 
 use crate::board::Board;
 use crate::cycle::play_cycle;
-use cycle_run::Stop;
+use cycle_run::{Player, Setup, Stop, Until};
 use edge_gen::Schedules;
 use tester_types::Cycle;
-use try_play::{Player, Setup, Until};
 
 /// 64 dies between two cycles.
 #[derive(Drop)]

@@ -2,7 +2,7 @@ use Rattle.std.proofs.Common.{◌∙◌, ap, map, arith}
 use Rattle.std.proofs.lemmas.Result.{on_ok_weaker}
 use Rattle.die_sim.specs.declared.image.StuckAt.{StuckAt}
 use Rattle.word_run.specs.First.{first_on, with_fault}
-use Rattle.try_play.specs.Setup.{code_in}
+use Rattle.cycle_run.specs.Setup.{code_in}
 use Rattle.fault_grade.proofs.ImageLemmas.{faults-within, faults-count}
 use Rattle.fault_grade.proofs.run.append_run.Goals as goal
 

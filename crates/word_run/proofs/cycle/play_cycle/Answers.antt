@@ -9,7 +9,7 @@ use Rattle.site_meaning.specs.Playing.{along_of, after_moments, whose_next}
 use Rattle.cycle_run.specs.Step.{IsScheduled, HoldsSchedules}
 use Rattle.cycle_run.proofs.MomentLemmas.{row_long, moved_fit, moments_fit}
 use Rattle.cycle_run.proofs.ScheduleLemmas.{schedule_is, moments_are, holds_only, holds_asked}
-use Rattle.try_play.specs.Setup.{code_in}
+use Rattle.cycle_run.specs.Setup.{code_in}
 use Rattle.die_words.specs.Lane.{bit}
 use Rattle.word_run.specs.Board.{are_clear, StandsAt}
 use Rattle.word_run.proofs.BoardLemmas.{if_ok}
