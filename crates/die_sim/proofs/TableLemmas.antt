@@ -23,7 +23,8 @@ use Rattle.tester_types.specs.contracts.level.Level as level_type
 abbrev pub all_levels : (Level → Bool) → Bool
 all_levels p = p Zero && (p One && (p X && p Z))
 
-at_level : (p : Level → Bool) → all_levels p ≡ true → (l : Level) → p l ≡ true
+-- each level passes a test that all pass
+pub at_level : (p : Level → Bool) → all_levels p ≡ true → (l : Level) → p l ≡ true
 at_level p e Zero = (and_parts (p Zero) (p One && (p X && p Z)) e).0
 at_level p e One = (and_parts (p One) (p X && p Z) (and_parts (p Zero) (p One && (p X && p Z)) e).1).0
 at_level p e X = (and_parts (p X) (p Z) (and_parts (p One) (p X && p Z) (and_parts (p Zero) (p One && (p X && p Z)) e).1).1).0

@@ -1,9 +1,9 @@
 -- An operation on words is that on the levels in each lane: two equations over levels, shown for all of them.
-use Rattle.std.proofs.Common.{◌≡◌, ◌≢◌, ℕ, ◌-◌, ◌*◌, ◌%◌, ◌^◌, ◌<◌, ◌⊎◌, inl, inr, Bool, true, false, not, ◌&&◌, eqb, min, max, Option, Some, None, sym, ap, ◌∙◌, refl, w64}
+use Rattle.std.proofs.Common.{◌≡◌, ◌≢◌, ℕ, ◌-◌, ◌*◌, ◌%◌, ◌^◌, ◌<◌, ◌⊎◌, inl, inr, Bool, true, false, not, eqb, min, max, Option, Some, None, sym, ap, ◌∙◌, refl, w64}
 use Rattle.std.specs.Prelude.{bit_and, bit_or, unwrap_or}
 use Rattle.std.specs.Int.{bit_at}
 use Rattle.std.proofs.lemmas.Nat.Bits.{bit_at_and, bit_at_or, bit_at_not, bit_at-zero, bit_at_set_same, bit_at_set_other}
-use Rattle.std.proofs.lemmas.Bool.{and_parts, eqb-true}
+use Rattle.std.proofs.lemmas.Bool.{eqb-true}
 use Rattle.tester_types.specs.declared.level.Level.{Level}
 use Rattle.tester_types.specs.declared.level.Level.TheVariants.{Zero, One, X, Z}
 use Rattle.tester_types.specs.declared.wave.Look.{Look}
@@ -12,20 +12,11 @@ use Rattle.bench_net.specs.Gates.{is_zero, is_one, negated}
 use Rattle.die_sim.specs.Die.{stuck}
 use Rattle.die_sim.specs.Moment.{agreed}
 use Rattle.die_sim.specs.Walk.{is_off}
+use Rattle.die_sim.proofs.TableLemmas.{all_levels, at_level}
 use Rattle.strobe_check.specs.Look.{is_met}
 use Rattle.die_words.specs.declared.word.Word.{Word}
 use Rattle.die_words.specs.Lane.{bit, Shows, ShowsFault}
 use Rattle.die_words.specs.Pairs.{both, either, differ}
-
--- a test of all levels
-abbrev pub all_levels : (Level → Bool) → Bool
-all_levels p = p Zero && (p One && (p X && p Z))
-
-at_level : (p : Level → Bool) → all_levels p ≡ true → (l : Level) → p l ≡ true
-at_level p e Zero = (and_parts (p Zero) (p One && (p X && p Z)) e).0
-at_level p e One = (and_parts (p One) (p X && p Z) (and_parts (p Zero) (p One && (p X && p Z)) e).1).0
-at_level p e X = (and_parts (p X) (p Z) (and_parts (p One) (p X && p Z) (and_parts (p Zero) (p One && (p X && p Z)) e).1).1).0
-at_level p e Z = (and_parts (p X) (p Z) (and_parts (p One) (p X && p Z) (and_parts (p Zero) (p One && (p X && p Z)) e).1).1).1
 
 -- two numbers of two levels are one where the test of all levels says so
 pub by_test : (f g : Level → Level → ℕ) → all_levels (λ a. all_levels (λ b. eqb (f a b) (g a b))) ≡ true
