@@ -11,7 +11,7 @@ use std::marker::Model;
 
 /// Which gates of a netlist are pending.
 #[derive(Drop)]
-pub(crate) struct Pending {
+pub struct Pending {
     places: Vec<u32>,
     bits: Bits,
 }
@@ -28,7 +28,7 @@ impl Model for Pending {
 
 impl Pending {
     /// All gates are pending.
-    pub(crate) fn all(alloc: Global, net: &Netlist) -> Result<Pending, AllocError>
+    pub fn all(alloc: Global, net: &Netlist) -> Result<Pending, AllocError>
         ensures seats { IfOk result (λ m. AreSeats net.now.order m) }
         ensures pending { IfOk result (λ m. (n : ℕ) → is_pending m n ≡ gate_at net.now.net.drivers n) }
     {
@@ -39,7 +39,7 @@ impl Pending {
     }
 
     /// A gate is pending.
-    pub(crate) fn set(&mut self, net: u32)
+    pub fn set(&mut self, net: u32)
         requires { HasPlace self.old net }
         ensures { SetsPending net true self.old self.new }
     {
@@ -48,7 +48,7 @@ impl Pending {
     }
 
     /// The gate at this place is pending.
-    pub(crate) fn set_at(&mut self, place: usize)
+    pub fn set_at(&mut self, place: usize)
         requires { place < length self.old.bits }
         ensures sets { (n : ℕ) → place_at self.old n ≡ place → SetsPending n true self.old self.new }
         ensures seats { SameSeats self.old self.new }
@@ -57,7 +57,7 @@ impl Pending {
     }
 
     /// The gate at this place is pending no more.
-    pub(crate) fn clear_at(&mut self, place: usize)
+    pub fn clear_at(&mut self, place: usize)
         requires { place < length self.old.bits }
         ensures sets { (n : ℕ) → place_at self.old n ≡ place → SetsPending n false self.old self.new }
         ensures seats { SameSeats self.old self.new }
@@ -66,7 +66,7 @@ impl Pending {
     }
 
     /// The place of a net's gate.
-    pub(crate) fn place(&self, net: u32) -> u32
+    pub fn place(&self, net: u32) -> u32
         requires { HasPlace self.now net }
         ensures { result ≡ place_at self.now net }
     {
@@ -74,7 +74,7 @@ impl Pending {
     }
 
     /// The first place from this one on whose gate is pending, past the last gate where there is none.
-    pub(crate) fn next(&self, from: usize) -> usize
+    pub fn next(&self, from: usize) -> usize
         requires { from ≤ length self.now.bits }
         ensures onward { from ≤ result }
         ensures skipped { (g : ℕ) → from ≤ place_at self.now g → place_at self.now g < result

@@ -9,9 +9,9 @@ use std::alloc::{AllocError, Global};
 
 /// The places of the gates that read each net, net by net, and where those of each net start.
 #[derive(Drop)]
-pub(crate) struct Readers {
-    pub(crate) starts: Vec<usize>,
-    pub(crate) places: Vec<u32>,
+pub struct Readers {
+    pub starts: Vec<usize>,
+    pub places: Vec<u32>,
 }
 
 /// Puts the places of these gates behind the others.
@@ -27,11 +27,7 @@ fn push_places(places: &mut Vec<u32>, pending: &Pending, nets: &[u32]) -> Result
 
 impl Readers {
     /// The readers of the nets of a netlist.
-    pub(crate) fn new(
-        alloc: Global,
-        net: &Netlist,
-        pending: &Pending,
-    ) -> Result<Readers, AllocError>
+    pub fn new(alloc: Global, net: &Netlist, pending: &Pending) -> Result<Readers, AllocError>
         requires { AreSeats net.now.order pending.now }
         ensures { IfOk result (λ r. AreReaderPlaces net.now r.starts.items r.places.items) }
     {
@@ -46,7 +42,7 @@ impl Readers {
     }
 
     /// The places of the gates that read a net.
-    pub(crate) fn at(&self, net: u32) -> &[u32]
+    pub fn at(&self, net: u32) -> &[u32]
         requires within { net + 1 < length self.now.starts.items }
         requires cut { IsCutAt self.now.starts.items self.now.places.items net }
         ensures { result.now ≡ cut self.now.starts.items self.now.places.items net }

@@ -7,12 +7,14 @@ ghost use Rattle.bench_net.specs.Wiring.{driver_at, gate_at};
 ghost use Rattle.bench_net.specs.Circuit.{IsWhole};
 ghost use Rattle.bench_net.specs.Gates.{level_at};
 ghost use Rattle.die_sim.specs.Die.{own_level, Settled, IsNetBind, bind_at};
+ghost use Rattle.die_sim.specs.Readers.{AreReaderPlaces};
 ghost use Rattle.die_sim.specs.Pending.{is_pending, HasPlace, SameSeats, AreSeats, ActivatesEach, ActivatesReaders};
 ghost use Rattle.die_sim.specs.Walk.{same_level, is_flip_flop, HaveLevels, HasLevel, HaveDriven, Carries};
 ghost use Rattle.die_sim.specs.Settling.{circuit_of, drivers_of, IsWiring, AreSeated, AreNets, StaysAtRest, GatesWait, SourcesFit, PutsNet, RefreshesNets, VisitsGate};
 
 use crate::image::Bind;
 use crate::pending::Pending;
+use crate::readers::Readers;
 use crate::wiring::{Nets, Wiring};
 use bench_net::Netlist;
 use tester_types::{Drive, Level};
@@ -58,14 +60,15 @@ fn activate_places(pending: &mut Pending, places: &[u32])
 }
 
 /// The gates that read a net are pending.
-fn activate_readers(wiring: &Wiring, pending: &mut Pending, n: u32)
-    requires wiring { IsWiring wiring.now }
-    requires seats { AreSeats (circuit_of wiring.now).order pending.old }
-    requires within { n < length (circuit_of wiring.now).net.names }
-    ensures pending { ActivatesReaders (drivers_of wiring.now) n pending.old pending.new }
-    ensures seats { AreSeats (circuit_of wiring.now).order pending.new }
+pub fn activate_readers(net: &Netlist, readers: &Readers, pending: &mut Pending, n: u32)
+    requires whole { IsWhole net.now }
+    requires readers { AreReaderPlaces net.now readers.now.starts.items readers.now.places.items }
+    requires seats { AreSeats net.now.order pending.old }
+    requires within { n < length net.now.net.names }
+    ensures pending { ActivatesReaders net.now.net.drivers n pending.old pending.new }
+    ensures seats { AreSeats net.now.order pending.new }
 {
-    activate_places(pending, wiring.readers.at(n))
+    activate_places(pending, readers.at(n))
 }
 
 /// Gives a net a level. Where that is another than before, the gates are pending that read it, and the flip-flops wait.
@@ -81,7 +84,7 @@ fn put_level(wiring: &Wiring, nets: &mut Nets, n: u32, level: Level)
         return;
     }
     nets.levels[n as usize] = level;
-    activate_readers(wiring, &mut nets.pending, n);
+    activate_readers(&wiring.net, &wiring.readers, &mut nets.pending, n);
     nets.waiting.wake(n);
 }
 
