@@ -119,11 +119,6 @@ other_net drivers nets sources i n registers within e q =
     both_ways (is_flip_flop (driver_at drivers n)) e
     (subst (λ (m : ℕ). is_flip_flop (driver_at drivers m) ≡ true) (sym q) (ap is_flip_flop (registers.each i within)))
 
--- these nets are flip-flops
-pub registers_are : (drivers : List Driver) (nets sources : List ℕ) → AreRegisters drivers nets sources (length drivers)
-    → (k : ℕ) → k < length nets → is_flip_flop (driver_at drivers (get_or nets k 0)) ≡ true
-registers_are drivers nets sources registers k l = ap is_flip_flop (registers.each k l)
-
 -- where flip-flops keep their own, nothing changes
 pub captured_keeps : (drivers : List Driver) (was now : Level) (rise : Rise) (v own : List Level) (held : List Word) (lane : ℕ)
     → rise ≡ Keeps → ((x d : Level) → capture (edge was now) x d ≡ kept_after rise x d) → IsLane held lane own

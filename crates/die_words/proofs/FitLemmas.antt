@@ -149,14 +149,6 @@ module _ (c : Circuit) (whole : IsWhole c) (forces start old new : List Word) (p
     ];
   }
 
--- none had its turn
-pub AreDoneTo-none : (c : Circuit) (forces words : List Word) → AreDoneTo c forces words words 0
-AreDoneTo-none c forces words = record {
-  count = refl;
-  gates = λ j l inside. absurd (omega (arith, l));
-  kept = λ n e. refl;
-}
-
 -- those up to the next pending one fit
 pub AreDoneTo-on : (c : Circuit) → IsWhole c → (forces start words : List Word) (pending : PendingGates) (j k : ℕ)
     → ((i : ℕ) → j ≤ i → i < k → i < length c.order → is_pending pending (get_or c.order i 0) ≡ false)
