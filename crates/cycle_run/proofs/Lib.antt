@@ -5,5 +5,7 @@ pub mod MomentLemmas
 pub mod ScheduleLemmas
 pub mod CycleLemmas
 pub mod BenchLemmas
-pub mod BatchLemmas
 pub mod FitLemmas
+pub mod PlayLemmas
+pub mod SeatLemmas
+pub mod LentLemmas

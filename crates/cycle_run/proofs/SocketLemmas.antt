@@ -23,8 +23,8 @@ use Rattle.strobe_check.specs.Step.{is_watched}
 use Rattle.strobe_check.specs.History.{Held, Answers, sensed, open_window}
 use Rattle.strobe_check.proofs.SensedLemmas.{is_sensed-watched}
 use Rattle.site_meaning.specs.Playing.{is_bound, bound_of}
-use Rattle.std.proofs.lemmas.List.{append-nil}
 use Rattle.die_sim.specs.Socket.{Calls}
+use Rattle.cycle_run.specs.BatchLaws.{with-none}
 use Rattle.cycle_run.specs.Tape.{call_at, with_calls}
 use Rattle.cycle_run.specs.Step.{AreLevels, IsCheckedBy, IsSettled}
 
@@ -139,11 +139,6 @@ levels-skips first held moment from upto levels skips before history seen signal
     ]
 
 -- ---- tapes
-
--- a tape without more calls
-pub with-none : (tape : Option Calls) → with_calls tape [] ≡ tape
-with-none None = refl
-with-none (Some calls) = ap (λ (c : Calls). Some c) (append-nil calls)
 
 -- a call that has no drives isn't on it
 pub tape-none : (tape now : Option Calls) (at : ℕ) (drives : List (ℕ × Drive)) → drives ≡ [] → now ≡ tape

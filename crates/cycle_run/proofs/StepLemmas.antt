@@ -8,7 +8,6 @@ use Rattle.text_bytes.proofs.ListLemmas.{drop-item}
 use Rattle.std.proofs.lemmas.List.Folds.{list_any_at}
 use Rattle.std.proofs.lemmas.List.Sums.{fold-append}
 use Rattle.std.proofs.lemmas.List.FromFn.{get_or-map-range_with_len, get_or-range_with_len, length-map-range_with_len, length-range_with_len}
-use Rattle.tester_types.proofs.OutsideLemmas.{risen_behind}
 use Rattle.tester_types.specs.declared.level.Level.{Level}
 use Rattle.tester_types.specs.declared.level.Level.TheVariants.{X}
 use Rattle.tester_types.specs.declared.level.Drive.{Drive}
@@ -31,8 +30,8 @@ use Rattle.cycle_run.specs.declared.stop.Stop.{Stop}
 use Rattle.cycle_run.specs.declared.stop.Stop.TheVariants as stop
 use Rattle.cycle_run.specs.Tape.{call_at, call_of, calls_in, with_calls}
 use Rattle.cycle_run.specs.Cycle.{Point, IsStateOf}
-use Rattle.cycle_run.specs.Step.{along_at, IsReady, with_entries, GoesThrough, CallsBehind, StopsIn, Stops, HasCause, AreLevels, WantsSome, IsCheckedBy, IsSettled}
-use Rattle.cycle_run.proofs.SocketLemmas.{with-none}
+use Rattle.cycle_run.specs.Step.{along_at, IsReady, with_entries, GoesThrough, CallsBehind, StopsIn, Stops, AreLevels, WantsSome, IsCheckedBy, IsSettled}
+use Rattle.cycle_run.specs.BatchLaws.{with-none, with-append}
 
 -- ---- moments behind moments
 
@@ -111,12 +110,6 @@ calls_in-one device along moment = append-nil (call_of device along moment)
 pub calls_in-none : (device : Device) (along : Along) → calls_in device along [] ≡ []
 unfolding calls_in
 calls_in-none device along = refl
-
--- a tape with calls and more calls
-pub with-append : (tape : Option Calls) (ones others : Calls)
-    → with_calls (with_calls tape ones) others ≡ with_calls tape (ones ++ others)
-with-append Option.None ones others = refl
-with-append (Some calls) ones others = ap (λ (c : Calls). Some c) (append_assoc calls ones others)
 
 -- ---- what the parts of a moment are asked
 
@@ -457,12 +450,6 @@ module _ (device : Device) (whose : Whose) (ones : List Moment) (old mid new : P
       → Stops device whose (ones ++ (others ++ rest)) old new why
   stops-behind others rest stop.NoMemory stops = tt
   stops-behind others rest (stop.Contact instant) stops = stops_in-behind others rest instant stops
-
--- what has risen behind moments has risen since their first, too
-pub cause_behind : (before between now : ℕ) (why : Stop) → before ≤ between → between ≤ now → HasCause between now why
-    → HasCause before now why
-cause_behind before between now stop.NoMemory first second cause = tt
-cause_behind before between now (stop.Contact instant) first second cause = risen_behind before between now first second cause
 
 -- ---- one of many moments
 

@@ -2,3 +2,9 @@ pub mod Tape
 pub mod Cycle
 pub mod Batch
 pub mod Step
+pub mod BatchLaws
+pub mod Lent
+pub mod Setup
+pub mod Play
+pub mod Seat
+pub mod SeatLaws

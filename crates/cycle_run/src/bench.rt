@@ -1,6 +1,6 @@
 //! What goes along with a try: the checker, the last Down or Up of each signal, and room for drives and levels.
 
-ghost use Rattle.std.specs.Prelude.{◌≡◌, ◌≤◌, [], map, length, replicate, IfOk};
+ghost use Rattle.std.specs.Prelude.{◌≡◌, ◌≤◌, [], length, replicate, IfOk};
 ghost use Rattle.text_bytes.specs.Limits.{most_signals};
 ghost use Rattle.tester_types.specs.declared.level.Drive.TheVariants as drive;
 ghost use Rattle.tester_types.specs.declared.level.Level.TheVariants as level;
@@ -27,7 +27,7 @@ pub struct Bench {
 }
 
 /// Unknown for each signal.
-fn unknown_drives(alloc: Global, signals: u16) -> Result<Vec<Drive>, AllocError>
+pub fn unknown_drives(alloc: Global, signals: u16) -> Result<Vec<Drive>, AllocError>
     ensures { IfOk result (λ last. last.items ≡ replicate signals drive.Unknown) }
 {
     vec![in alloc; Drive::Unknown; usize::from(signals)]

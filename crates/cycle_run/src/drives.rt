@@ -48,7 +48,7 @@ fn prior(last: &[Drive], signal: u16) -> Drive
 }
 
 /// Collects the drives of a moment that the die gets, by the last Down or Up of each signal.
-pub(crate) fn collect(
+pub fn collect(
     image: &DieImage,
     last: &[Drive],
     drives: &[(u16, Push)],
@@ -78,7 +78,7 @@ fn put_steady(last: &mut Vec<Drive>, signal: u16, next: Option<Drive>)
 }
 
 /// Remembers the last Down or Up of each signal.
-pub(crate) fn remember(last: &mut Vec<Drive>, drives: &[(u16, Push)])
+pub fn remember(last: &mut Vec<Drive>, drives: &[(u16, Push)])
     requires { All (λ given. given.0 < length last.old.items) drives.now }
     ensures all { last.new.items ≡ fold after_push last.old.items drives.now }
     ensures count { length last.new.items ≡ length last.old.items }

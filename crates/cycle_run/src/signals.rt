@@ -23,11 +23,7 @@ fn is_bound(image: &DieImage, signal: u16) -> bool
 }
 
 /// Whether each of so many signals is looked at.
-pub(crate) fn bound_signals(
-    alloc: Global,
-    image: &DieImage,
-    signals: u16,
-) -> Result<Vec<bool>, AllocError>
+pub fn bound_signals(alloc: Global, image: &DieImage, signals: u16) -> Result<Vec<bool>, AllocError>
     ensures { IfOk result (λ bound. bound.items ≡ map (is_bound (device_of image.now)) (range_with_len 0 signals)) }
 {
     let mut bound = Vec::new(alloc);

@@ -13,15 +13,15 @@ use Rattle.site_meaning.specs.Trials.{played, fails_in}
 use Rattle.site_meaning.proofs.PlayedLemmas.{fails_in-append, played-take}
 use Rattle.cycle_run.specs.Cycle.{closed_with}
 use Rattle.cycle_run.specs.Batch.{Between, going_in, PlaysCycles}
-use Rattle.try_play.specs.declared.setup.Until.{Until}
-use Rattle.try_play.specs.declared.setup.Until.TheVariants as until
-use Rattle.try_play.specs.declared.setup.Setup.{Setup}
-use Rattle.try_play.specs.declared.seat.Standing.{Standing}
-use Rattle.try_play.specs.Setup.{code_in, device_in, stand_in, HasEnough}
-use Rattle.try_play.specs.Play.{PlaysUpTo}
-use Rattle.try_play.specs.Seat.{CanPlay, IsBefore}
-use Rattle.try_play.proofs.PlayLemmas.{all_ran}
-use Rattle.try_play.proofs.SeatLemmas.{before_next, total_is}
+use Rattle.cycle_run.specs.declared.setup.Until.{Until}
+use Rattle.cycle_run.specs.declared.setup.Until.TheVariants as until
+use Rattle.cycle_run.specs.declared.setup.Setup.{Setup}
+use Rattle.cycle_run.specs.declared.seat.Standing.{Standing}
+use Rattle.cycle_run.specs.Setup.{code_in, device_in, stand_in, HasEnough}
+use Rattle.cycle_run.specs.Play.{PlaysUpTo}
+use Rattle.cycle_run.specs.Seat.{CanPlay, IsBefore}
+use Rattle.cycle_run.proofs.PlayLemmas.{all_ran}
+use Rattle.cycle_run.proofs.SeatLemmas.{before_next, total_is}
 use Rattle.word_run.specs.First.{first_fail}
 use Rattle.fault_grade.specs.Search.{Finds, Passes, RunsUpTo, GoesOn}
 

@@ -16,16 +16,10 @@ use Rattle.site_meaning.proofs.PlayedLemmas.{fails_in-append, joined-pieces}
 use Rattle.site_meaning.proofs.UnderwayLemmas.{cycles_in-append}
 use Rattle.cycle_run.specs.Cycle.{stand_of}
 use Rattle.word_run.specs.First.{first_fail, first_from, first_on}
-use Rattle.fault_grade.specs.Grade as grade
 use Rattle.fault_grade.specs.Grade.{image_with, stand_with, first, graded, faults_of_net, faults_in, first_part, grade_of}
 use Rattle.fault_grade.specs.declared.graded.Graded.{Graded}
 
 -- ---- the first of fails
-
--- it is the one that a grade speaks of
-first_fail-same : (xs : List Fail) → grade.first_fail xs ≡ first_fail xs
-first_fail-same [] = refl
-first_fail-same (x ∷ xs) = refl
 
 pub first_fail-take : (xs : List Fail) → first_fail (take 1 xs) ≡ first_fail xs
 first_fail-take [] = refl
@@ -75,26 +69,26 @@ unfolding first first_on
 first-is part die faults =
     let stand = stand_with part die faults in
     let batches = tried stand (more_in part) 0 (starting stand.device) (execs_of part.code) in
-    first_fail-same (take 1 (fails_in (cycles_in batches))) ∙ first_fail-take (fails_in (cycles_in batches))
+    first_fail-take (fails_in (cycles_in batches))
     ∙ first-tried stand (more_in part) 0 (starting stand.device) (execs_of part.code)
 
 -- the same by an image
 abbrev first_by : Part → Image → Option ℕ
 first_by part image =
-    grade.first_fail (recorded 1 1
+    first_fail (recorded 1 1
     (with_cut None
     (tried (stand_of part.code (skews_in part) (device_of image)) (more_in part) 0 (starting (device_of image)) (execs_of part.code))
     uncut)).kept
 
 -- it is that of a try of the plan that has no order, keeps one fail and has these faults
 pub first-of_trial : (part : Part) (die : ℕ) (faults : List StuckAt) → order_in part die 1 ≡ None → (lot_in part).keep ≡ 1
-    → (image_in part die 1).faults ≡ faults → first part die faults ≡ grade.first_fail (trial part die 1 uncut).kept
+    → (image_in part die 1).faults ≡ faults → first part die faults ≡ first_fail (trial part die 1 uncut).kept
 unfolding first trial batches_of
 first-of_trial part die faults order keep same =
     let with_faults : List StuckAt → Image = λ l. record (image_in part die 1) { faults = l } in
     ap (λ (l : List StuckAt). first_by part (with_faults l)) (sym same)
-    ∙ ap (λ (o : Option ℕ). grade.first_fail (recorded 1 1 (with_cut o (batches_of part die 1) uncut)).kept) (sym order)
-    ∙ ap (λ (k : ℕ). grade.first_fail (recorded k 1 (with_cut (order_in part die 1) (batches_of part die 1) uncut)).kept) (sym keep)
+    ∙ ap (λ (o : Option ℕ). first_fail (recorded 1 1 (with_cut o (batches_of part die 1) uncut)).kept) (sym order)
+    ∙ ap (λ (k : ℕ). first_fail (recorded k 1 (with_cut (order_in part die 1) (batches_of part die 1) uncut)).kept) (sym keep)
 
 -- ---- what counts of a plan
 

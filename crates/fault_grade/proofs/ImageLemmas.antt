@@ -1,7 +1,6 @@
 -- Runs of faults of one image, one fault after another and 64 at a time.
 use Rattle.std.proofs.Common.{◌≡◌, ℕ, ◌+◌, ◌-◌, ◌*◌, ◌<◌, ◌≤◌, ℤ, List, [], ◌∷◌, ◌++◌, length, get_or, map, Option, None, sym, ap, ◌∙◌, subst, arith}
 use Rattle.std.specs.List.{range_with_len}
-use Rattle.std.specs.Prelude.{Result, Ok, Err, OnOk}
 use Rattle.std.proofs.lemmas.List.{append-nil, append_assoc, map-append, get_or-map, length-map}
 use Rattle.std.proofs.lemmas.List.FromFn.{get_or-range_with_len, length-range_with_len}
 use Rattle.die_sim.specs.Die.{Image}
@@ -118,8 +117,3 @@ graded-more code skews image firsts from to number first old new fault found low
     ∙ (λ i. before i ++ record { net = (is i).net; value = (is i).value; first = found_is i } ∷ [])
     ∙ append_assoc first (run_on code skews image from number) (graded_on code skews image (fault_at number) ∷ [])
     ∙ ap (λ (l : List Graded). first ++ l) (sym (run-next code skews image from number low))
-
--- what follows from what holds of an `Ok`
-pub on_ok : {A E : Type 0} {P Q : Type 0} (result : Result A E) → (P → Q) → OnOk result P → OnOk result Q
-on_ok (Ok x) f p = f p
-on_ok (Err e) f p = tt

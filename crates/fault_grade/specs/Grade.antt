@@ -1,8 +1,7 @@
 -- The grade of a program on a die: for each single stuck-at fault the first cycle that finds it.
-use Rattle.std.specs.Prelude.{ℕ, ◌∷◌, true, false, Option, Some, None, List, [], length, map}
+use Rattle.std.specs.Prelude.{ℕ, ◌∷◌, true, false, Option, None, List, [], length, map}
 use Rattle.std.specs.List.{flat_map, range_with_len}
 use Rattle.std.specs.Option.{option_map_or}
-use Rattle.tester_types.specs.declared.record.Fail.{Fail}
 use Rattle.tester_types.specs.declared.record.Trial.{Trial}
 use Rattle.die_sim.specs.Die.{Image, device_of}
 use Rattle.die_sim.specs.declared.image.StuckAt.{StuckAt}
@@ -11,15 +10,11 @@ use Rattle.lot_plan.specs.Readings.{first_of}
 use Rattle.site_meaning.specs.Playing.{Stand, starting}
 use Rattle.site_meaning.specs.Part.{Part, part_of, skews_in, circuit_in, image_in}
 use Rattle.site_meaning.specs.Trials.{uncut, with_cut, tried, more_in, execs_of, recorded}
+use Rattle.word_run.specs.First.{first_fail}
 use Rattle.fault_grade.specs.declared.graded.Grade.{Grade}
 use Rattle.fault_grade.specs.declared.graded.Graded.{Graded}
 
 -- ---- one fault
-
--- the cycle of the first of these fails; none where there is no fail
-abbrev pub first_fail : List Fail → Option ℕ
-first_fail [] = None
-first_fail (fail ∷ later) = Some fail.cycle
 
 -- a die with its netlist and its binding as they are loaded, where exactly these faults are active
 abbrev pub image_with : Part → ℕ → List StuckAt → Image

@@ -13,10 +13,10 @@ use Rattle.site_meaning.specs.Playing.{Stand}
 use Rattle.site_meaning.specs.Trials.{played, after_cycles, fails_in}
 use Rattle.cycle_run.specs.Cycle.{closed_with, Point}
 use Rattle.cycle_run.specs.Batch.{Between, going_in}
-use Rattle.try_play.specs.declared.setup.Setup.{Setup}
-use Rattle.try_play.specs.declared.seat.Standing.{Standing}
-use Rattle.try_play.specs.Setup.{code_in}
-use Rattle.try_play.specs.Seat.{IsBefore}
+use Rattle.cycle_run.specs.declared.setup.Setup.{Setup}
+use Rattle.cycle_run.specs.declared.seat.Standing.{Standing}
+use Rattle.cycle_run.specs.Setup.{code_in}
+use Rattle.cycle_run.specs.Seat.{IsBefore}
 use Rattle.word_run.specs.First.{first_fail, first_on, with_fault}
 use Rattle.fault_grade.specs.Run.{fault_at}
 use Rattle.fault_grade.specs.declared.graded.Graded.{Graded}

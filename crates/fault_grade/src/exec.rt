@@ -4,17 +4,16 @@ ghost use Rattle.std.specs.Prelude.{◌≡◌, ℕ, ◌+◌, ◌<◌, None, leng
 ghost use Rattle.packed_code.specs.Cycles.{cycles_of};
 ghost use Rattle.die_sim.specs.Socket.{holding};
 ghost use Rattle.cycle_run.specs.Step.{HoldsSchedules};
-ghost use Rattle.try_play.specs.declared.setup.Until.TheVariants as until;
-ghost use Rattle.try_play.specs.Setup.{IsSetUp, code_in, stand_in};
-ghost use Rattle.try_play.specs.Seat.{between_of, IsBefore};
+ghost use Rattle.cycle_run.specs.declared.setup.Until.TheVariants as until;
+ghost use Rattle.cycle_run.specs.Setup.{IsSetUp, code_in, stand_in};
+ghost use Rattle.cycle_run.specs.Seat.{between_of, IsBefore};
 ghost use Rattle.fault_grade.specs.Search.{RunsUpTo, GoesOn};
 
-use cycle_run::Stop;
+use cycle_run::{Setup, Standing, Stop, play_at};
 use die_sim::SimSocket;
 use edge_gen::Schedules;
 use packed_code::walk;
 use tester_types::NoMemory;
-use try_play::{Setup, Standing, play_at};
 
 /// Runs the cycles of an executive up to the first one with a fail, and answers whether there is one.
 pub(crate) fn run_exec(

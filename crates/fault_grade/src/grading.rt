@@ -6,9 +6,9 @@ ghost use Rattle.fault_grade.specs.Grade.{first, first_part, nets_in};
 ghost use Rattle.fault_grade.specs.Run.{run_of};
 ghost use Rattle.lot_plan.specs.Bound.{image_of};
 ghost use Rattle.lot_plan.specs.Skews.{site_skews};
-ghost use Rattle.try_play.specs.declared.setup.Until.TheVariants as until;
-ghost use Rattle.try_play.specs.Lent.{HoldsMoments};
-ghost use Rattle.try_play.specs.Setup.{IsSetUp};
+ghost use Rattle.cycle_run.specs.declared.setup.Until.TheVariants as until;
+ghost use Rattle.cycle_run.specs.Lent.{HoldsMoments};
+ghost use Rattle.cycle_run.specs.Setup.{IsSetUp};
 ghost use Rattle.fault_grade.specs.Grade.{first_site};
 ghost use Rattle.fault_grade.specs.Search.{bare};
 
@@ -16,12 +16,12 @@ use crate::die::{first_image, first_skews};
 use crate::faults::image_with;
 use crate::graded::GradeList;
 use crate::run::{try_image, try_run};
+use cycle_run::{Lent, Setup, Until};
 use die_sim::{DieImage, StuckAt};
 use lot_plan::BoundPlan;
 use packed_code::Code;
 use std::alloc::Global;
 use tester_types::NoMemory;
-use try_play::{Lent, Setup, Until};
 
 /// The moments that the cycles have at the first die's site.
 fn first_lent(alloc: Global, code: &Code, plan: &BoundPlan) -> Result<Lent, NoMemory>

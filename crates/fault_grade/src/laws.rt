@@ -5,7 +5,8 @@ ghost use Rattle.die_sim.specs.declared.image.StuckAt.{StuckAt};
 ghost use Rattle.lot_plan.specs.Bound.{Bound, binding_to};
 ghost use Rattle.site_meaning.specs.Part.{Part, lot_in, skews_in, circuit_in, as_plan, order_in, image_in};
 ghost use Rattle.site_meaning.specs.Trials.{uncut, trial};
-ghost use Rattle.fault_grade.specs.Grade.{first_fail, first, nets_in, first_part, grade_in, grade_of};
+ghost use Rattle.word_run.specs.First.{first_fail};
+ghost use Rattle.fault_grade.specs.Grade.{first, nets_in, first_part, grade_in, grade_of};
 ghost use Rattle.fault_grade.specs.Run.{run_of};
 
 /// Where the plan has no order for a die's first try, keeps one fail, and has exactly these faults active in it, the

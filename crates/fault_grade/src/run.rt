@@ -4,8 +4,8 @@ ghost use Rattle.std.specs.Prelude.{◌≡◌, ℕ, ◌+◌, ◌*◌, ◌-◌, �
 ghost use Rattle.std.specs.List.{range_with_len};
 ghost use Rattle.packed_code.specs.Program.{Program};
 ghost use Rattle.die_sim.specs.Die.{Image};
-ghost use Rattle.try_play.specs.declared.setup.Until.TheVariants as until;
-ghost use Rattle.try_play.specs.Setup.{IsSetUp, code_in};
+ghost use Rattle.cycle_run.specs.declared.setup.Until.TheVariants as until;
+ghost use Rattle.cycle_run.specs.Setup.{IsSetUp, code_in};
 ghost use Rattle.fault_grade.specs.Run.{fault_at};
 ghost use Rattle.word_run.specs.First.{first_on, with_fault};
 ghost use Rattle.fault_grade.specs.Search.{first_in, run_on};
@@ -13,10 +13,10 @@ ghost use Rattle.fault_grade.specs.Search.{first_in, run_on};
 use crate::faults::{fault_at, faults_between};
 use crate::graded::{GradeList, Graded};
 use crate::search::first_cycle_of;
+use cycle_run::{Setup, loaded};
 use edge_gen::{HELD_SCHEDULES, Schedules};
 use std::alloc::Global;
 use tester_types::NoMemory;
-use try_play::{Setup, loaded};
 use word_run::first_cycles;
 
 /// The first failing cycle of a die with the faults of its image.

@@ -3,18 +3,18 @@
 ghost use Rattle.std.specs.Prelude.{◌≡◌, ℕ, None, IfOk, OnOk};
 ghost use Rattle.die_sim.specs.Socket.{IsLoaded, holding};
 ghost use Rattle.cycle_run.specs.Step.{HoldsSchedules};
-ghost use Rattle.try_play.specs.declared.setup.Until.TheVariants as until;
-ghost use Rattle.try_play.specs.Setup.{IsSetUp, code_in, device_in};
-ghost use Rattle.try_play.specs.Seat.{point_of, StartsSo};
+ghost use Rattle.cycle_run.specs.declared.setup.Until.TheVariants as until;
+ghost use Rattle.cycle_run.specs.Setup.{IsSetUp, code_in, device_in};
+ghost use Rattle.cycle_run.specs.Seat.{point_of, StartsSo};
 ghost use Rattle.word_run.specs.First.{first_fail};
 ghost use Rattle.fault_grade.specs.Search.{first_in, HasFirst};
 
 use crate::exec::run_exec;
+use cycle_run::{Setup, Standing, first_standing};
 use die_sim::SimSocket;
 use edge_gen::Schedules;
 use std::alloc::Global;
 use tester_types::{Fail, NoMemory};
-use try_play::{Setup, Standing, first_standing};
 
 /// Runs the executives up to the first fail.
 fn run_all(

@@ -22,8 +22,9 @@ use Rattle.lot_plan.specs.Bound.{numbered, active_at}
 use Rattle.lot_plan.specs.Skews.{skews_of}
 use Rattle.site_meaning.specs.Playing.{Stand, PlayedMoment, PlayedCycle, starting}
 use Rattle.site_meaning.specs.Part.{Part, lot_in, dies_in, skews_in, circuit_in, image_in, order_in}
-use Rattle.site_meaning.specs.Trials.{Batch, Outcome, Cut, uncut, live, touch, Lost, fails_in, has_fails, cycles_in, ended, blamed, before_order, by_plan, comes_first, is_hit, behind_cycle, lost_at, reached, touched, with_cut, tried, execs_of, more_in, batches_of, recorded, trial}
+use Rattle.site_meaning.specs.Trials.{Batch, Outcome, Cut, uncut, live, touch, Lost, fails_in, has_fails, cycles_in, ended, blamed, before_order, by_plan, comes_first, is_hit, behind_cycle, lost_at, reached, touched, with_cut, execs_of, more_in, batches_of, recorded, trial}
 use Rattle.site_meaning.specs.Records.{TryCut, cut_at, is_fail, then_again, tries_from, touchdown, records}
+use Rattle.site_meaning.proofs.AlikeLemmas.{batches_on}
 use Rattle.flat_lots.specs.Unmarked.{unmarked, unmarked_trial, unmarked_record}
 use Rattle.flat_lots.proofs.MarkLemmas.{maps_append}
 use Rattle.flat_lots.proofs.PlayLemmas.{unmarked_moment, unmarked_cycle, unmarked_batch, ExecsBeside, fails_unmarked, has_unmarked, tried_beside}
@@ -206,9 +207,6 @@ stand_by rows site die number code signals c = record {
     fixed = fixed_of (length c.net.names) (active_at number (map (numbered c) (faults_at site die rows)));
   };
 }
-
-batches_on : Stand → ℕ → Program → List Batch
-batches_on s more code = tried s more 0 (starting s.device) (execs_of code)
 
 -- the cycles of all executives have the same moments, whatever they run on
 abbrev pub CodesBeside : Program → Program → Type 0

@@ -1,6 +1,7 @@
 -- The line of a fail, read from its end: what stands from a byte on, by what stands behind it.
 use Rattle.std.proofs.Common.{◌≡◌, ℕ, ◌+◌, Bool, true, false, ◌&&◌, List, [], ◌∷◌, ◌++◌, refl, sym, ap, ◌∙◌, inl, inr}
 use Rattle.std.specs.Prelude.{◌==◌, codes}
+use Rattle.std.proofs.Math.Bool.{and-true}
 use Rattle.std.proofs.lemmas.Bool.{cases_Bool, and_parts, eqb-true, false≢true}
 use Rattle.part_lines.specs.Lines.{is_one_line}
 use Rattle.log_parts.specs.Tries.{from_cycle, word_then, is_fail_line}
@@ -28,13 +29,9 @@ no_fail line none =
       | inr n ↦ n
     ]
 
-and_true : (b : Bool) → (b && true) ≡ b
-and_true true = refl
-and_true false = refl
-
 -- one that does is what its words are
 pub fail_words : (line words : List ℕ) → is_one_line line ≡ true → line ≡ codes "fail " ++ words
     → from_cycle words ≡ is_fail_line line
 fail_words line words one is =
     sym (ap (λ (l : List ℕ). word_then (codes "fail ") from_cycle l && is_one_line line) is
-    ∙ ap (λ (b : Bool). from_cycle words && b) one ∙ and_true (from_cycle words))
+    ∙ ap (λ (b : Bool). from_cycle words && b) one ∙ and-true (from_cycle words))

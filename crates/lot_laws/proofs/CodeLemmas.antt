@@ -4,7 +4,7 @@ use Rattle.std.proofs.Common.{◌≡◌, ℕ, zero, suc, ◌+◌, ◌-◌, ◌<�
 use Rattle.std.specs.List.{AllByRecursion, enumerate_from, flat_map}
 use Rattle.std.proofs.lemmas.List.{get_or_past, append-nil}
 use Rattle.std.proofs.lemmas.Bool.{cases_lt, le-leb, ne_eqb}
-use Rattle.std.proofs.lemmas.Option.{same_Some}
+use Rattle.std.proofs.lemmas.Option.{none-some, same_Some}
 use Rattle.tester_types.specs.declared.cycle.Cycle.{Cycle}
 use Rattle.tester_types.specs.declared.wave.Table.{Table}
 use Rattle.packed_code.specs.Program.{Exec, Program}
@@ -28,9 +28,6 @@ use Rattle.site_meaning.specs.Alike.{SaidCycle, said_by, said_cycles, AreCodesAl
 
 -- ---- cycles that are read alike
 
-some_none : (a : ℕ) → Some a ≡ None → ⊥
-some_none a e = cc
-
 -- a byte that isn't 0 is a character
 some_character : (b : ℕ) → character_of (suc b) ≡ Some (suc b)
 some_character b = ap (λ (t : Bool). cond {A = Option ℕ} t None (Some (suc b))) (ne_eqb (suc b) 0 (λ e. omega (arith, e)))
@@ -38,8 +35,8 @@ some_character b = ap (λ (t : Bool). cond {A = Option ℕ} t None (Some (suc b)
 -- a byte of a row is the character that it is read as, or none
 one_character : (a b : ℕ) → character_of a ≡ character_of b → a ≡ b
 one_character zero zero same = refl
-one_character zero (suc b) same = absurd (some_none (suc b) (sym (some_character b) ∙ sym same))
-one_character (suc a) zero same = absurd (some_none (suc a) (sym (some_character a) ∙ same))
+one_character zero (suc b) same = absurd (none-some (suc b) (same ∙ some_character b))
+one_character (suc a) zero same = absurd (none-some (suc a) (sym same ∙ some_character a))
 one_character (suc a) (suc b) same = same_Some (suc a) (suc b) (sym (some_character a) ∙ same ∙ some_character b)
 
 one_row : (xs ys : List ℕ) → map character_of xs ≡ map character_of ys → xs ≡ ys

@@ -23,11 +23,12 @@ use Rattle.lot_plan.specs.Skews.{skews_of}
 use Rattle.site_meaning.specs.Playing.{Stand, Going, starting}
 use Rattle.site_meaning.specs.Part.{Part, part_of, dies_in, skews_in, circuit_in, image_in}
 use Rattle.site_meaning.specs.Trials.{Batch, uncut, tried, execs_of, more_in, with_cut, recorded}
-use Rattle.site_meaning.specs.Alike.{said_cycles, AreCodesAlike, AreCircuitsAlike, ArePartsAlike}
-use Rattle.site_meaning.proofs.AlikeDies.{twin, twins, SayExecs, say_all, tried_alike, starting_alike}
-use Rattle.site_meaning.proofs.AlikeLemmas.{binds_alike, of_net}
+use Rattle.site_meaning.specs.Alike.{AreCodesAlike, AreCircuitsAlike, ArePartsAlike}
+use Rattle.site_meaning.proofs.AlikeDies.{twin, twins, tried_alike, starting_alike}
+use Rattle.site_meaning.proofs.AlikeLemmas.{binds_alike, of_net, say_execs}
 use Rattle.site_meaning.proofs.PartLemmas.{dies_in-part_of}
-use Rattle.fault_grade.specs.Grade.{first_fail, first, graded, faults_of_net, nets_in, faults_in, grade_in, first_site, first_part}
+use Rattle.word_run.specs.First.{first_fail}
+use Rattle.fault_grade.specs.Grade.{first, graded, faults_of_net, nets_in, faults_in, grade_in, first_site, first_part}
 use Rattle.fault_grade.specs.Run.{fault_at, run_of}
 use Rattle.fault_grade.specs.declared.graded.Graded.{Graded}
 use Rattle.fault_grade.proofs.DieLemmas.{first-die}
@@ -51,13 +52,6 @@ device_with rows faults signals c = record {
 abbrev stand_with : List Row → ℕ → List StuckAt → Program → Circuit → Stand
 stand_with rows site faults code c =
     record { code = code; skews = skews_of code.signals (skews_at site rows); device = device_with rows faults code.signals c }
-
--- the cycles of the executives of codes that say the same
-say_execs : (code other : Program) → ((exec : ℕ) → said_cycles code exec ≡ said_cycles other exec) → (execs : List ℕ)
-    → SayExecs code.rows other.rows (map (cycles_of code) execs) (map (cycles_of other) execs)
-say_execs code other same [] = tt
-say_execs code other same (e ∷ execs) =
-    (say_all code.rows other.rows (cycles_of code e) (cycles_of other e) (same e), say_execs code other same execs)
 
 -- the batches of a try on a stand
 batches_with : Stand → ℕ → List (List Cycle) → List Batch

@@ -56,7 +56,7 @@ stand_by rows site die number code c =
     record { code = code; skews = skews_of code.signals (skews_at site rows); device = device_by rows site die number code.signals c }
 
 -- the cycles of the executives of codes that say the same
-say_execs : (code other : Program) → ((exec : ℕ) → said_cycles code exec ≡ said_cycles other exec) → (execs : List ℕ)
+pub say_execs : (code other : Program) → ((exec : ℕ) → said_cycles code exec ≡ said_cycles other exec) → (execs : List ℕ)
     → SayExecs code.rows other.rows (map (cycles_of code) execs) (map (cycles_of other) execs)
 say_execs code other same [] = tt
 say_execs code other same (e ∷ execs) =
@@ -67,7 +67,7 @@ pub of_net : (c d : Circuit) → c.net ≡ d.net → record { net = c.net; order
 of_net c d net = λ i. record { net = net i; order = d.order; readers = d.readers }
 
 -- the batches of a try on a stand
-batches_on : Stand → ℕ → Program → List Batch
+unfoldable pub batches_on : Stand → ℕ → Program → List Batch
 batches_on s more code = tried s more 0 (starting s.device) (execs_of code)
 
 -- the batches of tries on dies of one netlist, with codes that say the same

@@ -1,5 +1,5 @@
 -- What a poll's end of a try tells: no live stop but the word that was taken, and no contact but the poll's own.
-use Rattle.std.proofs.Common.{◌≡◌, ℕ, ◌+◌, ◌<◌, ◌⊎◌, Bool, true, false, cond, ltb, List, [], ◌∷◌, length, Option, Some, None, refl, sym, ap, ◌∙◌, subst, inl, inr}
+use Rattle.std.proofs.Common.{◌≡◌, ℕ, ◌+◌, ◌<◌, ◌≤◌, ◌⊎◌, Bool, true, false, cond, ltb, List, [], ◌∷◌, length, Option, Some, None, refl, sym, ap, ◌∙◌, subst, arith, inl, inr}
 use Rattle.std.specs.List.{filter_map, cons_option}
 use Rattle.std.specs.Option.{option_map_or}
 use Rattle.std.proofs.lemmas.Bool.{eqb-true, ltb-true, cond_both}
@@ -14,6 +14,25 @@ use Rattle.site_meaning.specs.Polls.{Running, Seat, try_now, Step, goes, ends, e
 -- the live stops that tries tell
 abbrev pub lives : List Trial → List ℕ
 lives trials = filter_map (λ (t : Trial). live_number t.verdict) trials
+
+-- numbers that rise lead up
+climbs_up : (from to : ℕ) (numbers : List ℕ) → Climbs from numbers to → from ≤ to
+climbs_up from to [] climbs = omega (arith, climbs)
+climbs_up from to (n ∷ numbers) climbs = let more = climbs_up n to numbers climbs.1 in omega (arith, climbs.0, more)
+
+-- those that lead nowhere are none
+pub no_climb : (from to : ℕ) (numbers : List ℕ) → Climbs from numbers to → to ≤ from → numbers ≡ []
+no_climb from to [] climbs low = refl
+no_climb from to (n ∷ numbers) climbs low =
+    absurd (let more = climbs_up n to numbers climbs.1 in omega (arith, climbs.0, more, low))
+
+-- a list to which one may have been added is empty
+pub cons_none : (o : Option ℕ) (l : List ℕ) → cons_option o l ≡ [] → (o ≡ None) × (l ≡ [])
+cons_none None l h = (refl, h)
+cons_none (Some x) l h = absurd (not_so h)
+  where
+    not_so : x ∷ l ≡ [] → ⊥
+    not_so e = cc
 
 -- it tells no live stop, and no contact but the poll's own
 abbrev pub Quiet : Option ℕ → Step → Type 0

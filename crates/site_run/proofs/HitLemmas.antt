@@ -28,7 +28,7 @@ use Rattle.cycle_run.specs.Cycle.{IsCallAt, played_behind}
 use Rattle.cycle_run.specs.Step.{FitCode}
 use Rattle.cycle_run.proofs.MomentLemmas.{StayInside, instants_inside, moved_fit}
 use Rattle.cycle_run.proofs.CycleLemmas.{played-split}
-use Rattle.cycle_run.proofs.BatchLemmas.{after_cycles-none, after_cycles-next, fails_in-none, fails_in-next}
+use Rattle.cycle_run.specs.BatchLaws.{after_cycles-none, after_cycles-next, fails_in-none, fails_in-next}
 
 -- ---- the instants of a cycle
 

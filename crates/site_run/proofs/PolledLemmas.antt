@@ -27,7 +27,7 @@ use Rattle.cycle_run.specs.Cycle.{closed_with, played_behind, IsBetween}
 use Rattle.cycle_run.specs.Batch.{Between, going_in, PlaysCycles, LosesContactIn}
 use Rattle.cycle_run.specs.Step.{FitCode, FitsBench}
 use Rattle.site_run.specs.declared.station.Ground.{Ground}
-use Rattle.try_play.specs.Seat.{point_of, between_of}
+use Rattle.cycle_run.specs.Seat.{point_of, between_of}
 use Rattle.site_run.specs.Station.{code_in, device_in, stand_in}
 use Rattle.site_run.specs.Seat.{running_of, IsRunOn, IsSeen, IsPlanned, PlaysBatch, IsMove, contact_of, GoesOnSo, KeepsTime, StandsLater, HasMoved}
 use Rattle.site_run.proofs.HitLemmas.{call_late, time_grows, reached_there}

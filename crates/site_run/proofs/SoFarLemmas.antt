@@ -25,7 +25,7 @@ use Rattle.site_meaning.proofs.ReachedLemmas.{none_or_some}
 use Rattle.site_meaning.proofs.UnderwayLemmas.{drop-more}
 use Rattle.cycle_run.specs.Batch.{calls_of_cycles}
 use Rattle.site_run.specs.Taped.{all_cycles, calls_of_try, calls_of_trial, calls_of_trials, calls_of, calls_of_batch, calls_of_next, calls_of_step, calls_of_poll, calls_of_running, calls_so_far, Tapes}
-use Rattle.cycle_run.proofs.BatchLemmas.{after_cycles-append, after_cycles-none, calls-append, calls-none}
+use Rattle.cycle_run.specs.BatchLaws.{after_cycles-append, after_cycles-none, calls-append, calls-none}
 use Rattle.site_run.proofs.RunLemmas.{drop-both}
 use Rattle.site_run.proofs.TapeLemmas.{poll_calls}
 use Rattle.site_meaning.proofs.TriedLemmas.{none_from}

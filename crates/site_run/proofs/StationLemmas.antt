@@ -6,9 +6,9 @@ use Rattle.edge_gen.specs.Held.{Held}
 use Rattle.die_sim.specs.Socket.{Told}
 use Rattle.cycle_run.specs.Step.{HoldsSchedules}
 use Rattle.cycle_run.proofs.FitLemmas.{few_cycles}
-use Rattle.try_play.specs.declared.setup.Setup.{Setup}
-use Rattle.try_play.specs.declared.setup.Until.TheVariants as until
-use Rattle.try_play.specs.Seat.{CanPlay}
+use Rattle.cycle_run.specs.declared.setup.Setup.{Setup}
+use Rattle.cycle_run.specs.declared.setup.Until.TheVariants as until
+use Rattle.cycle_run.specs.Seat.{CanPlay}
 use Rattle.site_run.specs.declared.run.Run.{Run}
 use Rattle.site_run.specs.declared.station.Ground.{Ground}
 use Rattle.site_run.specs.Station.{code_in, device_in}

@@ -25,7 +25,7 @@ use Rattle.site_run.specs.declared.trial.Outcome.TheVariants as outcome
 use Rattle.cycle_run.specs.Tape.{with_calls}
 use Rattle.site_run.specs.Taped.{calls_of_step, calls_of_poll, IsTaped}
 use Rattle.site_run.specs.Seat.{running_of, without_cycles, contact_by}
-use Rattle.cycle_run.proofs.SocketLemmas.{with-none}
+use Rattle.cycle_run.specs.BatchLaws.{with-none}
 use Rattle.site_run.proofs.TapeLemmas.{before_zero, poll_calls}
 use Rattle.site_run.specs.Contact.{EndsAtContact, IsLostInPoll}
 use Rattle.site_run.specs.Site.{seat_of, try_of, IsSeatOf, IsOutcome, HasLost, Advances, Steps, KeepsRest, IsPolled}

@@ -26,8 +26,8 @@ use Rattle.cycle_run.specs.Batch.{calls_of_cycles, Between, going_in, LosesConta
 use Rattle.site_run.specs.Taped.{calls_of_batch, calls_of_step, calls_of_poll, calls_before, calls_until, IsTaped}
 use Rattle.cycle_run.specs.Step.{FitCode}
 use Rattle.site_run.specs.Seat.{IsPlanned, contact_of}
-use Rattle.cycle_run.proofs.StepLemmas.{calls_in-append, calls_in-next, calls_in-one, with-append}
-use Rattle.cycle_run.proofs.BatchLemmas.{after_cycles-next, calls-append, calls-next}
+use Rattle.cycle_run.proofs.StepLemmas.{calls_in-append, calls_in-next, calls_in-one}
+use Rattle.cycle_run.specs.BatchLaws.{with-append, after_cycles-next, calls-append, calls-next}
 use Rattle.site_run.proofs.HitLemmas.{Rising, cycle_rises, cycle_between, below_one, behind_one, call_inside, time_grows}
 
 -- ---- items that are kept

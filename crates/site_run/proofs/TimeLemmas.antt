@@ -12,7 +12,7 @@ use Rattle.packed_code.specs.Walk.{IsOf}
 use Rattle.packed_code.proofs.WalkLemmas.{period_fits}
 use Rattle.site_meaning.specs.Playing.{Stand, Going, after_cycle}
 use Rattle.site_meaning.specs.Trials.{after_cycles}
-use Rattle.cycle_run.proofs.BatchLemmas.{period_is, after_cycles-none, after_cycles-next}
+use Rattle.cycle_run.specs.BatchLaws.{period_is, after_cycles-none, after_cycles-next}
 
 no_table : Table
 no_table = record { name = []; period = 0; waves = [] }

@@ -1,7 +1,7 @@
 -- A touchdown that is polled without a live stop goes on so, or has ended as it should: `goes_on`, `lands`.
 use Rattle.std.proofs.Common.{◌≡◌, ℕ, ◌+◌, ◌<◌, ◌≤◌, false, ltb, List, [], ◌∷◌, ◌++◌, length, Option, Some, None, refl, sym, ap, ◌∙◌, subst, arith, true≢false, cond}
 use Rattle.std.specs.Prelude.{◌&&◌, IfSome}
-use Rattle.std.specs.List.{AllByRecursion, cons_option, filter_map}
+use Rattle.std.specs.List.{AllByRecursion, filter_map}
 use Rattle.std.specs.Option.{option_map}
 use Rattle.std.proofs.lemmas.Bool.{cond_both}
 use Rattle.tester_types.specs.Outside.{HasRisen}
@@ -23,6 +23,7 @@ use Rattle.site_meaning.proofs.InstantLemmas.{tries_some}
 use Rattle.site_meaning.proofs.PartLemmas.{dies_in-part_of}
 use Rattle.site_meaning.proofs.ReachedLemmas.{none_or_some}
 use Rattle.site_meaning.proofs.SeatLemmas.{Stands, Outcome, on, over, Polled, one_poll}
+use Rattle.site_meaning.proofs.TellLemmas.{no_climb, cons_none}
 use Rattle.site_meaning.proofs.TouchdownLemmas.{uncut_is_touchdown}
 use Rattle.site_run.specs.declared.run.Run.{Run}
 use Rattle.site_run.specs.declared.site.Site.{Site}
@@ -32,8 +33,7 @@ use Rattle.site_run.specs.Seat.{running_of}
 use Rattle.site_run.specs.Site.{seat_of, IsSiteOf, IsPolled, without_record}
 use Rattle.site_run.specs.Contact.{EndsAtContact, IsLostInPoll}
 use Rattle.site_run.specs.Touchdown.{IsIdle, IsTouchdown, ArePolls}
-use Rattle.cycle_run.proofs.SocketLemmas.{with-none}
-use Rattle.cycle_run.proofs.StepLemmas.{with-append}
+use Rattle.cycle_run.specs.BatchLaws.{with-none, with-append}
 use Rattle.site_run.proofs.StepsLemmas.{rests_not}
 use Rattle.site_run.proofs.SoFarLemmas.{Follows, poll_follows, poll_tapes}
 
@@ -77,22 +77,6 @@ poll_quiet plan stops old new told told' polled none = by polled.contact polled.
         absurd (lost_ends (part_of plan old.site) at (seat_of stops told old) lost (ap (λ (s : Seat). s.waiting) (sym is) ∙ none))
 
 -- ---- no live stop, and no contact
-
-climbs_up : (from to : ℕ) (numbers : List ℕ) → Climbs from numbers to → from ≤ to
-climbs_up from to [] climbs = omega (arith, climbs)
-climbs_up from to (n ∷ numbers) climbs = let more = climbs_up n to numbers climbs.1 in omega (arith, climbs.0, more)
-
-no_climb : (from to : ℕ) (numbers : List ℕ) → Climbs from numbers to → to ≤ from → numbers ≡ []
-no_climb from to [] climbs low = refl
-no_climb from to (n ∷ numbers) climbs low =
-    absurd (let more = climbs_up n to numbers climbs.1 in omega (arith, climbs.0, more, low))
-
-cons_none : (o : Option ℕ) (l : List ℕ) → cons_option o l ≡ [] → (o ≡ None) × (l ≡ [])
-cons_none None l h = (refl, h)
-cons_none (Some x) l h = absurd (not_so h)
-  where
-    not_so : x ∷ l ≡ [] → ⊥
-    not_so e = cc
 
 -- a verdict that tells neither a live stop nor a contact
 uncut_by : (v : Verdict) → live_number v ≡ None → ((at : ℕ) → v ≡ verdict.Contact at → ⊥) → cut_of_verdict v ≡ uncut

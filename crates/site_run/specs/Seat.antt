@@ -22,7 +22,7 @@ use Rattle.cycle_run.specs.Cycle.{closed_with, IsStateOf}
 use Rattle.cycle_run.specs.declared.stop.Stop.{Stop}
 use Rattle.cycle_run.specs.Batch.{PlaysCycles, StopsAmong}
 use Rattle.cycle_run.specs.Step.{FitsBench, HasCause}
-use Rattle.try_play.specs.Seat.{between_of}
+use Rattle.cycle_run.specs.Seat.{between_of}
 use Rattle.site_run.specs.declared.station.Ground.{Ground}
 use Rattle.site_run.specs.Station.{code_in, device_in, stand_in}
 

@@ -10,11 +10,10 @@ ghost use Rattle.site_run.specs.Seat.{running_of, IsBefore, IsArrival, ArrivesSo
 
 use crate::run::{Move, Run, onward};
 use crate::station::Ground;
-use cycle_run::Bench;
+use cycle_run::{Bench, Standing};
 use die_sim::{Socket, SocketFault};
 use pattern_mem::at;
 use tester_types::{NoMemory, Verdict};
-use try_play::Standing;
 
 /// How a try comes to its first batch.
 #[derive(Drop)]

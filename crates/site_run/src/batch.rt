@@ -8,10 +8,9 @@ ghost use Rattle.site_run.specs.Seat.{IsRunOn, PlaysBatch, StopsBatch};
 use crate::feed::CursorFeed;
 use crate::run::Run;
 use crate::station::{Ground, Station};
-use cycle_run::Stop;
+use cycle_run::{Setup, Stop, Until, play_at};
 use die_sim::Socket;
 use std::sync::Wait;
-use try_play::{Setup, Until, play_at};
 
 /// Plays the next batch of a try, of so many cycles of its executive.
 pub(crate) fn play_batch<R: Wait, K: Socket>(

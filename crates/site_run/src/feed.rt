@@ -4,11 +4,11 @@ ghost use Rattle.pattern_mem.specs.Cursor.{cycles_to_come};
 ghost use Rattle.site_run.specs.Feed.{CanGive, IsSameFeed};
 ghost use Rattle.site_run.specs.FeedLaws.{same_itself, same_on};
 
+use cycle_run::Feed;
 use packed_code::Code;
 use pattern_mem::{Cursor, PatternMem, PoolPass};
 use std::sync::Wait;
 use tester_types::{Cycle, NoMemory};
-use try_play::Feed;
 
 /// A cursor over a code in memory, with what it asks the pool by, all of it lent. To give a cycle may wait for other threads.
 #[derive(Drop)]

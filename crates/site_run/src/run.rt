@@ -13,13 +13,12 @@ ghost use Rattle.site_run.specs.Seat.{running_of, IsRunOn, IsBefore, IsSeen, IsP
 
 use crate::batch::play_batch;
 use crate::station::{Ground, Station};
-use cycle_run::Stop;
+use cycle_run::{Standing, Stop};
 use die_sim::Socket;
 use packed_code::Code;
 use pattern_mem::{Cursor, at};
 use std::sync::Wait;
 use tester_types::{NoMemory, Verdict};
-use try_play::Standing;
 
 /// A try that runs.
 #[derive(Drop)]

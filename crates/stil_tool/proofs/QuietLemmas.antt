@@ -1,11 +1,12 @@
 -- Where no stop was said and no fault was counted, no try is cut, and what is printed is one: `quiet_is_uncut`,
 -- `text_uncut`, `text_quiet`, `one_quiet_text`.
-use Rattle.std.proofs.Common.{◌≡◌, ℕ, ◌+◌, ◌<◌, ◌≤◌, Bool, true, false, cond, List, [], ◌∷◌, ◌++◌, length, get_or, Option, Some, None, refl, ap, ◌∙◌, subst, sym, arith, inl, inr}
+use Rattle.std.proofs.Common.{◌≡◌, ℕ, ◌+◌, ◌<◌, ◌≤◌, Bool, true, false, cond, List, [], ◌∷◌, ◌++◌, length, get_or, None, refl, ap, ◌∙◌, subst, sym, arith, inl, inr}
 use Rattle.std.specs.Prelude.{count_by, ◌⊎◌, ◌^◌, ◌-◌}
-use Rattle.std.specs.List.{AllByRecursion, cons_option, filter_map, flat_map}
+use Rattle.std.specs.List.{AllByRecursion, filter_map, flat_map}
 use Rattle.std.proofs.lemmas.Bool.{cases_lt}
 use Rattle.std.proofs.lemmas.List.{get_or_past}
 use Rattle.std.proofs.lemmas.List.Sums.{sum_by-cons}
+use Rattle.std.proofs.lemmas.Option.{none-some}
 use Rattle.tester_types.specs.Records.{SiteRecords}
 use Rattle.tester_types.specs.declared.record.By.TheVariants as by
 use Rattle.tester_types.specs.declared.record.Record.{Record}
@@ -16,8 +17,9 @@ use Rattle.die_sim.specs.Socket.{Told}
 use Rattle.plan_rows.specs.Rows.{dies_at}
 use Rattle.lot_plan.specs.Bound.{Bound}
 use Rattle.site_meaning.specs.Trials.{uncut, cut_of, cut_of_verdict}
-use Rattle.site_meaning.specs.Polls.{live_number, live_numbers, Climbs}
+use Rattle.site_meaning.specs.Polls.{live_number, live_numbers}
 use Rattle.site_meaning.proofs.PartLemmas.{dies_in-part_of}
+use Rattle.site_meaning.proofs.TellLemmas.{cons_none, no_climb}
 use Rattle.floor_core.specs.Book.{empty_site}
 use Rattle.tester_run.specs.Work.{is_contact, contacts_of, contacts_in}
 use Rattle.tester_run.specs.Lot.{AreOfSite, said_since}
@@ -31,31 +33,13 @@ use Rattle.stil_tool.proofs.AloneLemmas.{all_at, one_text}
 
 -- ---- no live stop, and no contact
 
-some_none : (n : ℕ) → Some n ≡ None → ⊥
-some_none n e = cc
-
--- numbers that rise lead up
-goes_up : (from : ℕ) (numbers : List ℕ) (to : ℕ) → Climbs from numbers to → from ≤ to
-goes_up from [] to climbs = omega (arith, climbs)
-goes_up from (n ∷ numbers) to climbs = omega (arith, climbs.0, goes_up n numbers to climbs.1)
-
--- those that lead nowhere are none
-no_number : (numbers : List ℕ) (last : ℕ) → Climbs 0 numbers last → last ≤ 0 → numbers ≡ []
-no_number [] last climbs low = refl
-no_number (n ∷ numbers) last climbs low = absurd (omega (arith, climbs.0, goes_up n numbers last climbs.1, low))
-
 -- a verdict that tells neither cuts nothing
 verdict_uncut : (v : Verdict) → live_number v ≡ None → is_contact v ≡ false → cut_of_verdict v ≡ uncut
 verdict_uncut verdict.Pass live contact = refl
 verdict_uncut (verdict.Fail exec) live contact = refl
 verdict_uncut (verdict.Stopped batch by.Plan) live contact = refl
-verdict_uncut (verdict.Stopped batch (by.Desk n)) live contact = absurd (some_none n live)
+verdict_uncut (verdict.Stopped batch (by.Desk n)) live contact = absurd (none-some n (sym live))
 verdict_uncut (verdict.Contact at) live contact = absurd (let no : true ≡ false = contact in cc)
-
--- a list to which one may have been added is empty
-none_added : (o : Option ℕ) (numbers : List ℕ) → cons_option o numbers ≡ [] → (o ≡ None) × (numbers ≡ [])
-none_added None numbers e = (refl, e)
-none_added (Some n) numbers e = absurd (let no : n ∷ numbers ≡ [] = e in cc)
 
 -- a count to which one may have been added is 0
 none_counted : (b : Bool) (more : ℕ) → cond {A = ℕ} b 1 0 + more ≡ 0 → (b ≡ false) × (more ≡ 0)
@@ -67,7 +51,7 @@ tries_uncut : (trials : List Trial) → filter_map (λ (t : Trial). live_number 
     → count_by (λ (t : Trial). is_contact t.verdict) trials ≡ 0 → AllByRecursion (λ (t : Trial). cut_of t ≡ uncut) trials
 tries_uncut [] lives contacts = tt
 tries_uncut (t ∷ trials) lives contacts =
-    let live = none_added (live_number t.verdict) (filter_map (λ (u : Trial). live_number u.verdict) trials) lives in
+    let live = cons_none (live_number t.verdict) (filter_map (λ (u : Trial). live_number u.verdict) trials) lives in
     let contact = none_counted (is_contact t.verdict) (count_by (λ (u : Trial). is_contact u.verdict) trials)
     (sym (sum_by-cons (λ (u : Trial). cond {A = ℕ} (is_contact u.verdict) 1 0) t trials) ∙ contacts) in
     (verdict_uncut t.verdict live.0 contact.0, tries_uncut trials live.1 contact.1)
@@ -96,7 +80,7 @@ site_uncut : (plan : Bound) (site stops : ℕ) (told told' : Told) (entries : Li
     → AreUncut entries
 site_uncut plan site stops told told' entries few quiet is =
     records_uncut entries
-    (no_number (flat_map live_numbers entries) is.last is.rise (omega (arith, is.within, few)))
+    (no_climb 0 is.last (flat_map live_numbers entries) is.rise (omega (arith, is.within, few)))
     (no_more (cases_lt told.count told'.count))
   where
     no_more : (told.count < told'.count) ⊎ (told'.count ≤ told.count) → contacts_in entries ≡ 0

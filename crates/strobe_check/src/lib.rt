@@ -16,3 +16,4 @@ mod windows;
 pub use ahead::Ahead;
 pub use checker::Checker;
 pub use laws::{sensed_levels_decide, window_extent};
+pub use look::{is_edge, opened};

@@ -7,14 +7,14 @@ ghost use Rattle.strobe_check.specs.Step.{opened};
 use tester_types::{Level, Look};
 
 /// Whether it looks at its own instant alone.
-pub(crate) fn is_edge(look: Look) -> bool
+pub fn is_edge(look: Look) -> bool
     ensures { result ≡ is_edge look }
 {
     matches!(look, Look::Low | Look::High | Look::Off)
 }
 
 /// The window that it opens.
-pub(crate) fn opened(look: Look) -> Option<Look>
+pub fn opened(look: Look) -> Option<Look>
     ensures { result ≡ opened look }
 {
     match look {

@@ -27,8 +27,7 @@ use Rattle.site_meaning.proofs.TouchdownLemmas.{sound_are_records}
 use Rattle.site_meaning.proofs.PartLemmas.{dies_in-part_of}
 use Rattle.cycle_run.specs.Tape.{with_calls}
 use Rattle.site_run.specs.Taped.{calls_of, calls_of_try, calls_of_trials, calls_of_poll, calls_of_running, calls_so_far, IsTaped, Tapes}
-use Rattle.cycle_run.proofs.SocketLemmas.{with-none}
-use Rattle.cycle_run.proofs.StepLemmas.{with-append}
+use Rattle.cycle_run.specs.BatchLaws.{with-none, with-append}
 use Rattle.site_run.proofs.StepsLemmas.{rests_not}
 use Rattle.site_run.proofs.SoFarLemmas.{polls_are_taped}
 use Rattle.site_run.proofs.TouchdownLemmas.{no_contact, quiet_before, cleared}

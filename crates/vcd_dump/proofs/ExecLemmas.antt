@@ -14,11 +14,11 @@ use Rattle.cycle_run.specs.Tape.{calls_in, calls_of_cycle, with_calls}
 use Rattle.cycle_run.specs.Batch.{going_in, LosesContactIn, calls_of_cycles}
 use Rattle.cycle_run.specs.Cycle.{closed_with}
 use Rattle.cycle_run.proofs.StepLemmas.{calls_in-append}
-use Rattle.cycle_run.proofs.BatchLemmas.{calls-append, calls-next}
+use Rattle.cycle_run.specs.BatchLaws.{calls-append, calls-next}
 use Rattle.cycle_run.proofs.SocketLemmas.{is_empty}
-use Rattle.try_play.specs.declared.setup.Setup.{Setup}
-use Rattle.try_play.specs.Setup.{code_in, device_in, stand_in}
-use Rattle.try_play.proofs.SeatLemmas.{before_next, total_is}
+use Rattle.cycle_run.specs.declared.setup.Setup.{Setup}
+use Rattle.cycle_run.specs.Setup.{code_in, device_in, stand_in}
+use Rattle.cycle_run.proofs.SeatLemmas.{before_next, total_is}
 use Rattle.vcd_dump.specs.declared.execs.Way.{Way}
 use Rattle.vcd_dump.specs.declared.execs.After.TheVariants as after
 use Rattle.vcd_dump.specs.Recording.{recording_told}

@@ -12,7 +12,7 @@ use Rattle.site_meaning.specs.Playing.{Stand, Going, PlayedCycle, after_cycle}
 use Rattle.site_meaning.specs.Trials.{Batch, played, after_cycles, has_fails, pieces, of_exec, tried, cycles_in, before_order}
 use Rattle.site_meaning.proofs.PlayedLemmas.{joined-pieces}
 use Rattle.cycle_run.specs.Batch.{calls_of_cycles}
-use Rattle.cycle_run.proofs.BatchLemmas.{calls-append, calls-none}
+use Rattle.cycle_run.specs.BatchLaws.{calls-append, calls-none}
 use Rattle.vcd_dump.specs.Play.{allowed, order_behind, calls_from}
 use Rattle.vcd_dump.proofs.PieceLemmas.{joined, items_in-joined, items-whole, length-pieces, fewer_pieces, enough_pieces}
 

@@ -5,9 +5,9 @@ use Rattle.die_sim.specs.Socket.{Calls}
 use Rattle.site_meaning.specs.Playing.{Stand, Going}
 use Rattle.site_meaning.specs.Trials.{played, after_cycles, has_fails}
 use Rattle.cycle_run.specs.Batch.{Between, going_in, PlaysCycles, calls_of_cycles}
-use Rattle.try_play.specs.declared.setup.Setup.{Setup}
-use Rattle.try_play.specs.Setup.{stand_in}
-use Rattle.try_play.specs.Seat.{between_of, CanPlay, IsBefore}
+use Rattle.cycle_run.specs.declared.setup.Setup.{Setup}
+use Rattle.cycle_run.specs.Setup.{stand_in}
+use Rattle.cycle_run.specs.Seat.{between_of, CanPlay, IsBefore}
 use Rattle.vcd_dump.specs.declared.execs.Way.{Way}
 use Rattle.vcd_dump.specs.declared.execs.After.{After}
 use Rattle.vcd_dump.specs.declared.execs.After.TheVariants as after

@@ -3,16 +3,15 @@
 ghost use Rattle.std.specs.Prelude.{◌≡◌, ℕ, ◌+◌, ◌≤◌, ◌<◌, true, length, take, IfOk};
 ghost use Rattle.packed_code.specs.Cycles.{cycles_of};
 ghost use Rattle.site_meaning.specs.Trials.{execs_of};
-ghost use Rattle.try_play.specs.declared.setup.Until.TheVariants as until;
-ghost use Rattle.try_play.specs.Setup.{IsSetUp, code_in, stand_in};
+ghost use Rattle.cycle_run.specs.declared.setup.Until.TheVariants as until;
+ghost use Rattle.cycle_run.specs.Setup.{IsSetUp, code_in, stand_in};
 ghost use Rattle.vcd_dump.specs.Play.{allowed, order_behind, calls_from, going_of, CanGoOn, StandsBefore, PlaysSo, ComesTo, RecordsSo};
 
 use crate::recorder::Recorder;
-use cycle_run::Stop;
+use cycle_run::{Setup, Standing, Stop, play_at};
 use edge_gen::Schedules;
 use packed_code::walk;
 use tester_types::NoMemory;
-use try_play::{Setup, Standing, play_at};
 
 /// A try whose drives are recorded, between two cycles.
 #[derive(Drop)]

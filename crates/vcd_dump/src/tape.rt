@@ -4,9 +4,9 @@ ghost use Rattle.std.specs.Prelude.{◌≡◌, ◌<◌, ◌≤◌, [], Err, leng
 ghost use Rattle.plan_rows.specs.Rows.{sites_of, dies_at};
 ghost use Rattle.lot_plan.specs.Bound.{image_of};
 ghost use Rattle.lot_plan.specs.Skews.{site_skews};
-ghost use Rattle.try_play.specs.declared.setup.Until.TheVariants as until;
-ghost use Rattle.try_play.specs.Setup.{IsSetUp};
-ghost use Rattle.try_play.specs.Seat.{StartsSo};
+ghost use Rattle.cycle_run.specs.declared.setup.Until.TheVariants as until;
+ghost use Rattle.cycle_run.specs.Setup.{IsSetUp};
+ghost use Rattle.cycle_run.specs.Seat.{StartsSo};
 ghost use Rattle.vcd_dump.specs.Recording.{recording_told};
 ghost use Rattle.vcd_dump.specs.Taken.{tape_of, vars_of, drives_in, most_drives};
 ghost use Rattle.vcd_text.specs.Sound.{IsSound};
@@ -15,13 +15,13 @@ ghost use Rattle.vcd_dump.specs.declared.fault.TapeFault.TheVariants as fault;
 use crate::execs::{Way, play_execs};
 use crate::fault::TapeFault;
 use crate::recorder::Recorder;
+use cycle_run::{Setup, Until, first_standing, loaded};
 use die_sim::Tape;
 use edge_gen::{HELD_SCHEDULES, Schedules};
 use lot_plan::BoundPlan;
 use packed_code::Code;
 use std::alloc::Global;
 use tester_types::NoMemory;
-use try_play::{Setup, Until, first_standing, loaded};
 
 /// What the first try of a site's first die is played with.
 fn set_up<'a>(code: &'a Code, plan: &'a BoundPlan, site: u8) -> Setup<'a>

@@ -1,6 +1,6 @@
 -- A moment of 64 dies: what drives them, and what goes along with them.
 use Rattle.std.proofs.Common.{◌≡◌, ℕ, Bool, List, map, filter, fold, min, sym, ap, ◌∙◌, subst}
-use Rattle.std.specs.Prelude.{Option, Result, Ok, Err, IfOk, OnOk}
+use Rattle.std.specs.Prelude.{Option, Result, Ok, Err, IfOk}
 use Rattle.std.specs.Int.{bit_at}
 use Rattle.tester_types.specs.declared.wave.Push.{Push}
 use Rattle.tester_types.specs.declared.wave.Look.{Look}
@@ -69,10 +69,6 @@ judged k device along moment drives bound bound' windows windows' looks left ali
     is ∙ (λ i. min (bit_at alive k) (bit (are_met (bound_are i) device (stepped device along.die (drives_are i)) (windows_are i) (looks_are i))))
 
 -- what follows from what holds of an `Ok`
-pub on_ok : {A E : Type 0} {P Q : Type 0} (result : Result A E) → (P → Q) → OnOk result P → OnOk result Q
-on_ok (Ok x) f p = f p
-on_ok (Err e) f p = tt
-
 pub if_ok : {A E : Type 0} {P Q : A → Type 0} (result : Result A E) → ((x : A) → P x → Q x) → IfOk result P → IfOk result Q
 if_ok (Ok x) f p = f x p
 if_ok (Err e) f p = tt

@@ -3,6 +3,7 @@ use Rattle.std.proofs.Common.{◌≡◌, ℕ, zero, suc, ◌+◌, ◌<◌, ◌++
 use Rattle.std.specs.List.{flat_map, list_all, range_with_len}
 use Rattle.std.proofs.lemmas.Bool.{cases_lt, eq-eqb, ne_eqb}
 use Rattle.std.proofs.lemmas.List.{get_or_past}
+use Rattle.std.proofs.Math.Bool.{and-true}
 use Rattle.std.proofs.lemmas.List.Folds.{list_all-append}
 use Rattle.std.proofs.lemmas.List.FromFn.{get_or-map-range_with_len}
 use Rattle.tester_types.specs.declared.wave.Look.{Look}
@@ -23,10 +24,6 @@ use Rattle.word_run.specs.Board.{is_clear}
 use Rattle.word_run.proofs.CheckLemmas.{moment_fails}
 
 -- ---- no fails
-
-and_true : (b : Bool) → (b && true) ≡ b
-and_true true = refl
-and_true false = refl
 
 clear-append : (xs ys : List Fail) → is_clear (xs ++ ys) ≡ (is_clear xs && is_clear ys)
 clear-append [] ys = refl
@@ -130,7 +127,7 @@ module _ (r : ℕ → Bool) (e : Bool) (y : ℕ) where
   one_at (false ∷ bound) n (suc j) is = one_at bound (n + 1) j (omega (arith, is))
   one_at (true ∷ bound) n zero is =
       let same : n ≡ y = omega (arith, is) in
-      ap (λ (b : Bool). one n && b) (one_below bound (n + 1) (omega (arith, is))) ∙ and_true (one n)
+      ap (λ (b : Bool). one n && b) (one_below bound (n + 1) (omega (arith, is))) ∙ and-true (one n)
       ∙ ap one same ∙ ap (λ (b : Bool). not (b && e) || r y) (eq-eqb y y refl)
   one_at (true ∷ bound) n (suc j) is =
       ap (λ (b : Bool). b && list_all one (bound_from (n + 1) bound)) (apart n (ne_eqb y n (λ same. omega (arith, is, same))))

@@ -1,24 +1,21 @@
 -- The looks of a moment one after another, and a moment without drives.
-use Rattle.std.proofs.Common.{◌≡◌, ℕ, ◌+◌, ◌-◌, ◌^◌, ◌<◌, ◌&&◌, ◌||◌, Bool, true, false, not, min, List, [], ◌∷◌, get_or, Option, Some, None, refl, sym, ap, ◌∙◌, subst, arith}
+use Rattle.std.proofs.Common.{◌≡◌, ℕ, ◌+◌, ◌-◌, ◌^◌, ◌<◌, ◌&&◌, Bool, true, false, not, min, List, [], ◌∷◌, refl, sym, ap, ◌∙◌, subst, arith}
 use Rattle.std.specs.Prelude.{bit_and}
 use Rattle.std.specs.Int.{bit_at}
 use Rattle.std.specs.List.{list_all, range_with_len}
 use Rattle.std.proofs.lemmas.List.Folds.{list_all-append}
+use Rattle.std.proofs.Math.Bool.{and-true}
 use Rattle.std.proofs.lemmas.Nat.Bits.{bit_at-lt}
 use Rattle.text_bytes.proofs.ListLemmas.{range-push}
-use Rattle.tester_types.specs.declared.wave.Look.{Look}
 use Rattle.tester_types.specs.declared.level.Drive.{Drive}
 use Rattle.bench_net.specs.Circuit.{Circuit, IsWhole}
-use Rattle.die_sim.specs.Die.{Device, State, level_of}
+use Rattle.die_sim.specs.Die.{Device, State}
 use Rattle.die_sim.specs.Stepped.{stepped}
 use Rattle.die_sim.proofs.SteppedLemmas.{step_is_stepped}
-use Rattle.strobe_check.specs.Look.{is_edge, is_met}
 use Rattle.cycle_run.proofs.SocketLemmas.{still}
 use Rattle.die_words.specs.Lane.{bit}
 use Rattle.die_words.specs.Lanes.{Lanes, IsLaneOf}
 use Rattle.die_words.proofs.WordLemmas.{and_is, not_is}
-use Rattle.word_run.specs.Checks.{if_open}
-use Rattle.word_run.specs.Judge.{edge_met, window_met}
 
 -- ---- bits of lanes
 
@@ -53,12 +50,8 @@ met_here alive f k m small lane here =
 pub all_numbers-more : (p : ℕ → Bool) (n : ℕ) → list_all p (range_with_len 0 (n + 1)) ≡ (list_all p (range_with_len 0 n) && p n)
 all_numbers-more p n =
     ap (λ (l : List ℕ). list_all p l) (range-push 0 n) ∙ list_all-append p (range_with_len 0 n) ((0 + n) ∷ [])
-    ∙ ap (λ (b : Bool). list_all p (range_with_len 0 n) && b) (and_true (p (0 + n)) ∙ ap p (none n))
+    ∙ ap (λ (b : Bool). list_all p (range_with_len 0 n) && b) (and-true (p (0 + n)) ∙ ap p (none n))
   where
-    and_true : (b : Bool) → (b && true) ≡ b
-    and_true true = refl
-    and_true false = refl
-
     none : (m : ℕ) → 0 + m ≡ m
     none m = omega arith
 

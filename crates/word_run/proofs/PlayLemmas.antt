@@ -1,16 +1,14 @@
 -- A cycle of 64 dies: each goes on as it does by itself, and its first fail is noted.
-use Rattle.std.proofs.Common.{◌≡◌, ℕ, ◌+◌, ◌-◌, ◌^◌, ◌<◌, ◌++◌, Bool, true, false, cond, min, List, [], ◌∷◌, Option, Some, None, refl, sym, ap, ◌∙◌, subst, arith}
+use Rattle.std.proofs.Common.{◌≡◌, ℕ, ◌+◌, ◌-◌, ◌^◌, ◌<◌, Bool, true, false, cond, min, [], ◌∷◌, Option, Some, None, refl, sym, ap, ◌∙◌, subst, arith}
 use Rattle.std.specs.Prelude.{bit_and, is_none}
 use Rattle.std.specs.Int.{bit_at}
 use Rattle.std.specs.Option.{option_or}
-use Rattle.std.proofs.lemmas.List.{append-nil}
 use Rattle.tester_types.specs.declared.cycle.Cycle.{Cycle}
-use Rattle.tester_types.specs.declared.record.Fail.{Fail}
 use Rattle.die_sim.specs.Die.{Device}
 use Rattle.site_meaning.specs.Playing.{Stand, Going, along_of, whose_next, moments_in, played_cycle, after_cycle}
-use Rattle.site_meaning.specs.Trials.{played, after_cycles, fails_in}
-use Rattle.cycle_run.proofs.BatchLemmas.{after_cycles-next, after_cycles-none, fails_in-next, fails_in-none}
-use Rattle.try_play.specs.declared.setup.Setup.{Setup}
+use Rattle.site_meaning.specs.Trials.{after_cycles}
+use Rattle.cycle_run.specs.BatchLaws.{after_cycles-next, after_cycles-none, fails_in-one}
+use Rattle.cycle_run.specs.declared.setup.Setup.{Setup}
 use Rattle.die_words.specs.Lane.{bit}
 use Rattle.die_words.proofs.WordLemmas.{and_is, not_is}
 use Rattle.word_run.specs.declared.player.WordPlayer.{WordPlayer}
@@ -22,13 +20,6 @@ use Rattle.word_run.proofs.CycleLemmas.{first_is}
 -- one cycle
 after-one : (stand : Stand) (going : Going) (cycle : Cycle) → after_cycles stand going (cycle ∷ []) ≡ after_cycle stand going cycle
 after-one stand going cycle = after_cycles-next stand going cycle [] ∙ after_cycles-none stand (after_cycle stand going cycle)
-
-fails-one : (stand : Stand) (exec : ℕ) (going : Going) (cycle : Cycle)
-    → fails_in (played stand exec going (cycle ∷ [])) ≡ (played_cycle stand exec going cycle).fails
-fails-one stand exec going cycle =
-    fails_in-next stand exec going cycle []
-    ∙ ap (λ (l : List Fail). (played_cycle stand exec going cycle).fails ++ l) (fails_in-none stand exec (after_cycle stand going cycle))
-    ∙ append-nil (played_cycle stand exec going cycle).fails
 
 -- what a cycle finds in a lane, by the lanes that were alive, that are left and that failed
 record IsNoted (before after : Option ℕ) (clear : Bool) (number left : ℕ) : Type 0 where
@@ -75,6 +66,6 @@ plays_lane setup exec cycle old new k device going within small stands at number
           (record { at = at; number = ap (λ (m : ℕ). m + 1) stands.number ∙ sym number; alive = n.alive });
       found = n.found
           ∙ ap (λ (o : Option ℕ). option_or (found_in old k) o)
-          (sym (ap first_fail (fails-one stand exec going cycle) ∙ first
+          (sym (ap first_fail (fails_in-one stand exec going cycle) ∙ first
           ∙ ap (λ (m : ℕ). cond (is_clear fails) None (Some m)) stands.number));
     }

@@ -16,10 +16,10 @@ use Rattle.die_sim.specs.declared.image.StuckAt.{StuckAt}
 use Rattle.site_meaning.specs.Playing.{Stand, Going, starting}
 use Rattle.site_meaning.specs.Trials.{played, after_cycles, fails_in, execs_of}
 use Rattle.die_words.specs.Lane.{bit}
-use Rattle.try_play.specs.declared.setup.Setup.{Setup}
-use Rattle.try_play.specs.Setup.{code_in}
-use Rattle.try_play.specs.Play.{PlaysUpTo}
-use Rattle.try_play.proofs.PlayLemmas.{all_ran}
+use Rattle.cycle_run.specs.declared.setup.Setup.{Setup}
+use Rattle.cycle_run.specs.Setup.{code_in}
+use Rattle.cycle_run.specs.Play.{PlaysUpTo}
+use Rattle.cycle_run.proofs.PlayLemmas.{all_ran}
 use Rattle.word_run.specs.declared.player.WordPlayer.{WordPlayer}
 use Rattle.word_run.specs.First.{first_fail, first_from, first_on, with_fault}
 use Rattle.word_run.specs.Player.{stand_with, device_with, found_in, StandsIn, CanPlay, PlaysLanes, IsBefore, StartsSo}

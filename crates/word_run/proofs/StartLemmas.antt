@@ -9,8 +9,8 @@ use Rattle.die_sim.specs.Die.{Device, IsOfNet, fixed_of}
 use Rattle.die_sim.specs.Stepped.{first_state}
 use Rattle.die_sim.specs.declared.image.StuckAt.{StuckAt}
 use Rattle.cycle_run.specs.Step.{HoldsSchedules}
-use Rattle.try_play.specs.declared.setup.Setup.{Setup}
-use Rattle.try_play.specs.Setup.{code_in}
+use Rattle.cycle_run.specs.declared.setup.Setup.{Setup}
+use Rattle.cycle_run.specs.Setup.{code_in}
 use Rattle.die_words.specs.Lane.{bit}
 use Rattle.die_words.specs.Lanes.{IsLaneOf}
 use Rattle.word_run.specs.declared.player.WordPlayer.{WordPlayer}

@@ -1,14 +1,17 @@
 -- 64 dies between two moments, and what goes along with them. No public clause cites it.
-use Rattle.std.specs.Prelude.{◌≡◌, ℕ, ◌<◌, Bool, true, false, List, [], ◌∷◌, length, Option, None, slice_index_or}
+use Rattle.std.specs.Prelude.{◌≡◌, ℕ, ◌<◌, Bool, true, false, List, [], ◌∷◌, length, map, min, Option, None, slice_index_or}
+use Rattle.std.specs.Int.{bit_at}
 use Rattle.std.specs.List.{fold}
 use Rattle.tester_types.specs.declared.wave.Look.{Look}
 use Rattle.tester_types.specs.declared.cycle.Moment.{Moment}
 use Rattle.tester_types.specs.declared.record.Fail.{Fail}
+use Rattle.edge_gen.specs.Moments.{later}
 use Rattle.die_sim.specs.Die.{Image, Device, device_of}
 use Rattle.strobe_check.specs.Entry.{looks_at}
 use Rattle.strobe_check.specs.Step.{window_after}
 use Rattle.strobe_check.specs.Fails.{fails}
-use Rattle.site_meaning.specs.Playing.{Along, Whose, bound_of, entries_in}
+use Rattle.site_meaning.specs.Playing.{Along, Whose, bound_of, entries_in, after_moments}
+use Rattle.die_words.specs.Lane.{bit}
 use Rattle.die_words.specs.Lanes.{IsLaneOf}
 use Rattle.word_run.specs.declared.board.Board.{Board}
 
@@ -45,3 +48,12 @@ is_clear (fail ∷ fails) = false
 -- whether these moments of a cycle, which starts at this time, have no fail in a die
 abbrev pub are_clear : Device → Whose → Along → List Moment → Bool
 are_clear device whose along moments = is_clear (fails (bound_of device) (entries_in device whose along moments))
+
+-- the dies of all lanes go on through these moments of a cycle, whenever it starts, and of these lanes those are left
+-- in whose dies they have no fail
+pub record PlaysMoments (moments : List Moment) (alive left : ℕ) (old new : Board) : Type 0 where
+  pub lanes : (lane : ℕ) (device : Device) (along : Along) (start : ℕ) → lane < 64 → StandsAt old lane device along
+      → StandsAt new lane device (after_moments device along (map (later start) moments))
+  pub clear : (lane : ℕ) (device : Device) (whose : Whose) (along : Along) (start : ℕ) → lane < 64
+      → StandsAt old lane device along
+      → bit_at left lane ≡ min (bit_at alive lane) (bit (are_clear device whose along (map (later start) moments)))

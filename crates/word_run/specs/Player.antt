@@ -9,8 +9,8 @@ use Rattle.site_meaning.specs.Playing.{Stand, Going, along_of, starting}
 use Rattle.site_meaning.specs.Trials.{played, after_cycles, fails_in}
 use Rattle.cycle_run.specs.Cycle.{stand_of}
 use Rattle.cycle_run.specs.Step.{HoldsSchedules}
-use Rattle.try_play.specs.declared.setup.Setup.{Setup}
-use Rattle.try_play.specs.Setup.{code_in}
+use Rattle.cycle_run.specs.declared.setup.Setup.{Setup}
+use Rattle.cycle_run.specs.Setup.{code_in}
 use Rattle.die_words.specs.Lane.{bit}
 use Rattle.word_run.specs.declared.player.WordPlayer.{WordPlayer}
 use Rattle.word_run.specs.First.{first_fail, with_fault}

@@ -6,9 +6,9 @@ use Rattle.tester_types.specs.declared.cycle.Cycle.{Cycle}
 use Rattle.tester_types.specs.declared.record.Fail.{Fail}
 use Rattle.site_meaning.specs.Playing.{Stand, Going, played_cycle, after_cycle}
 use Rattle.site_meaning.specs.Trials.{played, after_cycles, fails_in}
-use Rattle.cycle_run.proofs.BatchLemmas.{after_cycles-append, after_cycles-none, after_cycles-next, fails_in-next, fails_in-none}
+use Rattle.cycle_run.specs.BatchLaws.{after_cycles-append, after_cycles-none, after_cycles-next, fails_in-next, fails_in-none}
 use Rattle.std.proofs.lemmas.List.{append_assoc}
-use Rattle.try_play.specs.declared.setup.Setup.{Setup}
+use Rattle.cycle_run.specs.declared.setup.Setup.{Setup}
 use Rattle.word_run.specs.declared.player.WordPlayer.{WordPlayer}
 use Rattle.word_run.specs.First.{first_fail}
 use Rattle.word_run.specs.Player.{stand_with, found_in, StandsIn, CanPlay, PlaysLanes}

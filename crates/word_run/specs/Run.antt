@@ -7,8 +7,8 @@ use Rattle.packed_code.specs.Program.{Program}
 use Rattle.packed_code.specs.Cycles.{cycles_of}
 use Rattle.die_sim.specs.Die.{Device}
 use Rattle.site_meaning.specs.Playing.{Going}
-use Rattle.try_play.specs.declared.setup.Setup.{Setup}
-use Rattle.try_play.specs.Setup.{code_in}
+use Rattle.cycle_run.specs.declared.setup.Setup.{Setup}
+use Rattle.cycle_run.specs.Setup.{code_in}
 use Rattle.word_run.specs.declared.player.WordPlayer.{WordPlayer}
 use Rattle.word_run.specs.First.{first_from}
 use Rattle.word_run.specs.Player.{stand_with, found_in, StandsIn, IsBefore, PlaysLanes}

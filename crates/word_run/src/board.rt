@@ -1,25 +1,24 @@
 //! 64 dies between two moments, and what goes along with them.
-ghost use Rattle.std.specs.Prelude.{◌≡◌, ℕ, ◌<◌, ◌≤◌, None, map, length, replicate, min, IfOk, OnOk, slice_index_or};
+ghost use Rattle.std.specs.Prelude.{◌≡◌, ℕ, ◌<◌, ◌≤◌, None, length, replicate, min, IfOk, OnOk, slice_index_or};
 ghost use Rattle.std.specs.Int.{bit_at};
-ghost use Rattle.std.specs.List.{range_with_len};
 ghost use Rattle.text_bytes.specs.Limits.{most_signals};
 ghost use Rattle.tester_types.specs.declared.level.Drive.{Drive};
 ghost use Rattle.tester_types.specs.declared.level.Drive.TheVariants as drive;
 ghost use Rattle.bench_net.specs.Circuit.{IsWhole};
-ghost use Rattle.die_sim.specs.Die.{Device, State, device_of};
+ghost use Rattle.die_sim.specs.Die.{Device, State};
 ghost use Rattle.die_sim.specs.Stepped.{stepped};
 ghost use Rattle.strobe_check.specs.Entry.{looks_at};
 ghost use Rattle.strobe_check.specs.Step.{window_after};
-ghost use Rattle.site_meaning.specs.Playing.{Along, after_moment, is_bound};
+ghost use Rattle.site_meaning.specs.Playing.{Along, after_moment};
 ghost use Rattle.cycle_run.specs.Step.{IsMomentOf};
 ghost use Rattle.die_words.specs.Lane.{bit};
 ghost use Rattle.die_words.specs.Lanes.{IsLaneOf};
 ghost use Rattle.word_run.specs.Judge.{are_met};
 ghost use Rattle.word_run.specs.Board.{IsBoardOf, StandsAt};
 
-use crate::drives::{collect, remember};
 use crate::judge::meet_all;
 use crate::looks::put_windows;
+use cycle_run::{bound_signals, collect, remember, unknown_drives};
 use die_sim::DieImage;
 use die_words::DieWords;
 use std::alloc::{AllocError, Global};
@@ -37,31 +36,6 @@ pub(crate) struct Board {
     pub(crate) drives: Vec<(u16, Drive)>,
     /// The window that is open at each signal, in dies without a fail in the cycle.
     pub(crate) windows: Vec<Option<Look>>,
-}
-
-/// Whether a signal is looked at: it is the clock, or bound to a net.
-fn is_bound(image: &DieImage, signal: u16) -> bool
-    ensures { result ≡ is_bound (device_of image.now) signal }
-{
-    image.bind.is_clock(signal) || image.bind.has_net(signal)
-}
-
-/// Whether each of so many signals is looked at.
-fn bound_signals(alloc: Global, image: &DieImage, signals: u16) -> Result<Vec<bool>, AllocError>
-    ensures { IfOk result (λ bound. bound.items ≡ map (is_bound (device_of image.now)) (range_with_len 0 signals)) }
-{
-    let mut bound = Vec::new(alloc);
-    for signal in 0..signals {
-        bound.push(is_bound(image, signal))?;
-    }
-    Ok(bound)
-}
-
-/// Unknown for each signal.
-fn unknown_drives(alloc: Global, signals: u16) -> Result<Vec<Drive>, AllocError>
-    ensures { IfOk result (λ last. last.items ≡ replicate signals drive.Unknown) }
-{
-    vec![in alloc; Drive::Unknown; usize::from(signals)]
 }
 
 /// No window at each signal.

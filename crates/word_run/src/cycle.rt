@@ -1,24 +1,23 @@
 //! One cycle of 64 dies.
-ghost use Rattle.std.specs.Prelude.{◌≡◌, ℕ, ◌<◌, ◌≤◌, [], All, map, length, min, IfOk, OnOk};
+ghost use Rattle.std.specs.Prelude.{◌≡◌, ℕ, ◌<◌, ◌≤◌, [], All, length, min, IfOk, OnOk};
 ghost use Rattle.std.specs.Int.{bit_at};
 ghost use Rattle.text_bytes.specs.Limits.{most_signals};
 ghost use Rattle.bench_net.specs.Circuit.{IsWhole};
 ghost use Rattle.packed_code.specs.Walk.{IsOf};
-ghost use Rattle.edge_gen.specs.Moments.{later};
 ghost use Rattle.die_sim.specs.Die.{Device};
-ghost use Rattle.site_meaning.specs.Playing.{Along, Whose, Going, along_of, after_moments, played_cycle, after_cycle};
+ghost use Rattle.site_meaning.specs.Playing.{Going, along_of, played_cycle, after_cycle};
 ghost use Rattle.cycle_run.specs.Cycle.{stand_of};
 ghost use Rattle.cycle_run.specs.Step.{IsScheduled, HoldsSchedules};
-ghost use Rattle.try_play.specs.Setup.{IsSetUp, code_in};
+ghost use Rattle.cycle_run.specs.Setup.{IsSetUp, code_in};
 ghost use Rattle.die_words.specs.Lane.{bit};
-ghost use Rattle.word_run.specs.Board.{IsBoardOf, StandsAt, AreWindows, is_clear, are_clear};
+ghost use Rattle.word_run.specs.Board.{IsBoardOf, StandsAt, AreWindows, PlaysMoments, is_clear};
 
 use crate::board::{Board, play_moment};
 use crate::looks::close_all;
+use cycle_run::Setup;
 use die_sim::DieImage;
 use edge_gen::Schedules;
 use tester_types::{Cycle, Moment, NoMemory};
-use try_play::Setup;
 
 /// The moments of a cycle, one after another. Of these lanes those are left in whose dies none fails.
 fn play_moments(
@@ -33,12 +32,7 @@ fn play_moments(
     requires closed { AreWindows (length image.now.binds) [] board.old.windows.items }
     requires moments { All (IsScheduled (length image.now.binds)) moments.now }
     ensures of { IsBoardOf image.now board.new }
-    ensures lanes { OnOk result ((k : ℕ) (device : Device) (along : Along) (start : ℕ) → k < 64
-        → StandsAt board.old k device along
-        → StandsAt board.new k device (after_moments device along (map (later start) moments.now))) }
-    ensures clear { IfOk result (λ left. (k : ℕ) (device : Device) (whose : Whose) (along : Along) (start : ℕ) → k < 64
-        → StandsAt board.old k device along → bit_at left k
-        ≡ min (bit_at alive k) (bit (are_clear device whose along (map (later start) moments.now)))) }
+    ensures plays { IfOk result (λ left. PlaysMoments moments.now alive left board.old board.new) }
 {
     let mut left = alive;
     for moment in moments {
@@ -59,12 +53,7 @@ fn play_scheduled(
     requires of { IsBoardOf image.now board.old }
     requires moments { All (IsScheduled (length image.now.binds)) moments.now }
     ensures of { IsBoardOf image.now board.new }
-    ensures lanes { OnOk result ((k : ℕ) (device : Device) (along : Along) (start : ℕ) → k < 64
-        → StandsAt board.old k device along
-        → StandsAt board.new k device (after_moments device along (map (later start) moments.now))) }
-    ensures clear { IfOk result (λ left. (k : ℕ) (device : Device) (whose : Whose) (along : Along) (start : ℕ) → k < 64
-        → StandsAt board.old k device along → bit_at left k
-        ≡ min (bit_at alive k) (bit (are_clear device whose along (map (later start) moments.now)))) }
+    ensures plays { IfOk result (λ left. PlaysMoments moments.now alive left board.old board.new) }
 {
     close_all(&mut board.windows);
     play_moments(board, image, moments, alive)

@@ -9,8 +9,9 @@ ghost use Rattle.die_words.specs.Lane.{bit};
 ghost use Rattle.die_words.specs.Lanes.{IsLaneOf};
 ghost use Rattle.word_run.specs.Judge.{edge_met, window_met, are_met};
 
-use crate::looks::{is_edge, window_at};
+use crate::looks::window_at;
 use die_words::DieWords;
+use strobe_check::is_edge;
 use tester_types::Look;
 
 /// Whether a signal is looked at.

@@ -3,7 +3,6 @@
 
 mod board;
 mod cycle;
-mod drives;
 mod judge;
 mod looks;
 mod player;

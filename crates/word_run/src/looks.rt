@@ -1,26 +1,9 @@
-//! What a look is, and the windows that the looks of a moment open and close.
+//! The windows that the looks of a moment open and close.
 ghost use Rattle.std.specs.Prelude.{◌≡◌, ◌≢◌, ℕ, ◌<◌, None, length, replicate, slice_index_or};
-ghost use Rattle.strobe_check.specs.Look.{is_edge};
 ghost use Rattle.strobe_check.specs.Step.{opened, looks_of, window_after};
 
+use strobe_check::opened;
 use tester_types::Look;
-
-/// Whether it looks at its own instant alone.
-pub(crate) fn is_edge(look: Look) -> bool
-    ensures { result ≡ is_edge look }
-{
-    matches!(look, Look::Low | Look::High | Look::Off)
-}
-
-/// The window that it opens.
-fn opened(look: Look) -> Option<Look>
-    ensures { result ≡ opened look }
-{
-    match look {
-        Look::LowWindow | Look::HighWindow | Look::OffWindow => Some(look),
-        _ => None,
-    }
-}
 
 /// The window of a signal; none past the last signal.
 pub(crate) fn window_at(windows: &[Option<Look>], signal: usize) -> Option<Look>

@@ -6,10 +6,9 @@ ghost use Rattle.word_run.specs.PlayerLaws.{ready_less, plays_none, plays_more};
 
 use crate::board::Board;
 use crate::cycle::play_cycle;
-use cycle_run::Stop;
+use cycle_run::{Player, Setup, Stop, Until};
 use edge_gen::Schedules;
 use tester_types::Cycle;
-use try_play::{Player, Setup, Until};
 
 /// 64 dies between two cycles.
 #[derive(Drop)]
@@ -48,22 +47,8 @@ fn put_first(firsts: &mut Vec<Option<u64>>, lane: usize, failed: u64, number: u6
     }
 }
 
-/// This cycle is the first failing one of these lanes.
+/// This cycle is the first failing one of these lanes, of which there may be none.
 fn put_firsts(firsts: &mut Vec<Option<u64>>, failed: u64, number: u64)
-    requires few { length firsts.old.items ≤ 64 }
-    ensures count { length firsts.new.items ≡ length firsts.old.items }
-    ensures found { (k : ℕ) → k < length firsts.old.items → bit_at failed k ≡ 1
-        → slice_index_or firsts.new.items k None ≡ Some number }
-    ensures others { (k : ℕ) → k < length firsts.old.items → bit_at failed k ≡ 0
-        → slice_index_or firsts.new.items k None ≡ slice_index_or firsts.old.items k None }
-{
-    for lane in 0..firsts.len() {
-        put_first(firsts, lane, failed, number);
-    }
-}
-
-/// The same, where there may be none.
-fn note_firsts(firsts: &mut Vec<Option<u64>>, failed: u64, number: u64)
     requires few { length firsts.old.items ≤ 64 }
     ensures count { length firsts.new.items ≡ length firsts.old.items }
     ensures found { (k : ℕ) → k < length firsts.old.items → bit_at failed k ≡ 1
@@ -74,7 +59,9 @@ fn note_firsts(firsts: &mut Vec<Option<u64>>, failed: u64, number: u64)
     if failed == 0 {
         return;
     }
-    put_firsts(firsts, failed, number);
+    for lane in 0..firsts.len() {
+        put_first(firsts, lane, failed, number);
+    }
 }
 
 impl Player for WordPlayer {
@@ -97,7 +84,7 @@ impl Player for WordPlayer {
             Ok(left) => left,
             Err(_) => return Err(Stop::NoMemory),
         };
-        note_firsts(&mut self.firsts, self.alive & !left, self.number);
+        put_firsts(&mut self.firsts, self.alive & !left, self.number);
         self.alive = left;
         self.number += 1;
         Ok(())

@@ -4,19 +4,19 @@ ghost use Rattle.std.specs.Int.{bit_at};
 ghost use Rattle.die_sim.specs.Walk.{AreFaultsWithin};
 ghost use Rattle.die_sim.specs.declared.image.StuckAt.{StuckAt};
 ghost use Rattle.packed_code.specs.Cycles.{cycles_of};
-ghost use Rattle.try_play.specs.Setup.{IsSetUp, code_in};
+ghost use Rattle.cycle_run.specs.Setup.{IsSetUp, code_in};
 ghost use Rattle.word_run.specs.First.{first_on, with_fault};
 ghost use Rattle.word_run.specs.Player.{IsBefore, StartsSo};
 ghost use Rattle.word_run.specs.Run.{RunsExec, RunsAll};
 
 use crate::board::Board;
 use crate::player::WordPlayer;
+use cycle_run::{Setup, play_cycles};
 use die_sim::StuckAt;
 use edge_gen::{HELD_SCHEDULES, Schedules};
 use packed_code::walk;
 use std::alloc::{AllocError, Global};
 use tester_types::NoMemory;
-use try_play::{Setup, play_cycles};
 
 /// So many lanes.
 fn first_lanes(count: usize) -> u64

@@ -6,7 +6,8 @@ use Rattle.edge_gen.specs.Moments.{later}
 use Rattle.die_sim.specs.Die.{device_of}
 use Rattle.cycle_run.specs.Cycle.{point_at}
 use Rattle.cycle_run.specs.Step.{whose_at, GoesThrough, Stops}
-use Rattle.cycle_run.proofs.StepLemmas.{goes_nowhere, goes-append, stops-behind, cause_behind, map-split, map-more}
+use Rattle.cycle_run.proofs.StepLemmas.{goes_nowhere, goes-append, stops-behind, map-split, map-more}
+use Rattle.cycle_run.specs.BatchLaws.{cause_behind}
 use Rattle.cycle_run.proofs.moments.make_moments.Goals as goal
 
 pub loop-moment-init : goal.loop-moment-init

@@ -4,9 +4,9 @@ use Rattle.packed_code.specs.Cycles.{cycles_of}
 use Rattle.packed_code.proofs.WalkLemmas.{length-cycles}
 use Rattle.die_sim.specs.Socket.{holding}
 use Rattle.cycle_run.proofs.FitLemmas.{few_cycles}
-use Rattle.try_play.specs.Setup.{code_in, stand_in}
-use Rattle.try_play.specs.Seat.{between_of}
-use Rattle.try_play.proofs.SeatLemmas.{can_exec}
+use Rattle.cycle_run.specs.Setup.{code_in, stand_in}
+use Rattle.cycle_run.specs.Seat.{between_of}
+use Rattle.cycle_run.proofs.SeatLemmas.{can_exec}
 use Rattle.fault_grade.proofs.ExecLemmas.{up_to_fail, runs_now, still_clear, goes_so}
 use Rattle.fault_grade.proofs.exec.run_exec.Goals as goal
 

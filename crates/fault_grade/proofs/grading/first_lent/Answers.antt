@@ -1,7 +1,7 @@
 use Rattle.std.proofs.Common.{ℤ, List, IfOk, sym, subst}
 use Rattle.cycle_run.specs.Step.{FitCode}
 use Rattle.fault_grade.specs.Grade.{first_site}
-use Rattle.try_play.specs.Lent.{HoldsMoments}
+use Rattle.cycle_run.specs.Lent.{HoldsMoments}
 use Rattle.fault_grade.proofs.DieLemmas.{code-fits}
 use Rattle.fault_grade.proofs.grading.first_lent.Goals as goal
 

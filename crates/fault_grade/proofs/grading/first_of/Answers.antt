@@ -5,7 +5,7 @@ use Rattle.die_sim.specs.Die.{Image}
 use Rattle.lot_plan.specs.Bound.{image_of}
 use Rattle.lot_plan.specs.Skews.{site_skews}
 use Rattle.site_meaning.proofs.ImageLemmas.{image-whole}
-use Rattle.try_play.specs.Setup.{code_in}
+use Rattle.cycle_run.specs.Setup.{code_in}
 use Rattle.fault_grade.specs.Grade.{first_site}
 use Rattle.word_run.specs.First.{first_on}
 use Rattle.fault_grade.specs.Search.{bare}

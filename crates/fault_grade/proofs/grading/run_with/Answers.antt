@@ -3,7 +3,7 @@ use Rattle.packed_code.specs.Program.{Program}
 use Rattle.die_sim.specs.Die.{Image}
 use Rattle.lot_plan.specs.Bound.{image_of}
 use Rattle.lot_plan.specs.Skews.{site_skews}
-use Rattle.try_play.specs.Setup.{code_in}
+use Rattle.cycle_run.specs.Setup.{code_in}
 use Rattle.fault_grade.specs.Grade.{first_site}
 use Rattle.fault_grade.specs.Search.{bare, run_on}
 use Rattle.fault_grade.specs.declared.graded.Graded.{Graded}

@@ -4,7 +4,7 @@ use Rattle.bench_net.specs.Circuit.{Circuit, IsWhole}
 use Rattle.die_sim.specs.Die.{Image}
 use Rattle.site_meaning.proofs.ImageLemmas.{image-long, image-whole}
 use Rattle.cycle_run.specs.Step.{FitCode}
-use Rattle.try_play.specs.Lent.{HoldsMoments}
+use Rattle.cycle_run.specs.Lent.{HoldsMoments}
 use Rattle.fault_grade.specs.Grade.{first_site}
 use Rattle.fault_grade.proofs.DieLemmas.{first-die, code-fits}
 use Rattle.fault_grade.proofs.grading.set_up.Goals as goal

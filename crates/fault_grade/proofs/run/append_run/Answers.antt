@@ -1,8 +1,9 @@
 use Rattle.std.proofs.Common.{◌∙◌, ap, map, arith}
+use Rattle.std.proofs.lemmas.Result.{on_ok_weaker}
 use Rattle.die_sim.specs.declared.image.StuckAt.{StuckAt}
 use Rattle.word_run.specs.First.{first_on, with_fault}
-use Rattle.try_play.specs.Setup.{code_in}
-use Rattle.fault_grade.proofs.ImageLemmas.{faults-within, faults-count, on_ok}
+use Rattle.cycle_run.specs.Setup.{code_in}
+use Rattle.fault_grade.proofs.ImageLemmas.{faults-within, faults-count}
 use Rattle.fault_grade.proofs.run.append_run.Goals as goal
 
 pub first_cycles-requires-clause-few : goal.first_cycles-requires-clause-few
@@ -17,7 +18,7 @@ first_cycles-requires-clause-within c =
 pub returns : goal.returns
 returns c =
     let setup = c.args.setup.now in
-    on_ok c.append_graded.result
+    on_ok_weaker c.append_graded.result
     (λ all. all (code_in setup) setup.skews.now setup.image.now
     (c.as_slice-2.ensures.value ∙ c.in_ok-firsts.ensures
     ∙ ap (map (λ (fault : StuckAt). first_on (code_in setup) setup.skews.now (with_fault setup.image.now fault)))

@@ -1,5 +1,5 @@
 use Rattle.std.proofs.Common.{◌≡◌, ◌-◌, ◌≤◌}
-use Rattle.try_play.specs.Setup.{code_in}
+use Rattle.cycle_run.specs.Setup.{code_in}
 use Rattle.fault_grade.specs.Search.{run_on}
 use Rattle.fault_grade.proofs.run.try_run.Given as goal
 

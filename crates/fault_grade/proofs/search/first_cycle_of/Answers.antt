@@ -1,8 +1,8 @@
 use Rattle.std.proofs.Common.{◌∙◌, ap}
 use Rattle.std.specs.Prelude.{None}
 use Rattle.die_sim.specs.Socket.{holding}
-use Rattle.try_play.specs.Setup.{device_in}
-use Rattle.try_play.specs.Seat.{point_of}
+use Rattle.cycle_run.specs.Setup.{device_in}
+use Rattle.cycle_run.specs.Seat.{point_of}
 use Rattle.word_run.specs.First.{first_fail}
 use Rattle.fault_grade.specs.Search.{first_in}
 use Rattle.fault_grade.proofs.SearchLemmas.{kept_first}

@@ -3,8 +3,8 @@ use Rattle.std.specs.Prelude.{None}
 use Rattle.packed_code.specs.Cycles.{cycles_of}
 use Rattle.die_sim.specs.Socket.{holding}
 use Rattle.cycle_run.specs.Batch.{going_in}
-use Rattle.try_play.specs.Setup.{code_in, stand_in}
-use Rattle.try_play.specs.Seat.{between_of}
+use Rattle.cycle_run.specs.Setup.{code_in, stand_in}
+use Rattle.cycle_run.specs.Seat.{between_of}
 use Rattle.fault_grade.specs.Search.{first_in, RunsUpTo, GoesOn}
 use Rattle.fault_grade.proofs.SearchLemmas.{begins, ends_here, goes_on, ends_clear}
 use Rattle.fault_grade.proofs.search.run_all.Goals as goal

@@ -2,8 +2,8 @@ use Rattle.std.proofs.Common.{◌≡◌}
 use Rattle.std.specs.Prelude.{None}
 use Rattle.die_sim.specs.Socket.{holding}
 use Rattle.cycle_run.specs.Batch.{going_in}
-use Rattle.try_play.specs.Setup.{code_in, stand_in}
-use Rattle.try_play.specs.Seat.{between_of, IsBefore}
+use Rattle.cycle_run.specs.Setup.{code_in, stand_in}
+use Rattle.cycle_run.specs.Seat.{between_of, IsBefore}
 use Rattle.word_run.specs.First.{first_from}
 use Rattle.word_run.specs.Run.{execs_left}
 use Rattle.fault_grade.specs.Search.{first_in}

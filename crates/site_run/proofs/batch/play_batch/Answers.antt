@@ -4,11 +4,11 @@ use Rattle.pattern_mem.specs.Cursor.{cycles_to_come, IsCursorOf}
 use Rattle.cycle_run.specs.Cycle.{stand_of}
 use Rattle.cycle_run.specs.Batch.{Between, PlaysCycles}
 use Rattle.cycle_run.proofs.FitLemmas.{few_cycles}
-use Rattle.try_play.specs.declared.setup.Until.TheVariants as until
-use Rattle.try_play.specs.Setup.{HasEnough}
-use Rattle.try_play.specs.Play.{PlaysUpTo}
-use Rattle.try_play.specs.Seat.{between_of}
-use Rattle.try_play.proofs.PlayLemmas.{all_ran}
+use Rattle.cycle_run.specs.declared.setup.Until.TheVariants as until
+use Rattle.cycle_run.specs.Setup.{HasEnough}
+use Rattle.cycle_run.specs.Play.{PlaysUpTo}
+use Rattle.cycle_run.specs.Seat.{between_of}
+use Rattle.cycle_run.proofs.PlayLemmas.{all_ran}
 use Rattle.site_run.specs.declared.run.Run.{Run}
 use Rattle.site_run.specs.Station.{code_in, device_in, stand_in}
 use Rattle.site_run.proofs.StationLemmas.{can_play}

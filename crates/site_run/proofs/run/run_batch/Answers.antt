@@ -4,7 +4,7 @@ use Rattle.packed_code.specs.Cycles.{cycles_of}
 use Rattle.pattern_mem.specs.Cursor.{cycles_to_come}
 use Rattle.die_sim.specs.Socket.{Calls}
 use Rattle.cycle_run.specs.Tape.{with_calls}
-use Rattle.try_play.specs.Seat.{between_of}
+use Rattle.cycle_run.specs.Seat.{between_of}
 use Rattle.site_run.specs.Taped.{IsTaped}
 use Rattle.site_run.specs.Seat.{running_of}
 use Rattle.site_run.specs.Station.{code_in, stand_in}

@@ -2,8 +2,8 @@ use Rattle.std.proofs.Common.{◌∙◌, true, false, take, refl, ap, arith}
 use Rattle.packed_code.specs.Cycles.{cycles_of}
 use Rattle.cycle_run.proofs.FitLemmas.{few_cycles}
 use Rattle.site_run.proofs.RunLemmas.{cycles_told}
-use Rattle.try_play.specs.Setup.{code_in}
-use Rattle.try_play.proofs.SeatLemmas.{can_exec}
+use Rattle.cycle_run.specs.Setup.{code_in}
+use Rattle.cycle_run.proofs.SeatLemmas.{can_exec}
 use Rattle.vcd_dump.specs.Play.{allowed, order_behind}
 use Rattle.vcd_dump.specs.Recording.{recording_told}
 use Rattle.vcd_dump.proofs.ExecLemmas.{plays_so, comes_over, comes_ordered, comes_failed, comes_on}

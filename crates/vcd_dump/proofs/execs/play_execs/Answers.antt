@@ -2,7 +2,7 @@ use Rattle.std.proofs.Common.{◌∙◌, ◌+◌, ◌<◌, ◌≤◌, ◌++◌, 
 use Rattle.packed_code.specs.Cycles.{cycles_of}
 use Rattle.site_meaning.specs.Playing.{Going}
 use Rattle.site_meaning.specs.Trials.{execs_of, after_cycles}
-use Rattle.try_play.specs.Setup.{code_in, stand_in}
+use Rattle.cycle_run.specs.Setup.{code_in, stand_in}
 use Rattle.vcd_dump.specs.Play.{going_of, calls_from, goes_on}
 use Rattle.vcd_dump.proofs.CallsLemmas.{all_at, execs_none, ends_all, goes_all, over_all, done_all, behind}
 use Rattle.vcd_dump.proofs.execs.play_execs.Goals as goal

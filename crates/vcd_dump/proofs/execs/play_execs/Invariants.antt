@@ -1,6 +1,6 @@
 use Rattle.std.proofs.Common.{◌≡◌, ◌++◌, drop}
 use Rattle.site_meaning.specs.Trials.{execs_of}
-use Rattle.try_play.specs.Setup.{code_in, stand_in}
+use Rattle.cycle_run.specs.Setup.{code_in, stand_in}
 use Rattle.vcd_dump.specs.Play.{calls_from, going_of, StandsBefore}
 use Rattle.vcd_dump.proofs.execs.play_execs.Given as goal
 

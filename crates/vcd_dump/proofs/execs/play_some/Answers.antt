@@ -2,7 +2,7 @@ use Rattle.std.proofs.Common.{◌∙◌, List, take, ap, sym, subst}
 use Rattle.tester_types.specs.declared.cycle.Cycle.{Cycle}
 use Rattle.packed_code.specs.Cycles.{cycles_of}
 use Rattle.cycle_run.specs.Batch.{LosesContactIn}
-use Rattle.try_play.specs.Setup.{code_in, stand_in}
+use Rattle.cycle_run.specs.Setup.{code_in, stand_in}
 use Rattle.vcd_dump.specs.declared.execs.Way.{Way}
 use Rattle.vcd_dump.specs.Play.{stands_at}
 use Rattle.vcd_dump.proofs.ExecLemmas.{lost_some}

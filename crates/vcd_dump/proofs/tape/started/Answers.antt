@@ -2,7 +2,7 @@ use Rattle.std.proofs.Common.{sym, subst}
 use Rattle.edge_gen.specs.Held.{Held}
 use Rattle.die_sim.specs.Socket.{IsLoaded}
 use Rattle.cycle_run.specs.Step.{HoldsSchedules}
-use Rattle.try_play.specs.Setup.{code_in}
+use Rattle.cycle_run.specs.Setup.{code_in}
 use Rattle.vcd_dump.specs.Recording.{Recording, recording_told}
 use Rattle.vcd_dump.proofs.tape.started.Goals as goal
 

@@ -4,7 +4,7 @@ use Rattle.packed_code.specs.Program.{Program}
 use Rattle.packed_code.specs.Conditions.{IsProgram}
 use Rattle.die_sim.specs.Socket.{Calls}
 use Rattle.site_meaning.specs.Trials.{execs_of}
-use Rattle.try_play.specs.Setup.{code_in, stand_in}
+use Rattle.cycle_run.specs.Setup.{code_in, stand_in}
 use Rattle.vcd_dump.specs.declared.fault.TapeFault.TheVariants as fault
 use Rattle.vcd_text.specs.Sound.{IsSound}
 use Rattle.vcd_dump.specs.Taken.{vars_of, drives_in, most_drives}

@@ -9,10 +9,10 @@ use Rattle.site_meaning.specs.Playing.{along_of, after_moments, whose_next}
 use Rattle.cycle_run.specs.Step.{IsScheduled, HoldsSchedules}
 use Rattle.cycle_run.proofs.MomentLemmas.{row_long, moved_fit, moments_fit}
 use Rattle.cycle_run.proofs.ScheduleLemmas.{schedule_is, moments_are, holds_only, holds_asked}
-use Rattle.try_play.specs.Setup.{code_in}
+use Rattle.cycle_run.specs.Setup.{code_in}
 use Rattle.die_words.specs.Lane.{bit}
 use Rattle.word_run.specs.Board.{are_clear, StandsAt}
-use Rattle.word_run.proofs.BoardLemmas.{on_ok, if_ok}
+use Rattle.word_run.proofs.BoardLemmas.{if_ok}
 use Rattle.word_run.proofs.cycle.play_cycle.Goals as goal
 
 pub of-requires-clause-skews : goal.of-requires-clause-skews
@@ -62,12 +62,12 @@ returns-in-Ok-clause-lanes c =
     let skews = c.args.setup.now.skews.now in
     let are = λ (device : Device) (start : ℕ). moments_are code skews device start c.args.cycle c.table-table.result.now c.row-row.result.now
     c.as_slice.result.now c.table-table.ensures.found c.row-row.ensures (c.as_slice.ensures ∙ c.in-Ok.ensures.moments) in
-    on_ok c.play_scheduled.result
-    (λ all k device going within h.
+    if_ok c.play_scheduled.result
+    (λ left plays k device going within h.
     let there = subst (λ (l : List Moment). StandsAt c.play_scheduled.new.board k device (after_moments device (along_of going) l))
-    (are device going.time) (all k device (along_of going) going.time within h) in
+    (are device going.time) (plays.lanes k device (along_of going) going.time within h) in
     record { die = there.die; priors = there.priors })
-    c.play_scheduled.ensures.lanes
+    c.play_scheduled.ensures.plays
 
 pub returns-in-Ok-clause-clear : goal.returns-in-Ok-clause-clear
 returns-in-Ok-clause-clear c =
@@ -76,8 +76,8 @@ returns-in-Ok-clause-clear c =
     let are = λ (device : Device) (start : ℕ). moments_are code skews device start c.args.cycle c.table-table.result.now c.row-row.result.now
     c.as_slice.result.now c.table-table.ensures.found c.row-row.ensures (c.as_slice.ensures ∙ c.in-Ok.ensures.moments) in
     if_ok c.play_scheduled.result
-    (λ left all k device exec going within h.
+    (λ left plays k device exec going within h.
     subst (λ (l : List Moment). bit_at left k ≡ min (bit_at c.args.alive k)
     (bit (are_clear device (whose_next exec going c.args.cycle) (along_of going) l)))
-    (are device going.time) (all k device (whose_next exec going c.args.cycle) (along_of going) going.time within h))
-    c.play_scheduled.ensures.clear
+    (are device going.time) (plays.clear k device (whose_next exec going c.args.cycle) (along_of going) going.time within h))
+    c.play_scheduled.ensures.plays

@@ -3,7 +3,7 @@ use Rattle.std.specs.Prelude.{Option, None, slice_index_or}
 use Rattle.std.proofs.lemmas.List.{length-replicate}
 use Rattle.tester_types.specs.declared.wave.Look.{Look}
 use Rattle.word_run.proofs.LookLemmas.{none_at}
-use Rattle.word_run.proofs.BoardLemmas.{on_ok}
+use Rattle.word_run.proofs.BoardLemmas.{if_ok}
 use Rattle.word_run.proofs.CycleLemmas.{windows_closed}
 use Rattle.word_run.proofs.cycle.play_scheduled.Goals as goal
 
@@ -14,8 +14,12 @@ play_moments-requires-clause-closed c =
     (ap (λ (l : List (Option Look)). length l) c.close_all.ensures ∙ length-replicate n None ∙ c.requires.of.windows)
     (λ s. ap (λ (l : List (Option Look)). slice_index_or l s None) c.close_all.ensures ∙ none_at n s)
 
-pub returns-clause-lanes : goal.returns-clause-lanes
-returns-clause-lanes c =
-    on_ok c.play_moments.result
-    (λ all k device along start within h. all k device along start within (record { die = h.die; priors = h.priors }))
-    c.play_moments.ensures.lanes
+pub returns-clause-plays : goal.returns-clause-plays
+returns-clause-plays c =
+    if_ok c.play_moments.result
+    (λ left p. record {
+      lanes = λ k device along start within h. p.lanes k device along start within (record { die = h.die; priors = h.priors });
+      clear = λ k device whose along start within h.
+          p.clear k device whose along start within (record { die = h.die; priors = h.priors });
+    })
+    c.play_moments.ensures.plays

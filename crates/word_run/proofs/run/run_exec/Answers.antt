@@ -1,7 +1,7 @@
 use Rattle.std.proofs.Common.{◌*◌, ◌-◌, ◌∙◌, length, ap, arith, sym}
 use Rattle.packed_code.proofs.WalkLemmas.{length-cycles}
 use Rattle.cycle_run.proofs.FitLemmas.{few_cycles}
-use Rattle.try_play.specs.Setup.{code_in}
+use Rattle.cycle_run.specs.Setup.{code_in}
 use Rattle.word_run.specs.PlayerLaws.{ready_less}
 use Rattle.word_run.proofs.RunLemmas.{runs_exec}
 use Rattle.word_run.proofs.run.run_exec.Goals as goal

@@ -5,7 +5,7 @@ use Rattle.die_sim.specs.Die.{Image, Device, IsOfNet, fixed_of}
 use Rattle.die_sim.specs.Stepped.{first_state}
 use Rattle.die_sim.specs.declared.image.StuckAt.{StuckAt}
 use Rattle.cycle_run.specs.Step.{HoldsSchedules}
-use Rattle.try_play.specs.Setup.{code_in}
+use Rattle.cycle_run.specs.Setup.{code_in}
 use Rattle.die_words.specs.Lanes.{IsLaneOf}
 use Rattle.word_run.proofs.StartLemmas.{starts}
 use Rattle.word_run.proofs.run.start.Goals as goal

@@ -3,7 +3,7 @@ use Rattle.std.proofs.lemmas.Bool.{lt-ltb}
 use Rattle.lot_plan.specs.Bound.{image_of, stop_of}
 use Rattle.cycle_run.specs.Tape.{with_calls}
 use Rattle.site_run.specs.Seat.{running_of}
-use Rattle.cycle_run.proofs.SocketLemmas.{with-none}
+use Rattle.cycle_run.specs.BatchLaws.{with-none}
 use Rattle.site_run.proofs.BeforeLemmas.{not_live, no_calls_live, no_calls_ordered, ends_live, ends_ordered, runs_now, taped_so}
 use Rattle.site_run.proofs.PlanLemmas.{set_up_by}
 use Rattle.site_run.proofs.site.Site.before_batch.Goals as goal

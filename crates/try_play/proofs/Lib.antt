@@ -1,3 +1,0 @@
-pub mod PlayLemmas
-pub mod SeatLemmas
-pub mod LentLemmas

@@ -1,6 +1,0 @@
-use Rattle.try_play.specs.Lent.{HoldsMoments}
-use Rattle.try_play.proofs.lent.Lent.hold_exec.Given as goal
-
--- what is held stays right
-abbrev pub invariant-loop-place : goal.invariant-loop-place
-invariant-loop-place l = HoldsMoments l.code l.skews l.self

@@ -1,5 +1,0 @@
-pub mod Lent
-pub mod Setup
-pub mod Play
-pub mod Seat
-pub mod SeatLaws
