@@ -15,24 +15,26 @@ use Rattle.bench_net.specs.declared.gate.Driver.{Driver}
 use Rattle.bench_net.specs.declared.gate.Driver.TheVariants.{Input, Dff, Gate}
 use Rattle.bench_net.specs.Circuit.{Circuit, IsWhole}
 use Rattle.bench_net.specs.Gates.{level_at, read, negated, zeros, ones, and_of, or_of, xor_of, gate_of}
-use Rattle.bench_net.specs.Wiring.{driver_at}
+use Rattle.bench_net.specs.Wiring.{driver_at, gate_at}
 use Rattle.die_sim.specs.declared.image.Bind.{Bind}
-use Rattle.die_sim.specs.declared.image.Bind.TheVariants as bind
 use Rattle.die_sim.specs.Die.{Device, State, IsOfNet, IsNetBind, driven, bind_at, shown, level_of}
 use Rattle.die_sim.specs.declared.image.Binding.{Binding}
 use Rattle.die_sim.proofs.WaitingLemmas.{bound_at}
 use Rattle.strobe_check.specs.Look.{is_met}
 use Rattle.std.specs.Int.{bit_at}
 use Rattle.tester_types.specs.declared.wave.Look.{Look}
-use Rattle.die_sim.specs.Moment.{edge, capture, captured, agreed, clock_after, put_all, IsWithin}
+use Rattle.die_sim.specs.Moment.{edge, capture, captured, agreed, clock_after, put_all}
 use Rattle.die_sim.specs.Stepped.{settled_levels, captured_levels, first_state, stepped}
 use Rattle.die_sim.specs.Walk.{is_off}
 use Rattle.die_sim.proofs.SettlingLemmas.{settles}
 use Rattle.die_sim.proofs.SteppedLemmas.{step_is_stepped, length-step}
 use Rattle.die_words.specs.declared.word.Word.{Word}
 use Rattle.die_words.specs.Lane.{bit, nothing, Shows, ShowsFault, IsLane, AreFaults}
-use Rattle.die_words.specs.declared.board.NetWords.{NetWords}
+use Rattle.die_words.specs.declared.nets.NetWords.{NetWords}
 use Rattle.die_words.specs.Board.{lanes_at, FitNets}
+use Rattle.die_sim.specs.Pending.{is_pending, AreSeats}
+use Rattle.die_words.specs.Fits.{word_at}
+use Rattle.die_words.proofs.FitLemmas.{FitsOwn-at}
 use Rattle.die_words.specs.Lanes.{Lanes, AreOff, OnlyInputs, IsLaneOf}
 
 -- ---- what is off
@@ -257,11 +259,12 @@ OnlyInputs-none drivers offs count is = record {
       | inr l ↦ get_or_past (replicate count false) n false (omega (arith, l, length-replicate {A = Bool} count false))
     ])
 
--- there are words for all nets
+-- there are words for all nets, and each gate is pending
 pub FitNets-fresh : (c : Circuit) (n : NetWords) (count : ℕ) → IsWhole c → count ≡ length c.net.names
     → n.forces.items ≡ replicate count nothing → n.offs.items ≡ replicate count false
-    → n.held.items ≡ replicate count nothing → n.words.items ≡ replicate count nothing → FitNets c n
-FitNets-fresh c n count whole names forces offs held words =
+    → n.held.items ≡ replicate count nothing → n.words.items ≡ replicate count nothing → AreSeats c.order n.pending
+    → ((m : ℕ) → is_pending n.pending m ≡ gate_at c.net.drivers m) → FitNets c n
+FitNets-fresh c n count whole names forces offs held words seats pending =
     let nets : count ≡ length c.net.drivers = names ∙ sym whole.drivers in
     record {
       forces = ap (λ (l : List Word). length l) forces ∙ length-replicate count nothing ∙ nets;
@@ -269,13 +272,14 @@ FitNets-fresh c n count whole names forces offs held words =
       held = ap (λ (l : List Word). length l) held ∙ length-replicate count nothing ∙ nets;
       words = ap (λ (l : List Word). length l) words ∙ length-replicate count nothing ∙ nets;
       inputs = OnlyInputs-none c.net.drivers n.offs.items count offs;
+      sources = record {
+        each = λ m l e. let inside : m < count = omega (arith, l, nets) in FitsOwn-at (none n.forces.items m forces inside) (none n.held.items m held inside) (none n.words.items m words inside);
+      };
+      gates = record { seats = seats; each = λ g e f. absurd (both_ways (is_pending n.pending g) f (pending g ∙ e)) };
     }
-
--- a signal is bound to a net of the netlist
-pub bound_within : (drivers : List Driver) (b : Bind) (count : ℕ) → count ≡ length drivers → IsNetBind drivers b → IsWithin count b
-bound_within drivers bind.Free count is h = tt
-bound_within drivers (bind.Input n) count is h = omega (arith, h.0, is)
-bound_within drivers (bind.Output n) count is h = omega (arith, h, is)
+  where
+    none : (l : List Word) (m : ℕ) → l ≡ replicate count nothing → m < count → word_at l m ≡ nothing
+    none l m is inside = ap (λ (w : List Word). word_at w m) is ∙ get_or-replicate count m nothing nothing inside
 
 -- signals are bound to nets of the netlist, past the last one too
 pub board_bound : (c d : Circuit) (b e : Binding) → c ≡ d → b ≡ e

@@ -1,7 +1,7 @@
 -- Flip-flops capture one after another, in each lane.
-use Rattle.std.proofs.Common.{◌≡◌, ◌≢◌, ℕ, ◌+◌, ◌<◌, ◌≤◌, false, List, length, get_or, set, refl, sym, ap, ◌∙◌, subst, arith, inl, inr}
+use Rattle.std.proofs.Common.{◌≡◌, ◌≢◌, ℕ, ◌+◌, ◌<◌, ◌≤◌, true, false, List, length, get_or, set, refl, sym, ap, ◌∙◌, subst, arith, inl, inr}
 use Rattle.std.proofs.lemmas.List.FromFn.{length-map-range_with_len, get_or-map-range_with_len}
-use Rattle.std.proofs.lemmas.Bool.{cases_Bool}
+use Rattle.std.proofs.lemmas.Bool.{cases_Bool, both_ways}
 use Rattle.tester_types.specs.declared.level.Level.{Level}
 use Rattle.tester_types.specs.declared.level.Level.TheVariants.{Zero}
 use Rattle.bench_net.specs.declared.gate.Driver.{Driver}
@@ -15,6 +15,7 @@ use Rattle.die_sim.specs.Walk.{is_flip_flop}
 use Rattle.die_sim.proofs.MomentLemmas.{CapturedTo, CapturedTo-more, flip_flop_within}
 use Rattle.die_words.specs.declared.word.Word.{Word}
 use Rattle.die_words.specs.declared.capture.Rise.{Rise}
+use Rattle.die_words.specs.declared.capture.Rise.TheVariants.{Keeps}
 use Rattle.die_words.specs.Lane.{nothing, Shows, IsLane}
 use Rattle.die_words.specs.Capture.{kept_after, AreRegisters}
 use Rattle.die_words.proofs.LaneLemmas.{IsLane-put}
@@ -110,3 +111,30 @@ source_within c whole nets sources i registers within =
     let is : driver_at c.net.drivers n ≡ Dff (get_or sources i 0) = registers.each i within in
     let net_in : n < length c.net.drivers = flip_flop_within c.net.drivers n (ap is_flip_flop is) in
     (net_in, subst (λ (r : Driver). IsWired (length c.net.drivers) r) is (whole.wired n net_in))
+
+-- a net that no flip-flop drives is none of them
+pub other_net : (drivers : List Driver) (nets sources : List ℕ) (i n : ℕ) → AreRegisters drivers nets sources (length drivers)
+    → i < length nets → is_flip_flop (driver_at drivers n) ≡ false → n ≢ get_or nets i 0
+other_net drivers nets sources i n registers within e q =
+    both_ways (is_flip_flop (driver_at drivers n)) e
+    (subst (λ (m : ℕ). is_flip_flop (driver_at drivers m) ≡ true) (sym q) (ap is_flip_flop (registers.each i within)))
+
+-- where flip-flops keep their own, nothing changes
+pub captured_keeps : (drivers : List Driver) (was now : Level) (rise : Rise) (v own : List Level) (held : List Word) (lane : ℕ)
+    → rise ≡ Keeps → ((x d : Level) → capture (edge was now) x d ≡ kept_after rise x d) → IsLane held lane own
+    → IsLane held lane (captured_levels drivers (edge was now) v own)
+unfolding captured_levels
+captured_keeps drivers was now rise v own held lane is means h = record {
+  count = length-map-range_with_len (λ n. captured (driver_at drivers n) (edge was now) (level_at own n) v) 0 (length own) ∙ h.count;
+  each = λ n l.
+      let inside : n < length own = omega (arith, l, h.count) in
+      subst (λ (x : Level). Shows (get_or held n nothing) lane x)
+      (sym (get_or-map-range_with_len (λ m. captured (driver_at drivers m) (edge was now) (level_at own m) v) 0 (length own) n n Zero inside (omega arith)
+      ∙ stays (driver_at drivers n) (level_at own n)))
+      (h.each n l);
+}
+  where
+    stays : (r : Driver) (x : Level) → captured r (edge was now) x v ≡ x
+    stays Input x = refl
+    stays (Dff p) x = means x (level_at v p) ∙ ap (λ (r : Rise). kept_after r x (level_at v p)) is
+    stays (Gate kind pins) x = refl

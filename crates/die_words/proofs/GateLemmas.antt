@@ -1,16 +1,14 @@
 -- A gate's word goes from pin to pin: what counts of fewer levels give, with one more level, is what counts of one more give.
 use Rattle.std.proofs.Common.{◌≡◌, ℕ, ◌+◌, ◌<◌, ◌≤◌, List, length, get_or, take, sym, ap, ◌∙◌, arith}
-use Rattle.std.specs.Prelude.{All}
 use Rattle.std.proofs.lemmas.Grind.{common_steps}
 use Rattle.std.proofs.lemmas.List.{take_all, length-take-le}
-use Rattle.std.proofs.lemmas.List.Elements.{All-get_or}
 use Rattle.std.proofs.lemmas.List.Sums.{sum_by_more}
 use Rattle.tester_types.specs.declared.level.Level.{Level}
 use Rattle.tester_types.specs.declared.level.Level.TheVariants.{Zero, One, X, Z}
 use Rattle.bench_net.specs.Gates.{level_at, is_zero, is_one, zeros, ones, and_of, or_of, xor_of, negated, read}
 use Rattle.die_sim.proofs.TableLemmas.{counts_within}
 use Rattle.die_words.specs.declared.word.Word.{Word}
-use Rattle.die_words.specs.Lane.{bit, nothing, Shows, IsLane}
+use Rattle.die_words.specs.Lane.{bit, Shows}
 use Rattle.die_words.specs.Pairs.{both, either, differ}
 
 -- one more level, beside counts of fewer
@@ -50,12 +48,6 @@ pins_more g f step v pins i within =
 pub pins_done : (f : ℕ → ℕ → ℕ → Level) (v : List Level) (pins : List ℕ) (i : ℕ) → length pins ≤ i
     → f (zeros v (take i pins)) (ones v (take i pins)) i ≡ f (zeros v pins) (ones v pins) i
 pins_done f v pins i past = ap (λ (ps : List ℕ). f (zeros v ps) (ones v ps) i) (take_all i pins past)
-
--- the word of a pin
-pub pin_shows : (words : List Word) (pins : List ℕ) (i k : ℕ) (v : List Level) → i < length pins
-    → All (λ p. p < length words) pins → IsLane words k v
-    → Shows (get_or words (get_or pins i 0) nothing) k (level_at v (get_or pins i 0))
-pin_shows words pins i k v within all lane = lane.each (get_or pins i 0) (All-get_or (λ p. p < length words) pins i 0 within all)
 
 -- a net as it is read
 pub shows_read : (word : Word) (k : ℕ) (x : Level) → Shows word k x → Shows word k (read x)

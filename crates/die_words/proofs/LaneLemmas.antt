@@ -1,7 +1,6 @@
 -- Lists of words lane by lane: what is put at a place of the words is put there in each lane.
-use Rattle.std.proofs.Common.{◌≡◌, ◌≢◌, ℕ, ◌<◌, ◌≤◌, Bool, false, Option, None, List, length, get_or, set, take, drop, ◌++◌, replicate, sym, ap, ◌∙◌, subst, arith, inl, inr, length-set}
+use Rattle.std.proofs.Common.{◌≡◌, ◌≢◌, ℕ, ◌<◌, Bool, false, Option, None, List, length, get_or, set, take, drop, ◌++◌, replicate, sym, ap, ◌∙◌, subst, arith, inl, inr, length-set}
 use Rattle.std.proofs.lemmas.List.{get_or-set_same, get_or-set_other, get_or-replicate, length-replicate}
-use Rattle.std.proofs.lemmas.List.FromFn.{length-map-range_with_len, get_or-map-range_with_len}
 use Rattle.std.proofs.lemmas.Bool.{cases_eq}
 use Rattle.std.proofs.Math.Seq.{take-append_seam}
 use Rattle.std.proofs.lemmas.Nat.Bits.{bit_at-zero}
@@ -11,8 +10,6 @@ use Rattle.bench_net.specs.declared.gate.Driver.{Driver}
 use Rattle.bench_net.specs.declared.gate.Driver.TheVariants.{Input}
 use Rattle.bench_net.specs.Wiring.{driver_at}
 use Rattle.bench_net.specs.Gates.{level_at}
-use Rattle.die_sim.specs.Die.{own_level}
-use Rattle.die_sim.specs.Stepped.{own_levels}
 use Rattle.die_sim.specs.Walk.{is_off}
 use Rattle.die_words.specs.declared.word.Word.{Word}
 use Rattle.die_words.specs.Lane.{nothing, Shows, ShowsFault, IsLane, AreFaults}
@@ -101,19 +98,6 @@ AreFaults-none nets k = record {
       let none : ShowsFault nothing k None = record { zero = bit_at-zero k; one = bit_at-zero k } in
       subst (λ (w : Word). ShowsFault w k (get_or (replicate nets None) n None)) (sym (get_or-replicate nets n nothing nothing inside))
       (subst (λ (f : Option Level). ShowsFault nothing k f) (sym (get_or-replicate nets n None None inside)) none);
-}
-
--- each net has its own level
-pub own_lane : (drivers : List Driver) (fixed : List (Option Level)) (own : List Level) (words : List Word) (k i : ℕ)
-    → length drivers ≡ length words → length words ≤ i
-    → ((n : ℕ) → n < i → Shows (get_or words n nothing) k (own_level fixed own n)) → IsLane words k (own_levels drivers fixed own)
-own_lane drivers fixed own words k i count past each = record {
-  count = length-map-range_with_len (own_level fixed own) 0 (length drivers) ∙ count;
-  each = λ n l.
-      let inside : n < length drivers = omega (arith, l, count) in
-      subst (λ (x : Level). Shows (get_or words n nothing) k x)
-      (sym (get_or-map-range_with_len (own_level fixed own) 0 (length drivers) n n Zero inside (omega arith)))
-      (each n (omega (arith, l, past)));
 }
 
 -- a net is driven, off or not

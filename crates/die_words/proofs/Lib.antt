@@ -1,7 +1,7 @@
 pub mod WordLemmas
 pub mod GateLemmas
 pub mod LaneLemmas
-pub mod SettleLemmas
+pub mod FitLemmas
 pub mod FlatLemmas
 pub mod CaptureLemmas
 pub mod FaultLemmas

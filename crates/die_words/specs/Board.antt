@@ -4,8 +4,10 @@ use Rattle.tester_types.specs.declared.level.Level.{Level}
 use Rattle.bench_net.specs.Circuit.{Circuit, IsWhole}
 use Rattle.die_sim.specs.declared.image.Binding.{Binding}
 use Rattle.die_sim.specs.Die.{Image, bind_at, IsNetBind}
-use Rattle.die_words.specs.declared.board.Wired.{Wired}
-use Rattle.die_words.specs.declared.board.NetWords.{NetWords}
+use Rattle.die_sim.specs.Readers.{AreReaderPlaces}
+use Rattle.die_words.specs.declared.wiring.Wired.{Wired}
+use Rattle.die_words.specs.declared.nets.NetWords.{NetWords}
+use Rattle.die_words.specs.Fits.{SourcesFit, GatesWait}
 use Rattle.die_words.specs.Flat.{AreFlat}
 use Rattle.die_words.specs.Capture.{AreRegisters}
 use Rattle.die_words.specs.Lanes.{Lanes, OnlyInputs}
@@ -25,17 +27,25 @@ lanes_at c b clock n = record {
   words = n.words.items;
 }
 
--- gates and flip-flops are those of the netlist, and signals are bound to its nets
+-- gates, flip-flops and readers are those of the netlist
+pub record IsWiring (c : Circuit) (w : Wired) : Type 0 where
+  pub gates : AreFlat c w.gates.gates.items w.gates.pins.items
+  pub registers : AreRegisters c.net.drivers w.registers.nets.items w.registers.sources.items (length c.net.drivers)
+  pub readers : AreReaderPlaces c w.readers.starts.items w.readers.places.items
+
+-- the netlist is wired so, and signals are bound to its nets
 pub record IsBoard (c : Circuit) (b : Binding) (w : Wired) : Type 0 where
   pub whole : IsWhole c
   pub bound : (s : ℕ) → IsNetBind c.net.drivers (bind_at b.nets s)
-  pub gates : AreFlat c w.gates.gates.items w.gates.pins.items
-  pub registers : AreRegisters c.net.drivers w.registers.nets.items w.registers.sources.items (length c.net.drivers)
+  pub wiring : IsWiring c w
 
--- there is a word of each kind for each net, and inputs alone are driven off
+-- there is a word of each kind for each net, inputs alone are driven off, and each net fits but for gates that are
+-- pending
 pub record FitNets (c : Circuit) (n : NetWords) : Type 0 where
   pub forces : length n.forces.items ≡ length c.net.drivers
   pub offs : length n.offs.items ≡ length c.net.drivers
   pub held : length n.held.items ≡ length c.net.drivers
   pub words : length n.words.items ≡ length c.net.drivers
   pub inputs : OnlyInputs c.net.drivers n.offs.items
+  pub sources : SourcesFit c n.forces.items n.held.items n.words.items
+  pub gates : GatesWait c n.forces.items n.words.items n.pending

@@ -1,5 +1,5 @@
 //! The clock's change, and what flip-flops keep after it.
-ghost use Rattle.std.specs.Prelude.{◌≡◌, ◌≢◌, ℕ, ◌+◌, ◌<◌, List, length, IfOk, OnOk, slice_index_or};
+ghost use Rattle.std.specs.Prelude.{◌≡◌, ◌≢◌, ℕ, ◌+◌, ◌<◌, true, false, List, length, IfOk, OnOk, slice_index_or};
 ghost use Rattle.tester_types.specs.declared.level.Level.{Level};
 ghost use Rattle.bench_net.specs.declared.gate.Driver.TheVariants.{Dff};
 ghost use Rattle.bench_net.specs.Circuit.{IsWhole};
@@ -9,6 +9,7 @@ ghost use Rattle.die_sim.specs.Stepped.{captured_levels};
 ghost use Rattle.die_sim.specs.Walk.{is_flip_flop};
 ghost use Rattle.die_words.specs.Lane.{nothing, Shows, IsLane};
 ghost use Rattle.die_words.specs.Capture.{kept_after, AreRegisters};
+ghost use Rattle.die_words.specs.declared.capture.Rise.TheVariants.{Keeps};
 
 use crate::word::{Word, agreed};
 use bench_net::{Driver, Netlist};
@@ -39,6 +40,13 @@ pub(crate) fn rise_of(was: Level, now: Level) -> Rise
             Level::Zero | Level::X | Level::Z => Rise::Keeps,
         },
     }
+}
+
+/// Whether flip-flops keep their own.
+pub(crate) fn keeps(rise: Rise) -> bool
+    ensures { result ≡ true → rise ≡ Keeps }
+{
+    matches!(rise, Rise::Keeps)
 }
 
 /// What a flip-flop keeps, by what it kept and its D net.
@@ -108,37 +116,8 @@ fn capture_one(rise: Rise, before: &[Word], held: &mut Vec<Word>, n: u32, source
     held[n as usize] = kept_word(rise, own, before[source as usize]);
 }
 
-/// The flip-flops capture, from the levels before the moment, where the clock went from one level to another.
-pub(crate) fn capture_all(
-    net: &Netlist,
-    registers: &Registers,
-    was: Level,
-    now: Level,
-    before: &[Word],
-    held: &mut Vec<Word>,
-)
-    requires whole { IsWhole net.now }
-    requires registers { AreRegisters net.now.net.drivers registers.now.nets.items registers.now.sources.items
-        (length net.now.net.drivers) }
-    requires before { length before.now ≡ length net.now.net.drivers }
-    requires held { length held.old.items ≡ length net.now.net.drivers }
-    ensures count { length held.new.items ≡ length held.old.items }
-    ensures lanes { (k : ℕ) (v own : List Level) → IsLane before.now k v → IsLane held.old.items k own
-        → IsLane held.new.items k (captured_levels net.now.net.drivers (edge was now) v own) }
-{
-    let rise = rise_of(was, now);
-    capture_each(
-        net,
-        rise,
-        registers.nets.as_slice(),
-        registers.sources.as_slice(),
-        before,
-        held,
-    );
-}
-
 /// These flip-flops capture, each from its D net.
-fn capture_each(
+pub(crate) fn capture_each(
     net: &Netlist,
     rise: Rise,
     nets: &[u32],
@@ -154,6 +133,8 @@ fn capture_each(
     ensures lanes { (was now : Level) → ((x d : Level) → capture (edge was now) x d ≡ kept_after rise x d)
         → (k : ℕ) (v own : List Level) → IsLane before.now k v → IsLane held.old.items k own
         → IsLane held.new.items k (captured_levels net.now.net.drivers (edge was now) v own) }
+    ensures others { (n : ℕ) → is_flip_flop (driver_at net.now.net.drivers n) ≡ false
+        → slice_index_or held.new.items n nothing ≡ slice_index_or held.old.items n nothing }
 {
     for place in 0..nets.len() {
         capture_one(rise, before, held, nets[place], sources[place]);

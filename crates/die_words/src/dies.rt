@@ -9,13 +9,15 @@ ghost use Rattle.strobe_check.specs.Look.{is_met};
 ghost use Rattle.die_words.specs.Lane.{bit};
 ghost use Rattle.die_words.specs.Lanes.{IsLaneOf};
 
-use crate::board::{NetWords, Wired, failing_net, load_nets, step_nets};
+use crate::board::{failing_net, load_nets, step_nets};
 use crate::capture::Registers;
 use crate::drives::clock_after;
 use crate::flat::Gates;
+use crate::nets::NetWords;
+use crate::wiring::Wired;
 use crate::word::failing_all;
 use bench_net::Netlist;
-use die_sim::{Bind, Binding, DieImage, StuckAt};
+use die_sim::{Bind, Binding, DieImage, Readers, StuckAt};
 use std::alloc::Global;
 use std::marker::Model;
 use std::sync::Arc;
@@ -53,10 +55,15 @@ impl DieWords {
         let gates = Gates::of_net(alloc, &net)?;
         let registers = Registers::of_net(alloc, &net)?;
         let nets = NetWords::of_net(alloc, &net)?;
+        let readers = Readers::new(alloc, &net, &nets.pending)?;
         Ok(DieWords {
             net,
             bind,
-            wired: Wired { gates, registers },
+            wired: Wired {
+                gates,
+                registers,
+                readers,
+            },
             clock: Level::X,
             nets,
         })

@@ -1,17 +1,22 @@
 //! What the drives of a moment do to the clock and to inputs. They are the same for all dies.
 ghost use Rattle.std.specs.Prelude.{◌≡◌, ℕ, ◌<◌, List, length, slice_set};
 ghost use Rattle.tester_types.specs.declared.level.Level.{Level};
-ghost use Rattle.bench_net.specs.declared.gate.Driver.{Driver};
 ghost use Rattle.bench_net.specs.declared.gate.Driver.TheVariants.{Input};
+ghost use Rattle.bench_net.specs.Circuit.{IsWhole};
 ghost use Rattle.bench_net.specs.Wiring.{driver_at};
 ghost use Rattle.die_sim.specs.Die.{bind_at, IsNetBind};
-ghost use Rattle.die_sim.specs.Moment.{drive_level, clock_put, clock_after, put_at, put_all, IsWithin};
+ghost use Rattle.die_sim.specs.Moment.{drive_level, clock_put, clock_after, put_at, put_all};
+ghost use Rattle.die_sim.specs.Readers.{AreReaderPlaces};
 ghost use Rattle.die_sim.specs.Walk.{is_off};
 ghost use Rattle.die_words.specs.Lane.{IsLane};
-ghost use Rattle.die_words.specs.Lanes.{AreOff, OnlyInputs};
+ghost use Rattle.die_words.specs.Lanes.{AreOff};
+ghost use Rattle.die_words.specs.Board.{FitNets};
 
-use crate::word::{Word, same_everywhere};
-use die_sim::{Bind, Binding};
+use crate::nets::NetWords;
+use crate::settling::put_word;
+use crate::word::{forced, same_everywhere};
+use bench_net::Netlist;
+use die_sim::{Bind, Binding, Readers};
 use tester_types::{Drive, Level};
 
 /// The level of a drive.
@@ -61,60 +66,66 @@ fn is_off(drive: Drive) -> bool
 }
 
 /// Drives an input to a level.
-fn put_input(held: &mut Vec<Word>, offs: &mut Vec<bool>, n: u32, drive: Drive)
-    requires held { n < length held.old.items }
-    requires offs { length offs.old.items ≡ length held.old.items }
-    ensures count { length held.new.items ≡ length held.old.items }
-    ensures offs_count { length offs.new.items ≡ length held.old.items }
-    ensures lanes { (k : ℕ) (own : List Level) → k < 64 → IsLane held.old.items k own
-        → IsLane held.new.items k (slice_set own n (drive_level drive)) }
-    ensures offs { (own : List Level) → AreOff offs.old.items own
-        → AreOff offs.new.items (slice_set own n (drive_level drive)) }
-    ensures inputs { (drivers : List Driver) → driver_at drivers n ≡ Input → OnlyInputs drivers offs.old.items
-        → OnlyInputs drivers offs.new.items }
+fn put_input(net: &Netlist, readers: &Readers, nets: &mut NetWords, n: u32, drive: Drive)
+    requires whole { IsWhole net.now }
+    requires readers { AreReaderPlaces net.now readers.now.starts.items readers.now.places.items }
+    requires fit { FitNets net.now nets.old }
+    requires within { n < length net.now.net.drivers }
+    requires input { driver_at net.now.net.drivers n ≡ Input }
+    ensures fit { FitNets net.now nets.new }
+    ensures forces { nets.new.forces.items ≡ nets.old.forces.items }
+    ensures lanes { (k : ℕ) (own : List Level) → k < 64 → IsLane nets.old.held.items k own
+        → IsLane nets.new.held.items k (slice_set own n (drive_level drive)) }
+    ensures offs { (own : List Level) → AreOff nets.old.offs.items own
+        → AreOff nets.new.offs.items (slice_set own n (drive_level drive)) }
 {
-    held[n as usize] = same_everywhere(drive_level(drive));
-    offs[n as usize] = is_off(drive);
+    let own = same_everywhere(drive_level(drive));
+    let word = forced(own, nets.forces[n as usize]);
+    nets.held[n as usize] = own;
+    nets.offs[n as usize] = is_off(drive);
+    put_word(net, readers, &mut nets.words, &mut nets.pending, n, word);
 }
 
 /// What inputs are driven to, after a drive.
-fn put_at(held: &mut Vec<Word>, offs: &mut Vec<bool>, bind: Bind, drive: Drive)
-    requires within { IsWithin (length held.old.items) bind }
-    requires offs { length offs.old.items ≡ length held.old.items }
-    ensures count { length held.new.items ≡ length held.old.items }
-    ensures offs_count { length offs.new.items ≡ length held.old.items }
-    ensures lanes { (k : ℕ) (own : List Level) → k < 64 → IsLane held.old.items k own
-        → IsLane held.new.items k (put_at bind drive own) }
-    ensures offs { (own : List Level) → AreOff offs.old.items own → AreOff offs.new.items (put_at bind drive own) }
-    ensures inputs { (drivers : List Driver) → IsNetBind drivers bind → OnlyInputs drivers offs.old.items
-        → OnlyInputs drivers offs.new.items }
+fn put_at(net: &Netlist, readers: &Readers, nets: &mut NetWords, bind: Bind, drive: Drive)
+    requires whole { IsWhole net.now }
+    requires readers { AreReaderPlaces net.now readers.now.starts.items readers.now.places.items }
+    requires fit { FitNets net.now nets.old }
+    requires bind { IsNetBind net.now.net.drivers bind }
+    ensures fit { FitNets net.now nets.new }
+    ensures forces { nets.new.forces.items ≡ nets.old.forces.items }
+    ensures lanes { (k : ℕ) (own : List Level) → k < 64 → IsLane nets.old.held.items k own
+        → IsLane nets.new.held.items k (put_at bind drive own) }
+    ensures offs { (own : List Level) → AreOff nets.old.offs.items own
+        → AreOff nets.new.offs.items (put_at bind drive own) }
 {
     match bind {
         Bind::Free => {}
-        Bind::Input(n) => put_input(held, offs, n, drive),
+        Bind::Input(n) => put_input(net, readers, nets, n, drive),
         Bind::Output(_) => {}
     }
 }
 
-/// What inputs are driven to, after these drives.
+/// What inputs are driven to, after these drives; the gates are pending that read one whose word changed.
 pub(crate) fn put_all(
-    held: &mut Vec<Word>,
-    offs: &mut Vec<bool>,
+    net: &Netlist,
+    readers: &Readers,
     bind: &Binding,
     drives: &[(u16, Drive)],
+    nets: &mut NetWords,
 )
-    requires within { (s : ℕ) → IsWithin (length held.old.items) (bind_at bind.now.nets s) }
-    requires offs { length offs.old.items ≡ length held.old.items }
-    ensures count { length held.new.items ≡ length held.old.items }
-    ensures offs_count { length offs.new.items ≡ length held.old.items }
-    ensures lanes { (k : ℕ) (own : List Level) → k < 64 → IsLane held.old.items k own
-        → IsLane held.new.items k (put_all bind.now.nets own drives.now) }
-    ensures offs { (own : List Level) → AreOff offs.old.items own
-        → AreOff offs.new.items (put_all bind.now.nets own drives.now) }
-    ensures inputs { (drivers : List Driver) → ((s : ℕ) → IsNetBind drivers (bind_at bind.now.nets s))
-        → OnlyInputs drivers offs.old.items → OnlyInputs drivers offs.new.items }
+    requires whole { IsWhole net.now }
+    requires readers { AreReaderPlaces net.now readers.now.starts.items readers.now.places.items }
+    requires fit { FitNets net.now nets.old }
+    requires bound { (s : ℕ) → IsNetBind net.now.net.drivers (bind_at bind.now.nets s) }
+    ensures fit { FitNets net.now nets.new }
+    ensures forces { nets.new.forces.items ≡ nets.old.forces.items }
+    ensures lanes { (k : ℕ) (own : List Level) → k < 64 → IsLane nets.old.held.items k own
+        → IsLane nets.new.held.items k (put_all bind.now.nets own drives.now) }
+    ensures offs { (own : List Level) → AreOff nets.old.offs.items own
+        → AreOff nets.new.offs.items (put_all bind.now.nets own drives.now) }
 {
     for (signal, drive) in drives {
-        put_at(held, offs, bind.bind_at(*signal), *drive);
+        put_at(net, readers, nets, bind.bind_at(*signal), *drive);
     }
 }

@@ -2,9 +2,10 @@
 ghost use Rattle.std.specs.Prelude.{◌≡◌, ℕ, ◌<◌, [], ◌∷◌, true, List, length, All, slice_index};
 ghost use Rattle.tester_types.specs.declared.level.Level.{Level};
 ghost use Rattle.bench_net.specs.Gates.{level_at, zeros, ones, and_of, or_of, xor_of, gate_of, is_single};
-ghost use Rattle.bench_net.specs.Wiring.{IsWired};
+ghost use Rattle.bench_net.specs.Wiring.{pins_of, IsWired};
 ghost use Rattle.die_sim.specs.Die.{driven};
-ghost use Rattle.die_words.specs.Lane.{Shows, IsLane};
+ghost use Rattle.die_words.specs.Lane.{Shows};
+ghost use Rattle.die_words.specs.Fits.{ShowsEach};
 ghost use Rattle.die_words.specs.Flat.{driver_of, IsInside};
 
 use crate::flat::Flat;
@@ -50,7 +51,7 @@ fn two_word(kind: GateKind, left: Word, right: Word) -> Word
 /// AND of nets.
 fn and_word(words: &[Word], pins: &[u32]) -> Word
     requires { All (λ p. p < length words.now) pins.now }
-    ensures { (k : ℕ) (v : List Level) → k < 64 → IsLane words.now k v
+    ensures { (k : ℕ) (v : List Level) → k < 64 → ShowsEach words.now k v pins.now
         → Shows result k (and_of (zeros v pins.now) (ones v pins.now) (length pins.now)) }
 {
     let mut word = Word {
@@ -66,7 +67,7 @@ fn and_word(words: &[Word], pins: &[u32]) -> Word
 /// OR of nets.
 fn or_word(words: &[Word], pins: &[u32]) -> Word
     requires { All (λ p. p < length words.now) pins.now }
-    ensures { (k : ℕ) (v : List Level) → k < 64 → IsLane words.now k v
+    ensures { (k : ℕ) (v : List Level) → k < 64 → ShowsEach words.now k v pins.now
         → Shows result k (or_of (zeros v pins.now) (ones v pins.now) (length pins.now)) }
 {
     let mut word = Word {
@@ -82,7 +83,7 @@ fn or_word(words: &[Word], pins: &[u32]) -> Word
 /// XOR of nets.
 fn xor_word(words: &[Word], pins: &[u32]) -> Word
     requires { All (λ p. p < length words.now) pins.now }
-    ensures { (k : ℕ) (v : List Level) → k < 64 → IsLane words.now k v
+    ensures { (k : ℕ) (v : List Level) → k < 64 → ShowsEach words.now k v pins.now
         → Shows result k (xor_of (zeros v pins.now) (ones v pins.now) (length pins.now)) }
 {
     let mut word = Word {
@@ -99,7 +100,8 @@ fn xor_word(words: &[Word], pins: &[u32]) -> Word
 fn first_word(words: &[Word], pins: &[u32]) -> Word
     requires within { All (λ p. p < length words.now) pins.now }
     requires some { length pins.now ≡ 1 }
-    ensures { (k : ℕ) (v : List Level) → IsLane words.now k v → Shows result k (level_at v (slice_index pins.now 0)) }
+    ensures { (k : ℕ) (v : List Level) → ShowsEach words.now k v pins.now
+        → Shows result k (level_at v (slice_index pins.now 0)) }
 {
     words[pins[0] as usize]
 }
@@ -108,7 +110,7 @@ fn first_word(words: &[Word], pins: &[u32]) -> Word
 fn many_word(kind: GateKind, words: &[Word], pins: &[u32]) -> Word
     requires within { All (λ p. p < length words.now) pins.now }
     requires single { is_single kind ≡ true → length pins.now ≡ 1 }
-    ensures { (k : ℕ) (v : List Level) → k < 64 → IsLane words.now k v
+    ensures { (k : ℕ) (v : List Level) → k < 64 → ShowsEach words.now k v pins.now
         → Shows result k (gate_of kind v pins.now) }
 {
     match kind {
@@ -128,7 +130,8 @@ fn many_word(kind: GateKind, words: &[Word], pins: &[u32]) -> Word
 pub(crate) fn gate_word(gate: Flat, pins: &[u32], words: &[Word]) -> Word
     requires inside { IsInside (length pins.now) gate }
     requires wired { IsWired (length words.now) (driver_of pins.now gate) }
-    ensures { (k : ℕ) (v : List Level) (own : Level) → k < 64 → IsLane words.now k v
+    ensures { (k : ℕ) (v : List Level) (own : Level) → k < 64
+        → ShowsEach words.now k v (pins_of (driver_of pins.now gate))
         → Shows result k (driven (driver_of pins.now gate) own v) }
 {
     match gate {

@@ -3,12 +3,15 @@
 
 mod board;
 mod capture;
+mod clocking;
 mod dies;
 mod drives;
 mod faults;
 mod flat;
 mod gates;
+mod nets;
 mod settling;
+mod wiring;
 mod word;
 
 pub use dies::DieWords;

@@ -9,6 +9,7 @@ ghost use Rattle.die_sim.specs.Walk.{is_off};
 ghost use Rattle.strobe_check.specs.Look.{is_met};
 ghost use Rattle.die_words.specs.Lane.{bit, Shows, ShowsFault};
 ghost use Rattle.die_words.specs.Pairs.{both, either, differ};
+ghost use Rattle.die_words.specs.Fits.{same_word, FitsOwn};
 
 use tester_types::{Level, Look};
 
@@ -17,6 +18,14 @@ use tester_types::{Level, Look};
 pub struct Word {
     pub zeros: u64,
     pub ones: u64,
+}
+
+/// Whether two words are one.
+#[inline(always)]
+pub(crate) fn same_word(left: Word, right: Word) -> bool
+    ensures { result ≡ same_word left right }
+{
+    left.zeros == right.zeros && left.ones == right.ones
 }
 
 /// AND of two nets.
@@ -66,8 +75,9 @@ pub(crate) fn negated(word: Word) -> Word
 /// A net whose level is fixed in some dies: there it has that level.
 #[inline(always)]
 pub(crate) fn forced(word: Word, force: Word) -> Word
-    ensures { (k : ℕ) (x : Level) (f : Option Level) → k < 64 → Shows word k x → ShowsFault force k f
+    ensures shows { (k : ℕ) (x : Level) (f : Option Level) → k < 64 → Shows word k x → ShowsFault force k f
         → Shows result k (unwrap_or f x) }
+    ensures fits { FitsOwn force word result }
 {
     Word {
         zeros: (word.zeros & !force.ones) | force.zeros,

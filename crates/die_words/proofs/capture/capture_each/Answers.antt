@@ -1,5 +1,5 @@
 use Rattle.std.proofs.Common.{◌∙◌, refl, arith}
-use Rattle.die_words.proofs.CaptureLemmas.{HasCaptured-none, HasCaptured-more, HasCaptured-all, source_within}
+use Rattle.die_words.proofs.CaptureLemmas.{HasCaptured-none, HasCaptured-more, HasCaptured-all, source_within, other_net}
 use Rattle.die_words.proofs.capture.capture_each.Goals as goal
 
 pub loop-place-init : goal.loop-place-init
@@ -7,6 +7,7 @@ loop-place-init c = record {
   count = refl;
   lanes = λ was now means k v own before held.
       HasCaptured-none c.args.net.now.net.drivers was now v own c.args.held.now.items c.args.nets.now k held;
+  others = λ n e. refl;
 }
 
 pub capture_one-requires-clause-net : goal.capture_one-requires-clause-net
@@ -31,6 +32,8 @@ loop-place-preserved c =
           (c.loop-place.invariant.count ∙ c.requires.held) c.capture_one.ensures.count there.1 means
           (c.capture_one.ensures.here k) c.capture_one.ensures.others before
           (c.loop-place.invariant.lanes was now means k v own before held);
+      others = λ n e. c.capture_one.ensures.others n (other_net c.args.net.now.net.drivers c.args.nets.now c.args.sources.now i n c.requires.registers c.loop-place-test.true e)
+          ∙ c.loop-place.invariant.others n e;
     }
 
 pub returns-clause-lanes : goal.returns-clause-lanes

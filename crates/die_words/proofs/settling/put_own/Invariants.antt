@@ -1,10 +1,9 @@
-use Rattle.std.proofs.Common.{ℕ, ◌<◌, List, Option, get_or}
-use Rattle.tester_types.specs.declared.level.Level.{Level}
-use Rattle.die_sim.specs.Die.{own_level}
-use Rattle.die_words.specs.Lane.{nothing, Shows, IsLane, AreFaults}
+use Rattle.std.proofs.Common.{◌≡◌, ℕ, ◌<◌, length}
+use Rattle.die_words.specs.Fits.{word_at, FitsOwn}
 use Rattle.die_words.proofs.settling.put_own.Given as goal
 
 abbrev pub invariant-loop-n : goal.invariant-loop-n
-invariant-loop-n l =
-    (k : ℕ) (fixed : List (Option Level)) (own : List Level) → k < 64 → AreFaults l.forces k fixed → IsLane l.held k own
-    → (n : ℕ) → n < l.n → Shows (get_or l.words n nothing) k (own_level fixed own n)
+invariant-loop-n l = record {
+  count : length l.words.items ≡ length l.fn.words.items;
+  done : (n : ℕ) → n < l.n → FitsOwn (word_at l.forces n) (word_at l.held n) (word_at l.words.items n);
+}
