@@ -22,7 +22,7 @@ farm = $(shell find farm -maxdepth 1 -type f)
 floor = $(shell cd floor && find stilfloor src editors -name '__pycache__' -prune -o -type f -print)
 manual = PYTHONDONTWRITEBYTECODE=1 PYTHONPATH=floor/src python3 -m stilfloor.manual
 # the folders of examples and docs, with what a user reads of them
-pages = README.md $(wildcard CHANGELOG.md LICENSE-APACHE LICENSE-MIT release/VERSION) $(shell find docs -name '*.md' -o -name '*.png' -o -name '*.ipynb')
+pages = README.md $(wildcard CHANGELOG.md LICENSE-APACHE LICENSE-MIT release/VERSION release/README.md) $(shell find docs -name '*.md' -o -name '*.png' -o -name '*.ipynb')
 samples = $(shell find examples editors/textmate editors/vscode editors/emacs editors/neovim -type f 2> /dev/null)
 
 all:
