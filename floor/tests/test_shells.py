@@ -3,6 +3,7 @@
 import os
 import pathlib
 import pty
+import re
 import resource
 import signal
 import subprocess
@@ -134,6 +135,16 @@ def test_each_command_has_a_part_of_the_help_with_an_example(command: str, name:
     assert (done.returncode, done.stdout) == (1, "") and "--help" in done.stderr
     whole = subprocess.run([command, "--help"], cwd=TOP, capture_output=True, text=True, check=False).stdout
     assert subprocess.run([command, "help"], cwd=TOP, capture_output=True, text=True, check=False).stdout == whole
+
+
+@pytest.mark.parametrize("words, done, said", [
+    (["quick", tester.find_program()], r"\d+ of \d+ cases, 0 differ", r"\d+ agree, 0 differ; \d+ are of what can't be had on real files"),
+    (["hostile", "files", tester.find_program()], r"\[files, 1 of 1\] \d+ cases are done, \d+:\d\d gone", r"\d+ agree, 0 differ")],
+    ids=["quick", "hostile"])
+def test_a_tool_shows_how_far_it_is(tmp_path: pathlib.Path, words: list[str], done: str, said: str) -> None:
+    ran = on_terminal(tmp_path, [str(TOP / "tools" / words[0]), *words[1:]], "said")
+    assert ran.status == 0 and re.fullmatch(said, ran.file.decode().splitlines()[-1].split(", and are")[0])
+    assert len(re.findall(done, ran.shown)) > 5 and ran.shown.endswith("\r\x1b[K")
 
 
 def limited() -> None:
