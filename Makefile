@@ -22,7 +22,7 @@ farm = $(shell find farm -maxdepth 1 -type f)
 floor = $(shell cd floor && find stilfloor src editors -name '__pycache__' -prune -o -type f -print)
 manual = PYTHONDONTWRITEBYTECODE=1 PYTHONPATH=floor/src python3 -m stilfloor.manual
 # the folders of examples and docs, with what a user reads of them
-pages = README.md $(wildcard CHANGELOG.md LICENSE-APACHE LICENSE-MIT release/VERSION) $(shell find docs -name '*.md' -o -name '*.png' -o -name '*.ipynb')
+pages = README.md $(wildcard CHANGELOG.md LICENSE-APACHE LICENSE-MIT release/VERSION release/README.md) $(shell find docs -name '*.md' -o -name '*.png' -o -name '*.ipynb')
 samples = $(shell find examples editors/textmate editors/vscode editors/emacs editors/neovim -type f 2> /dev/null)
 
 all:
@@ -45,7 +45,7 @@ install:
 	install -D -m 644 completions/stil.fish "$(place)/share/fish/vendor_completions.d/stil.fish"
 	for file in $$(cd editors/vim && find . -name '*.vim'); do install -D -m 644 "editors/vim/$$file" "$(place)/share/vim/vimfiles/$$file"; done
 	install -D -m 644 floor/editors/stilfloor.vim "$(place)/share/vim/vimfiles/compiler/stilfloor.vim"
-	for file in $(samples) $(pages); do install -D -m 644 "$$file" "$(place)/share/stil/$$file"; done
+	@for file in $(samples) $(pages); do install -D -m 644 "$$file" "$(place)/share/stil/$$file"; done
 
 install-lots:
 	install -m 755 "$(lots)" "$(place)/lib/stil/lots"
@@ -65,7 +65,7 @@ install-lots:
 	echo ".so man1/farm-lot.1" > "$(place)/share/man/man1/farm-grade.1"
 
 install-floor:
-	for file in $(floor); do install -D -m 644 "floor/$$file" "$(place)/lib/stil/floor/$$file"; done
+	@for file in $(floor); do install -D -m 644 "floor/$$file" "$(place)/lib/stil/floor/$$file"; done
 	chmod 755 "$(place)/lib/stil/floor/stilfloor"
 	ln -sf ../lib/stil/floor/stilfloor "$(place)/bin/stilfloor"
 	@command -v python3 > /dev/null || echo "python3 is missing, so the page of the manual and the completions of stilfloor are left out"

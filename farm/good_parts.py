@@ -9,13 +9,13 @@ WANTED, ENOUGH = 5, 0.5
 MOST = 1000
 
 
-def used():
+def used() -> float:
     """How many seconds of a processor the programs took that have ended."""
     spent = resource.getrusage(resource.RUSAGE_CHILDREN)
     return spent.ru_utime + spent.ru_stime
 
 
-def good_parts(lots, program, plan, processors=None):
+def good_parts(lots: str, program: str, plan: str, processors: int | None = None) -> int:
     """The number of parts, by the first part of ever fewer until one takes long enough to tell."""
     least = processors or os.cpu_count() or 1
     parts = MOST_PARTS

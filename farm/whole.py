@@ -4,10 +4,14 @@ import re
 import shutil
 import subprocess
 import sys
-from work import FINAL, LAST_SITE, NO_DIE, NOT_RUN, READ_FAULT, REFUSED_PART, Plan, answer, end_with, say
+from typing import NoReturn
+from work import FINAL, LAST_SITE, NO_DIE, NOT_RUN, READ_FAULT, REFUSED_PART, Plan, Work, answer, end_with, say
+
+# what a part came to: its number, its status, where one is known, and its line
+End = tuple[int, int | None, bytes]
 
 
-def in_plan(plan, work, k, line):
+def in_plan(plan: Plan, work: Work, k: int, line: bytes) -> bytes:
     """A part's line with its row put back to the plan's."""
     words = line.split()
     if words[:2] == [b"refused", b"plan"] and words[2] != b"Unbound":
@@ -15,7 +19,7 @@ def in_plan(plan, work, k, line):
     return line
 
 
-def place(plan, line):
+def place(plan: Plan, line: bytes) -> tuple[int, int]:
     """Where a refusal stands among those of the whole: netlists as the plan first names them, its rows, signals without a net."""
     words = line.split()
     if words[:2] in ([b"read", b"fault"], [b"too", b"long"], [b"refused", b"net"]):
@@ -26,7 +30,7 @@ def place(plan, line):
     return (4 if words[:2] == [b"too", b"few"] else 0), 0
 
 
-def asked(work, plan):
+def asked(work: Work, plan: Plan) -> tuple[int, bytes]:
     """What the program says of the whole plan, which it refuses."""
     free = [site for site in range(LAST_SITE + 1) if site not in plan.sites]
     files = [os.path.relpath(file, work.start) for file in (work.program, work.plan)]
@@ -34,12 +38,12 @@ def asked(work, plan):
     return answer([work.stil, *words], cwd=work.start)
 
 
-def refused(work, told):
+def refused(work: Work, told: list[End]) -> tuple[int, bytes]:
     """The refusal of the whole, of those of its parts: the first in the order of the whole."""
     if work.kind == "grade":
-        return told[0][1:]
+        return told[0][1] or 0, told[0][2]
     plan = Plan(work.plan)
-    lines = [(status, in_plan(plan, work, k, line)) for k, status, line in told]
+    lines = [(status or 0, in_plan(plan, work, k, line)) for k, status, line in told]
     status, line = min(lines, key=lambda it: place(plan, it[1]))
     if place(plan, line)[0] == 3 and len({it[1] for it in lines}) > 1:
         # (which netlist leaves the signal without a net, the line doesn't say)
@@ -48,26 +52,26 @@ def refused(work, told):
     return status, line
 
 
-def told(work):
+def told(work: Work) -> int:
     """Prints the whole, and answers the status; where parts are refused or missing, says so."""
     every = range(1, work.parts + 1)
-    ends = [(k, *work.refusal(k)) for k in every]
+    ends: list[End] = [(k, *work.refusal(k)) for k in every]
     stopped = [it for it in ends if it[1] != 0 and it[1] in FINAL | {READ_FAULT}]
     if stopped:
-        return end_with(*refused(work, stopped))
+        end_with(*refused(work, stopped))
     missing = work.missing()
     if missing:
         say(f"parts without a text: {' '.join(map(str, missing))}; --resume {work.folder} runs them again")
         k, status, line = next(it for it in ends if it[0] == missing[0])
-        return end_with(status or NOT_RUN, line)
+        end_with(status or NOT_RUN, line)
     words = [work.lots, *(["merge", "plan.csv"] if work.kind == "lot" else ["merge-grade"]), *(f"{k}/text" for k in every)]
-    status = subprocess.run(words, cwd=work.folder, restore_signals=False).returncode
-    if status == REFUSED_PART:
+    ended = subprocess.run(words, cwd=work.folder, restore_signals=False).returncode
+    if ended == REFUSED_PART:
         undo(work, answer(words, cwd=work.folder)[1])
-    return status
+    return ended
 
 
-def undo(work, line):
+def undo(work: Work, line: bytes) -> None:
     """Takes the part whose text can't be merged, by the line that refuses it, for one that failed."""
     found = re.match(rb"refused part (\d+)/text ", line)
     if found:
@@ -76,7 +80,7 @@ def undo(work, line):
         say(f"the text of part {k} is none; --resume {work.folder} runs it again")
 
 
-def merged(work):
+def merged(work: Work) -> int:
     """Prints what a job has merged, and answers its status."""
     with open(work.folder / "whole", "rb") as text:
         shutil.copyfileobj(text, sys.stdout.buffer)
@@ -84,8 +88,9 @@ def merged(work):
     return int((work.folder / "ended").read_text())
 
 
-def end(work):
+def end(work: Work) -> NoReturn:
     """Prints the whole and ends; the working folder stays where something failed."""
+    status: str | int | None
     try:
         status = merged(work) if (work.folder / "ended").exists() else told(work)
     except SystemExit as ended:

@@ -11,6 +11,8 @@ import shutil
 import subprocess
 import sys
 import tempfile
+from collections.abc import Sequence
+from typing import IO, NoReturn
 
 HERE = pathlib.Path(__file__).resolve().parent
 SAVED = b"\xd7STP"
@@ -26,52 +28,52 @@ FINAL = {0, 4, 5, 6, 7, 9, 10, 12}
 SITED = {"die", "fault", "stop", "skew"}
 
 
-def say(text):
+def say(text: str) -> None:
     """Says a line; what a name in it has of line feeds and the like is shown by its number."""
     shown = "".join(it if it.isprintable() else f"\\x{ord(it):02x}" for it in text)
     print(f"farm: {shown}", file=sys.stderr, flush=True)
 
 
-def without(what, wants):
+def without(what: str, wants: str) -> NoReturn:
     """Ends where a program is missing that is wanted."""
     say(f"{what} is missing, which {wants} needs")
     sys.exit(NOT_RUN)
 
 
-def program_of(name):
+def program_of(name: str) -> str:
     """Where a program is: as the variable of its name in capitals says, in release/ or built beside this folder, installed above it, or
     on the path."""
     tool, found = HERE.parent / "tools/program", os.environ.get(name.upper())
     if not found and not tool.exists() and (HERE.parent / name).is_file():
-        found = HERE.parent / name
+        found = str(HERE.parent / name)
     if not found and tool.exists():
         said = subprocess.run([tool, name], stdout=subprocess.PIPE, text=True).stdout.strip()
-        found = HERE.parent / (said or name)
-    found = shutil.which(found or name)
-    return str(pathlib.Path(found).absolute()) if found else without(name, "a lot in parts")
+        found = str(HERE.parent / (said or name))
+    path = shutil.which(found or name)
+    return str(pathlib.Path(path).absolute()) if path else without(name, "a lot in parts")
 
 
-def answer(words, **more):
+def answer(words: Sequence[str | os.PathLike[str]], cwd: str | os.PathLike[str] | None = None) -> tuple[int, bytes]:
     """The status and the text of a run of a program."""
-    ran = subprocess.run(words, stdout=subprocess.PIPE, stdin=subprocess.DEVNULL, restore_signals=False, **more)
+    ran = subprocess.run(words, stdout=subprocess.PIPE, stdin=subprocess.DEVNULL, restore_signals=False, cwd=cwd)
     return ran.returncode, ran.stdout
 
 
 class Plan:
     """The rows of a plan that was accepted: each with its fields, and the sites with dies by rising number."""
 
-    def __init__(self, path):
+    def __init__(self, path: str | os.PathLike[str]) -> None:
         with open(path, encoding="latin-1", newline="") as file:
             self.rows = [row for row in csv.reader(file) if row]
         dies = [row for row in self.rows if row[0] == "die"]
         self.sites = sorted({int(row[1]) for row in dies})
         self.files = list(dict.fromkeys(row[3] for row in dies))
 
-    def part(self, k, n):
+    def part(self, k: int, n: int) -> list[int]:
         """The sites of part k of n: the i-th of them has the number i there."""
         return self.sites[k - 1 :: n]
 
-    def numbers(self, k, n):
+    def numbers(self, k: int, n: int) -> list[int]:
         """The numbers of a part's rows in the plan, in order."""
         mine = set(self.part(k, n))
         return [i for i, row in enumerate(self.rows, 1) if row[0] not in SITED or int(row[1]) in mine]
@@ -81,48 +83,50 @@ class Work:
     """A working folder that is there."""
 
     # what keeps other runs away, where this one has it
-    lock = None
+    lock: IO[str] | None = None
 
-    def __init__(self, folder):
+    def __init__(self, folder: str | os.PathLike[str]) -> None:
         self.folder = pathlib.Path(folder).absolute()
         if not (self.folder / "said").exists():
             no_work(folder)
         self.said = json.loads((self.folder / "said").read_text())
-        self.kind, self.parts, self.start = self.said["kind"], self.said["parts"], self.said["start"]
-        self.stil, self.lots = self.said["stil"], self.said["lots"]
+        self.kind, self.start, self.stil, self.lots = (str(self.said[name]) for name in ("kind", "start", "stil", "lots"))
+        self.parts = int(self.said["parts"])
         self.program, self.plan = self.folder / "program", self.folder / "plan.csv"
 
-    def of(self, k, name):
+    def of(self, k: int, name: str) -> pathlib.Path:
+        """A file of part k."""
         return self.folder / str(k) / name
 
-    def status(self, k):
+    def status(self, k: int) -> int | None:
         """The status that part k ended with for good, or none."""
         path = self.of(k, "status")
         return int(path.read_text()) if path.exists() else None
 
-    def missing(self):
+    def missing(self) -> list[int]:
+        """The parts that have not ended for good."""
         return [k for k in range(1, self.parts + 1) if self.status(k) is None]
 
-    def refusal(self, k):
+    def refusal(self, k: int) -> tuple[int | None, bytes]:
         """The status and line of a part that was refused or failed; a status of none where nothing is known of it."""
         kept = self.of(k, "failed") if self.status(k) is None else self.of(k, "status")
         status = int(kept.read_text()) if kept.exists() else None
         text = self.of(k, "text" if kept.name == "status" else "failed.text")
         return status, text.read_bytes() if text.exists() else b""
 
-    def undo(self, k):
+    def undo(self, k: int) -> None:
         """Takes a part for one that failed, so that it is run again."""
         for name, other in ("text", "failed.text"), ("status", "failed"):
             os.replace(self.of(k, name), self.of(k, other))
 
 
-def no_work(folder):
+def no_work(folder: str | os.PathLike[str]) -> NoReturn:
     """Ends where a folder is no working folder."""
     say(f"{folder} is no working folder")
     sys.exit(1)
 
 
-def locked(folder):
+def locked(folder: str) -> IO[str]:
     """Keeps other runs from a working folder until this one ends; ends where one is at work there. The lock goes with its run."""
     lock = open(pathlib.Path(folder, "lock"), "w")
     try:
@@ -135,7 +139,7 @@ def locked(folder):
     return lock
 
 
-def resumed(folder):
+def resumed(folder: str) -> Work:
     """The working folder of a run that was broken off."""
     if not pathlib.Path(folder, "said").exists():
         no_work(folder)
@@ -146,7 +150,7 @@ def resumed(folder):
     return work
 
 
-def saved(stil, program, to):
+def saved(stil: str, program: str, to: str) -> tuple[int, bytes] | None:
     """Puts a program into a file, saved where it is a text, and answers the status and line of what refuses it, if anything does."""
     try:
         with open(program, "rb") as file:
@@ -167,14 +171,14 @@ def saved(stil, program, to):
     return None if status == DONE else (status, pathlib.Path(to).read_bytes())
 
 
-def end_with(status, line):
+def end_with(status: int, line: bytes) -> NoReturn:
     """Ends as the program does."""
     sys.stdout.buffer.write(line)
     sys.stdout.buffer.flush()
     sys.exit(status)
 
 
-def made(kind, program, plan, parts):
+def made(kind: str, program: str, plan: str, parts: int | None) -> Work:
     """A new working folder in the folder where one stands; ends as the program does where it refuses the program or the plan."""
     from good_parts import good_parts
 

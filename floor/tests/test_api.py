@@ -18,8 +18,9 @@ from stilfloor.faults import Fault
 SCAN, PLAN = "examples/s27scan/s27scan.stil", "examples/s27scan/lot.csv"
 NOTEBOOK = TOP / "docs" / "course.ipynb"
 needs_pandas = pytest.mark.skipif(not importlib.util.find_spec("pandas"), reason="pandas isn't there: frames are left out")
-needs_jupyter = pytest.mark.skipif(not all(map(importlib.util.find_spec, ("pandas", "nbconvert", "ipykernel"))),
-                                   reason="one of pandas, nbconvert and ipykernel isn't there: the notebook is left out")
+HAS_NOTEBOOK = all(map(importlib.util.find_spec, ("pandas", "nbconvert", "ipykernel"))) and all(map(shutil.which, ("yosys", "iverilog", "cadical")))
+needs_jupyter = pytest.mark.skipif(not HAS_NOTEBOOK, reason="one of pandas, nbconvert, ipykernel, yosys, iverilog and cadical isn't there: "
+                                                            "the notebook is left out")
 
 
 def test_what_the_program_says_is_data() -> None:

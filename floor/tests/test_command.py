@@ -5,6 +5,7 @@ import io
 import json
 import pathlib
 import subprocess
+import sys
 
 import pytest
 
@@ -56,6 +57,13 @@ def test_a_program_that_is_missing_is_told(monkeypatch: pytest.MonkeyPatch, caps
         monkeypatch.undo()
         tester.find_program.cache_clear()
     assert "/nowhere/stil" in capsys.readouterr().err
+
+
+def test_a_module_that_is_missing_is_told_by_its_package() -> None:
+    script = f"import sys; sys.modules['numpy'] = None; from stilfloor.cli import main; sys.exit(main(['lint', {str(EXAMPLES / 'p1.stil')!r}]))"
+    done = subprocess.run([sys.executable, "-c", script], env={"PYTHONPATH": str(TOP / "floor" / "src")}, capture_output=True, text=True, check=False)
+    assert (done.returncode, done.stdout) == (4, "")
+    assert done.stderr == "stilfloor: error: Python's numpy isn't there, and this needs it: `apt-get install python3-numpy`\n"
 
 
 def test_a_datalog_becomes_tables(tmp_path: pathlib.Path, capsys: pytest.CaptureFixture[str]) -> None:

@@ -1,12 +1,14 @@
 """The pages: links lead somewhere, indices are whole, numbers of versions agree."""
 
+import json
 import re
 import subprocess
 
 from conftest import TOP
+from stilfloor import __version__
 
 LINK = re.compile(r"\]\(([^)#\s]+)(?:#[^)]*)?\)")
-PAGES = [TOP / "README.md", TOP / "CHANGELOG.md", TOP / "tools" / "README.md", *sorted((TOP / "docs").rglob("*.md"))]
+PAGES = [TOP / "README.md", TOP / "CHANGELOG.md", TOP / "tools" / "README.md", TOP / "release" / "README.md", *sorted((TOP / "docs").rglob("*.md"))]
 
 
 def test_each_link_leads_to_a_file() -> None:
@@ -32,7 +34,13 @@ def test_a_version_is_one_number() -> None:
     first = next(line for line in (TOP / "CHANGELOG.md").read_text().splitlines() if line.startswith("## "))
     assert re.fullmatch(r"\d+\.\d+\.\d+", version) and first == f"## {version}"
     assert f'version = "{version}"' in (TOP / "floor" / "pyproject.toml").read_text()
+    assert __version__ == version == json.loads((TOP / "editors" / "vscode" / "package.json").read_text())["version"]
     assert f"Version {version} " in (TOP / "README.md").read_text()
+
+
+def test_a_tag_of_a_version_is_its_number() -> None:
+    told = subprocess.run(["git", "tag", "--points-at", "HEAD", "v*"], cwd=TOP, capture_output=True, text=True, check=True).stdout.split()
+    assert set(told) <= {f"v{(TOP / 'release/VERSION').read_text().strip()}"}
 
 
 def test_the_decisions_have_an_index() -> None:

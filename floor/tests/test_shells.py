@@ -3,6 +3,8 @@
 import os
 import pathlib
 import pty
+import re
+import resource
 import signal
 import subprocess
 import time
@@ -133,6 +135,34 @@ def test_each_command_has_a_part_of_the_help_with_an_example(command: str, name:
     assert (done.returncode, done.stdout) == (1, "") and "--help" in done.stderr
     whole = subprocess.run([command, "--help"], cwd=TOP, capture_output=True, text=True, check=False).stdout
     assert subprocess.run([command, "help"], cwd=TOP, capture_output=True, text=True, check=False).stdout == whole
+
+
+@pytest.mark.parametrize("words, done, said", [
+    (["quick", tester.find_program()], r"\d+ of \d+ cases, 0 differ", r"\d+ agree, 0 differ; \d+ are of what can't be had on real files"),
+    (["hostile", "files", tester.find_program()], r"\[files, 1 of 1\] \d+ cases are done, \d+:\d\d gone", r"\d+ agree, 0 differ")],
+    ids=["quick", "hostile"])
+def test_a_tool_shows_how_far_it_is(tmp_path: pathlib.Path, words: list[str], done: str, said: str) -> None:
+    ran = on_terminal(tmp_path, [str(TOP / "tools" / words[0]), *words[1:]], "said")
+    assert ran.status == 0 and re.fullmatch(said, ran.file.decode().splitlines()[-1].split(", and are")[0])
+    assert len(re.findall(done, ran.shown)) > 5 and ran.shown.endswith("\r\x1b[K")
+
+
+def limited() -> None:
+    """Bounds the size of files, with the signal for it as a shell leaves it."""
+    signal.signal(signal.SIGXFSZ, signal.SIG_DFL)
+    resource.setrlimit(resource.RLIMIT_FSIZE, (1024, 1024))
+
+
+@pytest.mark.parametrize("command, status", [([tester.find_program()], -signal.SIGXFSZ), ([STIL], 3),
+                                             (["sh", "-c", "trap '' XFSZ; exec \"$@\"", "sh", tester.find_program()], 3)],
+                         ids=["by itself", "by the wrapper", "with the signal ignored"])
+def test_a_limit_on_files_is_a_fault_of_writing(tmp_path: pathlib.Path, command: list[str], status: int) -> None:
+    text = str(EXAMPLES / "two_timings" / "pipe.stil")
+    with open(tmp_path / "cut", "wb") as out:
+        ran = subprocess.run([*command, "cycles", text], cwd=TOP, stdout=out, stderr=subprocess.PIPE, preexec_fn=limited, check=False)
+    front = (tmp_path / "cut").read_bytes()
+    assert (ran.returncode, ran.stderr, len(front)) == (status, b"", 1024)
+    assert tester.run(["cycles", text])[1].startswith(front)
 
 
 SIGNALS = [signal.SIGTERM, signal.SIGINT, signal.SIGHUP]

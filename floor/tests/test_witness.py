@@ -11,6 +11,7 @@ from stilfloor.faults import Fault
 from stilfloor.sentences import refusal
 from stilfloor.testbench import lots, make, nets
 from stilfloor.witness import lots as witnessed
+from stilfloor.witness.cases import cases_of, lots_of
 from stilfloor.witness.command import main
 from stilfloor.witness.runs import Tally, run_seed
 
@@ -85,6 +86,44 @@ def test_words_that_are_none(words: list[str]) -> None:
     with pytest.raises(SystemExit) as ended:
         main(words)
     assert ended.value.code == 2
+
+
+CASES = r"""
+text ROWS
+repeat 2
+|row {3+1}{2*-}
+end
+case one
+words check p.stil
+file p.stil
+<ROWS
+=00 FF 0A
+status 4
+~refused
+case two
+divided
+word parts
+word a b
+sockets 0
+status 0
+case three
+words check p.stil
+fails 1
+status 3
+"""
+
+
+def test_cases_are_read_whole(tmp_path: pathlib.Path) -> None:
+    file = tmp_path / "cases.txt"
+    file.write_text(CASES)
+    one, two, three = cases_of(str(file), {})
+    assert (one.title, one.words, one.files) == ("one", ["check", "p.stil"], {"p.stil": b"row 1--\nrow 4--\n\x00\xff\n"})
+    assert (one.status, one.want, one.is_left, one.is_divided) == (4, b"refused", False, False)
+    assert (two.words, two.is_divided, two.is_left, two.want) == (["parts", "a b"], True, False, b"")
+    assert (three.status, three.is_left) == (3, True) and list(lots_of(str(file))) == []
+    file.write_text(CASES.replace("fails 1", "failed 1"))
+    with pytest.raises(ValueError, match="failed"):
+        cases_of(str(file), {})
 
 
 def test_a_place_without_cases_is_told(capsys: pytest.CaptureFixture[str]) -> None:

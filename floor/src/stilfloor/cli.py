@@ -9,7 +9,7 @@ from collections.abc import Callable, Iterator
 from typing import IO, TYPE_CHECKING
 
 from stilfloor import __version__
-from stilfloor.faults import REFUSED, STATUSES, UNREADABLE, USAGE, Fault, shown
+from stilfloor.faults import REFUSED, STATUSES, TOOL, UNREADABLE, USAGE, Fault, shown
 from stilfloor.more_words import add_netlist_options, add_words, netlist
 from stilfloor.names import replacing
 
@@ -18,6 +18,8 @@ if TYPE_CHECKING:
 
 Word = Callable[[argparse.Namespace], int]
 MOST_PAIRED = 100
+# the modules of Python that words need, and Debian's packages that have them
+PACKAGES = {"numpy": "python3-numpy", "matplotlib": "python3-matplotlib", "PIL": "python3-pil", "pandas": "python3-pandas"}
 
 
 def _add(words: "argparse._SubParsersAction[argparse.ArgumentParser]", name: str, what: str, example: str,
@@ -421,6 +423,11 @@ def main(words: list[str] | None = None) -> int:
         sys.stdout.flush()
         say(fault.told())
         return fault.status
+    except ModuleNotFoundError as error:
+        if error.name not in PACKAGES:
+            raise
+        say(Fault(TOOL, f"Python's {error.name} isn't there, and this needs it: `apt-get install {PACKAGES[error.name]}`").told())
+        return TOOL
     except BrokenPipeError:
         # (whoever read the output is gone; nothing more can be told there)
         os.dup2(os.open(os.devnull, os.O_WRONLY), sys.stdout.fileno())

@@ -10,7 +10,7 @@ from stilfloor import tester
 from stilfloor.faults import UNREADABLE, Fault
 from stilfloor.testbench.lots import read_lot
 from stilfloor.testbench.make import Wish
-from stilfloor.witness.cases import cases_of
+from stilfloor.witness.cases import lots_of
 from stilfloor.witness.runs import Found, run_die
 
 
@@ -42,7 +42,7 @@ def of_cases(place: str) -> list[LotWork]:
         return [LotWork(str(folder), some[1], some[2], str(folder)) for folder, some in words.items() if some[:1] == ["lot"]]
     if not path.is_file():
         raise Fault(UNREADABLE, "there is no file or folder of cases", place)
-    return [LotWork(f"{path.name}: {case.title}", case.words[1], case.words[2], "", case.files) for case in cases_of(str(path))]
+    return [LotWork(f"{path.name}: {case.title}", case.words[1], case.words[2], "", case.files) for case in lots_of(str(path))]
 
 
 def run_lot(work: LotWork) -> list[Found]:
