@@ -1,5 +1,5 @@
 -- What a pass answers: the value, or the first fault, or want of memory.
-use Rattle.std.specs.Prelude.{◌≡◌, ◌⊎◌, ℕ, List, Option, None, Some, Result, Ok, Err, IfOk, IfErr, MatchResult, codes}
+use Rattle.std.specs.Prelude.{◌≡◌, ◌⊎◌, Option, None, Some, Result, Ok, Err, IfOk, IfErr, MatchResult}
 use Rattle.answers.specs.declared.short.Short.{Short}
 use Rattle.answers.specs.declared.short.Short.TheVariants.{NoMemory, Fault}
 
@@ -28,11 +28,6 @@ Raises gives NoMemory NoMemory = Unit {0}
 Raises gives NoMemory (Fault above) = ⊥
 Raises gives (Fault fault) NoMemory = ⊥
 Raises gives (Fault fault) (Fault above) = gives fault above
-
--- what it prints as
-abbrev pub shown : {F : Type 0} → (F → Option (List ℕ)) → Short F → Option (List ℕ)
-shown output NoMemory = Some (codes "out of memory")
-shown output (Fault fault) = output fault
 
 -- the same as Finds, in four clauses: what is found, that nothing else is answered where there is no fault, and the same of a fault
 pub record IsFourOf {A F : Type 0} (fault : Option F) (Wanted : A → Type 0) (result : Result A (Short F)) : Type 0 where

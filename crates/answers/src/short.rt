@@ -5,8 +5,6 @@ ghost use Rattle.answers.specs.Answers.{Raises};
 ghost use Rattle.answers.specs.declared.short.Short.TheVariants.{NoMemory};
 
 use std::alloc::{AllocError, AllocFailed};
-use std::error::Error;
-use std::fmt;
 
 /// Why a pass gave up: there was no memory, or what it read has a fault.
 #[derive(Clone, Copy, Debug, PartialEq, Eq, Drop)]
@@ -30,21 +28,6 @@ impl<F, T: Drop> From<AllocFailed<T>> for Short<F> {
         Short::NoMemory
     }
 }
-
-impl<F: fmt::Display> fmt::Display for Short<F> {
-    ghost use Rattle.answers.specs.Answers.{shown};
-
-    ghost output = { λ short. shown F.output short };
-
-    fn fmt<W: fmt::Write>(&self, f: &mut fmt::Formatter<W>) -> fmt::Result {
-        match self {
-            Short::NoMemory => f.write_str("out of memory"),
-            Short::Fault(fault) => fault.fmt(f),
-        }
-    }
-}
-
-impl<F: fmt::Debug + fmt::Display + Drop> Error for Short<F> {}
 
 impl<F: Drop> Short<F> {
     /// The same of a pass above, whose faults are made of those of this one.

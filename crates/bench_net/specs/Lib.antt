@@ -5,7 +5,6 @@ pub mod Inside
 pub mod Line
 pub mod Net
 pub mod Fault
-pub mod FaultText
 pub mod Numbers
 pub mod Sorting
 pub mod Step

@@ -3,8 +3,6 @@ ghost use Rattle.std.specs.Prelude.{◌≡◌, length, IfOk};
 ghost use Rattle.bench_net.specs.declared.fault.NetFault.TheVariants.{NoMemory};
 
 use std::alloc::{AllocError, AllocFailed, Global};
-use std::error::Error;
-use std::fmt;
 use std::marker::Model;
 
 /// The name of a net: bytes from `!` to `~`.
@@ -81,27 +79,6 @@ pub enum NetFault {
     /// flip-flop between, or follows such a gate.
     Loop(NetName),
 }
-
-impl fmt::Display for NetFault {
-    ghost use Rattle.std.specs.Prelude.{Some};
-    ghost use Rattle.bench_net.specs.FaultText.{fault_text};
-
-    ghost output = { λ fault. Some (fault_text fault) };
-
-    fn fmt<W: fmt::Write>(&self, f: &mut fmt::Formatter<W>) -> fmt::Result {
-        match self {
-            NetFault::NoMemory => f.write_str("out of memory"),
-            NetFault::Line(line) => write!(f, "line {line} has no form of a line"),
-            NetFault::OutOfRange => f.write_str("more than 65,536 nets"),
-            NetFault::Arity(_) => f.write_str("a function with a wrong number of inputs"),
-            NetFault::Twice(_) => f.write_str("a net with two drivers"),
-            NetFault::Missing(_) => f.write_str("a net without a driver"),
-            NetFault::Loop(_) => f.write_str("a loop of gates"),
-        }
-    }
-}
-
-impl Error for NetFault {}
 
 impl From<AllocError> for NetFault {
     ghost from_gives = { λ _ fault. fault ≡ NoMemory };

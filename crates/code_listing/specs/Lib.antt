@@ -2,5 +2,4 @@
 pub mod Listing
 pub mod Text
 pub mod Lines
-pub mod FaultText
 pub mod Room

@@ -4,8 +4,6 @@ ghost use Rattle.std.specs.Prelude.{◌≡◌};
 ghost use Rattle.code_listing.specs.declared.fault.ListFault.TheVariants as fault;
 
 use std::alloc::AllocError;
-use std::error::Error;
-use std::fmt;
 use tester_types::{NoMemory, SinkFault};
 
 /// Why a listing isn't put whole.
@@ -15,22 +13,6 @@ pub enum ListFault {
     /// A put failed or took nothing.
     Sink(SinkFault),
 }
-
-impl fmt::Display for ListFault {
-    ghost use Rattle.std.specs.Prelude.{Some};
-    ghost use Rattle.code_listing.specs.FaultText.{fault_text};
-
-    ghost output = { λ fault. Some (fault_text fault) };
-
-    fn fmt<W: fmt::Write>(&self, f: &mut fmt::Formatter<W>) -> fmt::Result {
-        match *self {
-            ListFault::NoMemory => write!(f, "out of memory"),
-            ListFault::Sink(_) => write!(f, "the listing couldn't be written"),
-        }
-    }
-}
-
-impl Error for ListFault {}
 
 impl From<SinkFault> for ListFault {
     ghost from_gives = { λ f e. e ≡ fault.Sink f };

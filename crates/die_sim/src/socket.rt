@@ -1,26 +1,16 @@
 //! The socket through which a tester meets a die.
-ghost use Rattle.std.specs.Prelude.{◌≡◌, ℕ, ◌≤◌, Option, Some, None, OnOk, OnErr, IfOk, MatchOption};
+ghost use Rattle.std.specs.Prelude.{◌≡◌, ◌≤◌, Option, Some, None, OnOk, OnErr, IfOk, MatchOption};
 ghost use Rattle.tester_types.specs.Outside.{HasRisen};
-ghost use Rattle.die_sim.specs.Socket.{Told, Calls, CanDrive, CanSense, IsLoaded, Moves, Shows, taped};
+ghost use Rattle.die_sim.specs.Socket.{Told, CanDrive, CanSense, IsLoaded, Moves, Shows, taped};
 ghost use Rattle.die_sim.specs.declared.socket.SocketFault.TheVariants as SocketFault;
 
 use crate::image::DieImage;
 use crate::tape::Tape;
-use std::error::Error;
-use std::fmt;
 use tester_types::{Drive, Level, NoMemory};
 
 /// The contact to the die was lost.
 #[derive(Clone, Copy, Debug, PartialEq, Eq)]
 pub struct Contact;
-
-impl fmt::Display for Contact {
-    fn fmt<W: fmt::Write>(&self, f: &mut fmt::Formatter<W>) -> fmt::Result {
-        write!(f, "no contact to the die")
-    }
-}
-
-impl Error for Contact {}
 
 /// Why a die wasn't loaded.
 #[derive(Clone, Copy, Debug, PartialEq, Eq)]
@@ -28,17 +18,6 @@ pub enum SocketFault {
     Contact,
     NoMemory,
 }
-
-impl fmt::Display for SocketFault {
-    fn fmt<W: fmt::Write>(&self, f: &mut fmt::Formatter<W>) -> fmt::Result {
-        match self {
-            SocketFault::Contact => write!(f, "no contact to the die"),
-            SocketFault::NoMemory => write!(f, "out of memory"),
-        }
-    }
-}
-
-impl Error for SocketFault {}
 
 impl From<NoMemory> for SocketFault {
     ghost from_gives = { λ _ e. e ≡ SocketFault.NoMemory };

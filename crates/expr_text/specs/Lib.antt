@@ -5,7 +5,6 @@ pub mod Unit
 pub mod Vars
 pub mod Value
 pub mod Bytes
-pub mod FaultText
 pub mod Tree
 pub mod Lexeme
 pub mod Grammar

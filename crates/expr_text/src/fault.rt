@@ -4,8 +4,6 @@ ghost use Rattle.std.specs.Prelude.{◌≡◌};
 ghost use Rattle.expr_text.specs.declared.fault.ExprFault.TheVariants.{NoMemory};
 
 use std::alloc::{AllocError, AllocFailed};
-use std::error::Error;
-use std::fmt;
 
 /// Why a text is no expression, or an expression has no value; or want of memory.
 #[derive(Clone, Copy, PartialEq, Eq, Debug)]
@@ -36,22 +34,3 @@ impl<T: Drop> From<AllocFailed<T>> for ExprFault {
         ExprFault::NoMemory
     }
 }
-
-impl fmt::Display for ExprFault {
-    ghost use Rattle.std.specs.Prelude.{Some};
-    ghost use Rattle.expr_text.specs.FaultText.{fault_text};
-
-    ghost output = { λ fault. Some (fault_text fault) };
-
-    fn fmt<W: fmt::Write>(&self, f: &mut fmt::Formatter<W>) -> fmt::Result {
-        match self {
-            ExprFault::NoMemory => write!(f, "out of memory"),
-            ExprFault::BadExpr => write!(f, "no expression"),
-            ExprFault::OutOfRange => write!(f, "number out of range"),
-            ExprFault::UnknownName => write!(f, "unknown name"),
-            ExprFault::ZeroDivisor => write!(f, "division by zero"),
-        }
-    }
-}
-
-impl Error for ExprFault {}

@@ -1,5 +1,5 @@
 -- Which codes have a flat text that is accepted, and why another has none.
-use Rattle.std.specs.Prelude.{◌≡◌, ℕ, ◌<◌, ◌≤◌, List, codes, length, Some, None}
+use Rattle.std.specs.Prelude.{◌≡◌, ℕ, ◌<◌, ◌≤◌, List, length, Some, None}
 use Rattle.text_bytes.specs.Limits.{most_bytes}
 use Rattle.stil_ast.specs.declared.fault.StilFault.{StilFault}
 use Rattle.packed_code.specs.Program.{Program}
@@ -43,9 +43,3 @@ abbrev pub IsCause : Program → FlatFault → Type 0
 IsCause code fault.NoMemory = Unit {0}
 IsCause code fault.TooLong = IsTooLong code
 IsCause code fault.TooFlat = IsTooFlat code
-
--- how a fault is printed
-abbrev pub fault_text : FlatFault → List ℕ
-fault_text fault.NoMemory = codes "out of memory"
-fault_text fault.TooLong = codes "flat text too long"
-fault_text fault.TooFlat = codes "flat text refused"

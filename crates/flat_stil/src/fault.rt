@@ -4,8 +4,6 @@ ghost use Rattle.std.specs.Prelude.{◌≡◌};
 ghost use Rattle.flat_stil.specs.declared.fault.FlatFault.TheVariants as fault;
 
 use std::alloc::{AllocError, AllocFailed};
-use std::error::Error;
-use std::fmt;
 
 /// Why a code has no flat text.
 #[derive(Clone, Copy, Debug, PartialEq, Eq)]
@@ -16,23 +14,6 @@ pub enum FlatFault {
     /// The text would be refused, as where its loops nest deeper than the braces of a text may.
     TooFlat,
 }
-
-impl fmt::Display for FlatFault {
-    ghost use Rattle.std.specs.Prelude.{Some};
-    ghost use Rattle.flat_stil.specs.FlatFault.{fault_text};
-
-    ghost output = { λ fault. Some (fault_text fault) };
-
-    fn fmt<W: fmt::Write>(&self, f: &mut fmt::Formatter<W>) -> fmt::Result {
-        match self {
-            FlatFault::NoMemory => write!(f, "out of memory"),
-            FlatFault::TooLong => write!(f, "flat text too long"),
-            FlatFault::TooFlat => write!(f, "flat text refused"),
-        }
-    }
-}
-
-impl Error for FlatFault {}
 
 impl From<AllocError> for FlatFault {
     ghost from_gives = { λ _ e. e ≡ fault.NoMemory };

@@ -77,6 +77,6 @@ pub fn run<R: Print + AllocGlobal>(rt: &R, words: &[String]) -> io::Result<()> {
     let (gates, moments) = (number(words, 0), number(words, 1));
     match evaluations(rt.alloc(), gates, moments, words.len() > 2) {
         Ok(count) => println!(rt; "{count} evaluations"),
-        Err(fault) => println!(rt; "refused: {fault}"),
+        Err(fault) => println!(rt; "refused: {fault:?}"),
     }
 }

@@ -16,6 +16,6 @@ pub fn run<R: Files + Print + AllocGlobal>(rt: &R, words: &[String]) -> io::Resu
     }
     match read(rt.alloc(), bytes.as_slice()) {
         Ok(netlist) => println!(rt; "{} nets", netlist.nets()),
-        Err(fault) => println!(rt; "refused: {fault}"),
+        Err(fault) => println!(rt; "refused: {fault:?}"),
     }
 }

@@ -6,4 +6,3 @@ pub mod Reading
 pub mod Index
 pub mod Accepted
 pub mod Nest
-pub mod FaultText

@@ -1,8 +1,6 @@
 //! Why bytes are no saved program.
 
 use answers::Short;
-use std::error::Error;
-use std::fmt;
 
 /// The first refusal that reading from left to right meets.
 #[derive(Clone, Copy, Debug, PartialEq, Eq)]
@@ -17,25 +15,6 @@ pub enum SavedFault {
     /// A condition fails; the place of a first byte.
     BadCode(u64),
 }
-
-impl fmt::Display for SavedFault {
-    ghost use Rattle.std.specs.Prelude.{Some};
-    ghost use Rattle.page_code.specs.FaultText.{fault_text};
-
-    ghost output = { λ fault. Some (fault_text fault) };
-
-    fn fmt<W: fmt::Write>(&self, f: &mut fmt::Formatter<W>) -> fmt::Result {
-        match *self {
-            SavedFault::NoMemory => write!(f, "out of memory"),
-            SavedFault::BadMagic => write!(f, "not a saved program"),
-            SavedFault::BadVersion => write!(f, "a saved program of another version"),
-            SavedFault::Torn(length) => write!(f, "the saved program ends at byte {length}"),
-            SavedFault::BadCode(place) => write!(f, "no code at byte {place}"),
-        }
-    }
-}
-
-impl Error for SavedFault {}
 
 /// A refusal met while the bytes from some place on are read.
 #[derive(Clone, Copy, Debug, PartialEq, Eq)]

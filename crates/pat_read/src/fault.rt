@@ -4,8 +4,6 @@ ghost use Rattle.std.specs.Prelude.{◌≡◌};
 ghost use Rattle.pat_read.specs.declared.fault.DataFault.TheVariants.{NoMemory};
 
 use std::alloc::{AllocError, AllocFailed};
-use std::error::Error;
-use std::fmt;
 use stil_form::{FormFault, FormKind};
 
 /// Why tokens are no data of an assignment.
@@ -35,24 +33,6 @@ impl<T: Drop> From<AllocFailed<T>> for DataFault {
         DataFault::NoMemory
     }
 }
-
-impl fmt::Display for DataFault {
-    ghost use Rattle.std.specs.Prelude.{Some};
-    ghost use Rattle.pat_read.specs.FaultText.{fault_text};
-
-    ghost output = { λ fault. Some (fault_text fault) };
-
-    fn fmt<W: fmt::Write>(&self, f: &mut fmt::Formatter<W>) -> fmt::Result {
-        match self {
-            DataFault::NoMemory => write!(f, "out of memory"),
-            DataFault::Shape => write!(f, "no form of data"),
-            DataFault::LeftOut => write!(f, "a form of data that is left out"),
-            DataFault::OutOfRange => write!(f, "repeated too often"),
-        }
-    }
-}
-
-impl Error for DataFault {}
 
 impl DataFault {
     ghost use Rattle.pat_read.specs.Fault.{fault_at};

@@ -5,6 +5,5 @@ pub mod Forms
 pub mod Subjects
 pub mod Judging
 pub mod Plan
-pub mod FaultText
 pub mod Views
 pub mod Inside

@@ -4,8 +4,6 @@ ghost use Rattle.std.specs.Prelude.{◌≡◌};
 ghost use Rattle.plan_rows.specs.declared.fault.PlanFault.TheVariants.{NoMemory};
 
 use std::alloc::AllocError;
-use std::error::Error;
-use std::fmt;
 use tester_types::{NoMemory, Text};
 
 /// Why a plan is refused. Rows are counted from 1.
@@ -25,36 +23,6 @@ pub enum PlanFault {
     /// The signal of this name has no net that fits it.
     Unbound(Text),
 }
-
-impl fmt::Display for PlanFault {
-    ghost use Rattle.std.specs.Prelude.{Some};
-    ghost use Rattle.plan_rows.specs.FaultText.{fault_text};
-
-    ghost output = { λ fault. Some (fault_text fault) };
-
-    fn fmt<W: fmt::Write>(&self, f: &mut fmt::Formatter<W>) -> fmt::Result {
-        match self {
-            PlanFault::NoMemory => write!(f, "out of memory"),
-            PlanFault::Shape(row) => write!(f, "row {row} of the plan has no form of a row"),
-            PlanFault::UnknownName(row) => write!(
-                f,
-                "row {row} of the plan names what isn't there"
-            ),
-            PlanFault::Twice(row) => write!(f, "row {row} of the plan says again what was said"),
-            PlanFault::OutOfRange(row) => write!(
-                f,
-                "row {row} of the plan has a number out of its range"
-            ),
-            PlanFault::SkewOutside(row) => write!(
-                f,
-                "row {row} of the plan moves an event out of its cycle"
-            ),
-            PlanFault::Unbound(_) => write!(f, "a signal has no net that fits it"),
-        }
-    }
-}
-
-impl Error for PlanFault {}
 
 impl From<NoMemory> for PlanFault {
     ghost from_gives = { λ _ e. e ≡ NoMemory };

@@ -4,8 +4,6 @@ ghost use Rattle.std.specs.Prelude.{◌≡◌};
 ghost use Rattle.signal_groups.specs.declared.fault.RefFault.TheVariants.{NoMemory};
 
 use std::alloc::{AllocError, AllocFailed};
-use std::error::Error;
-use std::fmt;
 
 /// Why a reference stands for no signals.
 #[derive(Clone, Copy, Debug, PartialEq, Eq)]
@@ -32,15 +30,3 @@ impl<T: Drop> From<AllocFailed<T>> for RefFault {
         RefFault::NoMemory
     }
 }
-
-impl fmt::Display for RefFault {
-    fn fmt<W: fmt::Write>(&self, f: &mut fmt::Formatter<W>) -> fmt::Result {
-        match self {
-            RefFault::NoMemory => write!(f, "out of memory"),
-            RefFault::Shape => write!(f, "no group expression"),
-            RefFault::UnknownName => write!(f, "no signal or group of this name"),
-        }
-    }
-}
-
-impl Error for RefFault {}

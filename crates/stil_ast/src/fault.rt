@@ -7,7 +7,6 @@ ghost use Rattle.stil_ast.specs.Faults.Found.{fault_at};
 
 use answers::Short;
 use std::alloc::{AllocError, Global};
-use std::fmt;
 use tester_types::{Items, Text};
 
 /// The kind of a fault of a STIL text.
@@ -81,17 +80,6 @@ impl StilKind {
     }
 }
 
-impl fmt::Display for StilKind {
-    ghost use Rattle.std.specs.Prelude.{Some};
-    ghost use Rattle.stil_ast.specs.Data.KindName.{kind_name};
-
-    ghost output = { λ kind. Some (kind_name kind) };
-
-    fn fmt<W: fmt::Write>(&self, f: &mut fmt::Formatter<W>) -> fmt::Result {
-        f.write_str(self.name())
-    }
-}
-
 /// A fault, with the top-level statement in which it stands.
 #[derive(Debug, Drop)]
 pub struct StilFault {
@@ -102,17 +90,6 @@ pub struct StilFault {
     pub name: Text,
     /// From 1.
     pub line: u32,
-}
-
-impl fmt::Display for StilFault {
-    ghost use Rattle.std.specs.Prelude.{Some};
-    ghost use Rattle.stil_ast.specs.Data.Refusal.{fault_text};
-
-    ghost output = { λ fault. Some (fault_text fault) };
-
-    fn fmt<W: fmt::Write>(&self, f: &mut fmt::Formatter<W>) -> fmt::Result {
-        write!(f, "{} at line {}", self.kind, self.line)
-    }
 }
 
 /// Why a reader gave up.

@@ -2,6 +2,5 @@ pub mod Lexeme
 pub mod Skipping
 pub mod Reading
 pub mod Setting
-pub mod FaultText
 pub mod Words
 pub mod Fronts

@@ -4,8 +4,6 @@ ghost use Rattle.std.specs.Prelude.{◌≡◌};
 ghost use Rattle.stil_form.specs.declared.fault.FormFault.TheVariants.{NoMemory};
 
 use std::alloc::{AllocError, AllocFailed};
-use std::error::Error;
-use std::fmt;
 
 /// The kinds of faults of block forms.
 #[derive(Clone, Copy, Debug, PartialEq, Eq)]
@@ -22,24 +20,6 @@ pub enum FormKind {
     Twice,
     /// There is no executive.
     NoExec,
-}
-
-impl FormKind {
-    ghost use Rattle.stil_form.specs.FaultText.{kind_text};
-
-    /// The word by which it is printed.
-    pub fn name(self) -> &'static str
-        ensures { result.now ≡ kind_text self }
-    {
-        match self {
-            FormKind::NoHeader => "NoHeader",
-            FormKind::Shape => "Shape",
-            FormKind::LeftOut => "LeftOut",
-            FormKind::OutOfRange => "OutOfRange",
-            FormKind::Twice => "Twice",
-            FormKind::NoExec => "NoExec",
-        }
-    }
 }
 
 /// Why a statement was not read.
@@ -65,30 +45,3 @@ impl<T: Drop> From<AllocFailed<T>> for FormFault {
         FormFault::NoMemory
     }
 }
-
-impl fmt::Display for FormKind {
-    ghost use Rattle.std.specs.Prelude.{Some};
-    ghost use Rattle.stil_form.specs.FaultText.{kind_text};
-
-    ghost output = { λ kind. Some (kind_text kind) };
-
-    fn fmt<W: fmt::Write>(&self, f: &mut fmt::Formatter<W>) -> fmt::Result {
-        f.write_str(self.name())
-    }
-}
-
-impl fmt::Display for FormFault {
-    ghost use Rattle.std.specs.Prelude.{Some};
-    ghost use Rattle.stil_form.specs.FaultText.{fault_text};
-
-    ghost output = { λ fault. Some (fault_text fault) };
-
-    fn fmt<W: fmt::Write>(&self, f: &mut fmt::Formatter<W>) -> fmt::Result {
-        match self {
-            FormFault::NoMemory => write!(f, "out of memory"),
-            FormFault::Refused(kind, first) => write!(f, "{kind} at token {first}"),
-        }
-    }
-}
-
-impl Error for FormFault {}

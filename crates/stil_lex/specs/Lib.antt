@@ -2,7 +2,6 @@ pub mod Bytes
 pub mod Pieces
 pub mod Tokens
 pub mod Faults
-pub mod FaultText
 pub mod Text
 pub mod Step
 pub mod Slow

@@ -4,8 +4,6 @@ ghost use Rattle.std.specs.Prelude.{◌≡◌};
 ghost use Rattle.stil_lex.specs.declared.fault.LexFault.TheVariants.{NoMemory};
 
 use std::alloc::{AllocError, AllocFailed};
-use std::error::Error;
-use std::fmt;
 
 /// The fault of a text with the smallest place, or want of memory.
 #[derive(Clone, Copy, PartialEq, Eq, Debug)]
@@ -34,21 +32,3 @@ impl<T: Drop> From<AllocFailed<T>> for LexFault {
         LexFault::NoMemory
     }
 }
-
-impl fmt::Display for LexFault {
-    ghost use Rattle.std.specs.Prelude.{Some};
-    ghost use Rattle.stil_lex.specs.FaultText.{fault_text};
-
-    ghost output = { λ fault. Some (fault_text fault) };
-
-    fn fmt<W: fmt::Write>(&self, f: &mut fmt::Formatter<W>) -> fmt::Result {
-        match self {
-            LexFault::NoMemory => write!(f, "out of memory"),
-            LexFault::BadByte(place) => write!(f, "bad byte at {place}"),
-            LexFault::OpenQuote(place) => write!(f, "quote without an end at {place}"),
-            LexFault::OpenComment(place) => write!(f, "comment without an end at {place}"),
-        }
-    }
-}
-
-impl Error for LexFault {}

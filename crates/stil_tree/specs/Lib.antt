@@ -2,7 +2,6 @@ pub mod Signs
 pub mod Trees
 pub mod Grammar
 pub mod Faults
-pub mod FaultText
 pub mod Blocks
 pub mod Step
 pub mod Memory

@@ -5,20 +5,10 @@ ghost use Rattle.tester_types.specs.Outside.{HasRisen, gained, Files, Loads, Fai
 ghost use Rattle.tester_types.specs.declared.outside.ShelfFault.TheVariants as ShelfFault;
 
 use std::alloc::{AllocError, AllocFailed, Global};
-use std::error::Error;
-use std::fmt;
 
 /// There was no memory.
 #[derive(Clone, Copy, Debug, PartialEq, Eq)]
 pub struct NoMemory;
-
-impl fmt::Display for NoMemory {
-    fn fmt<W: fmt::Write>(&self, f: &mut fmt::Formatter<W>) -> fmt::Result {
-        write!(f, "out of memory")
-    }
-}
-
-impl Error for NoMemory {}
 
 impl From<AllocError> for NoMemory {
     fn from(_e: AllocError) -> NoMemory {
@@ -72,14 +62,6 @@ pub struct Failed;
 /// A text couldn't be written whole.
 #[derive(Clone, Copy, Debug, PartialEq, Eq)]
 pub struct SinkFault;
-
-impl fmt::Display for SinkFault {
-    fn fmt<W: fmt::Write>(&self, f: &mut fmt::Formatter<W>) -> fmt::Result {
-        write!(f, "the text could not be written whole")
-    }
-}
-
-impl Error for SinkFault {}
 
 /// A place that takes bytes. It may tell what it holds, and it counts its faults.
 pub trait Sink {

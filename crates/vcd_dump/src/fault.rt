@@ -3,8 +3,6 @@
 ghost use Rattle.std.specs.Prelude.{◌≡◌};
 ghost use Rattle.vcd_dump.specs.declared.fault.TapeFault.TheVariants as fault;
 
-use std::error::Error;
-use std::fmt;
 use tester_types::NoMemory;
 
 /// Why there is no tape of a try.
@@ -14,17 +12,6 @@ pub enum TapeFault {
     /// It has more drives than a dump may have.
     TapeTooLong,
 }
-
-impl fmt::Display for TapeFault {
-    fn fmt<W: fmt::Write>(&self, f: &mut fmt::Formatter<W>) -> fmt::Result {
-        match self {
-            TapeFault::NoMemory => write!(f, "out of memory"),
-            TapeFault::TapeTooLong => write!(f, "the tape is too long"),
-        }
-    }
-}
-
-impl Error for TapeFault {}
 
 impl From<NoMemory> for TapeFault {
     ghost from_gives = { λ _ e. e ≡ fault.NoMemory };

@@ -13,8 +13,6 @@ ghost use Rattle.vcd_text.specs.declared.read.DumpFault.TheVariants as fault;
 use crate::dump::Dump;
 use crate::reader::Reader;
 use std::alloc::Global;
-use std::error::Error;
-use std::fmt;
 use tester_types::NoMemory;
 
 /// Why a text wasn't read as a dump.
@@ -25,17 +23,6 @@ pub enum DumpFault {
     /// only too short or has a rest.
     Line(u32),
 }
-
-impl fmt::Display for DumpFault {
-    fn fmt<W: fmt::Write>(&self, f: &mut fmt::Formatter<W>) -> fmt::Result {
-        match self {
-            DumpFault::NoMemory => write!(f, "out of memory"),
-            DumpFault::Line(line) => write!(f, "no dump goes on with line {line}"),
-        }
-    }
-}
-
-impl Error for DumpFault {}
 
 impl From<NoMemory> for DumpFault {
     ghost from_gives = { λ _ e. e ≡ fault.NoMemory };
