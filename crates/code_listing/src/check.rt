@@ -1,7 +1,6 @@
 //! The numbers of a code.
 
-ghost use Rattle.std.specs.Prelude.{◌≡◌, ◌≤◌, ◌*◌, OnErr};
-ghost use Rattle.tester_types.specs.Outside.{HasRisen, Puts};
+ghost use Rattle.std.specs.Prelude.{◌≡◌, ◌≤◌, ◌*◌};
 ghost use Rattle.code_listing.specs.Text.{check_text, cycles_among, instrs_among};
 
 use packed_code::Code;
@@ -34,9 +33,7 @@ fn instr_total(code: &Code) -> u64
 
 /// Puts the numbers of a code: of its executives, their cycles, its rows, its instructions, and their pages.
 pub fn put_check<K: Sink>(sink: &mut K, code: &Code) -> Result<(), SinkFault>
-    ensures puts { Puts (K.told sink.old) (check_text code.now) result (K.told sink.new) }
-    ensures count { K.faults sink.old ≤ K.faults sink.new }
-    ensures cause { OnErr result (HasRisen (K.faults sink.old) (K.faults sink.new)) }
+    ensures { Prints (K.told sink.old) (K.faults sink.old) (check_text code.now) result (K.told sink.new) (K.faults sink.new) }
 {
     let line = [
         Piece::Text(b"ok execs "),

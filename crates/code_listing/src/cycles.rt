@@ -1,7 +1,7 @@
 //! The line of a dated cycle.
 
-ghost use Rattle.std.specs.Prelude.{◌≡◌, ◌≤◌, OnErr, length, map};
-ghost use Rattle.tester_types.specs.Outside.{HasRisen, Puts};
+ghost use Rattle.std.specs.Prelude.{◌≡◌, length, map};
+ghost use Rattle.tester_types.specs.Outside.{Prints};
 ghost use Rattle.packed_code.specs.Walk.{IsOf};
 ghost use Rattle.code_listing.specs.Listing.{listed};
 ghost use Rattle.code_listing.specs.Text.{cycle_line, row_line, character_or_dash};
@@ -36,10 +36,9 @@ pub(crate) fn put_cycle_line<K: Sink>(
 ) -> Result<(), SinkFault>
     requires of { IsOf code.now cycle.now.table cycle.now.row }
     requires row { length row.old ≡ length code.now.signals }
-    ensures puts { Puts (K.told sink.old) (cycle_line (listed code.now (number, cycle.now))) result (K.told sink.new) }
+    ensures prints { Prints (K.told sink.old) (K.faults sink.old) (cycle_line (listed code.now (number, cycle.now))) result
+        (K.told sink.new) (K.faults sink.new) }
     ensures row { length row.new ≡ length code.now.signals }
-    ensures count { K.faults sink.old ≤ K.faults sink.new }
-    ensures cause { OnErr result (HasRisen (K.faults sink.old) (K.faults sink.new)) }
 {
     let _conditions = code.signals();
     show(row, code.row(cycle.row));
@@ -55,9 +54,8 @@ fn put_row<'a, K: Sink>(
     table: &'a [u8],
     row: &'a [u8],
 ) -> Result<(), SinkFault>
-    ensures puts { Puts (K.told sink.old) (row_line number start table.now row.now) result (K.told sink.new) }
-    ensures count { K.faults sink.old ≤ K.faults sink.new }
-    ensures cause { OnErr result (HasRisen (K.faults sink.old) (K.faults sink.new)) }
+    ensures { Prints (K.told sink.old) (K.faults sink.old) (row_line number start table.now row.now) result
+        (K.told sink.new) (K.faults sink.new) }
 {
     let line = [
         Piece::Number(u128::from(number)),

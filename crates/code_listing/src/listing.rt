@@ -1,9 +1,9 @@
 //! The cycles of all executives of a code, each in one of two forms.
 
-ghost use Rattle.std.specs.Prelude.{◌≡◌, ◌+◌, ◌<◌, ◌≤◌, ◌^◌, IfOk, OnErr, length};
+ghost use Rattle.std.specs.Prelude.{◌≡◌, ◌+◌, ◌<◌, ◌≤◌, ◌^◌, IfOk, length};
 ghost use Rattle.std.specs.List.{flat_map};
 ghost use Rattle.text_bytes.specs.Limits.{most_listed};
-ghost use Rattle.tester_types.specs.Outside.{HasRisen, Puts};
+ghost use Rattle.tester_types.specs.Outside.{Prints};
 ghost use Rattle.packed_code.specs.Walk.{IsOf};
 ghost use Rattle.code_listing.specs.Listing.{listed, listed_exec, listing_of, cycles_in, time_of};
 ghost use Rattle.code_listing.specs.Lines.{Lists, ListsWhole, IsFor};
@@ -92,9 +92,8 @@ fn put_exec_cycles<K: Sink>(
 /// Puts the line of an executive.
 fn put_exec_line<K: Sink>(sink: &mut K, code: &Code, exec: u16) -> Result<(), SinkFault>
     requires { exec < length code.now.execs }
-    ensures puts { Puts (K.told sink.old) (exec_line (listed_exec code.now exec)) result (K.told sink.new) }
-    ensures count { K.faults sink.old ≤ K.faults sink.new }
-    ensures cause { OnErr result (HasRisen (K.faults sink.old) (K.faults sink.new)) }
+    ensures { Prints (K.told sink.old) (K.faults sink.old) (exec_line (listed_exec code.now exec)) result
+        (K.told sink.new) (K.faults sink.new) }
 {
     let line = [
         Piece::Text(b"exec "),
@@ -157,9 +156,7 @@ fn put_execs<K: Sink>(
 
 /// Puts the last line.
 fn put_end<K: Sink>(sink: &mut K, cycles: u64, time: u128) -> Result<(), SinkFault>
-    ensures puts { Puts (K.told sink.old) (end_line cycles time) result (K.told sink.new) }
-    ensures count { K.faults sink.old ≤ K.faults sink.new }
-    ensures cause { OnErr result (HasRisen (K.faults sink.old) (K.faults sink.new)) }
+    ensures { Prints (K.told sink.old) (K.faults sink.old) (end_line cycles time) result (K.told sink.new) (K.faults sink.new) }
 {
     let line = [
         Piece::Text(b"end "),

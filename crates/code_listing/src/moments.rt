@@ -1,8 +1,8 @@
 //! The lines of a cycle's moments.
 
-ghost use Rattle.std.specs.Prelude.{◌≡◌, ◌<◌, ◌≤◌, ◌^◌, ◌++◌, OnErr, length, slice_index_or, []};
+ghost use Rattle.std.specs.Prelude.{◌≡◌, ◌<◌, ◌≤◌, ◌^◌, ◌++◌, length, slice_index_or, []};
 ghost use Rattle.std.specs.List.{flat_map};
-ghost use Rattle.tester_types.specs.Outside.{HasRisen, Puts};
+ghost use Rattle.tester_types.specs.Outside.{Prints};
 ghost use Rattle.packed_code.specs.Walk.{IsOf};
 ghost use Rattle.edge_gen.specs.Signals.{no_skews};
 ghost use Rattle.code_listing.specs.Listing.{listed};
@@ -31,19 +31,16 @@ fn name_at(code: &Code, signal: u16) -> &[u8]
 
 /// Puts a drive.
 fn put_push<K: Sink>(sink: &mut K, code: &Code, signal: u16, push: Push) -> Result<(), SinkFault>
-    ensures puts { Puts (K.told sink.old) (push_words (names_of code.now) (signal, push)) result (K.told sink.new) }
-    ensures count { K.faults sink.old ≤ K.faults sink.new }
-    ensures cause { OnErr result (HasRisen (K.faults sink.old) (K.faults sink.new)) }
+    ensures { Prints (K.told sink.old) (K.faults sink.old) (push_words (names_of code.now) (signal, push)) result
+        (K.told sink.new) (K.faults sink.new) }
 {
     put_act(sink, name_at(code, signal), b"=", push_letter(push))
 }
 
 /// Puts drives.
 fn put_pushes<K: Sink>(sink: &mut K, code: &Code, drives: &[(u16, Push)]) -> Result<(), SinkFault>
-    ensures puts { Puts (K.told sink.old) (flat_map (push_words (names_of code.now)) drives.now) result
-        (K.told sink.new) }
-    ensures count { K.faults sink.old ≤ K.faults sink.new }
-    ensures cause { OnErr result (HasRisen (K.faults sink.old) (K.faults sink.new)) }
+    ensures { Prints (K.told sink.old) (K.faults sink.old) (flat_map (push_words (names_of code.now)) drives.now) result
+        (K.told sink.new) (K.faults sink.new) }
 {
     for (signal, push) in drives {
         put_push(sink, code, *signal, *push)?;
@@ -53,19 +50,16 @@ fn put_pushes<K: Sink>(sink: &mut K, code: &Code, drives: &[(u16, Push)]) -> Res
 
 /// Puts a look.
 fn put_look<K: Sink>(sink: &mut K, code: &Code, signal: u16, look: Look) -> Result<(), SinkFault>
-    ensures puts { Puts (K.told sink.old) (look_words (names_of code.now) (signal, look)) result (K.told sink.new) }
-    ensures count { K.faults sink.old ≤ K.faults sink.new }
-    ensures cause { OnErr result (HasRisen (K.faults sink.old) (K.faults sink.new)) }
+    ensures { Prints (K.told sink.old) (K.faults sink.old) (look_words (names_of code.now) (signal, look)) result
+        (K.told sink.new) (K.faults sink.new) }
 {
     put_act(sink, name_at(code, signal), b"?", look_letter(look))
 }
 
 /// Puts looks.
 fn put_looks<K: Sink>(sink: &mut K, code: &Code, looks: &[(u16, Look)]) -> Result<(), SinkFault>
-    ensures puts { Puts (K.told sink.old) (flat_map (look_words (names_of code.now)) looks.now) result
-        (K.told sink.new) }
-    ensures count { K.faults sink.old ≤ K.faults sink.new }
-    ensures cause { OnErr result (HasRisen (K.faults sink.old) (K.faults sink.new)) }
+    ensures { Prints (K.told sink.old) (K.faults sink.old) (flat_map (look_words (names_of code.now)) looks.now) result
+        (K.told sink.new) (K.faults sink.new) }
 {
     for (signal, look) in looks {
         put_look(sink, code, *signal, *look)?;
@@ -80,9 +74,8 @@ fn put_act<'a, K: Sink>(
     sign: &'a [u8],
     letter: &'a [u8],
 ) -> Result<(), SinkFault>
-    ensures puts { Puts (K.told sink.old) (act_words name.now sign.now letter.now) result (K.told sink.new) }
-    ensures count { K.faults sink.old ≤ K.faults sink.new }
-    ensures cause { OnErr result (HasRisen (K.faults sink.old) (K.faults sink.new)) }
+    ensures { Prints (K.told sink.old) (K.faults sink.old) (act_words name.now sign.now letter.now) result
+        (K.told sink.new) (K.faults sink.new) }
 {
     let words = [
         Piece::Text(b" "),
@@ -95,18 +88,15 @@ fn put_act<'a, K: Sink>(
 
 /// Puts the instant of a moment.
 fn put_instant<K: Sink>(sink: &mut K, at: u128) -> Result<(), SinkFault>
-    ensures puts { Puts (K.told sink.old) (instant_words at) result (K.told sink.new) }
-    ensures count { K.faults sink.old ≤ K.faults sink.new }
-    ensures cause { OnErr result (HasRisen (K.faults sink.old) (K.faults sink.new)) }
+    ensures { Prints (K.told sink.old) (K.faults sink.old) (instant_words at) result (K.told sink.new) (K.faults sink.new) }
 {
     put_each(sink, &[Piece::Text(b"at "), Piece::Number(at)])
 }
 
 /// Puts the acts of a moment, and ends its line.
 fn put_acts<K: Sink>(sink: &mut K, code: &Code, moment: &Moment) -> Result<(), SinkFault>
-    ensures puts { Puts (K.told sink.old) (acts_words (names_of code.now) moment.now) result (K.told sink.new) }
-    ensures count { K.faults sink.old ≤ K.faults sink.new }
-    ensures cause { OnErr result (HasRisen (K.faults sink.old) (K.faults sink.new)) }
+    ensures { Prints (K.told sink.old) (K.faults sink.old) (acts_words (names_of code.now) moment.now) result
+        (K.told sink.new) (K.faults sink.new) }
 {
     put_pushes(sink, code, moment.drives.as_slice())?;
     put_looks(sink, code, moment.looks.as_slice())?;
@@ -115,9 +105,8 @@ fn put_acts<K: Sink>(sink: &mut K, code: &Code, moment: &Moment) -> Result<(), S
 
 /// Puts the line of a moment.
 fn put_moment<K: Sink>(sink: &mut K, code: &Code, moment: &Moment) -> Result<(), SinkFault>
-    ensures puts { Puts (K.told sink.old) (moment_line (names_of code.now) moment.now) result (K.told sink.new) }
-    ensures count { K.faults sink.old ≤ K.faults sink.new }
-    ensures cause { OnErr result (HasRisen (K.faults sink.old) (K.faults sink.new)) }
+    ensures { Prints (K.told sink.old) (K.faults sink.old) (moment_line (names_of code.now) moment.now) result
+        (K.told sink.new) (K.faults sink.new) }
 {
     put_instant(sink, moment.at)?;
     put_acts(sink, code, moment)
@@ -125,10 +114,8 @@ fn put_moment<K: Sink>(sink: &mut K, code: &Code, moment: &Moment) -> Result<(),
 
 /// Puts the lines of moments.
 fn put_all_moments<K: Sink>(sink: &mut K, code: &Code, moments: &[Moment]) -> Result<(), SinkFault>
-    ensures puts { Puts (K.told sink.old) (flat_map (moment_line (names_of code.now)) moments.now) result
-        (K.told sink.new) }
-    ensures count { K.faults sink.old ≤ K.faults sink.new }
-    ensures cause { OnErr result (HasRisen (K.faults sink.old) (K.faults sink.new)) }
+    ensures { Prints (K.told sink.old) (K.faults sink.old) (flat_map (moment_line (names_of code.now)) moments.now) result
+        (K.told sink.new) (K.faults sink.new) }
 {
     for moment in moments {
         put_moment(sink, code, moment)?;
@@ -139,10 +126,8 @@ fn put_all_moments<K: Sink>(sink: &mut K, code: &Code, moments: &[Moment]) -> Re
 /// Puts the line with which a numbered cycle begins.
 fn put_head<K: Sink>(sink: &mut K, code: &Code, number: u64, cycle: &Cycle) -> Result<(), SinkFault>
     requires of { IsOf code.now cycle.now.table cycle.now.row }
-    ensures puts { Puts (K.told sink.old) (moments_head (listed code.now (number, cycle.now))) result
-        (K.told sink.new) }
-    ensures count { K.faults sink.old ≤ K.faults sink.new }
-    ensures cause { OnErr result (HasRisen (K.faults sink.old) (K.faults sink.new)) }
+    ensures { Prints (K.told sink.old) (K.faults sink.old) (moments_head (listed code.now (number, cycle.now))) result
+        (K.told sink.new) (K.faults sink.new) }
 {
     let table = code.table(cycle.table).name.as_slice();
     put_head_line(sink, number, cycle.start, table)
@@ -155,9 +140,8 @@ fn put_head_line<K: Sink>(
     start: u128,
     table: &[u8],
 ) -> Result<(), SinkFault>
-    ensures puts { Puts (K.told sink.old) (head_line number start table.now) result (K.told sink.new) }
-    ensures count { K.faults sink.old ≤ K.faults sink.new }
-    ensures cause { OnErr result (HasRisen (K.faults sink.old) (K.faults sink.new)) }
+    ensures { Prints (K.told sink.old) (K.faults sink.old) (head_line number start table.now) result
+        (K.told sink.new) (K.faults sink.new) }
 {
     let line = [
         Piece::Text(b"cycle "),
@@ -180,10 +164,8 @@ fn put_timed<K: Sink>(
     moments: &[Moment],
 ) -> Result<(), SinkFault>
     requires of { IsOf code.now cycle.now.table cycle.now.row }
-    ensures puts { Puts (K.told sink.old) (moments_head (listed code.now (number, cycle.now))
-        ++ flat_map (moment_line (names_of code.now)) moments.now) result (K.told sink.new) }
-    ensures count { K.faults sink.old ≤ K.faults sink.new }
-    ensures cause { OnErr result (HasRisen (K.faults sink.old) (K.faults sink.new)) }
+    ensures { Prints (K.told sink.old) (K.faults sink.old) (moments_head (listed code.now (number, cycle.now)) ++ flat_map (moment_line (names_of code.now)) moments.now) result
+        (K.told sink.new) (K.faults sink.new) }
 {
     put_head(sink, code, number, cycle)?;
     put_all_moments(sink, code, moments)

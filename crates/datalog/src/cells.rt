@@ -1,9 +1,9 @@
 //! The cells of scan chains that fails name.
 
-ghost use Rattle.std.specs.Prelude.{◌≡◌, ◌==◌, ◌<◌, ◌≤◌, OnErr, length};
+ghost use Rattle.std.specs.Prelude.{◌≡◌, ◌==◌, ◌<◌, length};
 ghost use Rattle.std.specs.List.{find};
 ghost use Rattle.std.specs.Option.{option_copied};
-ghost use Rattle.tester_types.specs.Outside.{HasRisen, Puts};
+ghost use Rattle.tester_types.specs.Outside.{Prints};
 ghost use Rattle.datalog.specs.DatalogText.{chain_at, cell_in, cell_of, cell_words};
 
 use packed_code::{Code, CodeChain};
@@ -11,9 +11,8 @@ use tester_types::{Fail, Piece, Sink, SinkFault, put_each};
 
 /// Puts the cell that a fail names, if it names one.
 pub(crate) fn put_cell<K: Sink>(sink: &mut K, code: &Code, fail: &Fail) -> Result<(), SinkFault>
-    ensures puts { Puts (K.told sink.old) (cell_words (cell_of code.now fail.now)) result (K.told sink.new) }
-    ensures count { K.faults sink.old ≤ K.faults sink.new }
-    ensures cause { OnErr result (HasRisen (K.faults sink.old) (K.faults sink.new)) }
+    ensures { Prints (K.told sink.old) (K.faults sink.old) (cell_words (cell_of code.now fail.now)) result
+        (K.told sink.new) (K.faults sink.new) }
 {
     match chain_at(code, fail.exec, fail.signal) {
         Some(chain) => put_cell_in(sink, fail.mark, chain),
@@ -27,9 +26,8 @@ pub(crate) fn put_cell_in<K: Sink>(
     mark: u32,
     chain: &CodeChain,
 ) -> Result<(), SinkFault>
-    ensures puts { Puts (K.told sink.old) (cell_words (cell_in mark chain.now)) result (K.told sink.new) }
-    ensures count { K.faults sink.old ≤ K.faults sink.new }
-    ensures cause { OnErr result (HasRisen (K.faults sink.old) (K.faults sink.new)) }
+    ensures { Prints (K.told sink.old) (K.faults sink.old) (cell_words (cell_in mark chain.now)) result
+        (K.told sink.new) (K.faults sink.new) }
 {
     match chain.cells.marked(chain.length as usize, mark) {
         Some(cell) => put_names(sink, chain.name.as_slice(), cell.as_slice()),
@@ -39,10 +37,8 @@ pub(crate) fn put_cell_in<K: Sink>(
 
 /// Puts the names of a chain and a cell.
 fn put_names<'a, K: Sink>(sink: &mut K, chain: &'a [u8], cell: &'a [u8]) -> Result<(), SinkFault>
-    ensures puts { Puts (K.told sink.old) (cell_words (Some (record { chain = chain.now; name = cell.now }))) result
-        (K.told sink.new) }
-    ensures count { K.faults sink.old ≤ K.faults sink.new }
-    ensures cause { OnErr result (HasRisen (K.faults sink.old) (K.faults sink.new)) }
+    ensures { Prints (K.told sink.old) (K.faults sink.old) (cell_words (Some (record { chain = chain.now; name = cell.now }))) result
+        (K.told sink.new) (K.faults sink.new) }
 {
     let words = [
         Piece::Text(b" "),

@@ -1,8 +1,8 @@
 //! The lines of fails, with the cells of chains that they name.
 
-ghost use Rattle.std.specs.Prelude.{◌≡◌, ◌<◌, ◌≤◌, All, OnErr, length};
+ghost use Rattle.std.specs.Prelude.{◌≡◌, ◌<◌, All, length};
 ghost use Rattle.std.specs.List.{flat_map};
-ghost use Rattle.tester_types.specs.Outside.{HasRisen, Puts};
+ghost use Rattle.tester_types.specs.Outside.{Prints};
 ghost use Rattle.datalog.specs.DatalogText.{signal_name, found_words, fail_line};
 ghost use Rattle.datalog.specs.Printable.{IsKnown};
 
@@ -14,9 +14,8 @@ use tester_types::{Fail, Piece, Sink, SinkFault, look_letter, put_all, put_each}
 /// Puts the lines of fails.
 pub(crate) fn put_fails<K: Sink>(sink: &mut K, code: &Code, fails: &[Fail]) -> Result<(), SinkFault>
     requires { All (IsKnown code.now) fails.now }
-    ensures puts { Puts (K.told sink.old) (flat_map (fail_line code.now) fails.now) result (K.told sink.new) }
-    ensures count { K.faults sink.old ≤ K.faults sink.new }
-    ensures cause { OnErr result (HasRisen (K.faults sink.old) (K.faults sink.new)) }
+    ensures { Prints (K.told sink.old) (K.faults sink.old) (flat_map (fail_line code.now) fails.now) result
+        (K.told sink.new) (K.faults sink.new) }
 {
     for fail in fails {
         put_fail(sink, code, fail)?;
@@ -27,9 +26,8 @@ pub(crate) fn put_fails<K: Sink>(sink: &mut K, code: &Code, fails: &[Fail]) -> R
 /// Puts the line of a fail.
 fn put_fail<K: Sink>(sink: &mut K, code: &Code, fail: &Fail) -> Result<(), SinkFault>
     requires { IsKnown code.now fail.now }
-    ensures puts { Puts (K.told sink.old) (fail_line code.now fail.now) result (K.told sink.new) }
-    ensures count { K.faults sink.old ≤ K.faults sink.new }
-    ensures cause { OnErr result (HasRisen (K.faults sink.old) (K.faults sink.new)) }
+    ensures { Prints (K.told sink.old) (K.faults sink.old) (fail_line code.now fail.now) result
+        (K.told sink.new) (K.faults sink.new) }
 {
     put_found(sink, code, fail)?;
     put_cell(sink, code, fail)?;
@@ -39,9 +37,8 @@ fn put_fail<K: Sink>(sink: &mut K, code: &Code, fail: &Fail) -> Result<(), SinkF
 /// Puts what was found, and where.
 fn put_found<K: Sink>(sink: &mut K, code: &Code, fail: &Fail) -> Result<(), SinkFault>
     requires { IsKnown code.now fail.now }
-    ensures puts { Puts (K.told sink.old) (found_words code.now fail.now) result (K.told sink.new) }
-    ensures count { K.faults sink.old ≤ K.faults sink.new }
-    ensures cause { OnErr result (HasRisen (K.faults sink.old) (K.faults sink.new)) }
+    ensures { Prints (K.told sink.old) (K.faults sink.old) (found_words code.now fail.now) result
+        (K.told sink.new) (K.faults sink.new) }
 {
     let words = [
         Piece::Text(b"fail "),

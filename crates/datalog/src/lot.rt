@@ -1,8 +1,8 @@
 //! The text of a lot: the records of each site, and the totals of their bins.
 
-ghost use Rattle.std.specs.Prelude.{◌≡◌, ◌<◌, ◌≤◌, All, OnErr, length};
+ghost use Rattle.std.specs.Prelude.{◌≡◌, ◌<◌, All};
 ghost use Rattle.std.specs.List.{flat_map};
-ghost use Rattle.tester_types.specs.Outside.{HasRisen, Puts};
+ghost use Rattle.tester_types.specs.Outside.{Prints};
 ghost use Rattle.tester_types.specs.Records.{records_of};
 ghost use Rattle.datalog.specs.DatalogText.{record_text, site_text, filed_text, numbered, lot_text};
 ghost use Rattle.datalog.specs.Printable.{AreSound, IsPrintable, IsPrintableAt, ArePrintable};
@@ -25,10 +25,8 @@ pub fn print_lot<K: Sink>(
 ) -> Result<(), SinkFault>
     requires program { plan.now.program ≡ code.now }
     requires sound { AreSound plan.now book.now }
-    ensures puts { Puts (K.told sink.old) (lot_text code.now plan.now (records_of book.now)) result
-        (K.told sink.new) }
-    ensures count { K.faults sink.old ≤ K.faults sink.new }
-    ensures cause { OnErr result (HasRisen (K.faults sink.old) (K.faults sink.new)) }
+    ensures { Prints (K.told sink.old) (K.faults sink.old) (lot_text code.now plan.now (records_of book.now)) result
+        (K.told sink.new) (K.faults sink.new) }
 {
     let _sites = plan.sites();
     put_lot(sink, code, plan, book.sites())
@@ -42,10 +40,8 @@ fn put_lot<K: Sink>(
     sites: &[RecordList],
 ) -> Result<(), SinkFault>
     requires { ArePrintable code.now plan.now (records_of sites.now) }
-    ensures puts { Puts (K.told sink.old) (lot_text code.now plan.now (records_of sites.now)) result
-        (K.told sink.new) }
-    ensures count { K.faults sink.old ≤ K.faults sink.new }
-    ensures cause { OnErr result (HasRisen (K.faults sink.old) (K.faults sink.new)) }
+    ensures { Prints (K.told sink.old) (K.faults sink.old) (lot_text code.now plan.now (records_of sites.now)) result
+        (K.told sink.new) (K.faults sink.new) }
 {
     put_sites(sink, code, plan, sites)?;
     put_sums(sink, plan, sites)
@@ -59,10 +55,8 @@ fn put_sites<K: Sink>(
     sites: &[RecordList],
 ) -> Result<(), SinkFault>
     requires { ArePrintable code.now plan.now (records_of sites.now) }
-    ensures puts { Puts (K.told sink.old) (numbered (filed_text code.now plan.now) 0 sites.now) result
-        (K.told sink.new) }
-    ensures count { K.faults sink.old ≤ K.faults sink.new }
-    ensures cause { OnErr result (HasRisen (K.faults sink.old) (K.faults sink.new)) }
+    ensures { Prints (K.told sink.old) (K.faults sink.old) (numbered (filed_text code.now plan.now) 0 sites.now) result
+        (K.told sink.new) (K.faults sink.new) }
 {
     for (number, entries) in sites.iter().enumerate() {
         put_site(sink, code, plan, number, entries.as_slice())?;
@@ -79,10 +73,8 @@ fn put_site<K: Sink>(
     entries: &[Record],
 ) -> Result<(), SinkFault>
     requires { All (IsPrintableAt code.now plan.now number) entries.now }
-    ensures puts { Puts (K.told sink.old) (site_text code.now plan.now number entries.now) result
-        (K.told sink.new) }
-    ensures count { K.faults sink.old ≤ K.faults sink.new }
-    ensures cause { OnErr result (HasRisen (K.faults sink.old) (K.faults sink.new)) }
+    ensures { Prints (K.told sink.old) (K.faults sink.old) (site_text code.now plan.now number entries.now) result
+        (K.told sink.new) (K.faults sink.new) }
 {
     if entries.is_empty() {
         return Ok(());
@@ -99,10 +91,8 @@ fn put_records<K: Sink>(
     entries: &[Record],
 ) -> Result<(), SinkFault>
     requires { All (IsPrintable code.now plan.now) entries.now }
-    ensures puts { Puts (K.told sink.old) (flat_map (record_text code.now plan.now) entries.now) result
-        (K.told sink.new) }
-    ensures count { K.faults sink.old ≤ K.faults sink.new }
-    ensures cause { OnErr result (HasRisen (K.faults sink.old) (K.faults sink.new)) }
+    ensures { Prints (K.told sink.old) (K.faults sink.old) (flat_map (record_text code.now plan.now) entries.now) result
+        (K.told sink.new) (K.faults sink.new) }
 {
     for entry in entries {
         put_record(sink, code, plan, entry)?;

@@ -1,8 +1,7 @@
 //! The text of a record: a die with its tries and its bin.
 
-ghost use Rattle.std.specs.Prelude.{◌≡◌, ◌<◌, ◌≤◌, All, OnErr, length};
-ghost use Rattle.std.specs.List.{flat_map};
-ghost use Rattle.tester_types.specs.Outside.{HasRisen, Puts};
+ghost use Rattle.std.specs.Prelude.{◌≡◌, ◌<◌, ◌≤◌, length};
+ghost use Rattle.tester_types.specs.Outside.{Prints};
 ghost use Rattle.plan_rows.specs.Rows.{sites_of, dies_at};
 ghost use Rattle.lot_plan.specs.Bound.{die_at};
 ghost use Rattle.site_meaning.specs.Part.{part_of};
@@ -24,9 +23,8 @@ pub fn print_record<K: Sink>(
 ) -> Result<(), SinkFault>
     requires program { plan.now.program ≡ code.now }
     requires sound { Sound (part_of plan.now entry.now.site) entry.now }
-    ensures puts { Puts (K.told sink.old) (record_text code.now plan.now entry.now) result (K.told sink.new) }
-    ensures count { K.faults sink.old ≤ K.faults sink.new }
-    ensures cause { OnErr result (HasRisen (K.faults sink.old) (K.faults sink.new)) }
+    ensures { Prints (K.told sink.old) (K.faults sink.old) (record_text code.now plan.now entry.now) result
+        (K.told sink.new) (K.faults sink.new) }
 {
     let _sites = plan.sites();
     put_record(sink, code, plan, entry)
@@ -40,9 +38,8 @@ pub(crate) fn put_record<K: Sink>(
     entry: &Record,
 ) -> Result<(), SinkFault>
     requires { IsPrintable code.now plan.now entry.now }
-    ensures puts { Puts (K.told sink.old) (record_text code.now plan.now entry.now) result (K.told sink.new) }
-    ensures count { K.faults sink.old ≤ K.faults sink.new }
-    ensures cause { OnErr result (HasRisen (K.faults sink.old) (K.faults sink.new)) }
+    ensures { Prints (K.told sink.old) (K.faults sink.old) (record_text code.now plan.now entry.now) result
+        (K.told sink.new) (K.faults sink.new) }
 {
     put_die(sink, plan, entry)?;
     put_trials(sink, code, entry.trials.as_slice())?;
@@ -53,10 +50,8 @@ pub(crate) fn put_record<K: Sink>(
 fn put_die<K: Sink>(sink: &mut K, plan: &BoundPlan, entry: &Record) -> Result<(), SinkFault>
     requires site { entry.now.site < sites_of plan.now.rows }
     requires die { entry.now.die < length (dies_at entry.now.site plan.now.rows) }
-    ensures puts { Puts (K.told sink.old) (die_line (die_at plan.now.rows entry.now.site entry.now.die).name) result
-        (K.told sink.new) }
-    ensures count { K.faults sink.old ≤ K.faults sink.new }
-    ensures cause { OnErr result (HasRisen (K.faults sink.old) (K.faults sink.new)) }
+    ensures { Prints (K.told sink.old) (K.faults sink.old) (die_line (die_at plan.now.rows entry.now.site entry.now.die).name) result
+        (K.told sink.new) (K.faults sink.new) }
 {
     let line = [
         Piece::Text(b"die "),
@@ -69,9 +64,8 @@ fn put_die<K: Sink>(sink: &mut K, plan: &BoundPlan, entry: &Record) -> Result<()
 /// Puts the bin of a die.
 fn put_bin<K: Sink>(sink: &mut K, plan: &BoundPlan, entry: &Record) -> Result<(), SinkFault>
     requires { 0 < length entry.now.trials }
-    ensures puts { Puts (K.told sink.old) (bin_line (die_bin plan.now entry.now)) result (K.told sink.new) }
-    ensures count { K.faults sink.old ≤ K.faults sink.new }
-    ensures cause { OnErr result (HasRisen (K.faults sink.old) (K.faults sink.new)) }
+    ensures { Prints (K.told sink.old) (K.faults sink.old) (bin_line (die_bin plan.now entry.now)) result
+        (K.told sink.new) (K.faults sink.new) }
 {
     put_numbered(sink, b"bin ", u128::from(die_bin(plan, entry)))
 }

@@ -1,8 +1,8 @@
 //! What a lot comes to in all: how many looks failed, and how many dies each bin has.
 
-ghost use Rattle.std.specs.Prelude.{◌≡◌, ◌+◌, ◌<◌, ◌≤◌, All, OnErr, length, min, sum_by};
+ghost use Rattle.std.specs.Prelude.{◌≡◌, ◌+◌, ◌<◌, ◌≤◌, All, length, min, sum_by};
 ghost use Rattle.text_bytes.specs.Limits.{most_plan_sites};
-ghost use Rattle.tester_types.specs.Outside.{HasRisen, Puts};
+ghost use Rattle.tester_types.specs.Outside.{Prints};
 ghost use Rattle.tester_types.specs.Records.{records_of};
 ghost use Rattle.datalog.specs.DatalogText.{bins_of, totals_text};
 ghost use Rattle.datalog.specs.Printable.{AreSound};
@@ -20,10 +20,8 @@ pub fn print_totals<K: Sink>(
     sink: &mut K,
 ) -> Result<(), SinkFault>
     requires sound { AreSound plan.now book.now }
-    ensures puts { Puts (K.told sink.old) (totals_text (bins_of plan.now (records_of book.now))) result
-        (K.told sink.new) }
-    ensures count { K.faults sink.old ≤ K.faults sink.new }
-    ensures cause { OnErr result (HasRisen (K.faults sink.old) (K.faults sink.new)) }
+    ensures { Prints (K.told sink.old) (K.faults sink.old) (totals_text (bins_of plan.now (records_of book.now))) result
+        (K.told sink.new) (K.faults sink.new) }
 {
     let _sites = plan.sites();
     put_sums(sink, plan, book.sites())
@@ -37,10 +35,8 @@ pub(crate) fn put_sums<K: Sink>(
 ) -> Result<(), SinkFault>
     requires few { length sites.now ≤ most_plan_sites }
     requires tried { All (All (λ entry. 0 < length entry.trials)) (records_of sites.now) }
-    ensures puts { Puts (K.told sink.old) (totals_text (bins_of plan.now (records_of sites.now))) result
-        (K.told sink.new) }
-    ensures count { K.faults sink.old ≤ K.faults sink.new }
-    ensures cause { OnErr result (HasRisen (K.faults sink.old) (K.faults sink.new)) }
+    ensures { Prints (K.told sink.old) (K.faults sink.old) (totals_text (bins_of plan.now (records_of sites.now))) result
+        (K.told sink.new) (K.faults sink.new) }
 {
     put_totals(sink, &counts_of(plan, sites))
 }

@@ -1,8 +1,8 @@
 //! How many dies each bin has.
 
-ghost use Rattle.std.specs.Prelude.{◌≡◌, ℕ, ◌^◌, ◌<◌, ◌≤◌, All, OnErr, [], length, map, slice_index};
+ghost use Rattle.std.specs.Prelude.{◌≡◌, ℕ, ◌^◌, ◌<◌, ◌≤◌, All, [], length, map, slice_index};
 ghost use Rattle.text_bytes.specs.Limits.{most_plan_sites};
-ghost use Rattle.tester_types.specs.Outside.{HasRisen, Puts};
+ghost use Rattle.tester_types.specs.Outside.{Prints};
 ghost use Rattle.tester_types.specs.Records.{records_of};
 ghost use Rattle.datalog.specs.Counts.{AreCounts, HaveGrown};
 ghost use Rattle.datalog.specs.DatalogText.{die_bin, bins_of, numbered, total_line};
@@ -16,9 +16,8 @@ const BINS: usize = 100;
 
 /// Puts the totals of the bins.
 pub(crate) fn put_totals<K: Sink>(sink: &mut K, counts: &[u128]) -> Result<(), SinkFault>
-    ensures puts { Puts (K.told sink.old) (numbered total_line 0 counts.now) result (K.told sink.new) }
-    ensures count { K.faults sink.old ≤ K.faults sink.new }
-    ensures cause { OnErr result (HasRisen (K.faults sink.old) (K.faults sink.new)) }
+    ensures { Prints (K.told sink.old) (K.faults sink.old) (numbered total_line 0 counts.now) result
+        (K.told sink.new) (K.faults sink.new) }
 {
     for (bin, dies) in counts.iter().enumerate() {
         put_total(sink, bin, *dies)?;
@@ -28,9 +27,7 @@ pub(crate) fn put_totals<K: Sink>(sink: &mut K, counts: &[u128]) -> Result<(), S
 
 /// Puts how many dies a bin has, and nothing for a bin without a die.
 fn put_total<K: Sink>(sink: &mut K, bin: usize, dies: u128) -> Result<(), SinkFault>
-    ensures puts { Puts (K.told sink.old) (total_line bin dies) result (K.told sink.new) }
-    ensures count { K.faults sink.old ≤ K.faults sink.new }
-    ensures cause { OnErr result (HasRisen (K.faults sink.old) (K.faults sink.new)) }
+    ensures { Prints (K.told sink.old) (K.faults sink.old) (total_line bin dies) result (K.told sink.new) (K.faults sink.new) }
 {
     if dies == 0 {
         return Ok(());

@@ -1,9 +1,9 @@
 //! The lines of tries.
 
-ghost use Rattle.std.specs.Prelude.{◌≡◌, ◌≤◌, ◌++◌, All, OnErr, codes, decimal};
+ghost use Rattle.std.specs.Prelude.{◌++◌, All, codes, decimal};
 ghost use Rattle.std.specs.List.{flat_map};
 ghost use Rattle.tester_types.specs.declared.record.By.TheVariants as by;
-ghost use Rattle.tester_types.specs.Outside.{HasRisen, Puts};
+ghost use Rattle.tester_types.specs.Outside.{Prints};
 ghost use Rattle.datalog.specs.DatalogText.{try_line, verdict_line, stopped_line, trial_text};
 ghost use Rattle.datalog.specs.Printable.{IsKnownTrial};
 
@@ -18,9 +18,8 @@ pub(crate) fn put_trials<K: Sink>(
     trials: &[Trial],
 ) -> Result<(), SinkFault>
     requires { All (IsKnownTrial code.now) trials.now }
-    ensures puts { Puts (K.told sink.old) (flat_map (trial_text code.now) trials.now) result (K.told sink.new) }
-    ensures count { K.faults sink.old ≤ K.faults sink.new }
-    ensures cause { OnErr result (HasRisen (K.faults sink.old) (K.faults sink.new)) }
+    ensures { Prints (K.told sink.old) (K.faults sink.old) (flat_map (trial_text code.now) trials.now) result
+        (K.told sink.new) (K.faults sink.new) }
 {
     for trial in trials {
         put_trial(sink, code, trial)?;
@@ -31,9 +30,8 @@ pub(crate) fn put_trials<K: Sink>(
 /// Puts a try with its kept fails and its verdict.
 fn put_trial<K: Sink>(sink: &mut K, code: &Code, trial: &Trial) -> Result<(), SinkFault>
     requires { IsKnownTrial code.now trial.now }
-    ensures puts { Puts (K.told sink.old) (trial_text code.now trial.now) result (K.told sink.new) }
-    ensures count { K.faults sink.old ≤ K.faults sink.new }
-    ensures cause { OnErr result (HasRisen (K.faults sink.old) (K.faults sink.new)) }
+    ensures { Prints (K.told sink.old) (K.faults sink.old) (trial_text code.now trial.now) result
+        (K.told sink.new) (K.faults sink.new) }
 {
     put_try(sink, trial)?;
     put_fails(sink, code, trial.kept.as_slice())?;
@@ -42,9 +40,7 @@ fn put_trial<K: Sink>(sink: &mut K, code: &Code, trial: &Trial) -> Result<(), Si
 
 /// Puts the numbers of a try.
 fn put_try<K: Sink>(sink: &mut K, trial: &Trial) -> Result<(), SinkFault>
-    ensures puts { Puts (K.told sink.old) (try_line trial.now) result (K.told sink.new) }
-    ensures count { K.faults sink.old ≤ K.faults sink.new }
-    ensures cause { OnErr result (HasRisen (K.faults sink.old) (K.faults sink.new)) }
+    ensures { Prints (K.told sink.old) (K.faults sink.old) (try_line trial.now) result (K.told sink.new) (K.faults sink.new) }
 {
     let line = [
         Piece::Text(b"try "),
@@ -60,9 +56,8 @@ fn put_try<K: Sink>(sink: &mut K, trial: &Trial) -> Result<(), SinkFault>
 
 /// Puts how a try ended.
 pub(crate) fn put_verdict<K: Sink>(sink: &mut K, verdict: &Verdict) -> Result<(), SinkFault>
-    ensures puts { Puts (K.told sink.old) (verdict_line verdict.now) result (K.told sink.new) }
-    ensures count { K.faults sink.old ≤ K.faults sink.new }
-    ensures cause { OnErr result (HasRisen (K.faults sink.old) (K.faults sink.new)) }
+    ensures { Prints (K.told sink.old) (K.faults sink.old) (verdict_line verdict.now) result
+        (K.told sink.new) (K.faults sink.new) }
 {
     match *verdict {
         Verdict::Pass => put_all(sink, b"verdict pass\n"),
@@ -74,9 +69,8 @@ pub(crate) fn put_verdict<K: Sink>(sink: &mut K, verdict: &Verdict) -> Result<()
 
 /// Puts who stopped a try, and before which batch.
 fn put_stopped<K: Sink>(sink: &mut K, batch: u64, by: By) -> Result<(), SinkFault>
-    ensures puts { Puts (K.told sink.old) (stopped_line batch by) result (K.told sink.new) }
-    ensures count { K.faults sink.old ≤ K.faults sink.new }
-    ensures cause { OnErr result (HasRisen (K.faults sink.old) (K.faults sink.new)) }
+    ensures { Prints (K.told sink.old) (K.faults sink.old) (stopped_line batch by) result
+        (K.told sink.new) (K.faults sink.new) }
 {
     match by {
         By::Plan => put_stopped_by_plan(sink, u128::from(batch)),
@@ -86,9 +80,8 @@ fn put_stopped<K: Sink>(sink: &mut K, batch: u64, by: By) -> Result<(), SinkFaul
 
 /// Puts that the plan stopped a try.
 fn put_stopped_by_plan<K: Sink>(sink: &mut K, batch: u128) -> Result<(), SinkFault>
-    ensures puts { Puts (K.told sink.old) (stopped_line batch by.Plan) result (K.told sink.new) }
-    ensures count { K.faults sink.old ≤ K.faults sink.new }
-    ensures cause { OnErr result (HasRisen (K.faults sink.old) (K.faults sink.new)) }
+    ensures { Prints (K.told sink.old) (K.faults sink.old) (stopped_line batch by.Plan) result
+        (K.told sink.new) (K.faults sink.new) }
 {
     let line = [
         Piece::Text(b"verdict stopped "),
@@ -100,9 +93,8 @@ fn put_stopped_by_plan<K: Sink>(sink: &mut K, batch: u128) -> Result<(), SinkFau
 
 /// Puts that the desk stopped a try, with the number of its stops.
 fn put_stopped_by_desk<K: Sink>(sink: &mut K, batch: u128, stops: u128) -> Result<(), SinkFault>
-    ensures puts { Puts (K.told sink.old) (stopped_line batch (by.Desk stops)) result (K.told sink.new) }
-    ensures count { K.faults sink.old ≤ K.faults sink.new }
-    ensures cause { OnErr result (HasRisen (K.faults sink.old) (K.faults sink.new)) }
+    ensures { Prints (K.told sink.old) (K.faults sink.old) (stopped_line batch (by.Desk stops)) result
+        (K.told sink.new) (K.faults sink.new) }
 {
     let line = [
         Piece::Text(b"verdict stopped "),
@@ -120,9 +112,8 @@ pub(crate) fn put_numbered<K: Sink>(
     words: &[u8],
     number: u128,
 ) -> Result<(), SinkFault>
-    ensures puts { Puts (K.told sink.old) (words.now ++ decimal number ++ codes "\n") result (K.told sink.new) }
-    ensures count { K.faults sink.old ≤ K.faults sink.new }
-    ensures cause { OnErr result (HasRisen (K.faults sink.old) (K.faults sink.new)) }
+    ensures { Prints (K.told sink.old) (K.faults sink.old) (words.now ++ decimal number ++ codes "\n") result
+        (K.told sink.new) (K.faults sink.new) }
 {
     let line = [
         Piece::Text(words),

@@ -1,8 +1,8 @@
 //! The lines of a grade.
 
-ghost use Rattle.std.specs.Prelude.{◌≡◌, ◌≤◌, [], OnErr, count_by, slice_index_or};
+ghost use Rattle.std.specs.Prelude.{◌≡◌, [], count_by, slice_index_or};
 ghost use Rattle.std.specs.List.{flat_map};
-ghost use Rattle.tester_types.specs.Outside.{HasRisen, Puts};
+ghost use Rattle.tester_types.specs.Outside.{Prints};
 ghost use Rattle.tester_types.specs.Printing.{piece_text};
 ghost use Rattle.grade_listing.specs.GradeText.{cycle_text, is_found, good_line, fault_line, total_line, grade_text};
 
@@ -13,9 +13,8 @@ use tester_types::{Piece, Sink, SinkFault, put_each};
 /// Puts the lines of a grade of dies with this netlist: `good CYCLE` or `good none`; for each fault `fault NET VALUE CYCLE`, with
 /// `none` where no cycle finds it; and `faults N found M`. It takes no memory.
 pub fn print_grade<K: Sink>(net: &Netlist, grade: &Grade, sink: &mut K) -> Result<(), SinkFault>
-    ensures puts { Puts (K.told sink.old) (grade_text net.now.net.names grade.now) result (K.told sink.new) }
-    ensures count { K.faults sink.old ≤ K.faults sink.new }
-    ensures cause { OnErr result (HasRisen (K.faults sink.old) (K.faults sink.new)) }
+    ensures { Prints (K.told sink.old) (K.faults sink.old) (grade_text net.now.net.names grade.now) result
+        (K.told sink.new) (K.faults sink.new) }
 {
     put_good(sink, grade.good)?;
     put_faults(sink, net, grade.faults.as_slice())?;
@@ -24,9 +23,7 @@ pub fn print_grade<K: Sink>(net: &Netlist, grade: &Grade, sink: &mut K) -> Resul
 
 /// Puts the first failing cycle of the good die.
 fn put_good<K: Sink>(sink: &mut K, cycle: Option<u64>) -> Result<(), SinkFault>
-    ensures puts { Puts (K.told sink.old) (good_line cycle) result (K.told sink.new) }
-    ensures count { K.faults sink.old ≤ K.faults sink.new }
-    ensures cause { OnErr result (HasRisen (K.faults sink.old) (K.faults sink.new)) }
+    ensures { Prints (K.told sink.old) (K.faults sink.old) (good_line cycle) result (K.told sink.new) (K.faults sink.new) }
 {
     let line = [
         Piece::Text(b"good "),
@@ -59,9 +56,8 @@ fn name_of(net: &Netlist, number: u32) -> &[u8]
 
 /// Puts a fault with its first failing cycle.
 fn put_fault<K: Sink>(sink: &mut K, net: &Netlist, graded: Graded) -> Result<(), SinkFault>
-    ensures puts { Puts (K.told sink.old) (fault_line net.now.net.names graded) result (K.told sink.new) }
-    ensures count { K.faults sink.old ≤ K.faults sink.new }
-    ensures cause { OnErr result (HasRisen (K.faults sink.old) (K.faults sink.new)) }
+    ensures { Prints (K.told sink.old) (K.faults sink.old) (fault_line net.now.net.names graded) result
+        (K.told sink.new) (K.faults sink.new) }
 {
     let value: &[u8] = if graded.value { b" 1 " } else { b" 0 " };
     let line = [
@@ -76,10 +72,8 @@ fn put_fault<K: Sink>(sink: &mut K, net: &Netlist, graded: Graded) -> Result<(),
 
 /// Puts faults one after another.
 fn put_faults<K: Sink>(sink: &mut K, net: &Netlist, faults: &[Graded]) -> Result<(), SinkFault>
-    ensures puts { Puts (K.told sink.old) (flat_map (fault_line net.now.net.names) faults.now) result
-        (K.told sink.new) }
-    ensures count { K.faults sink.old ≤ K.faults sink.new }
-    ensures cause { OnErr result (HasRisen (K.faults sink.old) (K.faults sink.new)) }
+    ensures { Prints (K.told sink.old) (K.faults sink.old) (flat_map (fault_line net.now.net.names) faults.now) result
+        (K.told sink.new) (K.faults sink.new) }
 {
     for graded in faults {
         put_fault(sink, net, *graded)?;
@@ -102,9 +96,8 @@ fn found_among(faults: &[Graded]) -> u64
 
 /// Puts how many faults there are, and how many are found.
 fn put_total<K: Sink>(sink: &mut K, faults: &[Graded]) -> Result<(), SinkFault>
-    ensures puts { Puts (K.told sink.old) (total_line faults.now) result (K.told sink.new) }
-    ensures count { K.faults sink.old ≤ K.faults sink.new }
-    ensures cause { OnErr result (HasRisen (K.faults sink.old) (K.faults sink.new)) }
+    ensures { Prints (K.told sink.old) (K.faults sink.old) (total_line faults.now) result
+        (K.told sink.new) (K.faults sink.new) }
 {
     let line = [
         Piece::Text(b"faults "),

@@ -2,7 +2,7 @@
 
 ghost use Rattle.std.specs.Prelude.{◌≡◌, ◌<◌, ◌≤◌, ◌∷◌, List, OnErr, length, sum_by};
 ghost use Rattle.std.specs.List.{flat_map};
-ghost use Rattle.tester_types.specs.Outside.{HasRisen, Puts};
+ghost use Rattle.tester_types.specs.Outside.{Prints, HasRisen, Puts};
 ghost use Rattle.part_lines.specs.Lines.{ended};
 ghost use Rattle.grade_parts.specs.Log.{GradeLog as Said};
 ghost use Rattle.grade_parts.specs.Merged.{merged_text};
@@ -27,9 +27,7 @@ pub fn put_merged_grade<K: Sink>(logs: &[GradeLog<'_>], sink: &mut K) -> Result<
 
 /// Puts the line of the good die.
 fn put_good<K: Sink>(sink: &mut K, good: &[u8]) -> Result<(), SinkFault>
-    ensures puts { Puts (K.told sink.old) (ended good.now) result (K.told sink.new) }
-    ensures count { K.faults sink.old ≤ K.faults sink.new }
-    ensures cause { OnErr result (HasRisen (K.faults sink.old) (K.faults sink.new)) }
+    ensures { Prints (K.told sink.old) (K.faults sink.old) (ended good.now) result (K.told sink.new) (K.faults sink.new) }
 {
     let line = [Piece::Text(good), Piece::Text(b"\n")];
     put_each(sink, &line)
@@ -37,9 +35,8 @@ fn put_good<K: Sink>(sink: &mut K, good: &[u8]) -> Result<(), SinkFault>
 
 /// Puts the lines of the faults of all parts.
 fn put_faults<K: Sink>(sink: &mut K, logs: &[GradeLog<'_>]) -> Result<(), SinkFault>
-    ensures puts { Puts (K.told sink.old) (flat_map fault_lines logs.now) result (K.told sink.new) }
-    ensures count { K.faults sink.old ≤ K.faults sink.new }
-    ensures cause { OnErr result (HasRisen (K.faults sink.old) (K.faults sink.new)) }
+    ensures { Prints (K.told sink.old) (K.faults sink.old) (flat_map fault_lines logs.now) result
+        (K.told sink.new) (K.faults sink.new) }
 {
     for log in logs {
         put_all(sink, log.faults())?;
@@ -71,9 +68,8 @@ fn found_all(logs: &[GradeLog<'_>]) -> u128
 
 /// Puts the line of so many faults.
 fn put_counts<K: Sink>(sink: &mut K, count: u128, found: u128) -> Result<(), SinkFault>
-    ensures puts { Puts (K.told sink.old) (counts_text count found) result (K.told sink.new) }
-    ensures count { K.faults sink.old ≤ K.faults sink.new }
-    ensures cause { OnErr result (HasRisen (K.faults sink.old) (K.faults sink.new)) }
+    ensures { Prints (K.told sink.old) (K.faults sink.old) (counts_text count found) result
+        (K.told sink.new) (K.faults sink.new) }
 {
     let line = [
         Piece::Text(b"faults "),

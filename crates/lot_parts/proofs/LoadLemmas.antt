@@ -3,7 +3,7 @@ use Rattle.std.proofs.Common.{◌≡◌, ℕ, ◌+◌, ◌<◌, ◌≤◌, List,
 use Rattle.std.specs.declared.alloc.Global.{Global}
 use Rattle.std.proofs.lemmas.List.{append-nil, drop_all, length-map, get_or-map}
 use Rattle.text_bytes.proofs.ListLemmas.{split_more}
-use Rattle.tester_types.specs.Outside.{Files, TellsFile, Loads, FailsBy}
+use Rattle.tester_types.specs.Outside.{Files, TellsFile, HandsOut, FailsBy}
 use Rattle.tester_types.specs.declared.outside.ShelfFault.{ShelfFault}
 use Rattle.tester_types.specs.declared.outside.ShelfFault.TheVariants as shelf
 use Rattle.tool_inputs.specs.Endings.{LoadFailed}
@@ -29,7 +29,7 @@ failed_so told before now name text shelf.TooLong is same cause = cc
 failed_so told before now name text shelf.NoMemory is same cause = cc
 
 pub too_long_so : (told : Option Files) (before now : ℕ) (name text : List ℕ) (room : ℕ) (e : ShelfFault) → e ≡ shelf.TooLong
-    → room ≡ most_part → text ≡ name → Loads told name room (Err e) → IsUnloaded told before now name (TooLong text)
+    → room ≡ most_part → text ≡ name → HandsOut told name room (Err e) → IsUnloaded told before now name (TooLong text)
 too_long_so told before now name text room shelf.Failed is most same long = cc
 too_long_so told before now name text room shelf.TooLong is most same long =
     too_long (ap (λ (t : List ℕ). TooLong t) same) (long_so told name room most long)

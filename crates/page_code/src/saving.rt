@@ -1,9 +1,9 @@
 //! Saving a code, part by part, in the order in which it is read.
 
-ghost use Rattle.std.specs.Prelude.{◌≡◌, ◌≤◌, ◌^◌, ◌-◌, ◌++◌, ◌∷◌, [], OnErr, length, min};
+ghost use Rattle.std.specs.Prelude.{◌≡◌, ◌^◌, ◌-◌, ◌++◌, [], length, min};
 ghost use Rattle.std.specs.List.{flat_map};
 ghost use Rattle.std.specs.Int.{w16, w32};
-ghost use Rattle.tester_types.specs.Outside.{HasRisen, Puts};
+ghost use Rattle.tester_types.specs.Outside.{Prints};
 ghost use Rattle.packed_code.specs.Packed.{number};
 ghost use Rattle.page_code.specs.Spelling as spell;
 ghost use Rattle.page_code.specs.Spelling.{behind};
@@ -75,9 +75,8 @@ fn earlier_parts(
 
 /// Puts the saved program of a version.
 fn put_program<K: Sink>(version: Version, code: &Code, sink: &mut K) -> Result<(), SinkFault>
-    ensures puts { Puts (K.told sink.old) (spell.program version code.now) result (K.told sink.new) }
-    ensures count { K.faults sink.old ≤ K.faults sink.new }
-    ensures cause { OnErr result (HasRisen (K.faults sink.old) (K.faults sink.new)) }
+    ensures { Prints (K.told sink.old) (K.faults sink.old) (spell.program version code.now) result
+        (K.told sink.new) (K.faults sink.new) }
 {
     let bytes = head_bytes(version);
     let head = Bytes { bytes: &bytes };
@@ -90,18 +89,16 @@ fn put_program<K: Sink>(version: Version, code: &Code, sink: &mut K) -> Result<(
 
 /// Writes the saved program of a code, version 2. It takes no memory.
 pub fn save<K: Sink>(code: &Code, sink: &mut K) -> Result<(), SinkFault>
-    ensures puts { Puts (K.told sink.old) (spell.program Two code.now) result (K.told sink.new) }
-    ensures count { K.faults sink.old ≤ K.faults sink.new }
-    ensures cause { OnErr result (HasRisen (K.faults sink.old) (K.faults sink.new)) }
+    ensures { Prints (K.told sink.old) (K.faults sink.old) (spell.program Two code.now) result
+        (K.told sink.new) (K.faults sink.new) }
 {
     put_program(Version::Two, code, sink)
 }
 
 /// Only tests call it: writes the saved program of a code, version 1. It takes no memory.
 pub fn save_old<K: Sink>(code: &Code, sink: &mut K) -> Result<(), SinkFault>
-    ensures puts { Puts (K.told sink.old) (spell.program One code.now) result (K.told sink.new) }
-    ensures count { K.faults sink.old ≤ K.faults sink.new }
-    ensures cause { OnErr result (HasRisen (K.faults sink.old) (K.faults sink.new)) }
+    ensures { Prints (K.told sink.old) (K.faults sink.old) (spell.program One code.now) result
+        (K.told sink.new) (K.faults sink.new) }
 {
     put_program(Version::One, code, sink)
 }

@@ -1,11 +1,10 @@
 //! What is spelled as bytes: it is put to a sink, and its bytes are counted, in one order.
 
-ghost use Rattle.std.specs.Prelude.{◌≡◌, ℕ, ◌∷◌, [], ◌++◌, ◌≤◌, ◌^◌, ◌-◌, List, OnErr, length, min};
+ghost use Rattle.std.specs.Prelude.{◌≡◌, ℕ, ◌∷◌, [], ◌++◌, ◌^◌, ◌-◌, List, length, min};
 ghost use Rattle.std.specs.List.{flat_map};
 ghost use Rattle.std.specs.Int.{w8, w16, w32, w64};
-ghost use Rattle.tester_types.specs.Outside.{HasRisen, Puts};
+ghost use Rattle.tester_types.specs.Outside.{Prints};
 ghost use Rattle.packed_code.specs.Packed.{number};
-ghost use Rattle.page_code.specs.Spelling.{text};
 
 use tester_types::{Sink, SinkFault, put_all};
 
@@ -15,9 +14,8 @@ pub(crate) trait Spelled {
 
     /// Puts its bytes.
     fn put<K: Sink>(&self, sink: &mut K) -> Result<(), SinkFault>
-        ensures puts { Puts (K.told sink.old) (spelling self.now) result (K.told sink.new) }
-        ensures count { K.faults sink.old ≤ K.faults sink.new }
-        ensures cause { OnErr result (HasRisen (K.faults sink.old) (K.faults sink.new)) };
+        ensures { Prints (K.told sink.old) (K.faults sink.old) (spelling self.now) result
+            (K.told sink.new) (K.faults sink.new) };
 
     /// How many bytes it has, as far as 64 bits count.
     fn size(&self) -> u64
@@ -82,9 +80,8 @@ impl<T: Spelled> Spelled for Each<'_, T> {
 }
 
 fn put_each<K: Sink, T: Spelled>(sink: &mut K, items: &[T]) -> Result<(), SinkFault>
-    ensures puts { Puts (K.told sink.old) (flat_map T.spelling items.now) result (K.told sink.new) }
-    ensures count { K.faults sink.old ≤ K.faults sink.new }
-    ensures cause { OnErr result (HasRisen (K.faults sink.old) (K.faults sink.new)) }
+    ensures { Prints (K.told sink.old) (K.faults sink.old) (flat_map T.spelling items.now) result
+        (K.told sink.new) (K.faults sink.new) }
 {
     for item in items {
         item.put(sink)?;

@@ -1,9 +1,9 @@
 //! Saving rows: whole, or as what each changes of the row before it.
 
-ghost use Rattle.std.specs.Prelude.{◌≡◌, ◌≤◌, ◌<◌, ◌^◌, ◌-◌, ◌++◌, ◌∷◌, [], true, false, OnErr, MatchOption, length, min, take, slice_index_or};
+ghost use Rattle.std.specs.Prelude.{◌≡◌, ◌<◌, ◌^◌, ◌-◌, ◌++◌, ◌∷◌, [], true, false, MatchOption, length, min, take, slice_index_or};
 ghost use Rattle.std.specs.List.{flat_map};
 ghost use Rattle.std.specs.Int.{w16};
-ghost use Rattle.tester_types.specs.Outside.{HasRisen, Puts};
+ghost use Rattle.tester_types.specs.Outside.{Prints};
 ghost use Rattle.page_code.specs.Changes.{last_row, changes, is_difference};
 ghost use Rattle.packed_code.specs.Packed.{number};
 ghost use Rattle.page_code.specs.Spelling as spell;
@@ -37,10 +37,8 @@ impl Spelled for Changes<'_> {
 /// Puts the change in a signal, its number in 16 bits and its new character, where that differs from the old one.
 #[tactic(auto, unfolding(packed_code::specs::Packed::number))]
 fn put_change<K: Sink>(sink: &mut K, signal: usize, old: u8, new: u8) -> Result<(), SinkFault>
-    ensures puts { Puts (K.told sink.old)
-        (flat_map spell.change (changes signal (old ∷ []) (new ∷ []))) result (K.told sink.new) }
-    ensures count { K.faults sink.old ≤ K.faults sink.new }
-    ensures cause { OnErr result (HasRisen (K.faults sink.old) (K.faults sink.new)) }
+    ensures { Prints (K.told sink.old) (K.faults sink.old) (flat_map spell.change (changes signal (old ∷ []) (new ∷ []))) result
+        (K.told sink.new) (K.faults sink.new) }
 {
     if new == old {
         return Ok(());
@@ -51,10 +49,8 @@ fn put_change<K: Sink>(sink: &mut K, signal: usize, old: u8, new: u8) -> Result<
 
 /// Puts what a row changes of the last one.
 fn put_changes<K: Sink>(sink: &mut K, last: &[u8], row: &[u8]) -> Result<(), SinkFault>
-    ensures puts { Puts (K.told sink.old)
-        (flat_map spell.change (changes 0 last.now row.now)) result (K.told sink.new) }
-    ensures count { K.faults sink.old ≤ K.faults sink.new }
-    ensures cause { OnErr result (HasRisen (K.faults sink.old) (K.faults sink.new)) }
+    ensures { Prints (K.told sink.old) (K.faults sink.old) (flat_map spell.change (changes 0 last.now row.now)) result
+        (K.told sink.new) (K.faults sink.new) }
 {
     for signal in 0..last.len().min(row.len()) {
         put_change(sink, signal, last[signal], row[signal])?;
@@ -121,10 +117,8 @@ fn put_row<K: Sink>(
     number: usize,
 ) -> Result<(), SinkFault>
     requires { number < length rows.now }
-    ensures puts { Puts (K.told sink.old)
-        (spell.row version (take number rows.now) (slice_index_or rows.now number [])) result (K.told sink.new) }
-    ensures count { K.faults sink.old ≤ K.faults sink.new }
-    ensures cause { OnErr result (HasRisen (K.faults sink.old) (K.faults sink.new)) }
+    ensures { Prints (K.told sink.old) (K.faults sink.old) (spell.row version (take number rows.now) (slice_index_or rows.now number [])) result
+        (K.told sink.new) (K.faults sink.new) }
 {
     let row = rows.row(number);
     match version {
@@ -153,9 +147,8 @@ fn size_of_row(version: Version, rows: &RowList, number: usize) -> u64
 }
 
 fn put_rows<K: Sink>(sink: &mut K, version: Version, rows: &RowList) -> Result<(), SinkFault>
-    ensures puts { Puts (K.told sink.old) (behind (spell.row version) [] rows.now) result (K.told sink.new) }
-    ensures count { K.faults sink.old ≤ K.faults sink.new }
-    ensures cause { OnErr result (HasRisen (K.faults sink.old) (K.faults sink.new)) }
+    ensures { Prints (K.told sink.old) (K.faults sink.old) (behind (spell.row version) [] rows.now) result
+        (K.told sink.new) (K.faults sink.new) }
 {
     for number in 0..rows.len() {
         put_row(sink, version, rows, number)?;

@@ -1,8 +1,8 @@
 //! `drill`: a lot of which the program makes all texts itself.
 
-ghost use Rattle.std.specs.Prelude.{◌≡◌, ◌≤◌, ◌∷◌, [], IfOk, OnErr, length, map, MatchResult};
+ghost use Rattle.std.specs.Prelude.{◌≡◌, ◌≤◌, ◌∷◌, [], IfOk, length, map, MatchResult};
 ghost use Rattle.std.specs.Arc.{arc_value};
-ghost use Rattle.tester_types.specs.Outside.{HasRisen, Puts};
+ghost use Rattle.tester_types.specs.Outside.{Prints};
 ghost use Rattle.tester_types.specs.Records.{records_of};
 ghost use Rattle.bench_net.specs.Circuit.{IsWhole};
 ghost use Rattle.bench_net.specs.Net.{IsNet};
@@ -107,9 +107,8 @@ fn prepare(alloc: Global, number: u8) -> Result<ReadyLot, Refusal>
 
 /// Puts how many vectors there are and how many looks failed.
 fn put_counts<K: Sink>(number: u8, book: &BookState, out: &mut K) -> Result<(), SinkFault>
-    ensures puts { Puts (K.told out.old) (drill_line number (records_of book.now)) result (K.told out.new) }
-    ensures count { K.faults out.old ≤ K.faults out.new }
-    ensures cause { OnErr result (HasRisen (K.faults out.old) (K.faults out.new)) }
+    ensures { Prints (K.told out.old) (K.faults out.old) (drill_line number (records_of book.now)) result
+        (K.told out.new) (K.faults out.new) }
 {
     let line = [
         Piece::Text(b"drill "),
@@ -131,9 +130,8 @@ fn put_summary<K: Sink>(
     out: &mut K,
 ) -> Result<(), SinkFault>
     requires { AreSound plan.now book.now }
-    ensures puts { Puts (K.told out.old) (drill_text number plan.now (records_of book.now)) result (K.told out.new) }
-    ensures count { K.faults out.old ≤ K.faults out.new }
-    ensures cause { OnErr result (HasRisen (K.faults out.old) (K.faults out.new)) }
+    ensures { Prints (K.told out.old) (K.faults out.old) (drill_text number plan.now (records_of book.now)) result
+        (K.told out.new) (K.faults out.new) }
 {
     put_counts(number, book, out)?;
     print_totals(plan, book, out)

@@ -1,5 +1,5 @@
 -- What is told of files and of written bytes, and how counts of faults rise.
-use Rattle.std.specs.Prelude.{◌≡◌, ℕ, ◌-◌, ◌^◌, ◌<◌, List, [], ◌∷◌, ◌++◌, length, take, Option, Some, None, Result, Ok, Err, nat_eq, if◌then◌else◌, ◌⊎◌, Vec}
+use Rattle.std.specs.Prelude.{◌≡◌, ℕ, ◌-◌, ◌^◌, ◌<◌, ◌≤◌, List, [], ◌∷◌, ◌++◌, length, take, Option, Some, None, Result, Ok, Err, OnErr, nat_eq, if◌then◌else◌, ◌⊎◌, Vec}
 use Rattle.std.specs.Cmp.Lexicographic.{pointwise}
 use Rattle.std.specs.declared.alloc.Global.{Global}
 use Rattle.tester_types.specs.declared.outside.ShelfFault.{ShelfFault}
@@ -24,6 +24,14 @@ abbrev pub Puts : Option (List ℕ) → List ℕ → Result (Unit {0}) SinkFault
 Puts held text (Ok done) now = now ≡ gained held text
 Puts held text (Err fault) now = GainsFront held text now
 
+-- what is left of a sink that a text was put to: it took the whole text, or at a fault a front of it, its count of faults
+-- doesn't fall, and it rises at a fault
+pub record Prints (held : Option (List ℕ)) (before : ℕ) (text : List ℕ) (result : Result (Unit {0}) SinkFault)
+    (now : Option (List ℕ)) (after : ℕ) : Type 0 where
+  pub puts : Puts held text result now
+  pub count : before ≤ after
+  pub cause : OnErr result (HasRisen before after)
+
 -- named texts: the name, and the bytes
 abbrev pub Files : Type 0
 Files = List (List ℕ × List ℕ)
@@ -45,12 +53,17 @@ LacksFile (Some files) name = file_of files name ≡ None
 
 -- what a load of a name with this room may answer: the named bytes where there is room for them, that
 -- they are too long where there isn't, and a failure or want of memory
-abbrev pub Loads : Option Files → List ℕ → ℕ → Result (Vec ℕ Global) ShelfFault → Type 0
-Loads told name room (Ok bytes) = TellsFile told name (λ file. file ≡ Some bytes.items)
-Loads told name room (Err Failed) = Unit {0}
-Loads told name room (Err TooLong) =
+abbrev pub HandsOut : Option Files → List ℕ → ℕ → Result (Vec ℕ Global) ShelfFault → Type 0
+HandsOut told name room (Ok bytes) = TellsFile told name (λ file. file ≡ Some bytes.items)
+HandsOut told name room (Err Failed) = Unit {0}
+HandsOut told name room (Err TooLong) =
     TellsFile told name (λ file. (bytes : List ℕ) × (file ≡ Some bytes) × (room < length bytes))
-Loads told name room (Err NoMemory) = Unit {0}
+HandsOut told name room (Err NoMemory) = Unit {0}
+
+-- what is left of a shelf of which files were loaded: it tells the same files, and its count of faults doesn't fall
+pub record Loads (told : Option Files) (before : ℕ) (now : Option Files) (after : ℕ) : Type 0 where
+  pub kept : now ≡ told
+  pub counts : before ≤ after
 
 -- why a load failed: the count of faults rose, or the told files lack the name
 abbrev pub FailsBy : Option Files → List ℕ → ℕ → ℕ → Result (Vec ℕ Global) ShelfFault → Type 0

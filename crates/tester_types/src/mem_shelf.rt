@@ -2,7 +2,7 @@
 
 ghost use Rattle.std.specs.Prelude.{◌≡◌, ◌≤◌, length, IfOk, None, Some, MatchOption};
 ghost use Rattle.tester_types.specs.Memory.{ShelfState, LoadAnswers, after_load, load_fails, files_seen};
-ghost use Rattle.tester_types.specs.Outside.{Loads, FailsBy, file_of};
+ghost use Rattle.tester_types.specs.Outside.{HandsOut, FailsBy, file_of};
 
 use crate::outside::{Shelf, ShelfFault};
 use std::alloc::Global;
@@ -77,7 +77,7 @@ impl Shelf for MemShelf {
         ensures does { self.new ≡ after_load self.old }
         ensures answers { LoadAnswers self.old name.now room result }
         ensures within { IfOk result (λ bytes. length bytes.items ≤ room) }
-        ensures loads { Loads (Some self.old.files) name.now room result }
+        ensures loads { HandsOut (Some self.old.files) name.now room result }
         ensures kept { Some self.new.files ≡ Some self.old.files }
         ensures count { self.old.faults ≤ self.new.faults }
         ensures cause { FailsBy (Some self.old.files) name.now self.old.faults self.new.faults result }

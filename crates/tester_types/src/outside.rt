@@ -1,7 +1,7 @@
 //! The outside as traits: shelves that hold files, and sinks that take bytes.
 
 ghost use Rattle.std.specs.Prelude.{◌≡◌, ℕ, ◌<◌, ◌≤◌, List, Option, length, take, IfOk, OnErr};
-ghost use Rattle.tester_types.specs.Outside.{HasRisen, gained, Files, Loads, FailsBy};
+ghost use Rattle.tester_types.specs.Outside.{HasRisen, gained, Files, HandsOut, FailsBy};
 ghost use Rattle.tester_types.specs.declared.outside.ShelfFault.TheVariants as ShelfFault;
 
 use std::alloc::{AllocError, AllocFailed, Global};
@@ -49,7 +49,7 @@ pub trait Shelf {
     /// The bytes of the file of this name, at most `room` of them.
     fn load(&mut self, alloc: Global, name: &str, room: usize) -> Result<Vec<u8>, ShelfFault>
         ensures within { IfOk result (λ bytes. length bytes.items ≤ room) }
-        ensures loads { Loads (told self.old) name.now room result }
+        ensures loads { HandsOut (told self.old) name.now room result }
         ensures kept { told self.new ≡ told self.old }
         ensures count { faults self.old ≤ faults self.new }
         ensures cause { FailsBy (told self.old) name.now (faults self.old) (faults self.new) result };

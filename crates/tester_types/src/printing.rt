@@ -1,18 +1,16 @@
 //! Writing to a sink: whole texts, and lines by their pieces, without memory.
 
-ghost use Rattle.std.specs.Prelude.{◌≡◌, ℕ, ◌≤◌, List, OnErr};
+ghost use Rattle.std.specs.Prelude.{◌≡◌, ℕ, List};
 ghost use Rattle.std.specs.List.{flat_map, list_all};
-ghost use Rattle.tester_types.specs.Outside.{HasRisen, Puts};
-ghost use Rattle.tester_types.specs.Printing.{piece_text, is_bare, quoted, printed_name, printed_title};
+ghost use Rattle.tester_types.specs.Outside.{Prints};
+ghost use Rattle.tester_types.specs.Printing.{piece_text, is_bare, quoted, printed_name};
 
 use crate::outside::{Sink, SinkFault};
 use itoa::Buffer;
 
 /// Puts the whole text, in as many puts as it takes. A put that fails or that takes nothing ends it.
 pub fn put_all<K: Sink>(sink: &mut K, piece: &[u8]) -> Result<(), SinkFault>
-    ensures puts { Puts (K.told sink.old) piece.now result (K.told sink.new) }
-    ensures count { K.faults sink.old ≤ K.faults sink.new }
-    ensures cause { OnErr result (HasRisen (K.faults sink.old) (K.faults sink.new)) }
+    ensures { Prints (K.told sink.old) (K.faults sink.old) piece.now result (K.told sink.new) (K.faults sink.new) }
 {
     let mut at = 0;
     while at < piece.len() {
@@ -31,16 +29,12 @@ pub trait Printed {
 
     /// Puts its text.
     fn put_to<K: Sink>(&self, sink: &mut K) -> Result<(), SinkFault>
-        ensures puts { Puts (K.told sink.old) (text self.now) result (K.told sink.new) }
-        ensures count { K.faults sink.old ≤ K.faults sink.new }
-        ensures cause { OnErr result (HasRisen (K.faults sink.old) (K.faults sink.new)) };
+        ensures { Prints (K.told sink.old) (K.faults sink.old) (text self.now) result (K.told sink.new) (K.faults sink.new) };
 }
 
 /// Puts the texts of the items, one after another.
 pub fn put_each<K: Sink, P: Printed>(sink: &mut K, items: &[P]) -> Result<(), SinkFault>
-    ensures puts { Puts (K.told sink.old) (flat_map P.text items.now) result (K.told sink.new) }
-    ensures count { K.faults sink.old ≤ K.faults sink.new }
-    ensures cause { OnErr result (HasRisen (K.faults sink.old) (K.faults sink.new)) }
+    ensures { Prints (K.told sink.old) (K.faults sink.old) (flat_map P.text items.now) result (K.told sink.new) (K.faults sink.new) }
 {
     for item in items {
         item.put_to(sink)?;
@@ -91,9 +85,7 @@ fn is_bare_name(name: &[u8]) -> bool
 }
 
 fn put_name<K: Sink>(sink: &mut K, name: &[u8]) -> Result<(), SinkFault>
-    ensures puts { Puts (K.told sink.old) (printed_name name.now) result (K.told sink.new) }
-    ensures count { K.faults sink.old ≤ K.faults sink.new }
-    ensures cause { OnErr result (HasRisen (K.faults sink.old) (K.faults sink.new)) }
+    ensures { Prints (K.told sink.old) (K.faults sink.old) (printed_name name.now) result (K.told sink.new) (K.faults sink.new) }
 {
     if !name.is_empty() && is_bare_name(name) {
         put_all(sink, name)
@@ -103,9 +95,7 @@ fn put_name<K: Sink>(sink: &mut K, name: &[u8]) -> Result<(), SinkFault>
 }
 
 fn put_quoted<K: Sink>(sink: &mut K, name: &[u8]) -> Result<(), SinkFault>
-    ensures puts { Puts (K.told sink.old) (quoted name.now) result (K.told sink.new) }
-    ensures count { K.faults sink.old ≤ K.faults sink.new }
-    ensures cause { OnErr result (HasRisen (K.faults sink.old) (K.faults sink.new)) }
+    ensures { Prints (K.told sink.old) (K.faults sink.old) (quoted name.now) result (K.told sink.new) (K.faults sink.new) }
 {
     let quote: &[u8] = b"\"";
     put_each(sink, &[quote, name, quote])

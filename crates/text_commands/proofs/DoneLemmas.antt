@@ -1,5 +1,7 @@
 -- A command whose file is there and whose text is accepted is done, where no count rises: `completes`.
-use Rattle.std.proofs.Common.{◌≡◌, ℕ, ◌≤◌, List, [], ◌∷◌, length, Option, Some, None, refl, ap, subst, arith, inl, inr}
+use Rattle.std.proofs.Common.{◌≡◌, ℕ, ◌≤◌, List, [], ◌∷◌, length, Option, Some, None, refl, sym, ap, ◌∙◌, subst, arith, inl, inr}
+use Rattle.std.specs.List.{find}
+use Rattle.std.specs.Str.{bytes_eq}
 use Rattle.stil_program.proofs.AnswerLemmas.{no_fault}
 use Rattle.tester_types.specs.Outside.{HasRisen, Files}
 use Rattle.stil_ast.specs.declared.blocks.Blocks.{Blocks}
@@ -18,38 +20,19 @@ use Rattle.text_commands.specs.Commands.{command_word, IsListed, IsListing, HasT
 use Rattle.text_commands.specs.Commands.FileWants.{of_bytes, unread, too_long, no_memory}
 use Rattle.tool_inputs.proofs.FileLemmas.{same_bytes, not_lacking, not_too_long}
 
--- the second byte tells the commands apart
-abbrev second : List ℕ → ℕ
-second [] = 0
-second (a ∷ []) = 0
-second (a ∷ b ∷ bytes) = b
+-- the command of a word, and that each command's word is its own
+abbrev command_of : List ℕ → Option Command
+command_of word = find (λ (c : Command). bytes_eq (command_word c) word) (Check ∷ Cycles ∷ Events ∷ Save ∷ Flat ∷ [])
+
+of_its_word : (c : Command) → command_of (command_word c) ≡ Some c
+of_its_word Check = refl
+of_its_word Cycles = refl
+of_its_word Events = refl
+of_its_word Save = refl
+of_its_word Flat = refl
 
 pub one_command : (c d : Command) → command_word c ≡ command_word d → c ≡ d
-one_command Check Check is = refl
-one_command Check Cycles is = let wrong : 104 ≡ 121 = ap second is in absurd (omega (arith, wrong))
-one_command Check Events is = let wrong : 104 ≡ 118 = ap second is in absurd (omega (arith, wrong))
-one_command Check Save is = let wrong : 104 ≡ 97 = ap second is in absurd (omega (arith, wrong))
-one_command Check Flat is = let wrong : 104 ≡ 108 = ap second is in absurd (omega (arith, wrong))
-one_command Cycles Check is = let wrong : 121 ≡ 104 = ap second is in absurd (omega (arith, wrong))
-one_command Cycles Cycles is = refl
-one_command Cycles Events is = let wrong : 121 ≡ 118 = ap second is in absurd (omega (arith, wrong))
-one_command Cycles Save is = let wrong : 121 ≡ 97 = ap second is in absurd (omega (arith, wrong))
-one_command Cycles Flat is = let wrong : 121 ≡ 108 = ap second is in absurd (omega (arith, wrong))
-one_command Events Check is = let wrong : 118 ≡ 104 = ap second is in absurd (omega (arith, wrong))
-one_command Events Cycles is = let wrong : 118 ≡ 121 = ap second is in absurd (omega (arith, wrong))
-one_command Events Events is = refl
-one_command Events Save is = let wrong : 118 ≡ 97 = ap second is in absurd (omega (arith, wrong))
-one_command Events Flat is = let wrong : 118 ≡ 108 = ap second is in absurd (omega (arith, wrong))
-one_command Save Check is = let wrong : 97 ≡ 104 = ap second is in absurd (omega (arith, wrong))
-one_command Save Cycles is = let wrong : 97 ≡ 121 = ap second is in absurd (omega (arith, wrong))
-one_command Save Events is = let wrong : 97 ≡ 118 = ap second is in absurd (omega (arith, wrong))
-one_command Save Save is = refl
-one_command Save Flat is = let wrong : 97 ≡ 108 = ap second is in absurd (omega (arith, wrong))
-one_command Flat Check is = let wrong : 108 ≡ 104 = ap second is in absurd (omega (arith, wrong))
-one_command Flat Cycles is = let wrong : 108 ≡ 121 = ap second is in absurd (omega (arith, wrong))
-one_command Flat Events is = let wrong : 108 ≡ 118 = ap second is in absurd (omega (arith, wrong))
-one_command Flat Save is = let wrong : 108 ≡ 97 = ap second is in absurd (omega (arith, wrong))
-one_command Flat Flat is = refl
+one_command c d is = let both : Some c ≡ Some d = sym (of_its_word c) ∙ ap command_of is ∙ of_its_word d in cc
 
 -- ---- a text that is accepted isn't refused
 

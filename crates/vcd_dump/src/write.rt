@@ -1,12 +1,11 @@
 //! The dump of a tape of a site's first die, written without memory.
 
-ghost use Rattle.std.specs.Prelude.{◌≡◌, ◌<◌, ◌≤◌, All, OnErr, length};
+ghost use Rattle.std.specs.Prelude.{◌≡◌, ◌<◌, All, length};
 ghost use Rattle.text_bytes.specs.Limits.{most_signals};
 ghost use Rattle.std.specs.List.{flat_map, range_with_len};
-ghost use Rattle.tester_types.specs.Outside.{HasRisen, Puts};
+ghost use Rattle.tester_types.specs.Outside.{Prints};
 ghost use Rattle.die_sim.specs.Die.{device_of};
 ghost use Rattle.plan_rows.specs.Rows.{sites_of, dies_at};
-ghost use Rattle.lot_plan.specs.Bound.{image_of};
 ghost use Rattle.vcd_text.specs.Dump.{dump_of};
 ghost use Rattle.vcd_text.specs.Sound.{IsSound};
 ghost use Rattle.vcd_dump.specs.Taken.{vars_of};
@@ -26,9 +25,8 @@ fn put_signal<K: Sink>(
     signal: u16,
 ) -> Result<(), SinkFault>
     requires { signal < length code.now.signals }
-    ensures puts { Puts (K.told sink.old) (var_text (device_of image.now) code.now signal) result (K.told sink.new) }
-    ensures count { K.faults sink.old ≤ K.faults sink.new }
-    ensures cause { OnErr result (HasRisen (K.faults sink.old) (K.faults sink.new)) }
+    ensures { Prints (K.told sink.old) (K.faults sink.old) (var_text (device_of image.now) code.now signal) result
+        (K.told sink.new) (K.faults sink.new) }
 {
     let _conditions = code.signals();
     if !image.bind.is_clock(signal) && !image.bind.is_input(signal) {
@@ -44,10 +42,8 @@ fn put_signal<K: Sink>(
 
 /// Puts the lines of the signals by which the die is driven.
 fn put_signals<K: Sink>(sink: &mut K, code: &Code, image: &DieImage) -> Result<(), SinkFault>
-    ensures puts { Puts (K.told sink.old) (flat_map (var_text (device_of image.now) code.now)
-        (range_with_len 0 (length code.now.signals))) result (K.told sink.new) }
-    ensures count { K.faults sink.old ≤ K.faults sink.new }
-    ensures cause { OnErr result (HasRisen (K.faults sink.old) (K.faults sink.new)) }
+    ensures { Prints (K.told sink.old) (K.faults sink.old) (flat_map (var_text (device_of image.now) code.now) (range_with_len 0 (length code.now.signals))) result
+        (K.told sink.new) (K.faults sink.new) }
 {
     for signal in 0..code.signals() {
         put_signal(sink, code, image, signal)?;
@@ -57,9 +53,8 @@ fn put_signals<K: Sink>(sink: &mut K, code: &Code, image: &DieImage) -> Result<(
 
 /// Puts the lines up to the last var.
 fn put_front<K: Sink>(sink: &mut K, code: &Code, image: &DieImage) -> Result<(), SinkFault>
-    ensures puts { Puts (K.told sink.old) (front_text (device_of image.now) code.now) result (K.told sink.new) }
-    ensures count { K.faults sink.old ≤ K.faults sink.new }
-    ensures cause { OnErr result (HasRisen (K.faults sink.old) (K.faults sink.new)) }
+    ensures { Prints (K.told sink.old) (K.faults sink.old) (front_text (device_of image.now) code.now) result
+        (K.told sink.new) (K.faults sink.new) }
 {
     put_start(sink)?;
     put_signals(sink, code, image)
@@ -68,9 +63,8 @@ fn put_front<K: Sink>(sink: &mut K, code: &Code, image: &DieImage) -> Result<(),
 /// Puts the lines behind the last var.
 fn put_back<K: Sink>(sink: &mut K, tape: &Tape) -> Result<(), SinkFault>
     requires { All (λ call. All (λ given. given.0 < most_signals) call.1) tape.now.calls }
-    ensures puts { Puts (K.told sink.old) (back_text tape.now.calls) result (K.told sink.new) }
-    ensures count { K.faults sink.old ≤ K.faults sink.new }
-    ensures cause { OnErr result (HasRisen (K.faults sink.old) (K.faults sink.new)) }
+    ensures { Prints (K.told sink.old) (K.faults sink.old) (back_text tape.now.calls) result
+        (K.told sink.new) (K.faults sink.new) }
 {
     put_definitions(sink)?;
     put_calls(sink, tape)
@@ -88,9 +82,8 @@ pub fn write_dump<K: Sink>(
     requires die { 0 < length (dies_at site plan.now.rows) }
     requires one_program { plan.now.program ≡ code.now }
     requires sound { IsSound (vars_of plan.now site) tape.now.calls }
-    ensures puts { Puts (K.told sink.old) (dump_of (vars_of plan.now site) tape.now.calls) result (K.told sink.new) }
-    ensures count { K.faults sink.old ≤ K.faults sink.new }
-    ensures cause { OnErr result (HasRisen (K.faults sink.old) (K.faults sink.new)) }
+    ensures { Prints (K.told sink.old) (K.faults sink.old) (dump_of (vars_of plan.now site) tape.now.calls) result
+        (K.told sink.new) (K.faults sink.new) }
 {
     let _bound = plan.sites();
     let _conditions = code.signals();

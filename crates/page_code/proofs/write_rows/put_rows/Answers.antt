@@ -1,4 +1,4 @@
-use Rattle.std.proofs.Common.{[], ap, sym, ◌∙◌, arith, take, get_or}
+use Rattle.std.proofs.Common.{[], ap, sym, ◌∙◌, arith, take, get_or, rules}
 use Rattle.std.proofs.lemmas.Result.{err_from_is_err_and}
 use Rattle.tester_types.specs.Outside.{gained}
 use Rattle.tester_types.proofs.OutsideLemmas.{gained_both}
@@ -6,12 +6,16 @@ use Rattle.page_code.specs.Spelling.{behind, row}
 use Rattle.page_code.proofs.SavingLemmas.{behind_more, behind_stops}
 use Rattle.page_code.proofs.write_rows.put_rows.Goals as goal
 
-pub returns-in_err-put_row-clause-puts : goal.returns-in_err-put_row-clause-puts
-returns-in_err-put_row-clause-puts g c =
+pub returns-in_err-put_row : goal.returns-in_err-put_row
+returns-in_err-put_row g c =
     let p = err_from_is_err_and c.from_residual.result c.from_residual.ensures.1 in
-    rw p.1
-    (behind_stops (row c.args.version) _ _ _ c.args.rows.now c.loop-number.number [] (omega arith)
-    c.loop-number.invariant.held c.in_err-put_row.ensures.puts)
+    record {
+      puts = rw p.1
+          (behind_stops (row c.args.version) _ _ _ c.args.rows.now c.loop-number.number [] (omega arith)
+          c.loop-number.invariant.held c.in_err-put_row.ensures.puts);
+      count = omega arith;
+      cause = search rules;
+    }
 
 pub loop-number-preserved : goal.loop-number-preserved
 loop-number-preserved g c =

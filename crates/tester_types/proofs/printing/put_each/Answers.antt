@@ -1,10 +1,15 @@
+use Rattle.std.proofs.Common.{arith, rules}
 use Rattle.std.proofs.lemmas.Result.{err_from_is_err_and}
 use Rattle.tester_types.proofs.OutsideLemmas.{each_stops}
 use Rattle.tester_types.proofs.printing.put_each.Goals as goal
 
-pub returns-in_err-put_to-clause-puts : goal.returns-in_err-put_to-clause-puts
-returns-in_err-put_to-clause-puts g c =
+pub returns-in_err-put_to : goal.returns-in_err-put_to
+returns-in_err-put_to g c =
     let p = err_from_is_err_and c.from_residual.result c.from_residual.ensures.1 in
-    rw p.1
-    (each_stops g.P.Printed.text _ _ _ c.args.items.now c.loop-item.item-index c.item-item.result
-    c.loop-item-test.true c.item-item.is c.loop-item.invariant.held c.in_err-put_to.ensures.puts)
+    record {
+      puts = rw p.1
+          (each_stops g.P.Printed.text _ _ _ c.args.items.now c.loop-item.item-index c.item-item.result
+          c.loop-item-test.true c.item-item.is c.loop-item.invariant.held c.in_err-put_to.ensures.puts);
+      count = omega arith;
+      cause = search rules;
+    }
