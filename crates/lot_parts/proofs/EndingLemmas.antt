@@ -1,6 +1,8 @@
 -- What a status answers is answered by the outcome that ends with it.
-use Rattle.std.proofs.Common.{◌≡◌, ℕ, List, Option, sym, ap, subst, inl, inr}
+use Rattle.std.proofs.Common.{◌≡◌, ◌⊎◌, ℕ, List, Option, sym, ap, subst, inl, inr}
+use Rattle.tester_types.specs.Outside.{HasRisen, gained, GainsFront}
 use Rattle.tool_inputs.specs.declared.status.Status.{Status}
+use Rattle.tool_inputs.specs.declared.status.Status.TheVariants.{WriteFault}
 use Rattle.tool_inputs.specs.Endings.{Ends, Answers}
 use Rattle.lot_parts.specs.declared.outcome.Outcome.{Outcome}
 use Rattle.lot_parts.specs.declared.outcome.Outcome.TheVariants.{Ended, RefusedPart}
@@ -15,8 +17,13 @@ use Rattle.lot_parts.specs.Endings.{EndsAs, AnswersAs}
 -- a run that ends with a status
 pub ends_as : (held held' : Option (List ℕ)) (faults faults' : ℕ) (status result : Status) (text : List ℕ)
     → Ends held faults status text result held' faults' → EndsAs held faults (Ended status) text (Ended result) held' faults'
-ends_as held held' faults faults' status result text (inl whole) = inl (ap (λ (s : Status). Ended s) whole.0, whole.1)
-ends_as held held' faults faults' status result text (inr front) = inr (ap (λ (s : Status). Ended s) front.0, front.1, front.2)
+ends_as held held' faults faults' status result text e = record { ends = by e.ends; count = e.count }
+  where
+    by : ((result ≡ status) × (held' ≡ gained held text)) ⊎ ((result ≡ WriteFault) × GainsFront held text held' × HasRisen faults faults')
+        → ((Ended result ≡ Ended status) × (held' ≡ gained held text))
+        ⊎ ((Ended result ≡ Ended WriteFault) × GainsFront held text held' × HasRisen faults faults')
+    by (inl whole) = inl (ap (λ (s : Status). Ended s) whole.0, whole.1)
+    by (inr front) = inr (ap (λ (s : Status). Ended s) front.0, front.1, front.2)
 
 -- and its answer
 pub answers_as : (wants : Status → List ℕ → Type 0) (wants' : Outcome → List ℕ → Type 0) (held held' : Option (List ℕ))

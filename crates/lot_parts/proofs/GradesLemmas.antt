@@ -13,7 +13,7 @@ use Rattle.part_lines.specs.declared.fault.LineFault.TheVariants as fault
 use Rattle.part_lines.specs.LineFault.{IsLineFault}
 use Rattle.grade_parts.specs.Log.{GradeLog, Stuck, IsLog}
 use Rattle.grade_parts.specs.Turns.{open_net, AreInTurn, IsPartOf, HasGood, all_lines, AreTold, good_of}
-use Rattle.grade_parts.specs.Merged.{AgreeWith, AreParts, merged_text}
+use Rattle.grade_parts.specs.Merged.{AreParts, merged_text}
 use Rattle.grade_parts.specs.Step.{Known, Knows}
 use Rattle.grade_parts.specs.Reads.{IsReadPart, IsPartFault}
 use Rattle.grade_parts.proofs.TurnLemmas.{turn_join}
@@ -185,15 +185,17 @@ merged_answers told before now files texts (first ∷ later) held held' faults f
 -- a put that is whole, and one that isn't
 pub whole_ends : (held held' : Option (List ℕ)) (faults faults' : ℕ) (seen logs : List GradeLog) → seen ≡ logs
     → ((first : GradeLog) (later : List GradeLog) → seen ≡ first ∷ later → held' ≡ gained held (merged_text first later))
-    → (first : GradeLog) (later : List GradeLog) → logs ≡ first ∷ later
+    → faults ≤ faults' → (first : GradeLog) (later : List GradeLog) → logs ≡ first ∷ later
     → EndsAs held faults (Ended Done) (merged_text first later) (Ended Done) held' faults'
-whole_ends held held' faults faults' seen logs same puts first later is = inl (refl, puts first later (same ∙ is))
+whole_ends held held' faults faults' seen logs same puts count first later is =
+    record { ends = inl (refl, puts first later (same ∙ is)); count = count }
 
 pub front_ends : (held held' : Option (List ℕ)) (faults faults' : ℕ) (seen logs : List GradeLog) → seen ≡ logs
     → ((first : GradeLog) (later : List GradeLog) → seen ≡ first ∷ later → GainsFront held (merged_text first later) held')
-    → HasRisen faults faults' → (first : GradeLog) (later : List GradeLog) → logs ≡ first ∷ later
+    → faults ≤ faults' → HasRisen faults faults' → (first : GradeLog) (later : List GradeLog) → logs ≡ first ∷ later
     → EndsAs held faults (Ended Done) (merged_text first later) (Ended WriteFault) held' faults'
-front_ends held held' faults faults' seen logs same puts risen first later is = inr (refl, puts first later (same ∙ is), risen)
+front_ends held held' faults faults' seen logs same puts count risen first later is =
+    record { ends = inr (refl, puts first later (same ∙ is), risen); count = count }
 
 -- grades that aren't
 pub refused_answers : (told : Option Files) (before now : ℕ) (files : List (List ℕ)) (r : PartRefusal)

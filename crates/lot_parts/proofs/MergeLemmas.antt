@@ -206,27 +206,31 @@ merged_answers told before now plan files texts rows sites slices held held' fau
 pub whole_ends : (held held' : Option (List ℕ)) (faults faults' : ℕ) (rows : List Row) (seen sites : List ℕ) (seens slices : List SlicedLog)
     → seen ≡ sites → seens ≡ slices
     → ((of : List Row) (parts : List (List (List DieLog))) → AreOfPlan of parts seen seens → held' ≡ gained held (merged_text of parts))
-    → (parts : List (List (List DieLog))) → AreOfPlan rows parts sites slices
+    → faults ≤ faults' → (parts : List (List (List DieLog))) → AreOfPlan rows parts sites slices
     → EndsAs held faults (Ended Done) (merged_text rows parts) (Ended Done) held' faults'
-whole_ends held held' faults faults' rows seen sites seens slices same all puts parts are =
-    inl (
-      refl,
-      puts rows parts (subst (λ (s : List ℕ). AreOfPlan rows parts s seens) (sym same)
-          (subst (λ (l : List SlicedLog). AreOfPlan rows parts sites l) (sym all) are)),
-    )
+whole_ends held held' faults faults' rows seen sites seens slices same all puts count parts are = record {
+  ends = inl (
+    refl,
+    puts rows parts (subst (λ (s : List ℕ). AreOfPlan rows parts s seens) (sym same)
+        (subst (λ (l : List SlicedLog). AreOfPlan rows parts sites l) (sym all) are)),
+  );
+  count = count;
+}
 
 pub front_ends : (held held' : Option (List ℕ)) (faults faults' : ℕ) (rows : List Row) (seen sites : List ℕ) (seens slices : List SlicedLog)
     → seen ≡ sites → seens ≡ slices
     → ((of : List Row) (parts : List (List (List DieLog))) → AreOfPlan of parts seen seens → GainsFront held (merged_text of parts) held')
-    → HasRisen faults faults' → (parts : List (List (List DieLog))) → AreOfPlan rows parts sites slices
+    → faults ≤ faults' → HasRisen faults faults' → (parts : List (List (List DieLog))) → AreOfPlan rows parts sites slices
     → EndsAs held faults (Ended Done) (merged_text rows parts) (Ended WriteFault) held' faults'
-front_ends held held' faults faults' rows seen sites seens slices same all puts risen parts are =
-    inr (
-      refl,
-      puts rows parts (subst (λ (s : List ℕ). AreOfPlan rows parts s seens) (sym same)
-          (subst (λ (l : List SlicedLog). AreOfPlan rows parts sites l) (sym all) are)),
-      risen,
-    )
+front_ends held held' faults faults' rows seen sites seens slices same all puts count risen parts are = record {
+  ends = inr (
+    refl,
+    puts rows parts (subst (λ (s : List ℕ). AreOfPlan rows parts s seens) (sym same)
+        (subst (λ (l : List SlicedLog). AreOfPlan rows parts sites l) (sym all) are)),
+    risen,
+  );
+  count = count;
+}
 
 -- datalogs that aren't
 pub refused_answers : (told : Option Files) (before now : ℕ) (plan : List ℕ) (files : List (List ℕ)) (r : PartRefusal)

@@ -1,6 +1,6 @@
 //! The public call of the program.
 
-ghost use Rattle.std.specs.Prelude.{◌≡◌, ◌≤◌};
+ghost use Rattle.tester_types.specs.Outside.{Loads};
 ghost use Rattle.lot_parts.specs.Words.{words_seen};
 ghost use Rattle.lot_parts.specs.Endings.{AnswersAs};
 ghost use Rattle.lot_parts.specs.Divider.{DividerWants};
@@ -35,9 +35,7 @@ pub fn divide<F: Shelf, K: Sink>(
     ensures answers { AnswersAs (DividerWants (words_seen words.now)
         (F.told shelf.old) (F.faults shelf.old) (F.faults shelf.new))
         (K.told out.old) (K.faults out.old) result (K.told out.new) (K.faults out.new) }
-    ensures kept { F.told shelf.new ≡ F.told shelf.old }
-    ensures counts { F.faults shelf.old ≤ F.faults shelf.new }
-    ensures puts { K.faults out.old ≤ K.faults out.new }
+    ensures loads { Loads (F.told shelf.old) (F.faults shelf.old) (F.told shelf.new) (F.faults shelf.new) }
 {
     match job_of(words) {
         Job::Parts(plan) => Outcome::Ended(parts(alloc, plan, shelf, out)),

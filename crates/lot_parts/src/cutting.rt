@@ -1,6 +1,7 @@
 //! `parts` and `part`: into how many parts a plan must be cut, and the plan of a part.
 
-ghost use Rattle.std.specs.Prelude.{◌≡◌, ◌≤◌, ◌<◌};
+ghost use Rattle.std.specs.Prelude.{◌<◌};
+ghost use Rattle.tester_types.specs.Outside.{Loads};
 ghost use Rattle.tool_inputs.specs.Endings.{Answers};
 ghost use Rattle.lot_parts.specs.Parts.{PartsWants, CutWants};
 
@@ -20,9 +21,7 @@ pub(crate) fn parts<F: Shelf, K: Sink>(
 ) -> Status
     ensures answers { Answers (PartsWants (F.told shelf.old) (F.faults shelf.old) (F.faults shelf.new) plan.now)
         (K.told out.old) (K.faults out.old) result (K.told out.new) (K.faults out.new) }
-    ensures kept { F.told shelf.new ≡ F.told shelf.old }
-    ensures counts { F.faults shelf.old ≤ F.faults shelf.new }
-    ensures puts { K.faults out.old ≤ K.faults out.new }
+    ensures loads { Loads (F.told shelf.old) (F.faults shelf.old) (F.told shelf.new) (F.faults shelf.new) }
 {
     let rows = match read_plan(alloc, plan, shelf) {
         Ok(rows) => rows,
@@ -49,9 +48,7 @@ pub(crate) fn cut<F: Shelf, K: Sink>(
     requires { of.part < of.parts }
     ensures answers { Answers (CutWants (F.told shelf.old) (F.faults shelf.old) (F.faults shelf.new) plan.now
         of.parts of.part) (K.told out.old) (K.faults out.old) result (K.told out.new) (K.faults out.new) }
-    ensures kept { F.told shelf.new ≡ F.told shelf.old }
-    ensures counts { F.faults shelf.old ≤ F.faults shelf.new }
-    ensures puts { K.faults out.old ≤ K.faults out.new }
+    ensures loads { Loads (F.told shelf.old) (F.faults shelf.old) (F.told shelf.new) (F.faults shelf.new) }
 {
     let bytes = match load(alloc, plan, shelf) {
         Ok(bytes) => bytes,

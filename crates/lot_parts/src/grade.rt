@@ -1,6 +1,7 @@
 //! `grade`: a part of the grade of the plan's first die.
 
-ghost use Rattle.std.specs.Prelude.{◌≡◌, ◌≤◌, ◌<◌};
+ghost use Rattle.std.specs.Prelude.{◌≡◌, ◌<◌};
+ghost use Rattle.tester_types.specs.Outside.{Loads};
 ghost use Rattle.plan_rows.specs.Rows.{sites_of};
 ghost use Rattle.tool_inputs.specs.Endings.{Answers};
 ghost use Rattle.lot_parts.specs.Words.{IsPart};
@@ -21,7 +22,6 @@ fn run<K: Sink>(alloc: Global, lot: &ReadyLot, of: Part, out: &mut K) -> Status
     requires part { IsPart of.parts of.part }
     ensures answers { Answers (GradeRunWants lot.now.plan of.parts of.part)
         (K.told out.old) (K.faults out.old) result (K.told out.new) (K.faults out.new) }
-    ensures puts { K.faults out.old ≤ K.faults out.new }
 {
     let Ok(grade) = grade_part(alloc, &lot.code, &lot.plan, of.parts, of.part) else {
         return no_memory(out);
@@ -46,9 +46,7 @@ pub(crate) fn grade<F: Shelf, K: Sink>(
     ensures answers { Answers (GradeWants
         (F.told shelf.old) (F.faults shelf.old) (F.faults shelf.new) program.now plan.now of.parts of.part)
         (K.told out.old) (K.faults out.old) result (K.told out.new) (K.faults out.new) }
-    ensures kept { F.told shelf.new ≡ F.told shelf.old }
-    ensures counts { F.faults shelf.old ≤ F.faults shelf.new }
-    ensures puts { K.faults out.old ≤ K.faults out.new }
+    ensures loads { Loads (F.told shelf.old) (F.faults shelf.old) (F.told shelf.new) (F.faults shelf.new) }
 {
     let lot = match prepare(alloc, program, plan, shelf) {
         Ok(lot) => lot,

@@ -1,6 +1,7 @@
 //! `merge-grade`: the grade, of the texts of its parts.
 
-ghost use Rattle.std.specs.Prelude.{◌≡◌, ◌+◌, ◌==◌, ◌≤◌, ◌<◌, List, length, MatchResult};
+ghost use Rattle.std.specs.Prelude.{◌≡◌, ◌+◌, ◌==◌, ◌<◌, List, length, MatchResult};
+ghost use Rattle.tester_types.specs.Outside.{Loads};
 ghost use Rattle.grade_parts.specs.Log.{Stuck};
 ghost use Rattle.grade_parts.specs.Turns.{good_of};
 ghost use Rattle.grade_parts.specs.Merged.{AreParts};
@@ -87,9 +88,7 @@ pub(crate) fn merge_grade<F: Shelf, K: Sink>(
     requires { 0 < length files.now }
     ensures answers { AnswersAs (MergeWants (F.told shelf.old) (F.faults shelf.old) (F.faults shelf.new)
         (words_seen files.now)) (K.told out.old) (K.faults out.old) result (K.told out.new) (K.faults out.new) }
-    ensures kept { F.told shelf.new ≡ F.told shelf.old }
-    ensures counts { F.faults shelf.old ≤ F.faults shelf.new }
-    ensures puts { K.faults out.old ≤ K.faults out.new }
+    ensures loads { Loads (F.told shelf.old) (F.faults shelf.old) (F.told shelf.new) (F.faults shelf.new) }
 {
     let texts = match load_parts(alloc, files, shelf) {
         Ok(texts) => texts,

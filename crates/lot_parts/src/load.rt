@@ -1,6 +1,7 @@
 //! The files of a run: a plan, and the texts of parts.
 
-ghost use Rattle.std.specs.Prelude.{◌≡◌, ◌≤◌, ◌++◌, ◌∷◌, [], OnOk, MatchResult};
+ghost use Rattle.std.specs.Prelude.{◌≡◌, ◌++◌, ◌∷◌, [], OnOk, MatchResult};
+ghost use Rattle.tester_types.specs.Outside.{Loads};
 ghost use Rattle.plan_rows.specs.Rows.{AreKept};
 ghost use Rattle.tool_inputs.specs.Inputs.{IsPlanFile, IsPlanRefused};
 ghost use Rattle.lot_parts.specs.Words.{words_seen};
@@ -22,8 +23,7 @@ pub(crate) fn read_plan<F: Shelf>(
 ) -> Result<PlanRows, Refusal>
     ensures reads { MatchResult result (λ rows. IsPlanFile (F.told shelf.old) plan.now rows × AreKept rows)
         (IsPlanRefused (F.told shelf.old) (F.faults shelf.old) (F.faults shelf.new) plan.now) }
-    ensures kept { F.told shelf.new ≡ F.told shelf.old }
-    ensures counts { F.faults shelf.old ≤ F.faults shelf.new }
+    ensures loads { Loads (F.told shelf.old) (F.faults shelf.old) (F.told shelf.new) (F.faults shelf.new) }
 {
     let bytes = load(alloc, plan, shelf)?;
     match read_rows(alloc, bytes.as_slice()) {
@@ -40,8 +40,7 @@ pub(crate) fn load_part<F: Shelf>(
 ) -> Result<Vec<u8>, Refusal>
     ensures reads { MatchResult result (λ bytes. IsPartFile (F.told shelf.old) file.now bytes.items)
         (IsUnloaded (F.told shelf.old) (F.faults shelf.old) (F.faults shelf.new) file.now) }
-    ensures kept { F.told shelf.new ≡ F.told shelf.old }
-    ensures counts { F.faults shelf.old ≤ F.faults shelf.new }
+    ensures loads { Loads (F.told shelf.old) (F.faults shelf.old) (F.told shelf.new) (F.faults shelf.new) }
 {
     let Ok(name) = Vec::from_slice(alloc, file.as_bytes()) else {
         return Err(Refusal::NoMemory);
@@ -64,8 +63,7 @@ pub(crate) fn load_parts<F: Shelf>(
     ensures reads { MatchResult result
         (λ texts. ArePartFiles (F.told shelf.old) (words_seen files.now) (texts_seen texts.items))
         (AreUnloaded (F.told shelf.old) (F.faults shelf.old) (F.faults shelf.new) (words_seen files.now)) }
-    ensures kept { F.told shelf.new ≡ F.told shelf.old }
-    ensures counts { F.faults shelf.old ≤ F.faults shelf.new }
+    ensures loads { Loads (F.told shelf.old) (F.faults shelf.old) (F.told shelf.new) (F.faults shelf.new) }
 {
     let mut texts = Vec::new(alloc);
     for file in files {
@@ -84,8 +82,7 @@ fn add_part<F: Shelf>(
     ensures reads { MatchResult result (λ _. AddsText (F.told shelf.old) file.now
         (texts_seen texts.old.items) (texts_seen texts.new.items))
         (IsUnloaded (F.told shelf.old) (F.faults shelf.old) (F.faults shelf.new) file.now) }
-    ensures kept { F.told shelf.new ≡ F.told shelf.old }
-    ensures counts { F.faults shelf.old ≤ F.faults shelf.new }
+    ensures loads { Loads (F.told shelf.old) (F.faults shelf.old) (F.told shelf.new) (F.faults shelf.new) }
 {
     let text = load_part(alloc, file, shelf)?;
     match push_text(text, texts) {

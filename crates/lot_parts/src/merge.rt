@@ -1,6 +1,7 @@
 //! `merge`: the datalog of a plan, of those of its parts.
 
 ghost use Rattle.std.specs.Prelude.{◌≡◌, ◌≤◌, ◌<◌, ℕ, List, length, MatchResult};
+ghost use Rattle.tester_types.specs.Outside.{Loads};
 ghost use Rattle.text_bytes.specs.Limits.{most_plan_sites};
 ghost use Rattle.plan_rows.specs.Plan.{IsPlan};
 ghost use Rattle.plan_parts.specs.Cut.{sites_with_dies};
@@ -93,9 +94,7 @@ pub(crate) fn merge<F: Shelf, K: Sink>(
     requires few { length files.now ≤ most_parts }
     ensures answers { AnswersAs (MergeWants (F.told shelf.old) (F.faults shelf.old) (F.faults shelf.new) plan.now
         (words_seen files.now)) (K.told out.old) (K.faults out.old) result (K.told out.new) (K.faults out.new) }
-    ensures kept { F.told shelf.new ≡ F.told shelf.old }
-    ensures counts { F.faults shelf.old ≤ F.faults shelf.new }
-    ensures puts { K.faults out.old ≤ K.faults out.new }
+    ensures loads { Loads (F.told shelf.old) (F.faults shelf.old) (F.told shelf.new) (F.faults shelf.new) }
 {
     let rows = match read_plan(alloc, plan, shelf) {
         Ok(rows) => rows,

@@ -1,6 +1,6 @@
 //! How a run of the program ends.
 
-ghost use Rattle.std.specs.Prelude.{◌≡◌, ◌≤◌};
+ghost use Rattle.std.specs.Prelude.{◌≡◌};
 ghost use Rattle.tool_inputs.specs.Endings.{memory_line};
 ghost use Rattle.tool_inputs.specs.declared.status.Status.TheVariants.{OutOfMemory};
 ghost use Rattle.lot_parts.specs.Endings.{EndsAs};
@@ -33,9 +33,8 @@ impl Outcome {
 
 /// Says that there was no memory.
 pub fn out_of_memory<K: Sink>(out: &mut K) -> Outcome
-    ensures ends { EndsAs (K.told out.old) (K.faults out.old)
+    ensures { EndsAs (K.told out.old) (K.faults out.old)
         (Ended OutOfMemory) memory_line result (K.told out.new) (K.faults out.new) }
-    ensures puts { K.faults out.old ≤ K.faults out.new }
 {
     Outcome::Ended(no_memory(out))
 }

@@ -1,6 +1,5 @@
 //! Why parts aren't merged, and the line of each refusal.
 
-ghost use Rattle.std.specs.Prelude.{◌≡◌, ◌≤◌};
 ghost use Rattle.lot_parts.specs.Endings.{EndsAs};
 ghost use Rattle.lot_parts.specs.Refusals.{outcome_of, line_of, part_line, IsRefusalBy};
 ghost use Rattle.lot_parts.specs.declared.outcome.Outcome.TheVariants.{RefusedPart};
@@ -35,9 +34,8 @@ pub(crate) fn part_refusal(alloc: Global, file: &str, fault: LineFault) -> PartR
 
 /// Puts the line of a refusal, and answers its outcome.
 pub fn put_part_refusal<K: Sink>(out: &mut K, refusal: &PartRefusal) -> Outcome
-    ensures ends { EndsAs (K.told out.old) (K.faults out.old)
+    ensures { EndsAs (K.told out.old) (K.faults out.old)
         (outcome_of refusal.now) (line_of refusal.now) result (K.told out.new) (K.faults out.new) }
-    ensures puts { K.faults out.old ≤ K.faults out.new }
 {
     match refusal {
         PartRefusal::Of(refusal) => Outcome::Ended(put_refusal(out, refusal)),
@@ -47,9 +45,8 @@ pub fn put_part_refusal<K: Sink>(out: &mut K, refusal: &PartRefusal) -> Outcome
 
 /// Puts the line of a file that is no text of its part.
 fn put_part<K: Sink>(out: &mut K, file: &[u8], line: u64) -> Outcome
-    ensures ends { EndsAs (K.told out.old) (K.faults out.old)
+    ensures { EndsAs (K.told out.old) (K.faults out.old)
         RefusedPart (part_line file.now line) result (K.told out.new) (K.faults out.new) }
-    ensures puts { K.faults out.old ≤ K.faults out.new }
 {
     let pieces = [
         Piece::Text(b"refused part "),

@@ -36,7 +36,7 @@ words_done words told before now faults faults' status text fine (of_dump progra
 pub completes : (words : List (List ℕ)) (told : Option Files) (before now : ℕ) (held held' : Option (List ℕ)) (faults faults' : ℕ)
     (result : Status) → Answers (Wants words told before now) held faults result held' faults'
     → IsFine words told before now faults faults' → IsDone result
-completes words told before now held held' faults faults' result a fine = by a.ends
+completes words told before now held held' faults faults' result a fine = by a.ends.ends
   where
     by : ((result ≡ a.status) × (held' ≡ gained held a.text)) ⊎ ((result ≡ WriteFault) × GainsFront held a.text held' × HasRisen faults faults')
         → IsDone result

@@ -109,7 +109,7 @@ offline_done words told before now faults faults' status text fine (of_command c
 pub dump_completes : (words : List (List ℕ)) (told : Option Files) (before now : ℕ) (held held' : Option (List ℕ)) (faults faults' : ℕ)
     (result : Status) → Answers (Wants words told before now) held faults result held' faults'
     → IsFineDump words told before now faults faults' → IsDone result
-dump_completes words told before now held held' faults faults' result a fine = by a.ends
+dump_completes words told before now held held' faults faults' result a fine = by a.ends.ends
   where
     by : ((result ≡ a.status) × (held' ≡ gained held a.text)) ⊎ ((result ≡ WriteFault) × GainsFront held a.text held' × HasRisen faults faults')
         → IsDone result

@@ -99,7 +99,7 @@ pub grade_completes : {S : Type 0} (tells : S → Told) (words : List (List ℕ)
     (held held' : Option (List ℕ)) (faults faults' : ℕ) (result : Status)
     → Answers (TesterWants tells words told before now old new) held faults result held' faults'
     → IsFineGrade words told before now faults faults' → IsDone result
-grade_completes tells words told before now old new held held' faults faults' result a fine = by a.ends
+grade_completes tells words told before now old new held held' faults faults' result a fine = by a.ends.ends
   where
     by : ((result ≡ a.status) × (held' ≡ gained held a.text)) ⊎ ((result ≡ WriteFault) × GainsFront held a.text held' × HasRisen faults faults')
         → IsDone result

@@ -154,7 +154,6 @@ fn run<R: Threads + Wait + Sync, D: Desk, G: Gate, K: Sink>(
         (record { sockets = sockets.old.items; stops = D.stops desk.old; asked = D.asked desk.old })
         (record { sockets = sockets.new.items; stops = D.stops desk.new; asked = D.asked desk.new }))
         (K.told out.old) (K.faults out.old) result (K.told out.new) (K.faults out.new) }
-    ensures puts { K.faults out.old ≤ K.faults out.new }
 {
     let Ok(tested) = test(rt, alloc, lot, sockets, desk, gate) else {
         return no_memory(out);
@@ -180,7 +179,6 @@ pub(crate) fn drill<K: Sink, D: Desk, G: Gate, R: Threads + Wait + Sync>(
         (record { sockets = sockets.old.items; stops = D.stops desk.old; asked = D.asked desk.old })
         (record { sockets = sockets.new.items; stops = D.stops desk.new; asked = D.asked desk.new }))
         (K.told out.old) (K.faults out.old) result (K.told out.new) (K.faults out.new) }
-    ensures puts { K.faults out.old ≤ K.faults out.new }
 {
     let lot = match prepare(alloc, number) {
         Ok(lot) => lot,

@@ -1,6 +1,7 @@
 //! `dump`: what is driven in the first try of a site's first die, as a value change dump.
 
-ghost use Rattle.std.specs.Prelude.{◌≡◌, ◌≤◌, ◌<◌, ◌↔◌, IsTrue, length};
+ghost use Rattle.std.specs.Prelude.{◌≡◌, ◌<◌, ◌↔◌, IsTrue, length};
+ghost use Rattle.tester_types.specs.Outside.{Loads};
 ghost use Rattle.plan_rows.specs.Rows.{dies_at};
 ghost use Rattle.tool_inputs.specs.Endings.{Answers};
 ghost use Rattle.stil_tool.specs.Dump.{DumpRunWants, DumpWants};
@@ -27,7 +28,6 @@ fn run<K: Sink>(alloc: Global, lot: &ReadyLot, site: u8, out: &mut K) -> Status
     requires die { 0 < length (dies_at site lot.now.plan.rows) }
     ensures answers { Answers (DumpRunWants lot.now.plan site)
         (K.told out.old) (K.faults out.old) result (K.told out.new) (K.faults out.new) }
-    ensures puts { K.faults out.old ≤ K.faults out.new }
 {
     let tape = match tape_of(alloc, &lot.code, &lot.plan, site) {
         Ok(tape) => tape,
@@ -53,9 +53,7 @@ pub(crate) fn dump<F: Shelf, K: Sink>(
     ensures answers { Answers (DumpWants
         (F.told shelf.old) (F.faults shelf.old) (F.faults shelf.new) program.now plan.now site)
         (K.told out.old) (K.faults out.old) result (K.told out.new) (K.faults out.new) }
-    ensures kept { F.told shelf.new ≡ F.told shelf.old }
-    ensures counts { F.faults shelf.old ≤ F.faults shelf.new }
-    ensures puts { K.faults out.old ≤ K.faults out.new }
+    ensures loads { Loads (F.told shelf.old) (F.faults shelf.old) (F.told shelf.new) (F.faults shelf.new) }
 {
     let lot = match prepare(alloc, program, plan, shelf) {
         Ok(lot) => lot,

@@ -1,6 +1,7 @@
 //! `grade`: the first failing cycle of each single stuck-at fault of the plan's first die.
 
-ghost use Rattle.std.specs.Prelude.{◌≡◌, ◌≤◌, ◌<◌};
+ghost use Rattle.std.specs.Prelude.{◌≡◌, ◌<◌};
+ghost use Rattle.tester_types.specs.Outside.{Loads};
 ghost use Rattle.plan_rows.specs.Rows.{sites_of};
 ghost use Rattle.tool_inputs.specs.Endings.{Answers};
 ghost use Rattle.stil_tool.specs.Grade.{GradeRunWants, GradeWants};
@@ -28,7 +29,6 @@ fn run<R: Threads + Wait + Sync, G: Gate, K: Sink>(
     requires die { 0 < sites_of lot.now.plan.rows }
     ensures answers { Answers (GradeRunWants lot.now.plan)
         (K.told out.old) (K.faults out.old) result (K.told out.new) (K.faults out.new) }
-    ensures puts { K.faults out.old ≤ K.faults out.new }
 {
     let Ok(grade) = grade_faults(rt, alloc, &lot.code, &lot.plan, WORKERS, gate) else {
         return no_memory(out);
@@ -53,9 +53,7 @@ pub(crate) fn grade<R: Threads + Wait + Sync, F: Shelf, G: Gate, K: Sink>(
     ensures answers { Answers (GradeWants
         (F.told shelf.old) (F.faults shelf.old) (F.faults shelf.new) program.now plan.now)
         (K.told out.old) (K.faults out.old) result (K.told out.new) (K.faults out.new) }
-    ensures kept { F.told shelf.new ≡ F.told shelf.old }
-    ensures counts { F.faults shelf.old ≤ F.faults shelf.new }
-    ensures puts { K.faults out.old ≤ K.faults out.new }
+    ensures loads { Loads (F.told shelf.old) (F.faults shelf.old) (F.told shelf.new) (F.faults shelf.new) }
 {
     let lot = match prepare(alloc, program, plan, shelf) {
         Ok(lot) => lot,

@@ -1,10 +1,10 @@
 //! `lot`: the dies of a plan at its sites.
 
-ghost use Rattle.std.specs.Prelude.{◌≡◌, ◌≤◌, ℕ, IfOk, IfErr, length};
+ghost use Rattle.std.specs.Prelude.{◌≡◌, ◌≤◌, length};
+ghost use Rattle.tester_types.specs.Outside.{Loads};
 ghost use Rattle.plan_rows.specs.Rows.{sites_of};
 ghost use Rattle.tool_inputs.specs.Endings.{Answers};
-ghost use Rattle.tool_inputs.specs.Inputs.{IsReady};
-ghost use Rattle.stil_tool.specs.Lot.{IsRefused, RunWants, LotWants, usable};
+ghost use Rattle.stil_tool.specs.Lot.{RunWants, LotWants, usable};
 
 use crate::floor::{test, usable};
 use datalog::print_lot;
@@ -31,7 +31,6 @@ fn run<R: Threads + Wait + Sync, D: Desk, G: Gate, K: Sink>(
         (record { sockets = sockets.old.items; stops = D.stops desk.old; asked = D.asked desk.old })
         (record { sockets = sockets.new.items; stops = D.stops desk.new; asked = D.asked desk.new }))
         (K.told out.old) (K.faults out.old) result (K.told out.new) (K.faults out.new) }
-    ensures puts { K.faults out.old ≤ K.faults out.new }
 {
     let Ok(tested) = test(rt, alloc, lot, sockets, desk, gate) else {
         return no_memory(out);
@@ -60,9 +59,7 @@ pub(crate) fn lot<F: Shelf, K: Sink, D: Desk, G: Gate, R: Threads + Wait + Sync>
         (record { sockets = sockets.old.items; stops = D.stops desk.old; asked = D.asked desk.old })
         (record { sockets = sockets.new.items; stops = D.stops desk.new; asked = D.asked desk.new })
         program.now plan.now) (K.told out.old) (K.faults out.old) result (K.told out.new) (K.faults out.new) }
-    ensures kept { F.told shelf.new ≡ F.told shelf.old }
-    ensures counts { F.faults shelf.old ≤ F.faults shelf.new }
-    ensures puts { K.faults out.old ≤ K.faults out.new }
+    ensures loads { Loads (F.told shelf.old) (F.faults shelf.old) (F.told shelf.new) (F.faults shelf.new) }
 {
     let lot = match prepare(alloc, program, plan, shelf) {
         Ok(lot) => lot,

@@ -1,6 +1,7 @@
 //! The commands that need no tester, by the words of the command line.
 
-ghost use Rattle.std.specs.Prelude.{◌≡◌, ◌≤◌, ℕ, List, IfSome, IfNone};
+ghost use Rattle.std.specs.Prelude.{ℕ, List, IfSome, IfNone};
+ghost use Rattle.tester_types.specs.Outside.{Loads};
 ghost use Rattle.text_commands.specs.declared.command.Command.{Command};
 ghost use Rattle.tool_inputs.specs.Endings.{Answers, IsDone};
 ghost use Rattle.stil_tool.specs.Offline.{words_seen, AreOf, Wants, IsFine};
@@ -33,9 +34,7 @@ pub fn offline<F: Shelf, K: Sink>(
         (K.faults out.old) (K.faults out.new) → IsDone result }
     ensures complete_dump { IsFineDump (words_seen words.now) (F.told shelf.old) (F.faults shelf.old)
         (F.faults shelf.new) (K.faults out.old) (K.faults out.new) → IsDone result }
-    ensures kept { F.told shelf.new ≡ F.told shelf.old }
-    ensures counts { F.faults shelf.old ≤ F.faults shelf.new }
-    ensures puts { K.faults out.old ≤ K.faults out.new }
+    ensures loads { Loads (F.told shelf.old) (F.faults shelf.old) (F.told shelf.new) (F.faults shelf.new) }
 {
     match file_command(words) {
         Some((command, file)) => run_file(alloc, command, file, shelf, out),

@@ -1,6 +1,7 @@
 //! The public call of the program: the commands that need no tester, the lot, the grade and the drill.
 
-ghost use Rattle.std.specs.Prelude.{◌≡◌, ◌≤◌, ℕ, List, [], ◌∷◌, IfSome, IfNone, length};
+ghost use Rattle.std.specs.Prelude.{◌≡◌, ℕ, List, [], ◌∷◌, IfSome, IfNone, length};
+ghost use Rattle.tester_types.specs.Outside.{Loads};
 ghost use Rattle.tool_inputs.specs.Endings.{Answers, IsDone};
 ghost use Rattle.stil_tool.specs.Offline.{IsFine, words_seen};
 ghost use Rattle.stil_tool.specs.Drill.{AreDrill, IsFineDrill};
@@ -57,9 +58,7 @@ pub fn tester<F: Shelf, K: Sink, D: Desk, G: Gate, R: Threads + Wait + Sync>(
         (F.faults shelf.new) (K.faults out.old) (K.faults out.new) → IsDone result }
     ensures complete_dump { IsFineDump (words_seen words.now) (F.told shelf.old) (F.faults shelf.old)
         (F.faults shelf.new) (K.faults out.old) (K.faults out.new) → IsDone result }
-    ensures kept { F.told shelf.new ≡ F.told shelf.old }
-    ensures counts { F.faults shelf.old ≤ F.faults shelf.new }
-    ensures puts { K.faults out.old ≤ K.faults out.new }
+    ensures loads { Loads (F.told shelf.old) (F.faults shelf.old) (F.told shelf.new) (F.faults shelf.new) }
 {
     match job_of(words) {
         Job::Lot(program, plan) => lot(rt, alloc, program, plan, shelf, sockets, desk, gate, out),

@@ -1,8 +1,8 @@
 -- What is wanted of a text is wanted of a command, as the passes and the sink answer.
 use Rattle.std.proofs.Common.{◌≡◌, ◌⊎◌, ℕ, ◌<◌, ◌≤◌, List, [], ◌∷◌, ◌++◌, length, map, Option, Some, refl, sym, ap, ◌∙◌, subst, arith, inl, inr}
 use Rattle.std.proofs.lemmas.List.{length-map}
-use Rattle.tester_types.specs.Outside.{gained, GainsFront}
-use Rattle.tester_types.proofs.OutsideLemmas.{gained-gained, front_behind}
+use Rattle.tester_types.specs.Outside.{HasRisen, gained, GainsFront}
+use Rattle.tester_types.proofs.OutsideLemmas.{gained-gained, gained-none, front_behind}
 use Rattle.stil_ast.specs.Meaning.Signals.{Signal, names_of as text_names}
 use Rattle.stil_ast.specs.declared.executive.ExecDecl.{ExecDecl}
 use Rattle.stil_ast.specs.Data.Refusal.{StilRefusal}
@@ -83,40 +83,40 @@ line_there bytes code lines exec is within =
 
 -- the line of want of memory behind what was put
 pub ends_behind : (held before now : Option (List ℕ)) (faults between faults' : ℕ) (lines line : List ℕ) (status result : Status)
-    → before ≡ gained held lines → faults ≤ between → between ≤ faults'
+    → before ≡ gained held lines → faults ≤ between
     → Ends before between status line result now faults' → Ends held faults status (lines ++ line) result now faults'
-ends_behind held before now faults between faults' lines line status result put low high (inl (same, is)) =
-    inl (same, is ∙ ap (λ was. gained was line) put ∙ gained-gained held lines line)
-ends_behind held before now faults between faults' lines line status result put low high (inr (same, front, risen)) = inr (
-  same,
-  front_behind held now lines line (subst (λ (was : Option (List ℕ)). GainsFront was line now) put front),
-  wide-risen faults between faults' faults' low high (omega arith) risen,
-)
+ends_behind held before now faults between faults' lines line status result put low last =
+    record { ends = by last.ends; count = omega (arith, low, last.count) }
+  where
+    by : ((result ≡ status) × (now ≡ gained before line)) ⊎ ((result ≡ WriteFault) × GainsFront before line now × HasRisen between faults')
+        → ((result ≡ status) × (now ≡ gained held (lines ++ line)))
+        ⊎ ((result ≡ WriteFault) × GainsFront held (lines ++ line) now × HasRisen faults faults')
+    by (inl (same, is)) = inl (same, is ∙ ap (λ was. gained was line) put ∙ gained-gained held lines line)
+    by (inr (same, front, risen)) = inr (
+      same,
+      front_behind held now lines line (subst (λ (was : Option (List ℕ)). GainsFront was line now) put front),
+      wide-risen faults between faults' faults' low last.count (omega arith) risen,
+    )
 
 -- the same where nothing was put
 pub ends_same : (held before now : Option (List ℕ)) (faults between faults' : ℕ) (line : List ℕ) (status result : Status)
-    → before ≡ held → faults ≤ between → between ≤ faults'
+    → before ≡ held → faults ≤ between
     → Ends before between status line result now faults' → Ends held faults status line result now faults'
-ends_same held before now faults between faults' line status result same low high (inl (is, put)) =
-    inl (is, put ∙ ap (λ was. gained was line) same)
-ends_same held before now faults between faults' line status result same low high (inr (is, front, risen)) = inr (
-  is,
-  subst (λ (was : Option (List ℕ)). GainsFront was line now) same front,
-  wide-risen faults between faults' faults' low high (omega arith) risen,
-)
+ends_same held before now faults between faults' line status result same low last =
+    ends_behind held before now faults between faults' [] line status result (same ∙ sym (gained-none held)) low last
 
 -- want of memory behind the first lines of events
 pub events_wanting : (file bytes : List ℕ) (code : Program) (held before now : Option (List ℕ)) (faults between faults' : ℕ) (result : Status)
-    → IsListedCode bytes code → GainsLines held (events_text (names_of code) (listing_of code)) before → faults ≤ between → between ≤ faults'
+    → IsListedCode bytes code → GainsLines held (events_text (names_of code) (listing_of code)) before → faults ≤ between
     → Ends before between OutOfMemory memory_line result now faults' → Answers (BytesWant Events file bytes) held faults result now faults'
-events_wanting file bytes code held before now faults between faults' result is (lines, first, put) low high ends =
+events_wanting file bytes code held before now faults between faults' result is (lines, first, put) low last =
     let text = ap (λ names. events_text names (listing_of code)) is.names ∙ ap (events_text (signal_names is.blocks)) is.listing in
     record {
       status = OutOfMemory;
       text = lines ++ memory_line;
       wanted = behind refl is.blocks is.listed lines
           (subst (λ (whole : List ℕ). AreFirstLines whole lines) text first) refl;
-      ends = ends_behind held before now faults between faults' lines memory_line OutOfMemory result put low high ends;
+      ends = ends_behind held before now faults between faults' lines memory_line OutOfMemory result put low last;
     }
 
 -- ---- a flat text

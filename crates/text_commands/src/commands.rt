@@ -1,11 +1,12 @@
 //! The commands that need no tester: what each answers, and the line of each refusal.
 
-ghost use Rattle.std.specs.Prelude.{◌≡◌, ◌≤◌, ℕ, List, length};
+ghost use Rattle.std.specs.Prelude.{◌≤◌, ℕ, List, length};
+ghost use Rattle.tester_types.specs.Outside.{Loads};
 ghost use Rattle.text_bytes.specs.Limits.{most_bytes};
 ghost use Rattle.packed_code.specs.Conditions.{IsProgram};
 ghost use Rattle.text_commands.specs.Commands.{saved_form, FileWants, BytesWant};
 ghost use Rattle.text_commands.specs.FlatWants.{FlatWant, flat_status, flat_line};
-ghost use Rattle.tool_inputs.specs.Endings.{Answers, Ends, IsDone};
+ghost use Rattle.tool_inputs.specs.Endings.{Answers, Ends};
 ghost use Rattle.tool_inputs.specs.declared.status.Status.TheVariants.{Done};
 ghost use Rattle.text_commands.specs.declared.command.Command.TheVariants.{Check, Cycles, Events, Save, Flat};
 
@@ -29,9 +30,7 @@ pub fn run_file<F: Shelf, K: Sink>(
 ) -> Status
     ensures answers { Answers (FileWants command file.now (F.told shelf.old) (F.faults shelf.old) (F.faults shelf.new))
         (K.told out.old) (K.faults out.old) result (K.told out.new) (K.faults out.new) }
-    ensures kept { F.told shelf.new ≡ F.told shelf.old }
-    ensures counts { F.faults shelf.old ≤ F.faults shelf.new }
-    ensures puts { K.faults out.old ≤ K.faults out.new }
+    ensures loads { Loads (F.told shelf.old) (F.faults shelf.old) (F.told shelf.new) (F.faults shelf.new) }
 {
     let name = Piece::Name(file.as_bytes());
     match shelf.load(alloc, file, LIMIT) {
@@ -65,7 +64,6 @@ fn run_text<K: Sink>(
     requires { length bytes.now ≤ most_bytes }
     ensures answers { Answers (BytesWant command file.now bytes.now)
         (K.told out.old) (K.faults out.old) result (K.told out.new) (K.faults out.new) }
-    ensures puts { K.faults out.old ≤ K.faults out.new }
 {
     match command {
         Command::Check => check(alloc, bytes, out),
@@ -81,7 +79,6 @@ fn check<K: Sink>(alloc: Global, bytes: &[u8], out: &mut K) -> Status
     requires { length bytes.now ≤ most_bytes }
     ensures answers { (file : List ℕ) → Answers (BytesWant Check file bytes.now)
         (K.told out.old) (K.faults out.old) result (K.told out.new) (K.faults out.new) }
-    ensures puts { K.faults out.old ≤ K.faults out.new }
 {
     match program(alloc, bytes) {
         Ok(code) => match put_check(out, &code) {
@@ -97,7 +94,6 @@ fn cycles<K: Sink>(alloc: Global, bytes: &[u8], out: &mut K) -> Status
     requires { length bytes.now ≤ most_bytes }
     ensures answers { (file : List ℕ) → Answers (BytesWant Cycles file bytes.now)
         (K.told out.old) (K.faults out.old) result (K.told out.new) (K.faults out.new) }
-    ensures puts { K.faults out.old ≤ K.faults out.new }
 {
     let code = match listed_code(alloc, bytes) {
         Ok(code) => code,
@@ -115,7 +111,6 @@ fn events<K: Sink>(alloc: Global, bytes: &[u8], out: &mut K) -> Status
     requires { length bytes.now ≤ most_bytes }
     ensures answers { (file : List ℕ) → Answers (BytesWant Events file bytes.now)
         (K.told out.old) (K.faults out.old) result (K.told out.new) (K.faults out.new) }
-    ensures puts { K.faults out.old ≤ K.faults out.new }
 {
     let code = match listed_code(alloc, bytes) {
         Ok(code) => code,
@@ -133,7 +128,6 @@ fn save_text<K: Sink>(alloc: Global, file: &str, bytes: &[u8], out: &mut K) -> S
     requires { length bytes.now ≤ most_bytes }
     ensures answers { Answers (BytesWant Save file.now bytes.now)
         (K.told out.old) (K.faults out.old) result (K.told out.new) (K.faults out.new) }
-    ensures puts { K.faults out.old ≤ K.faults out.new }
 {
     let code = match program(alloc, bytes) {
         Ok(code) => code,
@@ -156,7 +150,6 @@ fn put_saved<K: Sink>(code: &Code, out: &mut K) -> Status
     ensures ends { Ends (K.told out.old) (K.faults out.old) Done (saved_form code.now) result
         (K.told out.new) (K.faults out.new) }
     ensures conditions { IsProgram code.now }
-    ensures puts { K.faults out.old ≤ K.faults out.new }
 {
     let _conditions = code.signals();
     match save(code, out) {
@@ -170,7 +163,6 @@ fn flat_command<K: Sink>(alloc: Global, file: &str, bytes: &[u8], out: &mut K) -
     requires { length bytes.now ≤ most_bytes }
     ensures answers { Answers (BytesWant Flat file.now bytes.now)
         (K.told out.old) (K.faults out.old) result (K.told out.new) (K.faults out.new) }
-    ensures puts { K.faults out.old ≤ K.faults out.new }
 {
     match program(alloc, bytes) {
         Ok(code) => put_flat(alloc, file, &code, out),
@@ -182,7 +174,6 @@ fn flat_command<K: Sink>(alloc: Global, file: &str, bytes: &[u8], out: &mut K) -
 fn put_flat<K: Sink>(alloc: Global, file: &str, code: &Code, out: &mut K) -> Status
     ensures answers { Answers (FlatWant file.now code.now)
         (K.told out.old) (K.faults out.old) result (K.told out.new) (K.faults out.new) }
-    ensures puts { K.faults out.old ≤ K.faults out.new }
 {
     if !has_plain_names(code) {
         return no_memory(out);
@@ -199,9 +190,8 @@ fn put_flat<K: Sink>(alloc: Global, file: &str, code: &Code, out: &mut K) -> Sta
 
 /// Writes why a code of this file has no flat text.
 fn put_flat_fault<K: Sink>(file: &str, fault: FlatFault, out: &mut K) -> Status
-    ensures ends { Ends (K.told out.old) (K.faults out.old) (flat_status fault) (flat_line file.now fault) result
+    ensures { Ends (K.told out.old) (K.faults out.old) (flat_status fault) (flat_line file.now fault) result
         (K.told out.new) (K.faults out.new) }
-    ensures puts { K.faults out.old ≤ K.faults out.new }
 {
     let name = Piece::Name(file.as_bytes());
     match fault {

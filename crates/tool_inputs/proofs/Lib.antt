@@ -1,3 +1,4 @@
+pub mod EndLemmas
 pub mod FileLemmas
 pub mod InputLemmas
 pub mod NetLemmas

@@ -49,11 +49,13 @@ pub record IsFile (told : Option Files) (name bytes : List ℕ) : Type 0 where
   pub are : TellsFile told name (λ found. found ≡ Some bytes)
   pub fits : length bytes ≤ limit
 
--- a run ends with the status and its text written whole, or as a write fault with a front of that text
-abbrev pub Ends : Option (List ℕ) → ℕ → Status → List ℕ → Status → Option (List ℕ) → ℕ → Type 0
-Ends held faults status text result held' faults' =
-    ((result ≡ status) × (held' ≡ gained held text))
-    ⊎ ((result ≡ WriteFault) × GainsFront held text held' × HasRisen faults faults')
+-- a run ends with the status and its text written whole, or as a write fault with a front of that text; the sink's count of
+-- faults doesn't fall
+pub record Ends (held : Option (List ℕ)) (faults : ℕ) (status : Status) (text : List ℕ)
+    (result : Status) (held' : Option (List ℕ)) (faults' : ℕ) : Type 0 where
+  pub ends : ((result ≡ status) × (held' ≡ gained held text))
+      ⊎ ((result ≡ WriteFault) × GainsFront held text held' × HasRisen faults faults')
+  pub count : faults ≤ faults'
 
 -- a run's answer has its cause, and its text
 pub record Answers (wants : Status → List ℕ → Type 0)

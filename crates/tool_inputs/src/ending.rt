@@ -1,6 +1,5 @@
 //! How a run ends: the line of a status, put whole, or a write fault.
 
-ghost use Rattle.std.specs.Prelude.{◌≡◌, ◌≤◌};
 ghost use Rattle.std.specs.List.{flat_map};
 ghost use Rattle.tester_types.specs.Printing.{piece_text};
 ghost use Rattle.tool_inputs.specs.Endings.{Ends, memory_line};
@@ -11,9 +10,8 @@ use tester_types::{Piece, Sink, put_each};
 
 /// Puts the line of a refusal, and answers its status.
 pub fn ended<K: Sink>(out: &mut K, line: &[Piece], status: Status) -> Status
-    ensures ends { Ends (K.told out.old) (K.faults out.old)
+    ensures { Ends (K.told out.old) (K.faults out.old)
         status (flat_map piece_text line.now) result (K.told out.new) (K.faults out.new) }
-    ensures puts { K.faults out.old ≤ K.faults out.new }
 {
     match put_each(out, line) {
         Ok(()) => status,
@@ -23,9 +21,8 @@ pub fn ended<K: Sink>(out: &mut K, line: &[Piece], status: Status) -> Status
 
 /// Says that there was no memory.
 pub fn no_memory<K: Sink>(out: &mut K) -> Status
-    ensures ends { Ends (K.told out.old) (K.faults out.old)
+    ensures { Ends (K.told out.old) (K.faults out.old)
         OutOfMemory memory_line result (K.told out.new) (K.faults out.new) }
-    ensures puts { K.faults out.old ≤ K.faults out.new }
 {
     ended(out, &[Piece::Text(b"out of memory\n")], Status::OutOfMemory)
 }

@@ -3,6 +3,7 @@
 ghost use Rattle.std.specs.Prelude.{◌≡◌, ◌≤◌, ◌++◌, ◌∷◌, [], true, IfOk, IfErr, OnOk, length, map, MatchResult};
 ghost use Rattle.std.specs.Arc.{arc_value};
 ghost use Rattle.std.specs.List.{list_all};
+ghost use Rattle.tester_types.specs.Outside.{Loads};
 ghost use Rattle.text_bytes.specs.Limits.{most_bytes};
 ghost use Rattle.text_bytes.specs.Bytes.{is_printing};
 ghost use Rattle.plan_rows.specs.Rows.{files_of};
@@ -33,8 +34,7 @@ pub fn load<F: Shelf>(alloc: Global, file: &str, shelf: &mut F) -> Result<Vec<u8
     ensures found { IfOk result (λ bytes. IsFile (F.told shelf.old) file.now bytes.items) }
     ensures unread { IfErr result (λ r. IsUnread
         (F.told shelf.old) (F.faults shelf.old) (F.faults shelf.new) file.now r) }
-    ensures kept { F.told shelf.new ≡ F.told shelf.old }
-    ensures counts { F.faults shelf.old ≤ F.faults shelf.new }
+    ensures loads { Loads (F.told shelf.old) (F.faults shelf.old) (F.told shelf.new) (F.faults shelf.new) }
 {
     let Ok(name) = Vec::from_slice(alloc, file.as_bytes()) else {
         return Err(Refusal::NoMemory);
@@ -78,8 +78,7 @@ pub(crate) fn read_program<F: Shelf>(
 ) -> Result<Code, Refusal>
     ensures reads { MatchResult result (IsProgramFile (F.told shelf.old) file.now)
         (IsProgramRefused (F.told shelf.old) (F.faults shelf.old) (F.faults shelf.new) file.now) }
-    ensures kept { F.told shelf.new ≡ F.told shelf.old }
-    ensures counts { F.faults shelf.old ≤ F.faults shelf.new }
+    ensures loads { Loads (F.told shelf.old) (F.faults shelf.old) (F.told shelf.new) (F.faults shelf.new) }
 {
     let bytes = load(alloc, file, shelf)?;
     if is_saved(bytes.as_slice()) {
@@ -101,8 +100,7 @@ fn is_saved(bytes: &[u8]) -> bool
 pub(crate) fn read_plan<F: Shelf>(alloc: Global, file: &str, shelf: &mut F) -> Result<Plan, Refusal>
     ensures reads { MatchResult result (IsPlanFile (F.told shelf.old) file.now)
         (IsPlanRefused (F.told shelf.old) (F.faults shelf.old) (F.faults shelf.new) file.now) }
-    ensures kept { F.told shelf.new ≡ F.told shelf.old }
-    ensures counts { F.faults shelf.old ≤ F.faults shelf.new }
+    ensures loads { Loads (F.told shelf.old) (F.faults shelf.old) (F.told shelf.new) (F.faults shelf.new) }
 {
     let bytes = load(alloc, file, shelf)?;
     match Plan::read(alloc, bytes.as_slice()) {
@@ -115,8 +113,7 @@ pub(crate) fn read_plan<F: Shelf>(alloc: Global, file: &str, shelf: &mut F) -> R
 fn read_net<F: Shelf>(alloc: Global, file: &str, shelf: &mut F) -> Result<Netlist, Refusal>
     ensures reads { MatchResult result (IsNetFile (F.told shelf.old) file.now)
         (IsNetRefused (F.told shelf.old) (F.faults shelf.old) (F.faults shelf.new) file.now) }
-    ensures kept { F.told shelf.new ≡ F.told shelf.old }
-    ensures counts { F.faults shelf.old ≤ F.faults shelf.new }
+    ensures loads { Loads (F.told shelf.old) (F.faults shelf.old) (F.told shelf.new) (F.faults shelf.new) }
 {
     let Ok(name) = Vec::from_slice(alloc, file.as_bytes()) else {
         return Err(Refusal::NoMemory);
@@ -158,8 +155,7 @@ fn add_net<F: Shelf>(
     ensures reads { MatchResult result (λ _. AddsNet (F.told shelf.old) file.now
         (map arc_value nets.old.items) (map arc_value nets.new.items))
         (IsNetRefused (F.told shelf.old) (F.faults shelf.old) (F.faults shelf.new) file.now) }
-    ensures kept { F.told shelf.new ≡ F.told shelf.old }
-    ensures counts { F.faults shelf.old ≤ F.faults shelf.new }
+    ensures loads { Loads (F.told shelf.old) (F.faults shelf.old) (F.told shelf.new) (F.faults shelf.new) }
 {
     let net = read_net(alloc, name_of(file), shelf)?;
     match share(alloc, net, nets) {
@@ -177,8 +173,7 @@ pub(crate) fn read_nets<F: Shelf>(
     ensures reads { MatchResult result
         (λ nets. AreNetFiles (F.told shelf.old) (files_of plan.now) (map arc_value nets.items))
         (AreNetsRefused (F.told shelf.old) (F.faults shelf.old) (F.faults shelf.new) (files_of plan.now)) }
-    ensures kept { F.told shelf.new ≡ F.told shelf.old }
-    ensures counts { F.faults shelf.old ≤ F.faults shelf.new }
+    ensures loads { Loads (F.told shelf.old) (F.faults shelf.old) (F.told shelf.new) (F.faults shelf.new) }
 {
     let files = plan.files().as_slice();
     let mut nets = Vec::new(alloc);

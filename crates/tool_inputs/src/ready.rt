@@ -1,6 +1,7 @@
 //! A program and a plan that are read and bound.
 
-ghost use Rattle.std.specs.Prelude.{◌≡◌, ◌≤◌, IfOk, IfErr};
+ghost use Rattle.std.specs.Prelude.{IfOk, IfErr};
+ghost use Rattle.tester_types.specs.Outside.{Loads};
 ghost use Rattle.tool_inputs.specs.Inputs.{IsReady, AreRefused};
 
 use crate::inputs::{read_nets, read_plan, read_program};
@@ -27,8 +28,7 @@ pub fn prepare<F: Shelf>(
     ensures ready { IfOk result (λ lot. IsReady (F.told shelf.old) program.now plan.now lot.code lot.plan) }
     ensures refused { IfErr result (λ r. AreRefused
         (F.told shelf.old) (F.faults shelf.old) (F.faults shelf.new) program.now plan.now r) }
-    ensures kept { F.told shelf.new ≡ F.told shelf.old }
-    ensures counts { F.faults shelf.old ≤ F.faults shelf.new }
+    ensures loads { Loads (F.told shelf.old) (F.faults shelf.old) (F.told shelf.new) (F.faults shelf.new) }
 {
     let code = read_program(alloc, program, shelf)?;
     let plan = read_plan(alloc, plan, shelf)?;

@@ -1,6 +1,6 @@
 //! Why a command on a program and a plan isn't run, and the line of each refusal.
 
-ghost use Rattle.std.specs.Prelude.{◌≡◌, ◌≤◌, ◌++◌, codes, decimal};
+ghost use Rattle.std.specs.Prelude.{◌++◌, codes, decimal};
 ghost use Rattle.tester_types.specs.Printing.{printed_name};
 ghost use Rattle.tool_inputs.specs.declared.status.Status.TheVariants.{NoDie, RefusedNet, RefusedPlan, RefusedSaved, RefusedStil, TooFewSockets};
 ghost use Rattle.tool_inputs.specs.Endings.{Ends, refused_line};
@@ -41,9 +41,8 @@ pub enum Refusal {
 
 /// Puts the line of a refusal, and answers its status.
 pub fn put_refusal<K: Sink>(out: &mut K, refusal: &Refusal) -> Status
-    ensures ends { Ends (K.told out.old) (K.faults out.old)
+    ensures { Ends (K.told out.old) (K.faults out.old)
         (status_of refusal.now) (line_of refusal.now) result (K.told out.new) (K.faults out.new) }
-    ensures puts { K.faults out.old ≤ K.faults out.new }
 {
     match refusal {
         Refusal::NoMemory => no_memory(out),
@@ -66,9 +65,8 @@ pub fn put_refusal<K: Sink>(out: &mut K, refusal: &Refusal) -> Status
 
 /// Puts the line of a text's refusal, and answers its status.
 pub fn put_stil<K: Sink>(out: &mut K, refusal: &StilRefusal) -> Status
-    ensures ends { Ends (K.told out.old) (K.faults out.old)
+    ensures { Ends (K.told out.old) (K.faults out.old)
         (stil_status refusal.now) (stil_line refusal.now) result (K.told out.new) (K.faults out.new) }
-    ensures puts { K.faults out.old ≤ K.faults out.new }
 {
     match refusal {
         StilRefusal::NoMemory => no_memory(out),
@@ -78,9 +76,8 @@ pub fn put_stil<K: Sink>(out: &mut K, refusal: &StilRefusal) -> Status
 
 /// Puts the line of a text's fault.
 fn put_fault<K: Sink>(out: &mut K, fault: &StilFault) -> Status
-    ensures ends { Ends (K.told out.old) (K.faults out.old)
+    ensures { Ends (K.told out.old) (K.faults out.old)
         RefusedStil (refused_line fault.now) result (K.told out.new) (K.faults out.new) }
-    ensures puts { K.faults out.old ≤ K.faults out.new }
 {
     let line = [
         Piece::Text(b"refused stil "),
@@ -98,9 +95,8 @@ fn put_fault<K: Sink>(out: &mut K, fault: &StilFault) -> Status
 
 /// Puts the line of bytes that are no saved program.
 fn put_saved_fault<K: Sink>(out: &mut K, fault: SavedFault) -> Status
-    ensures ends { Ends (K.told out.old) (K.faults out.old)
+    ensures { Ends (K.told out.old) (K.faults out.old)
         (saved_status fault) (saved_line fault) result (K.told out.new) (K.faults out.new) }
-    ensures puts { K.faults out.old ≤ K.faults out.new }
 {
     match fault {
         SavedFault::NoMemory => no_memory(out),
@@ -113,9 +109,8 @@ fn put_saved_fault<K: Sink>(out: &mut K, fault: SavedFault) -> Status
 
 /// Puts the line of a fault of this kind at a place of a saved program.
 fn put_bad_saved<K: Sink>(out: &mut K, kind: &[u8], place: u64) -> Status
-    ensures ends { Ends (K.told out.old) (K.faults out.old)
+    ensures { Ends (K.told out.old) (K.faults out.old)
         RefusedSaved (saved_fault_line kind.now place) result (K.told out.new) (K.faults out.new) }
-    ensures puts { K.faults out.old ≤ K.faults out.new }
 {
     let line = [
         Piece::Text(b"refused saved "),
@@ -128,9 +123,8 @@ fn put_bad_saved<K: Sink>(out: &mut K, kind: &[u8], place: u64) -> Status
 
 /// Puts the line of a lot with fewer sockets than sites.
 fn put_too_few<K: Sink>(out: &mut K, sites: u8, have: u8) -> Status
-    ensures ends { Ends (K.told out.old) (K.faults out.old)
+    ensures { Ends (K.told out.old) (K.faults out.old)
         TooFewSockets (few_sockets_line sites have) result (K.told out.new) (K.faults out.new) }
-    ensures puts { K.faults out.old ≤ K.faults out.new }
 {
     let line = [
         Piece::Text(b"too few sockets "),
@@ -144,9 +138,8 @@ fn put_too_few<K: Sink>(out: &mut K, sites: u8, have: u8) -> Status
 
 /// Puts the line of a plan without a die at this site, or without any.
 fn put_no_die<K: Sink>(out: &mut K, site: Option<u8>) -> Status
-    ensures ends { Ends (K.told out.old) (K.faults out.old)
+    ensures { Ends (K.told out.old) (K.faults out.old)
         NoDie (no_die_line site) result (K.told out.new) (K.faults out.new) }
-    ensures puts { K.faults out.old ≤ K.faults out.new }
 {
     match site {
         Some(site) => put_site(out, b"no die ", site, Status::NoDie),
@@ -156,9 +149,8 @@ fn put_no_die<K: Sink>(out: &mut K, site: Option<u8>) -> Status
 
 /// Puts a line that ends with the number of a site.
 fn put_site<K: Sink>(out: &mut K, line: &[u8], site: u8, status: Status) -> Status
-    ensures ends { Ends (K.told out.old) (K.faults out.old)
+    ensures { Ends (K.told out.old) (K.faults out.old)
         status (line.now ++ decimal site ++ codes "\n") result (K.told out.new) (K.faults out.new) }
-    ensures puts { K.faults out.old ≤ K.faults out.new }
 {
     let line = [
         Piece::Text(line),
@@ -170,9 +162,8 @@ fn put_site<K: Sink>(out: &mut K, line: &[u8], site: u8, status: Status) -> Stat
 
 /// Puts a line that ends with the name of a file.
 fn put_named<'a, K: Sink>(out: &mut K, line: &'a [u8], file: &'a [u8], status: Status) -> Status
-    ensures ends { Ends (K.told out.old) (K.faults out.old)
+    ensures { Ends (K.told out.old) (K.faults out.old)
         status (line.now ++ printed_name file.now ++ codes "\n") result (K.told out.new) (K.faults out.new) }
-    ensures puts { K.faults out.old ≤ K.faults out.new }
 {
     let line = [Piece::Text(line), Piece::Name(file), Piece::Text(b"\n")];
     ended(out, &line, status)
@@ -180,9 +171,8 @@ fn put_named<'a, K: Sink>(out: &mut K, line: &'a [u8], file: &'a [u8], status: S
 
 /// Puts the line of a netlist that is refused.
 fn put_net<K: Sink>(out: &mut K, file: &[u8], fault: &NetFault) -> Status
-    ensures ends { Ends (K.told out.old) (K.faults out.old)
+    ensures { Ends (K.told out.old) (K.faults out.old)
         (net_status fault.now) (net_line file.now fault.now) result (K.told out.new) (K.faults out.new) }
-    ensures puts { K.faults out.old ≤ K.faults out.new }
 {
     match fault {
         NetFault::NoMemory => no_memory(out),
@@ -197,10 +187,9 @@ fn put_net<K: Sink>(out: &mut K, file: &[u8], fault: &NetFault) -> Status
 
 /// Puts the line of a netlist with a line of no form.
 fn put_bad_line<K: Sink>(out: &mut K, file: &[u8], number: u32) -> Status
-    ensures ends { Ends (K.told out.old) (K.faults out.old)
+    ensures { Ends (K.told out.old) (K.faults out.old)
         RefusedNet (net_fault_line file.now (codes " Line ") (decimal number))
         result (K.told out.new) (K.faults out.new) }
-    ensures puts { K.faults out.old ≤ K.faults out.new }
 {
     let line = [
         Piece::Text(b"refused net "),
@@ -214,10 +203,9 @@ fn put_bad_line<K: Sink>(out: &mut K, file: &[u8], number: u32) -> Status
 
 /// Puts the line of a netlist with too many nets.
 fn put_too_many<K: Sink>(out: &mut K, file: &[u8]) -> Status
-    ensures ends { Ends (K.told out.old) (K.faults out.old)
+    ensures { Ends (K.told out.old) (K.faults out.old)
         RefusedNet (net_fault_line file.now (codes " OutOfRange ") (codes "-"))
         result (K.told out.new) (K.faults out.new) }
-    ensures puts { K.faults out.old ≤ K.faults out.new }
 {
     let line = [
         Piece::Text(b"refused net "),
@@ -231,10 +219,9 @@ fn put_too_many<K: Sink>(out: &mut K, file: &[u8]) -> Status
 
 /// Puts the line of a netlist with a fault of this kind at a net.
 fn put_bad_net<'a, K: Sink>(out: &mut K, file: &'a [u8], kind: &'a [u8], net: &'a [u8]) -> Status
-    ensures ends { Ends (K.told out.old) (K.faults out.old)
+    ensures { Ends (K.told out.old) (K.faults out.old)
         RefusedNet (net_fault_line file.now kind.now (printed_name net.now))
         result (K.told out.new) (K.faults out.new) }
-    ensures puts { K.faults out.old ≤ K.faults out.new }
 {
     let line = [
         Piece::Text(b"refused net "),
@@ -248,9 +235,8 @@ fn put_bad_net<'a, K: Sink>(out: &mut K, file: &'a [u8], kind: &'a [u8], net: &'
 
 /// Puts the line of a plan that is refused.
 fn put_plan<K: Sink>(out: &mut K, fault: &PlanFault) -> Status
-    ensures ends { Ends (K.told out.old) (K.faults out.old)
+    ensures { Ends (K.told out.old) (K.faults out.old)
         (plan_status fault.now) (plan_line fault.now) result (K.told out.new) (K.faults out.new) }
-    ensures puts { K.faults out.old ≤ K.faults out.new }
 {
     match fault {
         PlanFault::NoMemory => no_memory(out),
@@ -265,9 +251,8 @@ fn put_plan<K: Sink>(out: &mut K, fault: &PlanFault) -> Status
 
 /// Puts the line of a plan with a fault of this kind at a row.
 fn put_bad_row<K: Sink>(out: &mut K, kind: &[u8], row: u32) -> Status
-    ensures ends { Ends (K.told out.old) (K.faults out.old)
+    ensures { Ends (K.told out.old) (K.faults out.old)
         RefusedPlan (plan_fault_line kind.now (decimal row)) result (K.told out.new) (K.faults out.new) }
-    ensures puts { K.faults out.old ≤ K.faults out.new }
 {
     let line = [
         Piece::Text(b"refused plan "),
@@ -280,10 +265,9 @@ fn put_bad_row<K: Sink>(out: &mut K, kind: &[u8], row: u32) -> Status
 
 /// Puts the line of a plan that leaves a signal without a net.
 fn put_unbound<K: Sink>(out: &mut K, signal: &[u8]) -> Status
-    ensures ends { Ends (K.told out.old) (K.faults out.old)
+    ensures { Ends (K.told out.old) (K.faults out.old)
         RefusedPlan (plan_fault_line (codes "Unbound ") (printed_name signal.now))
         result (K.told out.new) (K.faults out.new) }
-    ensures puts { K.faults out.old ≤ K.faults out.new }
 {
     let line = [
         Piece::Text(b"refused plan "),

@@ -38,7 +38,7 @@ returns-in-Nothing-clause-answers g c = record {
   outcome = Ended Usage;
   text = usage_line;
   wanted = no_form c.in-Nothing.ensures refl refl;
-  ends = ends_as _ _ _ _ _ _ _ c.ended.ensures.ends;
+  ends = ends_as _ _ _ _ _ _ _ c.ended.ensures;
 }
 
 pub cut-requires : goal.cut-requires

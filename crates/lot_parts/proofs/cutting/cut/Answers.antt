@@ -1,4 +1,4 @@
-use Rattle.std.proofs.Common.{refl, inl, inr}
+use Rattle.std.proofs.Common.{refl}
 use Rattle.tool_inputs.specs.declared.status.Status.TheVariants.{Done}
 use Rattle.tool_inputs.specs.declared.refusal.Refusal.TheVariants.{Plan}
 use Rattle.tool_inputs.specs.Refusals.{status_of, line_of}
@@ -6,6 +6,7 @@ use Rattle.tool_inputs.specs.Inputs.IsPlanRefused.{unread}
 use Rattle.tool_inputs.proofs.InputLemmas.{plan_refused}
 use Rattle.lot_parts.specs.Parts.CutWants.{is_refused}
 use Rattle.lot_parts.proofs.CutLemmas.{cut_so}
+use Rattle.tool_inputs.proofs.EndLemmas.{ends_whole, ends_front}
 use Rattle.lot_parts.proofs.cutting.cut.Goals as goal
 
 pub returns-in-Err-clause-answers : goal.returns-in-Err-clause-answers
@@ -13,7 +14,7 @@ returns-in-Err-clause-answers g c = record {
   status = status_of c.in-Err.refusal;
   text = line_of c.in-Err.refusal;
   wanted = is_refused (record { refused = c.in-Err.refusal; cause = unread c.in-Err.ensures.unread; answer = refl; line = refl });
-  ends = c.put_refusal.ensures.ends;
+  ends = c.put_refusal.ensures;
 }
 
 pub returns-in-Err-part_text-clause-answers : goal.returns-in-Err-part_text-clause-answers
@@ -27,7 +28,7 @@ returns-in-Err-part_text-clause-answers g c = record {
     answer = refl;
     line = refl;
   });
-  ends = c.put_refusal-in-Err-part_text.ensures.ends;
+  ends = c.put_refusal-in-Err-part_text.ensures;
 }
 
 pub returns-in-Ok-put_all-clause-answers : goal.returns-in-Ok-put_all-clause-answers
@@ -36,7 +37,7 @@ returns-in-Ok-put_all-clause-answers g c = record {
   text = c.as_slice-2.result.now;
   wanted = cut_so _ _ _ _ _ _ c.in-Ok.bytes.items c.as_slice.result.now c.in-Ok-part_text.text.items _ c.in-Ok.ensures.found
       c.as_slice.ensures.value c.as_slice-2.ensures.value c.in-Ok-part_text.ensures.found;
-  ends = inl (refl, c.in-Ok-put_all.ensures.puts);
+  ends = ends_whole c.in-Ok-put_all.ensures;
 }
 
 pub returns-clause-answers : goal.returns-clause-answers
@@ -45,5 +46,5 @@ returns-clause-answers g c = record {
   text = c.as_slice-2.result.now;
   wanted = cut_so _ _ _ _ _ _ c.in-Ok.bytes.items c.as_slice.result.now c.in-Ok-part_text.text.items _ c.in-Ok.ensures.found
       c.as_slice.ensures.value c.as_slice-2.ensures.value c.in-Ok-part_text.ensures.found;
-  ends = inr (refl, c.in-Err-put_all.ensures.puts, c.in-Err-put_all.ensures.cause);
+  ends = ends_front c.in-Err-put_all.ensures;
 }

@@ -1,7 +1,7 @@
-use Rattle.std.proofs.Common.{refl, inl, inr}
 use Rattle.grade_listing.specs.GradeText.{grade_text}
 use Rattle.tool_inputs.specs.declared.status.Status.TheVariants.{Done}
 use Rattle.lot_parts.proofs.GradeLemmas.{graded_so}
+use Rattle.tool_inputs.proofs.EndLemmas.{ends_whole, ends_front}
 use Rattle.lot_parts.proofs.grade.run.Goals as goal
 
 pub returns-in-Ok-print_grade-clause-answers : goal.returns-in-Ok-print_grade-clause-answers
@@ -9,7 +9,7 @@ returns-in-Ok-print_grade-clause-answers g c = record {
   status = Done;
   text = grade_text c.first_net.result.now.net.names c.in-Ok.grade;
   wanted = graded_so c.args.lot.now.plan c.first_net.result.now c.in-Ok.grade c.args.of.parts c.args.of.part c.first_net.ensures c.in-Ok.ensures;
-  ends = inl (refl, c.in-Ok-print_grade.ensures.puts);
+  ends = ends_whole c.in-Ok-print_grade.ensures;
 }
 
 pub returns-clause-answers : goal.returns-clause-answers
@@ -17,5 +17,5 @@ returns-clause-answers g c = record {
   status = Done;
   text = grade_text c.first_net.result.now.net.names c.in-Ok.grade;
   wanted = graded_so c.args.lot.now.plan c.first_net.result.now c.in-Ok.grade c.args.of.parts c.args.of.part c.first_net.ensures c.in-Ok.ensures;
-  ends = inr (refl, c.in-Err.ensures.puts, c.in-Err.ensures.cause);
+  ends = ends_front c.in-Err.ensures;
 }

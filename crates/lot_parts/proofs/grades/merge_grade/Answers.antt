@@ -11,7 +11,7 @@ use Rattle.lot_parts.proofs.grades.merge_grade.Goals as goal
 pub returns-in-Err-clause-answers : goal.returns-in-Err-clause-answers
 returns-in-Err-clause-answers g c =
     refused_answers _ _ _ _ (refusal.Of c.in-Err.refusal) _ _ _ _ _ (of_files c.in-Err.refusal c.in-Err.ensures.reads refl)
-    c.put_part_refusal.ensures.ends
+    c.put_part_refusal.ensures
 
 pub read_logs-requires : goal.read_logs-requires
 read_logs-requires g c =
@@ -23,7 +23,7 @@ returns-in-Err-read_logs-clause-answers g c =
     (of_text (texts_seen c.in-Ok.texts.items) c.in-Ok.ensures.reads
     (subst (λ ts. IsTextRefused (words_seen c.args.files.now) (texts_seen ts) c.in-Err-read_logs.refusal) c.as_slice.ensures.value
     c.in-Err-read_logs.ensures))
-    c.put_part_refusal-in-Err-read_logs.ensures.ends
+    c.put_part_refusal-in-Err-read_logs.ensures
 
 pub put_merged_grade-requires : goal.put_merged_grade-requires
 put_merged_grade-requires g c =
@@ -51,7 +51,7 @@ returns-in-Ok-put_merged_grade-clause-answers g c =
     c.in-Ok.ensures.reads
     (subst (λ ts. AreLogTexts (texts_seen ts) c.in-Ok-read_logs.logs.items) c.as_slice.ensures.value c.in-Ok-read_logs.ensures.0)
     c.in-Ok-read_logs.ensures.1
-    (whole_ends _ _ _ _ _ _ c.as_slice-2.ensures.value c.in-Ok-put_merged_grade.ensures.puts)
+    (whole_ends _ _ _ _ _ _ c.as_slice-2.ensures.value c.in-Ok-put_merged_grade.ensures.puts c.in-Ok-put_merged_grade.ensures.count)
 
 pub returns-clause-answers : goal.returns-clause-answers
 returns-clause-answers g c =
@@ -67,4 +67,4 @@ returns-clause-answers g c =
     c.in-Ok.ensures.reads
     (subst (λ ts. AreLogTexts (texts_seen ts) c.in-Ok-read_logs.logs.items) c.as_slice.ensures.value c.in-Ok-read_logs.ensures.0)
     c.in-Ok-read_logs.ensures.1
-    (front_ends _ _ _ _ _ _ c.as_slice-2.ensures.value c.in-Err-put_merged_grade.ensures.puts c.in-Err-put_merged_grade.ensures.cause)
+    (front_ends _ _ _ _ _ _ c.as_slice-2.ensures.value c.in-Err-put_merged_grade.ensures.puts c.in-Err-put_merged_grade.ensures.count c.in-Err-put_merged_grade.ensures.cause)

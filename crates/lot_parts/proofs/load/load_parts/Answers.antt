@@ -20,7 +20,7 @@ returns-in_err-add_part-clause-reads g c =
     c.in_err-add_part.field-0.0 within
     (word_at c.args.files.now c.loop-file.file-index c.file-item.result c.as_str.result.now (omega (arith, c.loop-file-test.true))
     c.file-item.is c.as_str.ensures.value)
-    c.loop-file.invariant.kept c.loop-file.invariant.counts c.in_err-add_part.ensures.counts c.loop-file.invariant.read c.in_err-add_part.ensures.reads)
+    c.loop-file.invariant.kept c.loop-file.invariant.counts c.in_err-add_part.ensures.loads.counts c.loop-file.invariant.read c.in_err-add_part.ensures.reads)
 
 pub loop-file-preserved : goal.loop-file-preserved
 loop-file-preserved g c =
@@ -34,8 +34,8 @@ loop-file-preserved g c =
           (word_at c.args.files.now c.loop-file.file-index c.file-item.result c.as_str.result.now (omega (arith, c.loop-file-test.true))
           c.file-item.is c.as_str.ensures.value)
           c.loop-file.invariant.kept c.loop-file.invariant.read c.in_ok-add_part.ensures.reads;
-      kept = c.in_ok-add_part.ensures.kept ∙ c.loop-file.invariant.kept;
-      counts = omega (arith, c.loop-file.invariant.counts, c.in_ok-add_part.ensures.counts);
+      kept = c.in_ok-add_part.ensures.loads.kept ∙ c.loop-file.invariant.kept;
+      counts = omega (arith, c.loop-file.invariant.counts, c.in_ok-add_part.ensures.loads.counts);
     }
 
 pub returns-clause-reads : goal.returns-clause-reads

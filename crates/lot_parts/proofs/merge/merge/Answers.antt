@@ -16,11 +16,11 @@ use Rattle.lot_parts.proofs.merge.merge.Goals as goal
 pub returns-in-Err-clause-answers : goal.returns-in-Err-clause-answers
 returns-in-Err-clause-answers g c =
     refused_answers _ _ _ _ _ (refusal.Of c.in-Err.refusal) _ _ _ _ _ (of_plan c.in-Err.refusal c.in-Err.ensures.reads refl)
-    c.put_part_refusal.ensures.ends
+    c.put_part_refusal.ensures
 
 pub returns-in_default-clause-answers : goal.returns-in_default-clause-answers
 returns-in_default-clause-answers g c =
-    refused_answers _ _ _ _ _ (refusal.Of NoMemory) _ _ _ _ _ (no_memory refl) c.out_of_memory.ensures.ends
+    refused_answers _ _ _ _ _ (refusal.Of NoMemory) _ _ _ _ _ (no_memory refl) c.out_of_memory.ensures
 
 pub returns-in-Err-load_parts-clause-answers : goal.returns-in-Err-load_parts-clause-answers
 returns-in-Err-load_parts-clause-answers g c =
@@ -29,11 +29,11 @@ returns-in-Err-load_parts-clause-answers g c =
     refused_answers _ _ _ _ _ (refusal.Of c.in-Err-load_parts.refusal) _ _ _ _ _
     (of_files c.in-Ok.rows c.in-Ok.ensures.reads.0 c.in-Err-load_parts.refusal
     (wide-unloaded_files (told c.args.shelf.now) (words_seen c.args.files.now) (faults c.args.shelf.now) (faults c.read_plan.new.shelf)
-    (faults c.load_parts.new.shelf) (faults c.load_parts.new.shelf) c.in-Err-load_parts.refusal c.in-Ok.ensures.counts
-    c.in-Err-load_parts.ensures.counts (omega arith)
+    (faults c.load_parts.new.shelf) (faults c.load_parts.new.shelf) c.in-Err-load_parts.refusal c.in-Ok.ensures.loads.counts
+    c.in-Err-load_parts.ensures.loads.counts (omega arith)
     (subst (λ (t : Option Files). AreUnloaded t (faults c.read_plan.new.shelf) (faults c.load_parts.new.shelf) (words_seen c.args.files.now)
-    c.in-Err-load_parts.refusal) c.in-Ok.ensures.kept c.in-Err-load_parts.ensures.reads)) refl)
-    c.put_part_refusal-in-Err-load_parts.ensures.ends
+    c.in-Err-load_parts.refusal) c.in-Ok.ensures.loads.kept c.in-Err-load_parts.ensures.reads)) refl)
+    c.put_part_refusal-in-Err-load_parts.ensures
 
 pub read_logs-requires-clause-few_sites : goal.read_logs-requires-clause-few_sites
 read_logs-requires-clause-few_sites g c =
@@ -48,10 +48,10 @@ returns-in-Err-read_logs-clause-answers g c =
     refused_answers _ _ _ _ _ c.in-Err-read_logs.refusal _ _ _ _ _
     (of_text c.in-Ok.rows c.in-Ok.ensures.reads.0 (texts_seen c.in-Ok-load_parts.texts.items)
     (subst (λ (t : Option Files). ArePartFiles t (words_seen c.args.files.now) (texts_seen c.in-Ok-load_parts.texts.items))
-    c.in-Ok.ensures.kept c.in-Ok-load_parts.ensures.reads)
+    c.in-Ok.ensures.loads.kept c.in-Ok-load_parts.ensures.reads)
     (subst (λ ts. IsTextRefused c.in-Ok.rows (words_seen c.args.files.now) (texts_seen ts) c.in-Err-read_logs.refusal)
     c.as_slice.ensures.value c.in-Err-read_logs.ensures))
-    c.put_part_refusal-in-Err-read_logs.ensures.ends
+    c.put_part_refusal-in-Err-read_logs.ensures
 
 pub put_merged-requires : goal.put_merged-requires
 put_merged-requires g c =
@@ -76,10 +76,10 @@ returns-in-Ok-put_merged-clause-answers g c =
       loaded_long _ c.args.files.now c.in-Ok-load_parts.texts.items c.in-Ok-load_parts.ensures.reads,
     ))
     (subst (λ (t : Option Files). ArePartFiles t (words_seen c.args.files.now) (texts_seen c.in-Ok-load_parts.texts.items))
-    c.in-Ok.ensures.kept c.in-Ok-load_parts.ensures.reads)
+    c.in-Ok.ensures.loads.kept c.in-Ok-load_parts.ensures.reads)
     (sliced_same c.in-Ok.rows _ _ _ _ c.in-Ok-read_logs.logs.items (files_long c.args.files.now)
     (ap texts_seen c.as_slice.ensures.value) c.in-Ok-read_logs.ensures)
-    (whole_ends _ _ _ _ _ _ _ _ _ c.as_slice-2.ensures c.as_slice-3.ensures.value c.in-Ok-put_merged.ensures.puts)
+    (whole_ends _ _ _ _ _ _ _ _ _ c.as_slice-2.ensures c.as_slice-3.ensures.value c.in-Ok-put_merged.ensures.puts c.in-Ok-put_merged.ensures.count)
 
 pub returns-clause-answers : goal.returns-clause-answers
 returns-clause-answers g c =
@@ -92,8 +92,8 @@ returns-clause-answers g c =
       loaded_long _ c.args.files.now c.in-Ok-load_parts.texts.items c.in-Ok-load_parts.ensures.reads,
     ))
     (subst (λ (t : Option Files). ArePartFiles t (words_seen c.args.files.now) (texts_seen c.in-Ok-load_parts.texts.items))
-    c.in-Ok.ensures.kept c.in-Ok-load_parts.ensures.reads)
+    c.in-Ok.ensures.loads.kept c.in-Ok-load_parts.ensures.reads)
     (sliced_same c.in-Ok.rows _ _ _ _ c.in-Ok-read_logs.logs.items (files_long c.args.files.now)
     (ap texts_seen c.as_slice.ensures.value) c.in-Ok-read_logs.ensures)
-    (front_ends _ _ _ _ _ _ _ _ _ c.as_slice-2.ensures c.as_slice-3.ensures.value c.in-Err-put_merged.ensures.puts
+    (front_ends _ _ _ _ _ _ _ _ _ c.as_slice-2.ensures c.as_slice-3.ensures.value c.in-Err-put_merged.ensures.puts c.in-Err-put_merged.ensures.count
     c.in-Err-put_merged.ensures.cause)

@@ -1,5 +1,5 @@
 use Rattle.lot_parts.proofs.EndingLemmas.{ends_as}
 use Rattle.lot_parts.proofs.outcome.out_of_memory.Goals as goal
 
-pub returns-clause-ends : goal.returns-clause-ends
-returns-clause-ends g c = ends_as _ _ _ _ _ _ _ c.no_memory.ensures.ends
+pub returns : goal.returns
+returns g c = ends_as _ _ _ _ _ _ _ c.no_memory.ensures

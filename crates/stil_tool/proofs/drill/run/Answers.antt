@@ -1,9 +1,10 @@
-use Rattle.std.proofs.Common.{refl, ap, inl, inr}
+use Rattle.std.proofs.Common.{ap}
 use Rattle.tester_types.specs.Records.{records_of}
 use Rattle.lot_plan.specs.Bound.{Bound}
 use Rattle.tool_inputs.specs.declared.status.Status.TheVariants.{Done}
 use Rattle.stil_tool.specs.Drill.{drill_text}
 use Rattle.stil_tool.proofs.RunLemmas.{sound_so}
+use Rattle.tool_inputs.proofs.EndLemmas.{ends_whole, ends_front}
 use Rattle.stil_tool.proofs.drill.run.Goals as goal
 
 pub put_summary-requires : goal.put_summary-requires
@@ -20,7 +21,7 @@ returns-in-Ok-put_summary-clause-answers g c = record {
     is = c.in-Ok.ensures.book;
     written = ap (λ (p : Bound). drill_text c.args.number p (records_of c.in-Ok.tested.book)) c.in-Ok.ensures.plan;
   };
-  ends = inl (refl, c.in-Ok-put_summary.ensures.puts);
+  ends = ends_whole c.in-Ok-put_summary.ensures;
 }
 
 pub returns-clause-answers : goal.returns-clause-answers
@@ -32,5 +33,5 @@ returns-clause-answers g c = record {
     is = c.in-Ok.ensures.book;
     written = ap (λ (p : Bound). drill_text c.args.number p (records_of c.in-Ok.tested.book)) c.in-Ok.ensures.plan;
   };
-  ends = inr (refl, c.in-Err.ensures.puts, c.in-Err.ensures.cause);
+  ends = ends_front c.in-Err.ensures;
 }

@@ -10,7 +10,7 @@ returns-in-Err-clause-answers g c = record {
   status = status_of c.in-Err.refusal;
   text = line_of c.in-Err.refusal;
   wanted = refused_wants _ _ _ _ _ _ c.in-Err.refusal (of_inputs c.in-Err.ensures.refused);
-  ends = c.put_refusal.ensures.ends;
+  ends = c.put_refusal.ensures;
 }
 
 pub returns-then-not-has_die-clause-answers : goal.returns-then-not-has_die-clause-answers
@@ -20,7 +20,7 @@ returns-then-not-has_die-clause-answers g c = record {
   wanted = refused_wants _ _ _ _ _ _ (NoDie (Some c.args.site))
       (no_die_refused _ _ _ _ _ _ c.in-Ok.lot.code c.in-Ok.lot.plan c.in-Ok.ensures.ready
       (none_there _ _ c.has_die.ensures c.if-not-has_die.true));
-  ends = c.put_refusal-then-not-has_die.ensures.ends;
+  ends = c.put_refusal-then-not-has_die.ensures;
 }
 
 pub returns-clause-answers : goal.returns-clause-answers

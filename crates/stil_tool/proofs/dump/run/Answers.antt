@@ -1,9 +1,10 @@
-use Rattle.std.proofs.Common.{refl, ap, inl, inr}
+use Rattle.std.proofs.Common.{refl, ap}
 use Rattle.lot_plan.proofs.GroupLemmas.{site-below}
 use Rattle.vcd_text.specs.Dump.{dump_of}
 use Rattle.vcd_dump.specs.Taken.{vars_of}
 use Rattle.tool_inputs.specs.declared.status.Status.TheVariants.{Done}
 use Rattle.stil_tool.specs.Dump.DumpRunWants.{is_written}
+use Rattle.tool_inputs.proofs.EndLemmas.{ends_whole, ends_front}
 use Rattle.stil_tool.proofs.dump.run.Goals as goal
 
 pub tape_of-requires-clause-site : goal.tape_of-requires-clause-site
@@ -17,7 +18,7 @@ returns-in-Ok-write_dump-clause-answers g c = record {
   status = Done;
   text = dump_of (vars_of c.args.lot.now.plan c.args.site) c.in-Ok.tape.calls;
   wanted = is_written refl c.in-Ok.ensures.few (ap (dump_of (vars_of c.args.lot.now.plan c.args.site)) c.in-Ok.ensures.calls);
-  ends = inl (refl, c.in-Ok-write_dump.ensures.puts);
+  ends = ends_whole c.in-Ok-write_dump.ensures;
 }
 
 pub returns-clause-answers : goal.returns-clause-answers
@@ -25,5 +26,5 @@ returns-clause-answers g c = record {
   status = Done;
   text = dump_of (vars_of c.args.lot.now.plan c.args.site) c.in-Ok.tape.calls;
   wanted = is_written refl c.in-Ok.ensures.few (ap (dump_of (vars_of c.args.lot.now.plan c.args.site)) c.in-Ok.ensures.calls);
-  ends = inr (refl, c.in-Err.ensures.puts, c.in-Err.ensures.cause);
+  ends = ends_front c.in-Err.ensures;
 }

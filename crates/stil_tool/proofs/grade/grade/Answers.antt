@@ -11,7 +11,7 @@ returns-in-Err-clause-answers g c = record {
   status = status_of c.in-Err.refusal;
   text = line_of c.in-Err.refusal;
   wanted = refused_wants _ _ _ _ _ c.in-Err.refusal (of_inputs c.in-Err.ensures.refused);
-  ends = c.put_refusal.ensures.ends;
+  ends = c.put_refusal.ensures;
 }
 
 pub returns-then-sites-eq0-clause-answers : goal.returns-then-sites-eq0-clause-answers
@@ -21,7 +21,7 @@ returns-then-sites-eq0-clause-answers g c = record {
   wanted = refused_wants _ _ _ _ _ (NoDie None)
       (no_die_refused _ _ _ _ _ c.in-Ok.lot.code c.in-Ok.lot.plan c.in-Ok.ensures.ready
       (omega (arith, c.if-sites-eq0.true, c.sites.ensures.count)));
-  ends = c.put_refusal-then-sites-eq0.ensures.ends;
+  ends = c.put_refusal-then-sites-eq0.ensures;
 }
 
 pub returns-clause-answers : goal.returns-clause-answers

@@ -10,7 +10,7 @@ returns-in-Err-clause-answers g c = record {
   status = status_of c.in-Err.refusal;
   text = line_of c.in-Err.refusal;
   wanted = refused_wants _ _ _ _ _ _ _ c.in-Err.refusal (of_inputs c.in-Err.ensures.refused);
-  ends = c.put_refusal.ensures.ends;
+  ends = c.put_refusal.ensures;
 }
 
 pub returns-then-sites-have-clause-answers : goal.returns-then-sites-have-clause-answers
@@ -21,7 +21,7 @@ returns-then-sites-have-clause-answers g c = record {
       (few_sockets_refused _ _ _ (length c.args.sockets.now.items) _ _ c.in-Ok.lot.code c.in-Ok.lot.plan c.sites-sites.result
       c.usable-have.result c.in-Ok.ensures.ready c.sites-sites.ensures.count
       (omega (arith, c.usable-have.ensures, c.len.ensures, c.args.sockets.now.ok)) (omega (arith, c.if-sites-have.true)));
-  ends = c.put_refusal-then-sites-have.ensures.ends;
+  ends = c.put_refusal-then-sites-have.ensures;
 }
 
 pub returns-clause-answers : goal.returns-clause-answers

@@ -1,9 +1,10 @@
-use Rattle.std.proofs.Common.{◌∙◌, refl, sym, ap, inl, inr}
+use Rattle.std.proofs.Common.{◌∙◌, sym, ap}
 use Rattle.tester_types.specs.Records.{records_of}
 use Rattle.lot_plan.specs.Bound.{Bound}
 use Rattle.datalog.specs.DatalogText.{lot_text}
 use Rattle.tool_inputs.specs.declared.status.Status.TheVariants.{Done}
 use Rattle.stil_tool.proofs.RunLemmas.{sound_so, written_so}
+use Rattle.tool_inputs.proofs.EndLemmas.{ends_whole, ends_front}
 use Rattle.stil_tool.proofs.lot.run.Goals as goal
 
 pub print_lot-requires-clause-program : goal.print_lot-requires-clause-program
@@ -25,7 +26,7 @@ returns-in-Ok-print_lot-clause-answers g c = record {
     written = written_so c.args.lot.plan c.in-Ok.tested.book c.code.result.now c.in-Ok.tested.plan
         c.in-Ok.ensures.plan (c.code.ensures ∙ c.in-Ok.ensures.program);
   };
-  ends = inl (refl, c.in-Ok-print_lot.ensures.puts);
+  ends = ends_whole c.in-Ok-print_lot.ensures;
 }
 
 pub returns-clause-answers : goal.returns-clause-answers
@@ -38,5 +39,5 @@ returns-clause-answers g c = record {
     written = written_so c.args.lot.plan c.in-Ok.tested.book c.code.result.now c.in-Ok.tested.plan
         c.in-Ok.ensures.plan (c.code.ensures ∙ c.in-Ok.ensures.program);
   };
-  ends = inr (refl, c.in-Err.ensures.puts, c.in-Err.ensures.cause);
+  ends = ends_front c.in-Err.ensures;
 }

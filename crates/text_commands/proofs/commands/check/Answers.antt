@@ -1,9 +1,10 @@
-use Rattle.std.proofs.Common.{refl, inl, inr}
+use Rattle.std.proofs.Common.{refl}
 use Rattle.text_commands.specs.declared.command.Command.TheVariants.{Check}
 use Rattle.tool_inputs.specs.declared.status.Status.TheVariants.{Done}
 use Rattle.code_listing.specs.Text.{check_text}
 use Rattle.tool_inputs.specs.Refusals.{stil_status, stil_line}
 use Rattle.text_commands.proofs.CommandLemmas.{want_refused}
+use Rattle.tool_inputs.proofs.EndLemmas.{ends_whole, ends_front}
 use Rattle.text_commands.proofs.commands.check.Goals as goal
 
 pub returns-in-Ok-put_check-clause-answers : goal.returns-in-Ok-put_check-clause-answers
@@ -11,7 +12,7 @@ returns-in-Ok-put_check-clause-answers g c = λ file. record {
   status = Done;
   text = check_text c.in-Ok.code;
   wanted = (c.in-Ok.code, c.in-Ok.ensures.found, refl);
-  ends = inl (refl, c.in-Ok-put_check.ensures.puts);
+  ends = ends_whole c.in-Ok-put_check.ensures;
 }
 
 pub returns-in-Ok-clause-answers : goal.returns-in-Ok-clause-answers
@@ -19,7 +20,7 @@ returns-in-Ok-clause-answers g c = λ file. record {
   status = Done;
   text = check_text c.in-Ok.code;
   wanted = (c.in-Ok.code, c.in-Ok.ensures.found, refl);
-  ends = inr (refl, c.in-Err-put_check.ensures.puts, c.in-Err-put_check.ensures.cause);
+  ends = ends_front c.in-Err-put_check.ensures;
 }
 
 pub returns-clause-answers : goal.returns-clause-answers
@@ -27,5 +28,5 @@ returns-clause-answers g c = λ file. record {
   status = stil_status c.in-Err.refusal;
   text = stil_line c.in-Err.refusal;
   wanted = want_refused Check file c.args.bytes.now c.in-Err.refusal c.in-Err.ensures.fault;
-  ends = c.put_stil.ensures.ends;
+  ends = c.put_stil.ensures;
 }

@@ -1,4 +1,4 @@
-use Rattle.std.proofs.Common.{refl, ap, inl, inr, subst, Err}
+use Rattle.std.proofs.Common.{arith, refl, ap, inl, inr, subst, Err}
 use Rattle.code_listing.specs.declared.fault.ListFault.{ListFault}
 use Rattle.code_listing.specs.Lines.{ListsWhole, IsFor}
 use Rattle.code_listing.specs.Listing.{listing_of}
@@ -14,7 +14,7 @@ returns-in-Ok-put_cycles-clause-answers g c = λ file. record {
   status = Done;
   text = cycles_text (listing_of c.in-Ok.code);
   wanted = (c.in-Ok.ensures.blocks, c.in-Ok.ensures.listed, ap cycles_text c.in-Ok.ensures.listing);
-  ends = inl (refl, c.in-Ok-put_cycles.ensures.puts);
+  ends = record { ends = inl (refl, c.in-Ok-put_cycles.ensures.puts); count = omega arith };
 }
 
 pub returns-in-Err-NoMemory-clause-answers : goal.returns-in-Err-NoMemory-clause-answers
@@ -26,7 +26,7 @@ returns-in-Err-NoMemory-clause-answers g c = λ file. record {
       (g.K.Sink.faults c.put_cycles.new.sink) _ memory_line OutOfMemory c.no_memory.result
       (subst (λ (f : ListFault). ListsWhole (g.K.Sink.told c.args.out.now) (cycles_text (listing_of c.in-Ok.code)) (Err f) (g.K.Sink.told c.put_cycles.new.sink))
       c.in-Err-NoMemory.field-0-is c.in-Err-NoMemory.ensures.puts)
-      c.in-Err-NoMemory.ensures.count c.no_memory.ensures.puts c.no_memory.ensures.ends;
+      c.in-Err-NoMemory.ensures.count c.no_memory.ensures;
 }
 
 pub returns-clause-answers : goal.returns-clause-answers
@@ -34,11 +34,14 @@ returns-clause-answers g c = λ file. record {
   status = Done;
   text = cycles_text (listing_of c.in-Ok.code);
   wanted = (c.in-Ok.ensures.blocks, c.in-Ok.ensures.listed, ap cycles_text c.in-Ok.ensures.listing);
-  ends = inr (
-    refl,
-    subst (λ (f : ListFault). ListsWhole (g.K.Sink.told c.args.out.now) (cycles_text (listing_of c.in-Ok.code)) (Err f) (g.K.Sink.told c.put_cycles.new.sink))
-        c.in-Err-Sink.field-0-is c.in-Err-Sink.ensures.puts,
-    subst (λ (f : ListFault). IsFor {A = Unit {0}} (g.K.Sink.faults c.args.out.now) (g.K.Sink.faults c.put_cycles.new.sink) (Err f))
-        c.in-Err-Sink.field-0-is c.in-Err-Sink.ensures.cause,
-  );
+  ends = record {
+    ends = inr (
+      refl,
+      subst (λ (f : ListFault). ListsWhole (g.K.Sink.told c.args.out.now) (cycles_text (listing_of c.in-Ok.code)) (Err f) (g.K.Sink.told c.put_cycles.new.sink))
+          c.in-Err-Sink.field-0-is c.in-Err-Sink.ensures.puts,
+      subst (λ (f : ListFault). IsFor {A = Unit {0}} (g.K.Sink.faults c.args.out.now) (g.K.Sink.faults c.put_cycles.new.sink) (Err f))
+          c.in-Err-Sink.field-0-is c.in-Err-Sink.ensures.cause,
+    );
+    count = omega arith;
+  };
 }

@@ -1,4 +1,4 @@
-use Rattle.std.proofs.Common.{◌∙◌, refl, ap, inl, inr, subst, Err}
+use Rattle.std.proofs.Common.{arith, ◌∙◌, refl, ap, inl, inr, subst, Err}
 use Rattle.code_listing.specs.declared.fault.ListFault.{ListFault}
 use Rattle.code_listing.specs.Lines.{Lists, IsFor}
 use Rattle.code_listing.specs.Listing.{listing_of}
@@ -13,7 +13,7 @@ returns-in-Ok-put_events-clause-answers g c = λ file. record {
   status = Done;
   text = events_text (names_of c.in-Ok.code) (listing_of c.in-Ok.code);
   wanted = (c.in-Ok.ensures.blocks, c.in-Ok.ensures.listed, ap (λ names. events_text names (listing_of c.in-Ok.code)) c.in-Ok.ensures.names ∙ ap (events_text (signal_names c.in-Ok.ensures.blocks)) c.in-Ok.ensures.listing);
-  ends = inl (refl, c.in-Ok-put_events.ensures.lists);
+  ends = record { ends = inl (refl, c.in-Ok-put_events.ensures.lists); count = omega arith };
 }
 
 pub returns-in-Err-NoMemory-clause-answers : goal.returns-in-Err-NoMemory-clause-answers
@@ -22,18 +22,21 @@ returns-in-Err-NoMemory-clause-answers g c = λ file.
     (g.K.Sink.faults c.put_events.new.sink) _ c.no_memory.result c.in-Ok.ensures
     (subst (λ (f : ListFault). Lists {A = Unit {0}} (g.K.Sink.told c.args.out.now) (events_text (names_of c.in-Ok.code) (listing_of c.in-Ok.code)) (Err f)
     (g.K.Sink.told c.put_events.new.sink)) c.in-Err-NoMemory.field-0-is c.in-Err-NoMemory.ensures.lists)
-    c.in-Err-NoMemory.ensures.count c.no_memory.ensures.puts c.no_memory.ensures.ends
+    c.in-Err-NoMemory.ensures.count c.no_memory.ensures
 
 pub returns-clause-answers : goal.returns-clause-answers
 returns-clause-answers g c = λ file. record {
   status = Done;
   text = events_text (names_of c.in-Ok.code) (listing_of c.in-Ok.code);
   wanted = (c.in-Ok.ensures.blocks, c.in-Ok.ensures.listed, ap (λ names. events_text names (listing_of c.in-Ok.code)) c.in-Ok.ensures.names ∙ ap (events_text (signal_names c.in-Ok.ensures.blocks)) c.in-Ok.ensures.listing);
-  ends = inr (
-    refl,
-    subst (λ (f : ListFault). Lists {A = Unit {0}} (g.K.Sink.told c.args.out.now) (events_text (names_of c.in-Ok.code) (listing_of c.in-Ok.code)) (Err f) (g.K.Sink.told c.put_events.new.sink))
-        c.in-Err-Sink.field-0-is c.in-Err-Sink.ensures.lists,
-    subst (λ (f : ListFault). IsFor {A = Unit {0}} (g.K.Sink.faults c.args.out.now) (g.K.Sink.faults c.put_events.new.sink) (Err f))
-        c.in-Err-Sink.field-0-is c.in-Err-Sink.ensures.cause,
-  );
+  ends = record {
+    ends = inr (
+      refl,
+      subst (λ (f : ListFault). Lists {A = Unit {0}} (g.K.Sink.told c.args.out.now) (events_text (names_of c.in-Ok.code) (listing_of c.in-Ok.code)) (Err f) (g.K.Sink.told c.put_events.new.sink))
+          c.in-Err-Sink.field-0-is c.in-Err-Sink.ensures.lists,
+      subst (λ (f : ListFault). IsFor {A = Unit {0}} (g.K.Sink.faults c.args.out.now) (g.K.Sink.faults c.put_events.new.sink) (Err f))
+          c.in-Err-Sink.field-0-is c.in-Err-Sink.ensures.cause,
+    );
+    count = omega arith;
+  };
 }

@@ -12,5 +12,5 @@ returns-in-Err-clause-answers g c = record {
   status = stil_status c.in-Err.refusal;
   text = stil_line c.in-Err.refusal;
   wanted = want_refused Flat c.args.file.now c.args.bytes.now c.in-Err.refusal c.in-Err.ensures.fault;
-  ends = c.put_stil.ensures.ends;
+  ends = c.put_stil.ensures;
 }

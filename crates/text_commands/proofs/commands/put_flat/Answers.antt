@@ -1,9 +1,10 @@
-use Rattle.std.proofs.Common.{◌≡◌, ℕ, List, refl, sym, subst, inl, inr}
+use Rattle.std.proofs.Common.{◌≡◌, ℕ, List, sym, subst}
 use Rattle.packed_code.specs.Program.{Program}
 use Rattle.flat_stil.specs.FlatFault.{IsFlat, MeansSame}
 use Rattle.tool_inputs.specs.declared.status.Status.TheVariants.{Done}
 use Rattle.text_commands.specs.FlatWants.{flat_status, flat_line}
 use Rattle.text_commands.proofs.CommandLemmas.{want_fault}
+use Rattle.tool_inputs.proofs.EndLemmas.{ends_whole, ends_front}
 use Rattle.text_commands.proofs.commands.put_flat.Goals as goal
 
 -- what is written is flat, and means the same
@@ -16,7 +17,7 @@ returns-in-Ok-put_all-clause-answers g c = record {
   status = Done;
   text = c.as_slice.result.now;
   wanted = written c.args.code.now _ _ (sym c.as_slice.ensures) c.in-Ok.ensures.found c.in-Ok.ensures.same;
-  ends = inl (refl, c.in-Ok-put_all.ensures.puts);
+  ends = ends_whole c.in-Ok-put_all.ensures;
 }
 
 pub returns-in-Ok-clause-answers : goal.returns-in-Ok-clause-answers
@@ -24,7 +25,7 @@ returns-in-Ok-clause-answers g c = record {
   status = Done;
   text = c.as_slice.result.now;
   wanted = written c.args.code.now _ _ (sym c.as_slice.ensures) c.in-Ok.ensures.found c.in-Ok.ensures.same;
-  ends = inr (refl, c.in-Err-put_all.ensures.puts, c.in-Err-put_all.ensures.cause);
+  ends = ends_front c.in-Err-put_all.ensures;
 }
 
 pub returns-clause-answers : goal.returns-clause-answers
@@ -33,5 +34,5 @@ returns-clause-answers g c = record {
   text = flat_line c.args.file.now c.in-Err.fault;
   wanted =
       want_fault c.args.file.now c.args.code.now c.in-Err.fault c.signals-conditions.ensures.conditions c.in-Err.ensures.cause c.in-Err.ensures.limit;
-  ends = c.put_flat_fault.ensures.ends;
+  ends = c.put_flat_fault.ensures;
 }

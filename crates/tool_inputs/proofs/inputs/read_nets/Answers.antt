@@ -19,7 +19,7 @@ returns-in_err-add_net-clause-reads g c =
     (faults c.add_net.new.shelf) files c.loop-file.file-index (map arc_value c.loop-file.nets.items) c.file-item.result
     c.in_err-add_net.field-0.0 within
     (subst (λ (l : List (List ℕ)). c.file-item.result ≡ get_or l c.loop-file.file-index c.file-item.result) same c.file-item.is)
-    c.loop-file.invariant.kept c.loop-file.invariant.counts c.in_err-add_net.ensures.counts c.loop-file.invariant.read c.in_err-add_net.ensures.reads)
+    c.loop-file.invariant.kept c.loop-file.invariant.counts c.in_err-add_net.ensures.loads.counts c.loop-file.invariant.read c.in_err-add_net.ensures.reads)
 
 pub loop-file-preserved : goal.loop-file-preserved
 loop-file-preserved g c =
@@ -33,6 +33,6 @@ loop-file-preserved g c =
           (map arc_value c.loop-file.nets.items) (map arc_value c.add_net.new.nets.items) c.file-item.result within
           (subst (λ (l : List (List ℕ)). c.file-item.result ≡ get_or l c.loop-file.file-index c.file-item.result) same c.file-item.is)
           c.loop-file.invariant.kept c.loop-file.invariant.read c.in_ok-add_net.ensures.reads;
-      kept = c.in_ok-add_net.ensures.kept ∙ c.loop-file.invariant.kept;
-      counts = omega (arith, c.loop-file.invariant.counts, c.in_ok-add_net.ensures.counts);
+      kept = c.in_ok-add_net.ensures.loads.kept ∙ c.loop-file.invariant.kept;
+      counts = omega (arith, c.loop-file.invariant.counts, c.in_ok-add_net.ensures.loads.counts);
     }

@@ -23,9 +23,9 @@ returns-in_err-plan-clause-refused g c =
     rw (p.1, p.2)
     (of_plan c.in_ok-code.code c.in_ok-code.ensures.reads
     (wide-plan told c.args.plan.now (faults c.args.shelf.now) (faults c.read_program.new.shelf) (faults c.read_plan.new.shelf)
-    c.in_err-plan.field-0.0 c.in_ok-code.ensures.counts c.in_err-plan.ensures.counts
+    c.in_err-plan.field-0.0 c.in_ok-code.ensures.loads.counts c.in_err-plan.ensures.loads.counts
     (subst (λ (t : Option Files). IsPlanRefused t (faults c.read_program.new.shelf) (faults c.read_plan.new.shelf) c.args.plan.now
-    c.in_err-plan.field-0.0) c.in_ok-code.ensures.kept c.in_err-plan.ensures.reads)))
+    c.in_err-plan.field-0.0) c.in_ok-code.ensures.loads.kept c.in_err-plan.ensures.reads)))
 
 pub returns-in_err-nets-clause-refused : goal.returns-in_err-nets-clause-refused
 returns-in_err-nets-clause-refused g c =
@@ -34,14 +34,14 @@ returns-in_err-nets-clause-refused g c =
     let faults = g.F.Shelf.faults in
     let rows = c.in_ok-plan.plan in
     let before : faults c.args.shelf.now ≤ faults c.read_plan.new.shelf =
-    omega (arith, c.in_ok-code.ensures.counts, c.in_ok-plan.ensures.counts) in
+    omega (arith, c.in_ok-code.ensures.loads.counts, c.in_ok-plan.ensures.loads.counts) in
     rw (p.1, p.2)
     (of_nets c.in_ok-code.code c.in_ok-code.ensures.reads rows
-    (subst (λ (t : Option Files). IsPlanFile t c.args.plan.now rows) c.in_ok-code.ensures.kept c.in_ok-plan.ensures.reads)
+    (subst (λ (t : Option Files). IsPlanFile t c.args.plan.now rows) c.in_ok-code.ensures.loads.kept c.in_ok-plan.ensures.reads)
     (wide-nets told (files_of rows) (faults c.args.shelf.now) (faults c.read_plan.new.shelf) (faults c.read_nets.new.shelf)
-    c.in_err-nets.field-0.0 before c.in_err-nets.ensures.counts
+    c.in_err-nets.field-0.0 before c.in_err-nets.ensures.loads.counts
     (subst (λ (t : Option Files). AreNetsRefused t (faults c.read_plan.new.shelf) (faults c.read_nets.new.shelf) (files_of rows)
-    c.in_err-nets.field-0.0) (c.in_ok-plan.ensures.kept ∙ c.in_ok-code.ensures.kept) c.in_err-nets.ensures.reads)))
+    c.in_err-nets.field-0.0) (c.in_ok-plan.ensures.loads.kept ∙ c.in_ok-code.ensures.loads.kept) c.in_err-nets.ensures.reads)))
 
 pub bind-requires : goal.bind-requires
 bind-requires g c =
@@ -58,8 +58,8 @@ returns-in-Ok-clause-ready g c =
     } in
     record {
       inputs = inputs;
-      are = inputs_are (g.F.Shelf.told c.args.shelf.now) _ _ _ _ inputs c.in_ok-code.ensures.reads c.in_ok-code.ensures.kept
-          c.in_ok-plan.ensures.reads c.in_ok-plan.ensures.kept c.in_ok-nets.ensures.reads;
+      are = inputs_are (g.F.Shelf.told c.args.shelf.now) _ _ _ _ inputs c.in_ok-code.ensures.reads c.in_ok-code.ensures.loads.kept
+          c.in_ok-plan.ensures.reads c.in_ok-plan.ensures.loads.kept c.in_ok-nets.ensures.reads;
       code_is = refl;
       is = c.in-Ok.ensures.0;
       accepted = c.in-Ok.ensures.1;
@@ -73,7 +73,7 @@ returns-in-Err-clause-refused g c =
       rows = c.in_ok-plan.plan;
       circuits = map arc_value c.in_ok-nets.nets.items;
     } in
-    let are = inputs_are told _ _ c.args.program.now c.args.plan.now inputs c.in_ok-code.ensures.reads c.in_ok-code.ensures.kept
-    c.in_ok-plan.ensures.reads c.in_ok-plan.ensures.kept c.in_ok-nets.ensures.reads in
+    let are = inputs_are told _ _ c.args.program.now c.args.plan.now inputs c.in_ok-code.ensures.reads c.in_ok-code.ensures.loads.kept
+    c.in_ok-plan.ensures.reads c.in_ok-plan.ensures.loads.kept c.in_ok-nets.ensures.reads in
     unbound_refused told _ _ c.args.program.now c.args.plan.now inputs c.in-Err.fault are
     c.in-Err.ensures

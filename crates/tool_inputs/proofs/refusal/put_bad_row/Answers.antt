@@ -1,5 +1,5 @@
 use Rattle.std.proofs.Common.{append_assoc}
 use Rattle.tool_inputs.proofs.refusal.put_bad_row.Goals as goal
 
-pub returns-clause-ends : goal.returns-clause-ends
-returns-clause-ends g c = simp append_assoc (rw c.from.ensures at c.ended.ensures.ends)
+pub returns : goal.returns
+returns g c = simp append_assoc (rw c.from.ensures at c.ended.ensures)
