@@ -33,7 +33,8 @@ fn instr_total(code: &Code) -> u64
 
 /// Puts the numbers of a code: of its executives, their cycles, its rows, its instructions, and their pages.
 pub fn put_check<K: Sink>(sink: &mut K, code: &Code) -> Result<(), SinkFault>
-    ensures { Prints (K.told sink.old) (K.faults sink.old) (check_text code.now) result (K.told sink.new) (K.faults sink.new) }
+    ensures { Prints (K.told sink.old) (K.faults sink.old) (check_text code.now) result
+        (K.told sink.new) (K.faults sink.new) }
 {
     let line = [
         Piece::Text(b"ok execs "),

@@ -36,8 +36,8 @@ pub(crate) fn put_cycle_line<K: Sink>(
 ) -> Result<(), SinkFault>
     requires of { IsOf code.now cycle.now.table cycle.now.row }
     requires row { length row.old ≡ length code.now.signals }
-    ensures prints { Prints (K.told sink.old) (K.faults sink.old) (cycle_line (listed code.now (number, cycle.now))) result
-        (K.told sink.new) (K.faults sink.new) }
+    ensures prints { Prints (K.told sink.old) (K.faults sink.old)
+        (cycle_line (listed code.now (number, cycle.now))) result (K.told sink.new) (K.faults sink.new) }
     ensures row { length row.new ≡ length code.now.signals }
 {
     let _conditions = code.signals();

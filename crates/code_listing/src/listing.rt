@@ -156,7 +156,8 @@ fn put_execs<K: Sink>(
 
 /// Puts the last line.
 fn put_end<K: Sink>(sink: &mut K, cycles: u64, time: u128) -> Result<(), SinkFault>
-    ensures { Prints (K.told sink.old) (K.faults sink.old) (end_line cycles time) result (K.told sink.new) (K.faults sink.new) }
+    ensures { Prints (K.told sink.old) (K.faults sink.old) (end_line cycles time) result
+        (K.told sink.new) (K.faults sink.new) }
 {
     let line = [
         Piece::Text(b"end "),

@@ -39,8 +39,8 @@ fn put_push<K: Sink>(sink: &mut K, code: &Code, signal: u16, push: Push) -> Resu
 
 /// Puts drives.
 fn put_pushes<K: Sink>(sink: &mut K, code: &Code, drives: &[(u16, Push)]) -> Result<(), SinkFault>
-    ensures { Prints (K.told sink.old) (K.faults sink.old) (flat_map (push_words (names_of code.now)) drives.now) result
-        (K.told sink.new) (K.faults sink.new) }
+    ensures { Prints (K.told sink.old) (K.faults sink.old)
+        (flat_map (push_words (names_of code.now)) drives.now) result (K.told sink.new) (K.faults sink.new) }
 {
     for (signal, push) in drives {
         put_push(sink, code, *signal, *push)?;
@@ -58,8 +58,8 @@ fn put_look<K: Sink>(sink: &mut K, code: &Code, signal: u16, look: Look) -> Resu
 
 /// Puts looks.
 fn put_looks<K: Sink>(sink: &mut K, code: &Code, looks: &[(u16, Look)]) -> Result<(), SinkFault>
-    ensures { Prints (K.told sink.old) (K.faults sink.old) (flat_map (look_words (names_of code.now)) looks.now) result
-        (K.told sink.new) (K.faults sink.new) }
+    ensures { Prints (K.told sink.old) (K.faults sink.old)
+        (flat_map (look_words (names_of code.now)) looks.now) result (K.told sink.new) (K.faults sink.new) }
 {
     for (signal, look) in looks {
         put_look(sink, code, *signal, *look)?;
@@ -88,7 +88,8 @@ fn put_act<'a, K: Sink>(
 
 /// Puts the instant of a moment.
 fn put_instant<K: Sink>(sink: &mut K, at: u128) -> Result<(), SinkFault>
-    ensures { Prints (K.told sink.old) (K.faults sink.old) (instant_words at) result (K.told sink.new) (K.faults sink.new) }
+    ensures { Prints (K.told sink.old) (K.faults sink.old) (instant_words at) result
+        (K.told sink.new) (K.faults sink.new) }
 {
     put_each(sink, &[Piece::Text(b"at "), Piece::Number(at)])
 }
@@ -114,8 +115,8 @@ fn put_moment<K: Sink>(sink: &mut K, code: &Code, moment: &Moment) -> Result<(),
 
 /// Puts the lines of moments.
 fn put_all_moments<K: Sink>(sink: &mut K, code: &Code, moments: &[Moment]) -> Result<(), SinkFault>
-    ensures { Prints (K.told sink.old) (K.faults sink.old) (flat_map (moment_line (names_of code.now)) moments.now) result
-        (K.told sink.new) (K.faults sink.new) }
+    ensures { Prints (K.told sink.old) (K.faults sink.old)
+        (flat_map (moment_line (names_of code.now)) moments.now) result (K.told sink.new) (K.faults sink.new) }
 {
     for moment in moments {
         put_moment(sink, code, moment)?;
@@ -126,8 +127,8 @@ fn put_all_moments<K: Sink>(sink: &mut K, code: &Code, moments: &[Moment]) -> Re
 /// Puts the line with which a numbered cycle begins.
 fn put_head<K: Sink>(sink: &mut K, code: &Code, number: u64, cycle: &Cycle) -> Result<(), SinkFault>
     requires of { IsOf code.now cycle.now.table cycle.now.row }
-    ensures { Prints (K.told sink.old) (K.faults sink.old) (moments_head (listed code.now (number, cycle.now))) result
-        (K.told sink.new) (K.faults sink.new) }
+    ensures { Prints (K.told sink.old) (K.faults sink.old)
+        (moments_head (listed code.now (number, cycle.now))) result (K.told sink.new) (K.faults sink.new) }
 {
     let table = code.table(cycle.table).name.as_slice();
     put_head_line(sink, number, cycle.start, table)
@@ -164,8 +165,9 @@ fn put_timed<K: Sink>(
     moments: &[Moment],
 ) -> Result<(), SinkFault>
     requires of { IsOf code.now cycle.now.table cycle.now.row }
-    ensures { Prints (K.told sink.old) (K.faults sink.old) (moments_head (listed code.now (number, cycle.now)) ++ flat_map (moment_line (names_of code.now)) moments.now) result
-        (K.told sink.new) (K.faults sink.new) }
+    ensures { Prints (K.told sink.old) (K.faults sink.old)
+        (moments_head (listed code.now (number, cycle.now)) ++ flat_map (moment_line (names_of code.now)) moments.now)
+        result (K.told sink.new) (K.faults sink.new) }
 {
     put_head(sink, code, number, cycle)?;
     put_all_moments(sink, code, moments)

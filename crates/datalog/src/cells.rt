@@ -37,7 +37,8 @@ pub(crate) fn put_cell_in<K: Sink>(
 
 /// Puts the names of a chain and a cell.
 fn put_names<'a, K: Sink>(sink: &mut K, chain: &'a [u8], cell: &'a [u8]) -> Result<(), SinkFault>
-    ensures { Prints (K.told sink.old) (K.faults sink.old) (cell_words (Some (record { chain = chain.now; name = cell.now }))) result
+    ensures { Prints (K.told sink.old) (K.faults sink.old)
+        (cell_words (Some (record { chain = chain.now; name = cell.now }))) result
         (K.told sink.new) (K.faults sink.new) }
 {
     let words = [

@@ -50,7 +50,8 @@ pub(crate) fn put_record<K: Sink>(
 fn put_die<K: Sink>(sink: &mut K, plan: &BoundPlan, entry: &Record) -> Result<(), SinkFault>
     requires site { entry.now.site < sites_of plan.now.rows }
     requires die { entry.now.die < length (dies_at entry.now.site plan.now.rows) }
-    ensures { Prints (K.told sink.old) (K.faults sink.old) (die_line (die_at plan.now.rows entry.now.site entry.now.die).name) result
+    ensures { Prints (K.told sink.old) (K.faults sink.old)
+        (die_line (die_at plan.now.rows entry.now.site entry.now.die).name) result
         (K.told sink.new) (K.faults sink.new) }
 {
     let line = [

@@ -20,8 +20,8 @@ pub fn print_totals<K: Sink>(
     sink: &mut K,
 ) -> Result<(), SinkFault>
     requires sound { AreSound plan.now book.now }
-    ensures { Prints (K.told sink.old) (K.faults sink.old) (totals_text (bins_of plan.now (records_of book.now))) result
-        (K.told sink.new) (K.faults sink.new) }
+    ensures { Prints (K.told sink.old) (K.faults sink.old)
+        (totals_text (bins_of plan.now (records_of book.now))) result (K.told sink.new) (K.faults sink.new) }
 {
     let _sites = plan.sites();
     put_sums(sink, plan, book.sites())
@@ -35,8 +35,8 @@ pub(crate) fn put_sums<K: Sink>(
 ) -> Result<(), SinkFault>
     requires few { length sites.now ≤ most_plan_sites }
     requires tried { All (All (λ entry. 0 < length entry.trials)) (records_of sites.now) }
-    ensures { Prints (K.told sink.old) (K.faults sink.old) (totals_text (bins_of plan.now (records_of sites.now))) result
-        (K.told sink.new) (K.faults sink.new) }
+    ensures { Prints (K.told sink.old) (K.faults sink.old)
+        (totals_text (bins_of plan.now (records_of sites.now))) result (K.told sink.new) (K.faults sink.new) }
 {
     put_totals(sink, &counts_of(plan, sites))
 }

@@ -27,7 +27,8 @@ pub(crate) fn put_totals<K: Sink>(sink: &mut K, counts: &[u128]) -> Result<(), S
 
 /// Puts how many dies a bin has, and nothing for a bin without a die.
 fn put_total<K: Sink>(sink: &mut K, bin: usize, dies: u128) -> Result<(), SinkFault>
-    ensures { Prints (K.told sink.old) (K.faults sink.old) (total_line bin dies) result (K.told sink.new) (K.faults sink.new) }
+    ensures { Prints (K.told sink.old) (K.faults sink.old) (total_line bin dies) result
+        (K.told sink.new) (K.faults sink.new) }
 {
     if dies == 0 {
         return Ok(());

@@ -40,7 +40,8 @@ fn put_trial<K: Sink>(sink: &mut K, code: &Code, trial: &Trial) -> Result<(), Si
 
 /// Puts the numbers of a try.
 fn put_try<K: Sink>(sink: &mut K, trial: &Trial) -> Result<(), SinkFault>
-    ensures { Prints (K.told sink.old) (K.faults sink.old) (try_line trial.now) result (K.told sink.new) (K.faults sink.new) }
+    ensures { Prints (K.told sink.old) (K.faults sink.old) (try_line trial.now) result
+        (K.told sink.new) (K.faults sink.new) }
 {
     let line = [
         Piece::Text(b"try "),

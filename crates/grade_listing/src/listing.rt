@@ -23,7 +23,8 @@ pub fn print_grade<K: Sink>(net: &Netlist, grade: &Grade, sink: &mut K) -> Resul
 
 /// Puts the first failing cycle of the good die.
 fn put_good<K: Sink>(sink: &mut K, cycle: Option<u64>) -> Result<(), SinkFault>
-    ensures { Prints (K.told sink.old) (K.faults sink.old) (good_line cycle) result (K.told sink.new) (K.faults sink.new) }
+    ensures { Prints (K.told sink.old) (K.faults sink.old) (good_line cycle) result
+        (K.told sink.new) (K.faults sink.new) }
 {
     let line = [
         Piece::Text(b"good "),
@@ -72,8 +73,8 @@ fn put_fault<K: Sink>(sink: &mut K, net: &Netlist, graded: Graded) -> Result<(),
 
 /// Puts faults one after another.
 fn put_faults<K: Sink>(sink: &mut K, net: &Netlist, faults: &[Graded]) -> Result<(), SinkFault>
-    ensures { Prints (K.told sink.old) (K.faults sink.old) (flat_map (fault_line net.now.net.names) faults.now) result
-        (K.told sink.new) (K.faults sink.new) }
+    ensures { Prints (K.told sink.old) (K.faults sink.old)
+        (flat_map (fault_line net.now.net.names) faults.now) result (K.told sink.new) (K.faults sink.new) }
 {
     for graded in faults {
         put_fault(sink, net, *graded)?;

@@ -27,7 +27,8 @@ pub fn put_merged_grade<K: Sink>(logs: &[GradeLog<'_>], sink: &mut K) -> Result<
 
 /// Puts the line of the good die.
 fn put_good<K: Sink>(sink: &mut K, good: &[u8]) -> Result<(), SinkFault>
-    ensures { Prints (K.told sink.old) (K.faults sink.old) (ended good.now) result (K.told sink.new) (K.faults sink.new) }
+    ensures { Prints (K.told sink.old) (K.faults sink.old) (ended good.now) result
+        (K.told sink.new) (K.faults sink.new) }
 {
     let line = [Piece::Text(good), Piece::Text(b"\n")];
     put_each(sink, &line)

@@ -26,8 +26,8 @@ pub fn put_merged<K: Sink>(sink: &mut K, sites: &[u8], logs: &[PartLog]) -> Resu
 /// Puts the sites, and the totals of their bins.
 fn put_lot<K: Sink>(sink: &mut K, sites: &[u8], logs: &[PartLog]) -> Result<(), SinkFault>
     requires { 0 < length logs.now }
-    ensures { Prints (K.told sink.old) (K.faults sink.old) (dealt_text logs.now sites.now ++ sums_text logs.now) result
-        (K.told sink.new) (K.faults sink.new) }
+    ensures { Prints (K.told sink.old) (K.faults sink.old)
+        (dealt_text logs.now sites.now ++ sums_text logs.now) result (K.told sink.new) (K.faults sink.new) }
 {
     put_sites(sink, sites, logs)?;
     put_totals(sink, logs)
@@ -72,7 +72,8 @@ fn put_text<K: Sink>(sink: &mut K, site: u8, text: &[u8]) -> Result<(), SinkFaul
 
 /// Puts the totals of the bins of all parts.
 fn put_totals<K: Sink>(sink: &mut K, logs: &[PartLog]) -> Result<(), SinkFault>
-    ensures { Prints (K.told sink.old) (K.faults sink.old) (sums_text logs.now) result (K.told sink.new) (K.faults sink.new) }
+    ensures { Prints (K.told sink.old) (K.faults sink.old) (sums_text logs.now) result
+        (K.told sink.new) (K.faults sink.new) }
 {
     for bin in 1..100 {
         put_total(sink, bin, count_all(bin, logs))?;
@@ -82,7 +83,8 @@ fn put_totals<K: Sink>(sink: &mut K, logs: &[PartLog]) -> Result<(), SinkFault>
 
 /// Puts how many dies a bin has, and nothing for a bin without a die.
 fn put_total<K: Sink>(sink: &mut K, bin: u8, dies: u128) -> Result<(), SinkFault>
-    ensures { Prints (K.told sink.old) (K.faults sink.old) (total_line bin dies) result (K.told sink.new) (K.faults sink.new) }
+    ensures { Prints (K.told sink.old) (K.faults sink.old) (total_line bin dies) result
+        (K.told sink.new) (K.faults sink.new) }
 {
     if dies == 0 {
         return Ok(());

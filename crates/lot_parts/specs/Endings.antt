@@ -10,8 +10,8 @@ use Rattle.lot_parts.specs.declared.outcome.Outcome.TheVariants.{Ended}
 abbrev pub usage_line : List ℕ
 usage_line = USAGE.now
 
--- a run ends with the outcome and its text written whole, or as a write fault with a front of that text; the sink's count of
--- faults doesn't fall
+-- a run ends with the outcome and its text written whole, or as a write fault with a front of that text; the sink's
+-- count of faults doesn't fall
 pub record EndsAs (held : Option (List ℕ)) (faults : ℕ) (outcome : Outcome) (text : List ℕ)
     (result : Outcome) (held' : Option (List ℕ)) (faults' : ℕ) : Type 0 where
   pub ends : ((result ≡ outcome) × (held' ≡ gained held text))

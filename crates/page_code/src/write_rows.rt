@@ -37,7 +37,8 @@ impl Spelled for Changes<'_> {
 /// Puts the change in a signal, its number in 16 bits and its new character, where that differs from the old one.
 #[tactic(auto, unfolding(packed_code::specs::Packed::number))]
 fn put_change<K: Sink>(sink: &mut K, signal: usize, old: u8, new: u8) -> Result<(), SinkFault>
-    ensures { Prints (K.told sink.old) (K.faults sink.old) (flat_map spell.change (changes signal (old ∷ []) (new ∷ []))) result
+    ensures { Prints (K.told sink.old) (K.faults sink.old)
+        (flat_map spell.change (changes signal (old ∷ []) (new ∷ []))) result
         (K.told sink.new) (K.faults sink.new) }
 {
     if new == old {
@@ -49,8 +50,8 @@ fn put_change<K: Sink>(sink: &mut K, signal: usize, old: u8, new: u8) -> Result<
 
 /// Puts what a row changes of the last one.
 fn put_changes<K: Sink>(sink: &mut K, last: &[u8], row: &[u8]) -> Result<(), SinkFault>
-    ensures { Prints (K.told sink.old) (K.faults sink.old) (flat_map spell.change (changes 0 last.now row.now)) result
-        (K.told sink.new) (K.faults sink.new) }
+    ensures { Prints (K.told sink.old) (K.faults sink.old)
+        (flat_map spell.change (changes 0 last.now row.now)) result (K.told sink.new) (K.faults sink.new) }
 {
     for signal in 0..last.len().min(row.len()) {
         put_change(sink, signal, last[signal], row[signal])?;
@@ -117,7 +118,8 @@ fn put_row<K: Sink>(
     number: usize,
 ) -> Result<(), SinkFault>
     requires { number < length rows.now }
-    ensures { Prints (K.told sink.old) (K.faults sink.old) (spell.row version (take number rows.now) (slice_index_or rows.now number [])) result
+    ensures { Prints (K.told sink.old) (K.faults sink.old)
+        (spell.row version (take number rows.now) (slice_index_or rows.now number [])) result
         (K.told sink.new) (K.faults sink.new) }
 {
     let row = rows.row(number);

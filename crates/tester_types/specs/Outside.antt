@@ -24,8 +24,8 @@ abbrev pub Puts : Option (List ℕ) → List ℕ → Result (Unit {0}) SinkFault
 Puts held text (Ok done) now = now ≡ gained held text
 Puts held text (Err fault) now = GainsFront held text now
 
--- what is left of a sink that a text was put to: it took the whole text, or at a fault a front of it, its count of faults
--- doesn't fall, and it rises at a fault
+-- what is left of a sink that a text was put to: it took the whole text, or at a fault a front of it, and its count of
+-- faults doesn't fall, and rises at a fault
 pub record Prints (held : Option (List ℕ)) (before : ℕ) (text : List ℕ) (result : Result (Unit {0}) SinkFault)
     (now : Option (List ℕ)) (after : ℕ) : Type 0 where
   pub puts : Puts held text result now

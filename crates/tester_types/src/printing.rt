@@ -29,12 +29,14 @@ pub trait Printed {
 
     /// Puts its text.
     fn put_to<K: Sink>(&self, sink: &mut K) -> Result<(), SinkFault>
-        ensures { Prints (K.told sink.old) (K.faults sink.old) (text self.now) result (K.told sink.new) (K.faults sink.new) };
+        ensures { Prints (K.told sink.old) (K.faults sink.old) (text self.now) result
+            (K.told sink.new) (K.faults sink.new) };
 }
 
 /// Puts the texts of the items, one after another.
 pub fn put_each<K: Sink, P: Printed>(sink: &mut K, items: &[P]) -> Result<(), SinkFault>
-    ensures { Prints (K.told sink.old) (K.faults sink.old) (flat_map P.text items.now) result (K.told sink.new) (K.faults sink.new) }
+    ensures { Prints (K.told sink.old) (K.faults sink.old) (flat_map P.text items.now) result
+        (K.told sink.new) (K.faults sink.new) }
 {
     for item in items {
         item.put_to(sink)?;
@@ -85,7 +87,8 @@ fn is_bare_name(name: &[u8]) -> bool
 }
 
 fn put_name<K: Sink>(sink: &mut K, name: &[u8]) -> Result<(), SinkFault>
-    ensures { Prints (K.told sink.old) (K.faults sink.old) (printed_name name.now) result (K.told sink.new) (K.faults sink.new) }
+    ensures { Prints (K.told sink.old) (K.faults sink.old) (printed_name name.now) result
+        (K.told sink.new) (K.faults sink.new) }
 {
     if !name.is_empty() && is_bare_name(name) {
         put_all(sink, name)
@@ -95,7 +98,8 @@ fn put_name<K: Sink>(sink: &mut K, name: &[u8]) -> Result<(), SinkFault>
 }
 
 fn put_quoted<K: Sink>(sink: &mut K, name: &[u8]) -> Result<(), SinkFault>
-    ensures { Prints (K.told sink.old) (K.faults sink.old) (quoted name.now) result (K.told sink.new) (K.faults sink.new) }
+    ensures { Prints (K.told sink.old) (K.faults sink.old) (quoted name.now) result
+        (K.told sink.new) (K.faults sink.new) }
 {
     let quote: &[u8] = b"\"";
     put_each(sink, &[quote, name, quote])

@@ -49,8 +49,8 @@ pub record IsFile (told : Option Files) (name bytes : List ℕ) : Type 0 where
   pub are : TellsFile told name (λ found. found ≡ Some bytes)
   pub fits : length bytes ≤ limit
 
--- a run ends with the status and its text written whole, or as a write fault with a front of that text; the sink's count of
--- faults doesn't fall
+-- a run ends with the status and its text written whole, or as a write fault with a front of that text; the sink's
+-- count of faults doesn't fall
 pub record Ends (held : Option (List ℕ)) (faults : ℕ) (status : Status) (text : List ℕ)
     (result : Status) (held' : Option (List ℕ)) (faults' : ℕ) : Type 0 where
   pub ends : ((result ≡ status) × (held' ≡ gained held text))

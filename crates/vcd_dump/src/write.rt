@@ -42,7 +42,8 @@ fn put_signal<K: Sink>(
 
 /// Puts the lines of the signals by which the die is driven.
 fn put_signals<K: Sink>(sink: &mut K, code: &Code, image: &DieImage) -> Result<(), SinkFault>
-    ensures { Prints (K.told sink.old) (K.faults sink.old) (flat_map (var_text (device_of image.now) code.now) (range_with_len 0 (length code.now.signals))) result
+    ensures { Prints (K.told sink.old) (K.faults sink.old)
+        (flat_map (var_text (device_of image.now) code.now) (range_with_len 0 (length code.now.signals))) result
         (K.told sink.new) (K.faults sink.new) }
 {
     for signal in 0..code.signals() {

@@ -31,7 +31,8 @@ pub fn put_var<K: Sink>(sink: &mut K, signal: u16, name: &[u8]) -> Result<(), Si
 
 /// Puts the line of a var by its short name and its name.
 fn put_named<'a, K: Sink>(sink: &mut K, id: &'a [u8], name: &'a [u8]) -> Result<(), SinkFault>
-    ensures { Prints (K.told sink.old) (K.faults sink.old) (codes "$var wire 1 " ++ (id.now ++ (codes " " ++ (name.now ++ codes " $end\n")))) result
+    ensures { Prints (K.told sink.old) (K.faults sink.old)
+        (codes "$var wire 1 " ++ (id.now ++ (codes " " ++ (name.now ++ codes " $end\n")))) result
         (K.told sink.new) (K.faults sink.new) }
 {
     let line = [
@@ -47,8 +48,8 @@ fn put_named<'a, K: Sink>(sink: &mut K, id: &'a [u8], name: &'a [u8]) -> Result<
 /// Puts the line of a var that is named by its signal's number.
 pub fn put_numbered_var<K: Sink>(sink: &mut K, signal: u16) -> Result<(), SinkFault>
     requires { signal < most_signals }
-    ensures { Prints (K.told sink.old) (K.faults sink.old) (ended (named signal (codes "s" ++ decimal signal))) result
-        (K.told sink.new) (K.faults sink.new) }
+    ensures { Prints (K.told sink.old) (K.faults sink.old)
+        (ended (named signal (codes "s" ++ decimal signal))) result (K.told sink.new) (K.faults sink.new) }
 {
     let digits = id_bytes(signal);
     put_numbered(sink, &digits[..id_len(signal)], u128::from(signal))
@@ -56,7 +57,8 @@ pub fn put_numbered_var<K: Sink>(sink: &mut K, signal: u16) -> Result<(), SinkFa
 
 /// Puts the line of a var by its short name and its number.
 fn put_numbered<K: Sink>(sink: &mut K, id: &[u8], number: u128) -> Result<(), SinkFault>
-    ensures { Prints (K.told sink.old) (K.faults sink.old) (codes "$var wire 1 " ++ (id.now ++ (codes " s" ++ (decimal number ++ codes " $end\n")))) result
+    ensures { Prints (K.told sink.old) (K.faults sink.old)
+        (codes "$var wire 1 " ++ (id.now ++ (codes " s" ++ (decimal number ++ codes " $end\n")))) result
         (K.told sink.new) (K.faults sink.new) }
 {
     let line = [
@@ -105,7 +107,8 @@ fn put_change<K: Sink>(sink: &mut K, signal: u16, drive: Drive) -> Result<(), Si
 
 /// Puts the line of an instant.
 fn put_instant<K: Sink>(sink: &mut K, instant: u128) -> Result<(), SinkFault>
-    ensures { Prints (K.told sink.old) (K.faults sink.old) (ended (at instant)) result (K.told sink.new) (K.faults sink.new) }
+    ensures { Prints (K.told sink.old) (K.faults sink.old) (ended (at instant)) result
+        (K.told sink.new) (K.faults sink.new) }
 {
     let line = [
         Piece::Text(b"#"),
@@ -118,8 +121,8 @@ fn put_instant<K: Sink>(sink: &mut K, instant: u128) -> Result<(), SinkFault>
 /// Puts the lines of drives.
 fn put_changes<K: Sink>(sink: &mut K, drives: &[(u16, Drive)]) -> Result<(), SinkFault>
     requires { All (λ given. given.0 < most_signals) drives.now }
-    ensures { Prints (K.told sink.old) (K.faults sink.old) (flat_map (λ given. ended (line_of_drive given)) drives.now) result
-        (K.told sink.new) (K.faults sink.new) }
+    ensures { Prints (K.told sink.old) (K.faults sink.old)
+        (flat_map (λ given. ended (line_of_drive given)) drives.now) result (K.told sink.new) (K.faults sink.new) }
 {
     for (signal, drive) in drives {
         put_change(sink, *signal, *drive)?;
