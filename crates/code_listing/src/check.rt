@@ -1,6 +1,7 @@
 //! The numbers of a code.
 
 ghost use Rattle.std.specs.Prelude.{◌≡◌, ◌≤◌, ◌*◌};
+ghost use Rattle.tester_types.specs.Outside.{Prints};
 ghost use Rattle.code_listing.specs.Text.{check_text, cycles_among, instrs_among};
 
 use packed_code::Code;

@@ -105,10 +105,3 @@ fn texts_have_their_faults(rt: HostRuntime) -> Result<(), Fail> {
     assert!(rt; have_faults(&rt, TEXTS, &FAULTS)?);
     Ok(())
 }
-
-#[test]
-fn a_fault_is_printed_with_its_place(rt: HostRuntime) -> Result<(), Fail> {
-    let line = LexFault::OpenQuote(7).to_string(rt.alloc())?;
-    assert_eq!(rt; line.as_str(), "quote without an end at 7");
-    Ok(())
-}

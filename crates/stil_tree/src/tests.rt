@@ -130,10 +130,3 @@ fn texts_have_their_faults(rt: HostRuntime) -> Result<(), Fail> {
     assert!(rt; have_faults(&rt, TEXTS, &FAULTS)?);
     Ok(())
 }
-
-#[test]
-fn a_fault_is_printed_with_its_token(rt: HostRuntime) -> Result<(), Fail> {
-    let line = TreeFault::StrayClose(7).to_string(rt.alloc())?;
-    assert_eq!(rt; line.as_str(), "stray closing brace at token 7");
-    Ok(())
-}
