@@ -2,8 +2,8 @@
 
 use std::test::Fail;
 use tester_types::{
-    Ask, Desk, Items, ListDesk, MemShelf, MemSink, NoMemory, Piece, Record, RecordList, Shelf,
-    ShelfFault, Sink, SinkFault, put_all, put_each,
+    Ask, Desk, Items, ListDesk, MemShelf, MemSink, Piece, Record, RecordList, Shelf, ShelfFault,
+    Sink, put_all, put_each,
 };
 
 #[test]
@@ -84,15 +84,6 @@ fn a_desk_answers_its_list_and_then_nothing(rt: HostRuntime) -> Result<(), Fail>
     let mut desk = ListDesk::new(vec![in rt.alloc(); Ask::Stop(1)]?);
     assert_eq!(rt; desk.next(), Ask::Stop(1));
     assert_eq!(rt; desk.next(), Ask::Nothing);
-    Ok(())
-}
-
-#[test]
-fn want_of_memory_and_a_failed_put_print_a_line(rt: HostRuntime) -> Result<(), Fail> {
-    let line = NoMemory.to_string(rt.alloc())?;
-    assert_eq!(rt; line.as_str(), "out of memory");
-    let line = SinkFault.to_string(rt.alloc())?;
-    assert_eq!(rt; line.as_str(), "the text could not be written whole");
     Ok(())
 }
 
