@@ -262,49 +262,179 @@ block_fits : (s : Setting) → AreLexed s → (b next : Blocks) (e : Entry) (k :
 block_fits s lexed b next e keyword.Signals lined h is =
     let both = both_ok (more_signals s b.signals e) (λ all. Ok (record b { signals = all })) next is in
     let same_blocks : record b { signals = both.given } ≡ next = cc in
-    subst AllFit same_blocks (record h { signals = signals_fit s lexed b.signals both.given e h.signals both.met })
+    subst AllFit same_blocks (record {
+      signals = signals_fit s lexed b.signals both.given e h.signals both.met;
+      groups = h.groups;
+      specs = h.specs;
+      selectors = h.selectors;
+      timings = h.timings;
+      scans = h.scans;
+      macros = h.macros;
+      procedures = h.procedures;
+      patterns = h.patterns;
+      bursts = h.bursts;
+      executives = h.executives;
+    })
 block_fits s lexed b next e keyword.SignalGroups lined h is =
     let both = both_ok (more_groups s b.groups e) (λ all. Ok (record b { groups = all })) next is in
     let same_blocks : record b { groups = both.given } ≡ next = cc in
-    subst AllFit same_blocks (record h { groups = groups_fit s lexed b.groups both.given e h.groups both.met })
+    subst AllFit same_blocks (record {
+      signals = h.signals;
+      groups = groups_fit s lexed b.groups both.given e h.groups both.met;
+      specs = h.specs;
+      selectors = h.selectors;
+      timings = h.timings;
+      scans = h.scans;
+      macros = h.macros;
+      procedures = h.procedures;
+      patterns = h.patterns;
+      bursts = h.bursts;
+      executives = h.executives;
+    })
 block_fits s lexed b next e keyword.Spec lined h is =
     let both = both_ok (more_specs s b.specs e) (λ all. Ok (record b { specs = all })) next is in
     let same_blocks : record b { specs = both.given } ≡ next = cc in
-    subst AllFit same_blocks (record h { specs = specs_fit s lexed b.specs both.given e h.specs both.met })
+    subst AllFit same_blocks (record {
+      signals = h.signals;
+      groups = h.groups;
+      specs = specs_fit s lexed b.specs both.given e h.specs both.met;
+      selectors = h.selectors;
+      timings = h.timings;
+      scans = h.scans;
+      macros = h.macros;
+      procedures = h.procedures;
+      patterns = h.patterns;
+      bursts = h.bursts;
+      executives = h.executives;
+    })
 block_fits s lexed b next e keyword.Selector lined h is =
     let both = both_ok (more_selectors s b.selectors e) (λ all. Ok (record b { selectors = all })) next is in
     let same_blocks : record b { selectors = both.given } ≡ next = cc in
-    subst AllFit same_blocks (record h { selectors = selectors_fit s b.selectors both.given e h.selectors both.met })
+    subst AllFit same_blocks (record {
+      signals = h.signals;
+      groups = h.groups;
+      specs = h.specs;
+      selectors = selectors_fit s b.selectors both.given e h.selectors both.met;
+      timings = h.timings;
+      scans = h.scans;
+      macros = h.macros;
+      procedures = h.procedures;
+      patterns = h.patterns;
+      bursts = h.bursts;
+      executives = h.executives;
+    })
 block_fits s lexed b next e keyword.Timing lined h is =
     let both = both_ok (more_timings s b.timings e) (λ all. Ok (record b { timings = all })) next is in
     let same_blocks : record b { timings = both.given } ≡ next = cc in
-    subst AllFit same_blocks (record h { timings = timings_fit s lexed b.timings both.given e h.timings both.met })
+    subst AllFit same_blocks (record {
+      signals = h.signals;
+      groups = h.groups;
+      specs = h.specs;
+      selectors = h.selectors;
+      timings = timings_fit s lexed b.timings both.given e h.timings both.met;
+      scans = h.scans;
+      macros = h.macros;
+      procedures = h.procedures;
+      patterns = h.patterns;
+      bursts = h.bursts;
+      executives = h.executives;
+    })
 block_fits s lexed b next e keyword.ScanStructures lined h is =
     let both = both_ok (more_scans s b.scans e) (λ all. Ok (record b { scans = all })) next is in
     let same_blocks : record b { scans = both.given } ≡ next = cc in
-    subst AllFit same_blocks (record h { scans = scans_fit s b.scans both.given e lined h.scans both.met })
+    subst AllFit same_blocks (record {
+      signals = h.signals;
+      groups = h.groups;
+      specs = h.specs;
+      selectors = h.selectors;
+      timings = h.timings;
+      scans = scans_fit s b.scans both.given e lined h.scans both.met;
+      macros = h.macros;
+      procedures = h.procedures;
+      patterns = h.patterns;
+      bursts = h.bursts;
+      executives = h.executives;
+    })
 block_fits s lexed b next e keyword.MacroDefs lined h is =
     let both = both_ok (more_defs s place.Macro b.macros e) (λ all. Ok (record b { macros = all })) next is in
     let same_blocks : record b { macros = both.given } ≡ next = cc in
-    subst AllFit same_blocks (record h { macros = defs_fit s place.Macro b.macros both.given e (macros_bodies s lexed) lined h.macros both.met })
+    subst AllFit same_blocks (record {
+      signals = h.signals;
+      groups = h.groups;
+      specs = h.specs;
+      selectors = h.selectors;
+      timings = h.timings;
+      scans = h.scans;
+      macros = defs_fit s place.Macro b.macros both.given e (macros_bodies s lexed) lined h.macros both.met;
+      procedures = h.procedures;
+      patterns = h.patterns;
+      bursts = h.bursts;
+      executives = h.executives;
+    })
 block_fits s lexed b next e keyword.Procedures lined h is =
     let both = both_ok (more_defs s place.Procedure b.procedures e) (λ all. Ok (record b { procedures = all })) next is in
     let same_blocks : record b { procedures = both.given } ≡ next = cc in
-    subst AllFit same_blocks (record h {
+    subst AllFit same_blocks (record {
+      signals = h.signals;
+      groups = h.groups;
+      specs = h.specs;
+      selectors = h.selectors;
+      timings = h.timings;
+      scans = h.scans;
+      macros = h.macros;
       procedures = defs_fit s place.Procedure b.procedures both.given e (procedures_bodies s lexed) lined h.procedures both.met;
+      patterns = h.patterns;
+      bursts = h.bursts;
+      executives = h.executives;
     })
 block_fits s lexed b next e keyword.PatternBurst lined h is =
     let both = both_ok (more_bursts s b.bursts e) (λ all. Ok (record b { bursts = all })) next is in
     let same_blocks : record b { bursts = both.given } ≡ next = cc in
-    subst AllFit same_blocks (record h { bursts = bursts_fit s b.bursts both.given e lined h.bursts both.met })
+    subst AllFit same_blocks (record {
+      signals = h.signals;
+      groups = h.groups;
+      specs = h.specs;
+      selectors = h.selectors;
+      timings = h.timings;
+      scans = h.scans;
+      macros = h.macros;
+      procedures = h.procedures;
+      patterns = h.patterns;
+      bursts = bursts_fit s b.bursts both.given e lined h.bursts both.met;
+      executives = h.executives;
+    })
 block_fits s lexed b next e keyword.PatternExec lined h is =
     let both = both_ok (more_executives s b.executives e) (λ all. Ok (record b { executives = all })) next is in
     let same_blocks : record b { executives = both.given } ≡ next = cc in
-    subst AllFit same_blocks (record h { executives = executives_fit s b.executives both.given e lined h.executives both.met })
+    subst AllFit same_blocks (record {
+      signals = h.signals;
+      groups = h.groups;
+      specs = h.specs;
+      selectors = h.selectors;
+      timings = h.timings;
+      scans = h.scans;
+      macros = h.macros;
+      procedures = h.procedures;
+      patterns = h.patterns;
+      bursts = h.bursts;
+      executives = executives_fit s b.executives both.given e lined h.executives both.met;
+    })
 block_fits s lexed b next e keyword.Pattern lined h is =
     let both = both_ok (more_patterns s b.patterns e) (λ all. Ok (record b { patterns = all })) next is in
     let same_blocks : record b { patterns = both.given } ≡ next = cc in
-    subst AllFit same_blocks (record h { patterns = patterns_fit s lexed b.patterns both.given e h.patterns both.met })
+    subst AllFit same_blocks (record {
+      signals = h.signals;
+      groups = h.groups;
+      specs = h.specs;
+      selectors = h.selectors;
+      timings = h.timings;
+      scans = h.scans;
+      macros = h.macros;
+      procedures = h.procedures;
+      patterns = patterns_fit s lexed b.patterns both.given e h.patterns both.met;
+      bursts = h.bursts;
+      executives = h.executives;
+    })
 block_fits s lexed b next e _ lined h is = cc
 
 -- what stands so far
