@@ -91,19 +91,69 @@ record FitExecutives (executives : List ExecDecl) : Type 0 where
   pub each : list_all is_exec_decl executives ≡ true
   pub within : length executives ≤ most_executives
 
+-- what is asked of the blocks of a keyword
+abbrev FitAt : Keyword → Blocks → Type 0
+FitAt keyword.Signals b = list_all is_signal_decl b.signals ≡ true
+FitAt keyword.SignalGroups b = list_all is_group_block b.groups ≡ true
+FitAt keyword.Spec b = list_all is_spec_block b.specs ≡ true
+FitAt keyword.Selector b = FitOnce is_selector (λ (x : Selector). x.name) b.selectors
+FitAt keyword.Timing b = FitTimings b.timings
+FitAt keyword.ScanStructures b = FitScans b.scans
+FitAt keyword.MacroDefs b = FitDefs b.macros
+FitAt keyword.Procedures b = FitDefs b.procedures
+FitAt keyword.Pattern b = FitOnce is_pattern (λ (x : Pattern). x.name) b.patterns
+FitAt keyword.PatternBurst b = FitOnce is_burst (λ (x : Burst). x.name) b.bursts
+FitAt keyword.PatternExec b = FitExecutives b.executives
+FitAt _ b = Unit {0}
+
 -- all blocks
-record AllFit (b : Blocks) : Type 0 where
-  pub signals : list_all is_signal_decl b.signals ≡ true
-  pub groups : list_all is_group_block b.groups ≡ true
-  pub specs : list_all is_spec_block b.specs ≡ true
-  pub selectors : FitOnce is_selector (λ (x : Selector). x.name) b.selectors
-  pub timings : FitTimings b.timings
-  pub scans : FitScans b.scans
-  pub macros : FitDefs b.macros
-  pub procedures : FitDefs b.procedures
-  pub patterns : FitOnce is_pattern (λ (x : Pattern). x.name) b.patterns
-  pub bursts : FitOnce is_burst (λ (x : Burst). x.name) b.bursts
-  pub executives : FitExecutives b.executives
+abbrev AllFit : Blocks → Type 0
+AllFit b = (k : Keyword) → FitAt k b
+
+-- other blocks of one keyword change nothing of those of the others
+with_signals : (b : Blocks) (all : List SignalDecl) → AllFit b → list_all is_signal_decl all ≡ true → AllFit (record b { signals = all })
+with_signals b all h new keyword.Signals = new
+with_signals b all h new k = h k
+
+with_groups : (b : Blocks) (all : List GroupBlock) → AllFit b → list_all is_group_block all ≡ true → AllFit (record b { groups = all })
+with_groups b all h new keyword.SignalGroups = new
+with_groups b all h new k = h k
+
+with_specs : (b : Blocks) (all : List SpecBlock) → AllFit b → list_all is_spec_block all ≡ true → AllFit (record b { specs = all })
+with_specs b all h new keyword.Spec = new
+with_specs b all h new k = h k
+
+with_selectors : (b : Blocks) (all : List Selector) → AllFit b → FitOnce is_selector (λ (x : Selector). x.name) all → AllFit (record b { selectors = all })
+with_selectors b all h new keyword.Selector = new
+with_selectors b all h new k = h k
+
+with_timings : (b : Blocks) (all : List TimingBlock) → AllFit b → FitTimings all → AllFit (record b { timings = all })
+with_timings b all h new keyword.Timing = new
+with_timings b all h new k = h k
+
+with_scans : (b : Blocks) (all : List ScanBlock) → AllFit b → FitScans all → AllFit (record b { scans = all })
+with_scans b all h new keyword.ScanStructures = new
+with_scans b all h new k = h k
+
+with_macros : (b : Blocks) (all : List DefBlock) → AllFit b → FitDefs all → AllFit (record b { macros = all })
+with_macros b all h new keyword.MacroDefs = new
+with_macros b all h new k = h k
+
+with_procedures : (b : Blocks) (all : List DefBlock) → AllFit b → FitDefs all → AllFit (record b { procedures = all })
+with_procedures b all h new keyword.Procedures = new
+with_procedures b all h new k = h k
+
+with_patterns : (b : Blocks) (all : List Pattern) → AllFit b → FitOnce is_pattern (λ (x : Pattern). x.name) all → AllFit (record b { patterns = all })
+with_patterns b all h new keyword.Pattern = new
+with_patterns b all h new k = h k
+
+with_bursts : (b : Blocks) (all : List Burst) → AllFit b → FitOnce is_burst (λ (x : Burst). x.name) all → AllFit (record b { bursts = all })
+with_bursts b all h new keyword.PatternBurst = new
+with_bursts b all h new k = h k
+
+with_executives : (b : Blocks) (all : List ExecDecl) → AllFit b → FitExecutives all → AllFit (record b { executives = all })
+with_executives b all h new keyword.PatternExec = new
+with_executives b all h new k = h k
 
 -- what is made of one block more
 more_made : {X : Type 0} (before : List X) (r : Result X FormFault) (next : List X)
@@ -262,179 +312,58 @@ block_fits : (s : Setting) → AreLexed s → (b next : Blocks) (e : Entry) (k :
 block_fits s lexed b next e keyword.Signals lined h is =
     let both = both_ok (more_signals s b.signals e) (λ all. Ok (record b { signals = all })) next is in
     let same_blocks : record b { signals = both.given } ≡ next = cc in
-    subst AllFit same_blocks (record {
-      signals = signals_fit s lexed b.signals both.given e h.signals both.met;
-      groups = h.groups;
-      specs = h.specs;
-      selectors = h.selectors;
-      timings = h.timings;
-      scans = h.scans;
-      macros = h.macros;
-      procedures = h.procedures;
-      patterns = h.patterns;
-      bursts = h.bursts;
-      executives = h.executives;
-    })
+    subst AllFit same_blocks (with_signals b both.given h
+    (signals_fit s lexed b.signals both.given e (h keyword.Signals) both.met))
 block_fits s lexed b next e keyword.SignalGroups lined h is =
     let both = both_ok (more_groups s b.groups e) (λ all. Ok (record b { groups = all })) next is in
     let same_blocks : record b { groups = both.given } ≡ next = cc in
-    subst AllFit same_blocks (record {
-      signals = h.signals;
-      groups = groups_fit s lexed b.groups both.given e h.groups both.met;
-      specs = h.specs;
-      selectors = h.selectors;
-      timings = h.timings;
-      scans = h.scans;
-      macros = h.macros;
-      procedures = h.procedures;
-      patterns = h.patterns;
-      bursts = h.bursts;
-      executives = h.executives;
-    })
+    subst AllFit same_blocks (with_groups b both.given h
+    (groups_fit s lexed b.groups both.given e (h keyword.SignalGroups) both.met))
 block_fits s lexed b next e keyword.Spec lined h is =
     let both = both_ok (more_specs s b.specs e) (λ all. Ok (record b { specs = all })) next is in
     let same_blocks : record b { specs = both.given } ≡ next = cc in
-    subst AllFit same_blocks (record {
-      signals = h.signals;
-      groups = h.groups;
-      specs = specs_fit s lexed b.specs both.given e h.specs both.met;
-      selectors = h.selectors;
-      timings = h.timings;
-      scans = h.scans;
-      macros = h.macros;
-      procedures = h.procedures;
-      patterns = h.patterns;
-      bursts = h.bursts;
-      executives = h.executives;
-    })
+    subst AllFit same_blocks (with_specs b both.given h
+    (specs_fit s lexed b.specs both.given e (h keyword.Spec) both.met))
 block_fits s lexed b next e keyword.Selector lined h is =
     let both = both_ok (more_selectors s b.selectors e) (λ all. Ok (record b { selectors = all })) next is in
     let same_blocks : record b { selectors = both.given } ≡ next = cc in
-    subst AllFit same_blocks (record {
-      signals = h.signals;
-      groups = h.groups;
-      specs = h.specs;
-      selectors = selectors_fit s b.selectors both.given e h.selectors both.met;
-      timings = h.timings;
-      scans = h.scans;
-      macros = h.macros;
-      procedures = h.procedures;
-      patterns = h.patterns;
-      bursts = h.bursts;
-      executives = h.executives;
-    })
+    subst AllFit same_blocks (with_selectors b both.given h
+    (selectors_fit s b.selectors both.given e (h keyword.Selector) both.met))
 block_fits s lexed b next e keyword.Timing lined h is =
     let both = both_ok (more_timings s b.timings e) (λ all. Ok (record b { timings = all })) next is in
     let same_blocks : record b { timings = both.given } ≡ next = cc in
-    subst AllFit same_blocks (record {
-      signals = h.signals;
-      groups = h.groups;
-      specs = h.specs;
-      selectors = h.selectors;
-      timings = timings_fit s lexed b.timings both.given e h.timings both.met;
-      scans = h.scans;
-      macros = h.macros;
-      procedures = h.procedures;
-      patterns = h.patterns;
-      bursts = h.bursts;
-      executives = h.executives;
-    })
+    subst AllFit same_blocks (with_timings b both.given h
+    (timings_fit s lexed b.timings both.given e (h keyword.Timing) both.met))
 block_fits s lexed b next e keyword.ScanStructures lined h is =
     let both = both_ok (more_scans s b.scans e) (λ all. Ok (record b { scans = all })) next is in
     let same_blocks : record b { scans = both.given } ≡ next = cc in
-    subst AllFit same_blocks (record {
-      signals = h.signals;
-      groups = h.groups;
-      specs = h.specs;
-      selectors = h.selectors;
-      timings = h.timings;
-      scans = scans_fit s b.scans both.given e lined h.scans both.met;
-      macros = h.macros;
-      procedures = h.procedures;
-      patterns = h.patterns;
-      bursts = h.bursts;
-      executives = h.executives;
-    })
+    subst AllFit same_blocks (with_scans b both.given h
+    (scans_fit s b.scans both.given e lined (h keyword.ScanStructures) both.met))
 block_fits s lexed b next e keyword.MacroDefs lined h is =
     let both = both_ok (more_defs s place.Macro b.macros e) (λ all. Ok (record b { macros = all })) next is in
     let same_blocks : record b { macros = both.given } ≡ next = cc in
-    subst AllFit same_blocks (record {
-      signals = h.signals;
-      groups = h.groups;
-      specs = h.specs;
-      selectors = h.selectors;
-      timings = h.timings;
-      scans = h.scans;
-      macros = defs_fit s place.Macro b.macros both.given e (macros_bodies s lexed) lined h.macros both.met;
-      procedures = h.procedures;
-      patterns = h.patterns;
-      bursts = h.bursts;
-      executives = h.executives;
-    })
+    subst AllFit same_blocks (with_macros b both.given h
+    (defs_fit s place.Macro b.macros both.given e (macros_bodies s lexed) lined (h keyword.MacroDefs) both.met))
 block_fits s lexed b next e keyword.Procedures lined h is =
     let both = both_ok (more_defs s place.Procedure b.procedures e) (λ all. Ok (record b { procedures = all })) next is in
     let same_blocks : record b { procedures = both.given } ≡ next = cc in
-    subst AllFit same_blocks (record {
-      signals = h.signals;
-      groups = h.groups;
-      specs = h.specs;
-      selectors = h.selectors;
-      timings = h.timings;
-      scans = h.scans;
-      macros = h.macros;
-      procedures = defs_fit s place.Procedure b.procedures both.given e (procedures_bodies s lexed) lined h.procedures both.met;
-      patterns = h.patterns;
-      bursts = h.bursts;
-      executives = h.executives;
-    })
+    subst AllFit same_blocks (with_procedures b both.given h
+    (defs_fit s place.Procedure b.procedures both.given e (procedures_bodies s lexed) lined (h keyword.Procedures) both.met))
 block_fits s lexed b next e keyword.PatternBurst lined h is =
     let both = both_ok (more_bursts s b.bursts e) (λ all. Ok (record b { bursts = all })) next is in
     let same_blocks : record b { bursts = both.given } ≡ next = cc in
-    subst AllFit same_blocks (record {
-      signals = h.signals;
-      groups = h.groups;
-      specs = h.specs;
-      selectors = h.selectors;
-      timings = h.timings;
-      scans = h.scans;
-      macros = h.macros;
-      procedures = h.procedures;
-      patterns = h.patterns;
-      bursts = bursts_fit s b.bursts both.given e lined h.bursts both.met;
-      executives = h.executives;
-    })
+    subst AllFit same_blocks (with_bursts b both.given h
+    (bursts_fit s b.bursts both.given e lined (h keyword.PatternBurst) both.met))
 block_fits s lexed b next e keyword.PatternExec lined h is =
     let both = both_ok (more_executives s b.executives e) (λ all. Ok (record b { executives = all })) next is in
     let same_blocks : record b { executives = both.given } ≡ next = cc in
-    subst AllFit same_blocks (record {
-      signals = h.signals;
-      groups = h.groups;
-      specs = h.specs;
-      selectors = h.selectors;
-      timings = h.timings;
-      scans = h.scans;
-      macros = h.macros;
-      procedures = h.procedures;
-      patterns = h.patterns;
-      bursts = h.bursts;
-      executives = executives_fit s b.executives both.given e lined h.executives both.met;
-    })
+    subst AllFit same_blocks (with_executives b both.given h
+    (executives_fit s b.executives both.given e lined (h keyword.PatternExec) both.met))
 block_fits s lexed b next e keyword.Pattern lined h is =
     let both = both_ok (more_patterns s b.patterns e) (λ all. Ok (record b { patterns = all })) next is in
     let same_blocks : record b { patterns = both.given } ≡ next = cc in
-    subst AllFit same_blocks (record {
-      signals = h.signals;
-      groups = h.groups;
-      specs = h.specs;
-      selectors = h.selectors;
-      timings = h.timings;
-      scans = h.scans;
-      macros = h.macros;
-      procedures = h.procedures;
-      patterns = patterns_fit s lexed b.patterns both.given e h.patterns both.met;
-      bursts = h.bursts;
-      executives = h.executives;
-    })
+    subst AllFit same_blocks (with_patterns b both.given h
+    (patterns_fit s lexed b.patterns both.given e (h keyword.Pattern) both.met))
 block_fits s lexed b next e _ lined h is = cc
 
 -- what stands so far
@@ -491,19 +420,18 @@ all_lined bytes tokens (block first count inside more) lined =
 
 -- nothing stands so far
 start_fits : TopFits start
-start_fits = record {
-  signals = refl;
-  groups = refl;
-  specs = refl;
-  selectors = record { each = refl; differ = λ title. refl };
-  timings = record { each = refl; names = no_table_names };
-  scans = record { each = refl; few_chains = λ title. omega arith };
-  macros = record { each = refl; differ = λ title. refl };
-  procedures = record { each = refl; differ = λ title. refl };
-  patterns = record { each = refl; differ = λ title. refl };
-  bursts = record { each = refl; differ = λ title. refl };
-  executives = record { each = refl; within = omega arith };
-}
+start_fits keyword.Signals = refl
+start_fits keyword.SignalGroups = refl
+start_fits keyword.Spec = refl
+start_fits keyword.Selector = record { each = refl; differ = λ title. refl }
+start_fits keyword.Timing = record { each = refl; names = no_table_names }
+start_fits keyword.ScanStructures = record { each = refl; few_chains = λ title. omega arith }
+start_fits keyword.MacroDefs = record { each = refl; differ = λ title. refl }
+start_fits keyword.Procedures = record { each = refl; differ = λ title. refl }
+start_fits keyword.Pattern = record { each = refl; differ = λ title. refl }
+start_fits keyword.PatternBurst = record { each = refl; differ = λ title. refl }
+start_fits keyword.PatternExec = record { each = refl; within = omega arith }
+start_fits _ = tt
 
 -- names without titles
 lone_names : (names : List (List ℕ)) → Differ (untitled names) → all_differ same names ≡ true
@@ -517,35 +445,35 @@ one_text b h some =
     let macros = λ (name : List ℕ). names_under-blocks (λ (t : DefBlock). t.name) (λ t. t.bodies) (λ (d : BodyDef). d.name) b.macros name in
     let procedures = λ (name : List ℕ). names_under-blocks (λ (t : DefBlock). t.name) (λ t. t.bodies) (λ (d : BodyDef). d.name) b.procedures name in
     record {
-      each_signal = h.signals;
-      each_group_block = h.groups;
-      each_spec = h.specs;
-      each_selector = h.selectors.each;
-      each_timing = h.timings.each;
-      each_scan_block = h.scans.each;
-      each_macro_block = h.macros.each;
-      each_procedure_block = h.procedures.each;
-      each_pattern = h.patterns.each;
-      each_burst = h.bursts.each;
-      each_executive = h.executives.each;
-      selectors_differ = lone_names (map (λ (x : Selector). x.name) b.selectors) h.selectors.differ;
-      patterns_differ = lone_names (map (λ (x : Pattern). x.name) b.patterns) h.patterns.differ;
-      bursts_differ = lone_names (map (λ (x : Burst). x.name) b.bursts) h.bursts.differ;
-      tables_differ = λ name. ap (all_differ same) (sym (tables name)) ∙ h.timings.names.differ name;
-      macros_differ = λ name. ap (all_differ same) (sym (macros name)) ∙ h.macros.differ name;
-      procedures_differ = λ name. ap (all_differ same) (sym (procedures name)) ∙ h.procedures.differ name;
+      each_signal = h keyword.Signals;
+      each_group_block = h keyword.SignalGroups;
+      each_spec = h keyword.Spec;
+      each_selector = (h keyword.Selector).each;
+      each_timing = (h keyword.Timing).each;
+      each_scan_block = (h keyword.ScanStructures).each;
+      each_macro_block = (h keyword.MacroDefs).each;
+      each_procedure_block = (h keyword.Procedures).each;
+      each_pattern = (h keyword.Pattern).each;
+      each_burst = (h keyword.PatternBurst).each;
+      each_executive = (h keyword.PatternExec).each;
+      selectors_differ = lone_names (map (λ (x : Selector). x.name) b.selectors) (h keyword.Selector).differ;
+      patterns_differ = lone_names (map (λ (x : Pattern). x.name) b.patterns) (h keyword.Pattern).differ;
+      bursts_differ = lone_names (map (λ (x : Burst). x.name) b.bursts) (h keyword.PatternBurst).differ;
+      tables_differ = λ name. ap (all_differ same) (sym (tables name)) ∙ (h keyword.Timing).names.differ name;
+      macros_differ = λ name. ap (all_differ same) (sym (macros name)) ∙ (h keyword.MacroDefs).differ name;
+      procedures_differ = λ name. ap (all_differ same) (sym (procedures name)) ∙ (h keyword.Procedures).differ name;
       table_count = λ name.
-          omega (arith, h.timings.names.within name, ap length (tables name), length-map (tables_named b.timings name) (λ (d : TableDecl). d.name));
+          omega (arith, (h keyword.Timing).names.within name, ap length (tables name), length-map (tables_named b.timings name) (λ (d : TableDecl). d.name));
       chain_count = λ name.
           omega (
             arith,
-            h.scans.few_chains name,
+            (h keyword.ScanStructures).few_chains name,
             ap length (chains name),
             length-names_under (chains_in b.scans) name,
             length-map (chains_named b.scans name) (λ (d : ChainDecl). d.name),
           );
       some_executive = some;
-      executive_count = h.executives.within;
+      executive_count = (h keyword.PatternExec).within;
     }
 
 -- blocks with an executive
