@@ -20,7 +20,7 @@ fn run<K: Sink>(alloc: Global, lot: &ReadyLot, of: Part, out: &mut K) -> Status
     requires program { lot.now.plan.program ≡ lot.now.code }
     requires die { 0 < sites_of lot.now.plan.rows }
     requires part { IsPart of.parts of.part }
-    ensures answers { Answers (GradeRunWants lot.now.plan of.parts of.part)
+    ensures { Answers (GradeRunWants lot.now.plan of.parts of.part)
         (K.told out.old) (K.faults out.old) result (K.told out.new) (K.faults out.new) }
 {
     let Ok(grade) = grade_part(alloc, &lot.code, &lot.plan, of.parts, of.part) else {

@@ -150,7 +150,7 @@ fn run<R: Threads + Wait + Sync, D: Desk, G: Gate, K: Sink>(
 ) -> Status
     requires program { lot.plan.program ≡ lot.code }
     requires enough { sites_of lot.plan.rows ≤ usable (length sockets.old.items) }
-    ensures answers { Answers (DrillRunWants ⟦<SocketBox as Socket>⟧.told number lot.plan
+    ensures { Answers (DrillRunWants ⟦<SocketBox as Socket>⟧.told number lot.plan
         (record { sockets = sockets.old.items; stops = D.stops desk.old; asked = D.asked desk.old })
         (record { sockets = sockets.new.items; stops = D.stops desk.new; asked = D.asked desk.new }))
         (K.told out.old) (K.faults out.old) result (K.told out.new) (K.faults out.new) }
@@ -175,7 +175,7 @@ pub(crate) fn drill<K: Sink, D: Desk, G: Gate, R: Threads + Wait + Sync>(
     out: &mut K,
 ) -> Status
     requires { number ≤ 200 }
-    ensures answers { Answers (DrillComes ⟦<SocketBox as Socket>⟧.told number
+    ensures { Answers (DrillComes ⟦<SocketBox as Socket>⟧.told number
         (record { sockets = sockets.old.items; stops = D.stops desk.old; asked = D.asked desk.old })
         (record { sockets = sockets.new.items; stops = D.stops desk.new; asked = D.asked desk.new }))
         (K.told out.old) (K.faults out.old) result (K.told out.new) (K.faults out.new) }

@@ -26,7 +26,7 @@ fn has_die(plan: &BoundPlan, site: u8) -> bool
 fn run<K: Sink>(alloc: Global, lot: &ReadyLot, site: u8, out: &mut K) -> Status
     requires program { lot.now.plan.program ≡ lot.now.code }
     requires die { 0 < length (dies_at site lot.now.plan.rows) }
-    ensures answers { Answers (DumpRunWants lot.now.plan site)
+    ensures { Answers (DumpRunWants lot.now.plan site)
         (K.told out.old) (K.faults out.old) result (K.told out.new) (K.faults out.new) }
 {
     let tape = match tape_of(alloc, &lot.code, &lot.plan, site) {

@@ -27,7 +27,7 @@ fn run<R: Threads + Wait + Sync, G: Gate, K: Sink>(
 ) -> Status
     requires program { lot.now.plan.program ≡ lot.now.code }
     requires die { 0 < sites_of lot.now.plan.rows }
-    ensures answers { Answers (GradeRunWants lot.now.plan)
+    ensures { Answers (GradeRunWants lot.now.plan)
         (K.told out.old) (K.faults out.old) result (K.told out.new) (K.faults out.new) }
 {
     let Ok(grade) = grade_faults(rt, alloc, &lot.code, &lot.plan, WORKERS, gate) else {

@@ -27,7 +27,7 @@ fn run<R: Threads + Wait + Sync, D: Desk, G: Gate, K: Sink>(
 ) -> Status
     requires program { lot.plan.program ≡ lot.code }
     requires enough { sites_of lot.plan.rows ≤ usable (length sockets.old.items) }
-    ensures answers { Answers (RunWants ⟦<SocketBox as Socket>⟧.told lot.plan
+    ensures { Answers (RunWants ⟦<SocketBox as Socket>⟧.told lot.plan
         (record { sockets = sockets.old.items; stops = D.stops desk.old; asked = D.asked desk.old })
         (record { sockets = sockets.new.items; stops = D.stops desk.new; asked = D.asked desk.new }))
         (K.told out.old) (K.faults out.old) result (K.told out.new) (K.faults out.new) }

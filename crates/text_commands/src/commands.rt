@@ -62,7 +62,7 @@ fn run_text<K: Sink>(
     out: &mut K,
 ) -> Status
     requires { length bytes.now ≤ most_bytes }
-    ensures answers { Answers (BytesWant command file.now bytes.now)
+    ensures { Answers (BytesWant command file.now bytes.now)
         (K.told out.old) (K.faults out.old) result (K.told out.new) (K.faults out.new) }
 {
     match command {
@@ -77,7 +77,7 @@ fn run_text<K: Sink>(
 /// Prints the numbers of a text's code.
 fn check<K: Sink>(alloc: Global, bytes: &[u8], out: &mut K) -> Status
     requires { length bytes.now ≤ most_bytes }
-    ensures answers { (file : List ℕ) → Answers (BytesWant Check file bytes.now)
+    ensures { (file : List ℕ) → Answers (BytesWant Check file bytes.now)
         (K.told out.old) (K.faults out.old) result (K.told out.new) (K.faults out.new) }
 {
     match program(alloc, bytes) {
@@ -92,7 +92,7 @@ fn check<K: Sink>(alloc: Global, bytes: &[u8], out: &mut K) -> Status
 /// Prints the dated cycles of a text.
 fn cycles<K: Sink>(alloc: Global, bytes: &[u8], out: &mut K) -> Status
     requires { length bytes.now ≤ most_bytes }
-    ensures answers { (file : List ℕ) → Answers (BytesWant Cycles file bytes.now)
+    ensures { (file : List ℕ) → Answers (BytesWant Cycles file bytes.now)
         (K.told out.old) (K.faults out.old) result (K.told out.new) (K.faults out.new) }
 {
     let code = match listed_code(alloc, bytes) {
@@ -109,7 +109,7 @@ fn cycles<K: Sink>(alloc: Global, bytes: &[u8], out: &mut K) -> Status
 /// Prints the moments of a text's cycles.
 fn events<K: Sink>(alloc: Global, bytes: &[u8], out: &mut K) -> Status
     requires { length bytes.now ≤ most_bytes }
-    ensures answers { (file : List ℕ) → Answers (BytesWant Events file bytes.now)
+    ensures { (file : List ℕ) → Answers (BytesWant Events file bytes.now)
         (K.told out.old) (K.faults out.old) result (K.told out.new) (K.faults out.new) }
 {
     let code = match listed_code(alloc, bytes) {
@@ -126,7 +126,7 @@ fn events<K: Sink>(alloc: Global, bytes: &[u8], out: &mut K) -> Status
 /// Writes a text's code as a saved program.
 fn save_text<K: Sink>(alloc: Global, file: &str, bytes: &[u8], out: &mut K) -> Status
     requires { length bytes.now ≤ most_bytes }
-    ensures answers { Answers (BytesWant Save file.now bytes.now)
+    ensures { Answers (BytesWant Save file.now bytes.now)
         (K.told out.old) (K.faults out.old) result (K.told out.new) (K.faults out.new) }
 {
     let code = match program(alloc, bytes) {
@@ -161,7 +161,7 @@ fn put_saved<K: Sink>(code: &Code, out: &mut K) -> Status
 /// Writes the flat text of a text.
 fn flat_command<K: Sink>(alloc: Global, file: &str, bytes: &[u8], out: &mut K) -> Status
     requires { length bytes.now ≤ most_bytes }
-    ensures answers { Answers (BytesWant Flat file.now bytes.now)
+    ensures { Answers (BytesWant Flat file.now bytes.now)
         (K.told out.old) (K.faults out.old) result (K.told out.new) (K.faults out.new) }
 {
     match program(alloc, bytes) {
@@ -172,7 +172,7 @@ fn flat_command<K: Sink>(alloc: Global, file: &str, bytes: &[u8], out: &mut K) -
 
 /// Writes the flat text of a code of this file.
 fn put_flat<K: Sink>(alloc: Global, file: &str, code: &Code, out: &mut K) -> Status
-    ensures answers { Answers (FlatWant file.now code.now)
+    ensures { Answers (FlatWant file.now code.now)
         (K.told out.old) (K.faults out.old) result (K.told out.new) (K.faults out.new) }
 {
     if !has_plain_names(code) {

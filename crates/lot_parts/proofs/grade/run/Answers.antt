@@ -4,16 +4,16 @@ use Rattle.lot_parts.proofs.GradeLemmas.{graded_so}
 use Rattle.tool_inputs.proofs.EndLemmas.{ends_whole, ends_front}
 use Rattle.lot_parts.proofs.grade.run.Goals as goal
 
-pub returns-in-Ok-print_grade-clause-answers : goal.returns-in-Ok-print_grade-clause-answers
-returns-in-Ok-print_grade-clause-answers g c = record {
+pub returns-in-Ok-print_grade : goal.returns-in-Ok-print_grade
+returns-in-Ok-print_grade g c = record {
   status = Done;
   text = grade_text c.first_net.result.now.net.names c.in-Ok.grade;
   wanted = graded_so c.args.lot.now.plan c.first_net.result.now c.in-Ok.grade c.args.of.parts c.args.of.part c.first_net.ensures c.in-Ok.ensures;
   ends = ends_whole c.in-Ok-print_grade.ensures;
 }
 
-pub returns-clause-answers : goal.returns-clause-answers
-returns-clause-answers g c = record {
+pub returns : goal.returns
+returns g c = record {
   status = Done;
   text = grade_text c.first_net.result.now.net.names c.in-Ok.grade;
   wanted = graded_so c.args.lot.now.plan c.first_net.result.now c.in-Ok.grade c.args.of.parts c.args.of.part c.first_net.ensures c.in-Ok.ensures;

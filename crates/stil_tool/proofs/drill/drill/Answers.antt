@@ -5,16 +5,16 @@ use Rattle.stil_tool.specs.Drill.IsDrillRefused.{of_text}
 use Rattle.stil_tool.proofs.DrillLemmas.{refused_wants, few_refused, run_wants}
 use Rattle.stil_tool.proofs.drill.drill.Goals as goal
 
-pub returns-in-Err-clause-answers : goal.returns-in-Err-clause-answers
-returns-in-Err-clause-answers g c = record {
+pub returns-in-Err : goal.returns-in-Err
+returns-in-Err g c = record {
   status = status_of c.in-Err.refusal;
   text = line_of c.in-Err.refusal;
   wanted = refused_wants _ _ _ c.in-Err.refusal (of_text c.in-Err.ensures);
   ends = c.put_refusal.ensures;
 }
 
-pub returns-then-sites-have-clause-answers : goal.returns-then-sites-have-clause-answers
-returns-then-sites-have-clause-answers g c = record {
+pub returns-then-sites-have : goal.returns-then-sites-have
+returns-then-sites-have g c = record {
   status = status_of (TooFewSockets c.sites-sites.result c.usable-have.result);
   text = line_of (TooFewSockets c.sites-sites.result c.usable-have.result);
   wanted = refused_wants _ _ _ (TooFewSockets c.sites-sites.result c.usable-have.result)
@@ -24,9 +24,9 @@ returns-then-sites-have-clause-answers g c = record {
   ends = c.put_refusal-then-sites-have.ensures;
 }
 
-pub returns-clause-answers : goal.returns-clause-answers
-returns-clause-answers g c =
-    let a = c.run.ensures.answers in
+pub returns : goal.returns
+returns g c =
+    let a = c.run.ensures in
     record {
       status = a.status;
       text = a.text;

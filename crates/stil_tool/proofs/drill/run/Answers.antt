@@ -12,8 +12,8 @@ put_summary-requires g c =
     sound_so _ c.args.lot.plan _ _ c.in-Ok.tested.book c.in-Ok.tested.plan c.in-Ok.ensures.book c.in-Ok.ensures.plan
     c.requires.enough
 
-pub returns-in-Ok-put_summary-clause-answers : goal.returns-in-Ok-put_summary-clause-answers
-returns-in-Ok-put_summary-clause-answers g c = record {
+pub returns-in-Ok-put_summary : goal.returns-in-Ok-put_summary
+returns-in-Ok-put_summary g c = record {
   status = Done;
   text = drill_text c.args.number c.in-Ok.tested.plan (records_of c.in-Ok.tested.book);
   wanted = record {
@@ -24,8 +24,8 @@ returns-in-Ok-put_summary-clause-answers g c = record {
   ends = ends_whole c.in-Ok-put_summary.ensures;
 }
 
-pub returns-clause-answers : goal.returns-clause-answers
-returns-clause-answers g c = record {
+pub returns : goal.returns
+returns g c = record {
   status = Done;
   text = drill_text c.args.number c.in-Ok.tested.plan (records_of c.in-Ok.tested.book);
   wanted = record {

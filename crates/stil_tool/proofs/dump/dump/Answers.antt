@@ -25,7 +25,7 @@ returns-then-not-has_die-clause-answers g c = record {
 
 pub returns-clause-answers : goal.returns-clause-answers
 returns-clause-answers g c =
-    let a = c.run.ensures.answers in
+    let a = c.run.ensures in
     record {
       status = a.status;
       text = a.text;

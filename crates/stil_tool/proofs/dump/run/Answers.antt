@@ -13,16 +13,16 @@ tape_of-requires-clause-site g c = site-below c.args.lot.now.plan.rows c.args.si
 pub write_dump-requires-clause-site : goal.write_dump-requires-clause-site
 write_dump-requires-clause-site g c = site-below c.args.lot.now.plan.rows c.args.site 0 c.requires.die
 
-pub returns-in-Ok-write_dump-clause-answers : goal.returns-in-Ok-write_dump-clause-answers
-returns-in-Ok-write_dump-clause-answers g c = record {
+pub returns-in-Ok-write_dump : goal.returns-in-Ok-write_dump
+returns-in-Ok-write_dump g c = record {
   status = Done;
   text = dump_of (vars_of c.args.lot.now.plan c.args.site) c.in-Ok.tape.calls;
   wanted = is_written refl c.in-Ok.ensures.few (ap (dump_of (vars_of c.args.lot.now.plan c.args.site)) c.in-Ok.ensures.calls);
   ends = ends_whole c.in-Ok-write_dump.ensures;
 }
 
-pub returns-clause-answers : goal.returns-clause-answers
-returns-clause-answers g c = record {
+pub returns : goal.returns
+returns g c = record {
   status = Done;
   text = dump_of (vars_of c.args.lot.now.plan c.args.site) c.in-Ok.tape.calls;
   wanted = is_written refl c.in-Ok.ensures.few (ap (dump_of (vars_of c.args.lot.now.plan c.args.site)) c.in-Ok.ensures.calls);

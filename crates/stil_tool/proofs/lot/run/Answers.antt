@@ -16,8 +16,8 @@ print_lot-requires-clause-sound g c =
     sound_so _ c.args.lot.plan _ _ c.in-Ok.tested.book c.in-Ok.tested.plan c.in-Ok.ensures.book c.in-Ok.ensures.plan
     c.requires.enough
 
-pub returns-in-Ok-print_lot-clause-answers : goal.returns-in-Ok-print_lot-clause-answers
-returns-in-Ok-print_lot-clause-answers g c = record {
+pub returns-in-Ok-print_lot : goal.returns-in-Ok-print_lot
+returns-in-Ok-print_lot g c = record {
   status = Done;
   text = lot_text c.code.result.now c.in-Ok.tested.plan (records_of c.in-Ok.tested.book);
   wanted = record {
@@ -29,8 +29,8 @@ returns-in-Ok-print_lot-clause-answers g c = record {
   ends = ends_whole c.in-Ok-print_lot.ensures;
 }
 
-pub returns-clause-answers : goal.returns-clause-answers
-returns-clause-answers g c = record {
+pub returns : goal.returns
+returns g c = record {
   status = Done;
   text = lot_text c.code.result.now c.in-Ok.tested.plan (records_of c.in-Ok.tested.book);
   wanted = record {

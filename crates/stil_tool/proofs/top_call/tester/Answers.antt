@@ -23,7 +23,7 @@ prove-unreachable-requires g c = omega (arith, c.in-Drill.ensures.few, c.if-prov
 
 pub returns-in-Drill-clause-answers : goal.returns-in-Drill-clause-answers
 returns-in-Drill-clause-answers g c =
-    let a = c.drill.ensures.answers in
+    let a = c.drill.ensures in
     record {
       status = a.status;
       text = a.text;

@@ -9,16 +9,16 @@ use Rattle.text_commands.proofs.CommandLemmas.{ends_same}
 use Rattle.code_listing.specs.Text.{cycles_text}
 use Rattle.text_commands.proofs.commands.cycles.Goals as goal
 
-pub returns-in-Ok-put_cycles-clause-answers : goal.returns-in-Ok-put_cycles-clause-answers
-returns-in-Ok-put_cycles-clause-answers g c = λ file. record {
+pub returns-in-Ok-put_cycles : goal.returns-in-Ok-put_cycles
+returns-in-Ok-put_cycles g c = λ file. record {
   status = Done;
   text = cycles_text (listing_of c.in-Ok.code);
   wanted = (c.in-Ok.ensures.blocks, c.in-Ok.ensures.listed, ap cycles_text c.in-Ok.ensures.listing);
   ends = record { ends = inl (refl, c.in-Ok-put_cycles.ensures.puts); count = omega arith };
 }
 
-pub returns-in-Err-NoMemory-clause-answers : goal.returns-in-Err-NoMemory-clause-answers
-returns-in-Err-NoMemory-clause-answers g c = λ file. record {
+pub returns-in-Err-NoMemory : goal.returns-in-Err-NoMemory
+returns-in-Err-NoMemory g c = λ file. record {
   status = OutOfMemory;
   text = memory_line;
   wanted = at_once refl;
@@ -29,8 +29,8 @@ returns-in-Err-NoMemory-clause-answers g c = λ file. record {
       c.in-Err-NoMemory.ensures.count c.no_memory.ensures;
 }
 
-pub returns-clause-answers : goal.returns-clause-answers
-returns-clause-answers g c = λ file. record {
+pub returns : goal.returns
+returns g c = λ file. record {
   status = Done;
   text = cycles_text (listing_of c.in-Ok.code);
   wanted = (c.in-Ok.ensures.blocks, c.in-Ok.ensures.listed, ap cycles_text c.in-Ok.ensures.listing);

@@ -8,24 +8,24 @@ use Rattle.text_commands.proofs.CommandLemmas.{events_wanting}
 use Rattle.code_listing.specs.Text.{names_of, events_text}
 use Rattle.text_commands.proofs.commands.events.Goals as goal
 
-pub returns-in-Ok-put_events-clause-answers : goal.returns-in-Ok-put_events-clause-answers
-returns-in-Ok-put_events-clause-answers g c = λ file. record {
+pub returns-in-Ok-put_events : goal.returns-in-Ok-put_events
+returns-in-Ok-put_events g c = λ file. record {
   status = Done;
   text = events_text (names_of c.in-Ok.code) (listing_of c.in-Ok.code);
   wanted = (c.in-Ok.ensures.blocks, c.in-Ok.ensures.listed, ap (λ names. events_text names (listing_of c.in-Ok.code)) c.in-Ok.ensures.names ∙ ap (events_text (signal_names c.in-Ok.ensures.blocks)) c.in-Ok.ensures.listing);
   ends = record { ends = inl (refl, c.in-Ok-put_events.ensures.lists); count = omega arith };
 }
 
-pub returns-in-Err-NoMemory-clause-answers : goal.returns-in-Err-NoMemory-clause-answers
-returns-in-Err-NoMemory-clause-answers g c = λ file.
+pub returns-in-Err-NoMemory : goal.returns-in-Err-NoMemory
+returns-in-Err-NoMemory g c = λ file.
     events_wanting file c.args.bytes.now c.in-Ok.code (g.K.Sink.told c.args.out.now) (g.K.Sink.told c.put_events.new.sink) _ (g.K.Sink.faults c.args.out.now)
     (g.K.Sink.faults c.put_events.new.sink) _ c.no_memory.result c.in-Ok.ensures
     (subst (λ (f : ListFault). Lists {A = Unit {0}} (g.K.Sink.told c.args.out.now) (events_text (names_of c.in-Ok.code) (listing_of c.in-Ok.code)) (Err f)
     (g.K.Sink.told c.put_events.new.sink)) c.in-Err-NoMemory.field-0-is c.in-Err-NoMemory.ensures.lists)
     c.in-Err-NoMemory.ensures.count c.no_memory.ensures
 
-pub returns-clause-answers : goal.returns-clause-answers
-returns-clause-answers g c = λ file. record {
+pub returns : goal.returns
+returns g c = λ file. record {
   status = Done;
   text = events_text (names_of c.in-Ok.code) (listing_of c.in-Ok.code);
   wanted = (c.in-Ok.ensures.blocks, c.in-Ok.ensures.listed, ap (λ names. events_text names (listing_of c.in-Ok.code)) c.in-Ok.ensures.names ∙ ap (events_text (signal_names c.in-Ok.ensures.blocks)) c.in-Ok.ensures.listing);

@@ -12,24 +12,24 @@ written : (code : Program) (text bytes : List ℕ) → text ≡ bytes → IsFlat
     → IsFlat code bytes × MeansSame code bytes
 written code text bytes is flat same = (subst (IsFlat code) is flat, subst (MeansSame code) is same)
 
-pub returns-in-Ok-put_all-clause-answers : goal.returns-in-Ok-put_all-clause-answers
-returns-in-Ok-put_all-clause-answers g c = record {
+pub returns-in-Ok-put_all : goal.returns-in-Ok-put_all
+returns-in-Ok-put_all g c = record {
   status = Done;
   text = c.as_slice.result.now;
   wanted = written c.args.code.now _ _ (sym c.as_slice.ensures) c.in-Ok.ensures.found c.in-Ok.ensures.same;
   ends = ends_whole c.in-Ok-put_all.ensures;
 }
 
-pub returns-in-Ok-clause-answers : goal.returns-in-Ok-clause-answers
-returns-in-Ok-clause-answers g c = record {
+pub returns-in-Ok : goal.returns-in-Ok
+returns-in-Ok g c = record {
   status = Done;
   text = c.as_slice.result.now;
   wanted = written c.args.code.now _ _ (sym c.as_slice.ensures) c.in-Ok.ensures.found c.in-Ok.ensures.same;
   ends = ends_front c.in-Err-put_all.ensures;
 }
 
-pub returns-clause-answers : goal.returns-clause-answers
-returns-clause-answers g c = record {
+pub returns : goal.returns
+returns g c = record {
   status = flat_status c.in-Err.fault;
   text = flat_line c.args.file.now c.in-Err.fault;
   wanted =

@@ -4,17 +4,17 @@ use Rattle.tool_inputs.specs.Endings.{Answers}
 use Rattle.text_commands.specs.Commands.{BytesWant}
 use Rattle.text_commands.proofs.commands.run_text.Goals as goal
 
-pub returns-in-Check-clause-answers : goal.returns-in-Check-clause-answers
-returns-in-Check-clause-answers g c =
+pub returns-in-Check : goal.returns-in-Check
+returns-in-Check g c =
     subst (λ (k : Command). Answers (BytesWant k c.args.file.now c.args.bytes.now) (g.K.Sink.told c.args.out.now) (g.K.Sink.faults c.args.out.now)
-    c.check.result (g.K.Sink.told c.check.new.out) (g.K.Sink.faults c.check.new.out)) (sym c.in-Check.is) (c.check.ensures.answers c.args.file.now)
+    c.check.result (g.K.Sink.told c.check.new.out) (g.K.Sink.faults c.check.new.out)) (sym c.in-Check.is) (c.check.ensures c.args.file.now)
 
-pub returns-in-Cycles-clause-answers : goal.returns-in-Cycles-clause-answers
-returns-in-Cycles-clause-answers g c =
+pub returns-in-Cycles : goal.returns-in-Cycles
+returns-in-Cycles g c =
     subst (λ (k : Command). Answers (BytesWant k c.args.file.now c.args.bytes.now) (g.K.Sink.told c.args.out.now) (g.K.Sink.faults c.args.out.now)
-    c.cycles.result (g.K.Sink.told c.cycles.new.out) (g.K.Sink.faults c.cycles.new.out)) (sym c.in-Cycles.is) (c.cycles.ensures.answers c.args.file.now)
+    c.cycles.result (g.K.Sink.told c.cycles.new.out) (g.K.Sink.faults c.cycles.new.out)) (sym c.in-Cycles.is) (c.cycles.ensures c.args.file.now)
 
-pub returns-in-Events-clause-answers : goal.returns-in-Events-clause-answers
-returns-in-Events-clause-answers g c =
+pub returns-in-Events : goal.returns-in-Events
+returns-in-Events g c =
     subst (λ (k : Command). Answers (BytesWant k c.args.file.now c.args.bytes.now) (g.K.Sink.told c.args.out.now) (g.K.Sink.faults c.args.out.now)
-    c.events.result (g.K.Sink.told c.events.new.out) (g.K.Sink.faults c.events.new.out)) (sym c.in-Events.is) (c.events.ensures.answers c.args.file.now)
+    c.events.result (g.K.Sink.told c.events.new.out) (g.K.Sink.faults c.events.new.out)) (sym c.in-Events.is) (c.events.ensures c.args.file.now)
