@@ -157,12 +157,12 @@ def test_names_of_open_texts_are_names() -> None:
     for name in UTF8:
         signal = name if printing(name) and "[" not in name else "a"
         text = f'STIL 1.0;\nSignals {{ "{signal}" In; }}\nPattern p {{ V {{ "{signal}"=1; }} }}\n'
-        uri = {"textDocument": {"uri": name}}
+        uri: dict[str, Any] = {"textDocument": {"uri": name}}
         place = {**uri, "position": {"line": 1, "character": 11}}
         said = answered([("initialize", {}), ("textDocument/didOpen", {"textDocument": {"uri": name, "version": 0, "text": text}}),
                          *((f"textDocument/{word}", place) for word in ("hover", "definition", "completion", "documentSymbol")),
                          ("textDocument/didClose", uri)])
-        found = {message["id"]: message.get("result") for message in said if "id" in message}
+        found: dict[int, Any] = {message["id"]: message.get("result") for message in said if "id" in message}
         assert f"signal `{signal}`" in found[2]["contents"]["value"] and found[3][0]["uri"] == name
         assert signal in [item["label"] for item in found[4]["items"]] and found[5][0]["children"][0]["name"] == signal
         assert {message["params"]["uri"] for message in said if "method" in message} == {name}
