@@ -99,7 +99,7 @@ def test_names_of_testbenches_are_names(tmp_path: pathlib.Path, capsys: pytest.C
             continue
         printed = told(words, capsys)
         assert f"./{name}/testbench.v\n" in printed and f"./{name}/die.v\n" in printed
-        for more in (["--rtl", f"{name} ", "--files", f"./{name}.v"], [f"--die={name}x"]):
+        for more in ([f"--rtl={name} ", "--files", f"./{name}.v"], [f"--die={name}x"]):
             line, = told([*words, *more], capsys, 1).removesuffix("\n").split("\n")
             assert ":1:1: error: " in line or line.startswith("stilfloor: error: "), line
         assert ": error: " in told([*words, "--rtl=top", "--files", f"./{name}.v"], capsys, 3 if shutil.which("iverilog") else 4)
@@ -205,7 +205,7 @@ def test_names_of_files_are_names_to_the_wrappers(tmp_path: pathlib.Path, s27: L
         assert (status, printed) == (0, "1\n") if name in UTF8 else status == 1, (name, printed)
         if name in UTF8:
             assert ran([stil, "check", f"{name}/none"]) == (2, f"read fault {told_by_stil(f'{name}/none')}\n")
-        assert ran([stil, "help", name]) == (1, f"stil: there is no command {name}; stil --help names them\n")
+        assert ran([stil, "help", f"none{name}"]) == (1, f"stil: there is no command none{name}; stil --help names them\n")
 
 
 def told_by_stil(name: str) -> str:
