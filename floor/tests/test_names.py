@@ -8,41 +8,23 @@ import pathlib
 import re
 import shutil
 import subprocess
-from collections.abc import Iterator
 from typing import Any
 
 import pytest
 
 from conftest import DATA, EXAMPLES, TOP, Lot, dies_of, needs_yosys
 from hostile_names import MARK, NAMES, plain, printing
+from named import UTF8, nothing_runs, told
 from stilfloor import netlist, plans, records, sentences, tester
-from stilfloor.cli import main
 from stilfloor.faults import shown
 
-UTF8 = [name for name in NAMES if not any(0xD800 <= ord(character) <= 0xDFFF for character in name)]
 SIGNALS = [name for name in dict.fromkeys(NAMES) if printing(name) and "[" not in name and name != "CK"]
 NETS = [name for name in NAMES if plain(name) and not set(name) & set("(),=#")]
 DIES = [name for name in NAMES if plain(name)]
 GRADE = str(EXAMPLES / "s27scan" / "lot.grade")
 
 
-@pytest.fixture(autouse=True)
-def _nothing_runs(tmp_path: pathlib.Path, monkeypatch: pytest.MonkeyPatch) -> Iterator[None]:
-    """Stands in a folder of its own, where nothing may be made by a name that is run."""
-    monkeypatch.chdir(tmp_path)
-    yield
-    assert not [path for path in (*tmp_path.rglob(MARK), pathlib.Path("/") / MARK, TOP / MARK) if path.exists()]
-
-
-def told(words: list[str], capsys: pytest.CaptureFixture[str], status: int = 0) -> str:
-    """What a word prints, which is no traceback, and of which each line is one of its own."""
-    try:
-        ended = main(words)
-    except SystemExit as ending:
-        ended = int(str(ending.code))
-    printed = capsys.readouterr()
-    assert ended == status, (words, printed)
-    return printed.out + printed.err
+_nothing_runs = pytest.fixture(autouse=True)(nothing_runs)
 
 
 def quoted(name: str) -> str:
@@ -172,7 +154,10 @@ def test_names_of_files_are_names_to_every_word(tmp_path: pathlib.Path, capsys: 
 def test_files_that_are_not_there_are_told_on_one_line(front: int, capsys: pytest.CaptureFixture[str]) -> None:
     for name in set(NAMES[front : front + 20]) - {"-", "--"}:
         for words in (["lint", "--", name], ["lint", f"--plan={name}"], ["learn", "--", name, name], ["export", "--csv", "--", name],
-                      ["plot", "lot", "--", name], ["diagnose", "--", name, name, name], ["netlist", "--", name],
+                      ["plot", "lot", "--", name], ["plot", "fails", "--", name], ["plot", "grade", "--", name], ["plot", "events", "--", name],
+                      ["diagnose", "--", name, name, name], ["netlist", "--", name], ["fit", f"-o{name}x", "--", name],
+                      ["testbench", f"-o{name}x", "--", name, name], ["plan-time", "--", name, name], ["coverage", "--", name, name],
+                      ["from-vcd", f"--clock={name}", "--", name], ["vectors", f"--clock={name}", "--", name],
                       ["report", f"--follow={name}", "-o", "r", "--", name, name], ["report", f"--grade={name}", "-o", "r", "--", name, name, name],
                       ["plot", "shmoo", "--strobe", "1ns..2ns/1ns", "--", name, name]):
             line, = told(words, capsys, 1 if words[:2] == ["lint", "--"] and name in UTF8 else 3).removesuffix("\n").split("\n")

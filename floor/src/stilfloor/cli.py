@@ -4,6 +4,7 @@ import argparse
 import contextlib
 import io
 import os
+import re
 import sys
 from collections.abc import Callable, Iterator
 from typing import IO, TYPE_CHECKING
@@ -276,17 +277,19 @@ def lint(words: argparse.Namespace) -> int:
     lines: list[str] = []
     for file in words.files:
         told = list(lint_text(file))
-        lines += told + (places(file) if lines_refuse(told) else [])
+        lines += told + (places(file) if lines_refuse(told, words.files) else [])
     if words.plan:
-        lines += lint_plan(words.plan, words.files[0] if len(words.files) == 1 and not lines_refuse(lines) else None)
+        lines += lint_plan(words.plan, words.files[0] if len(words.files) == 1 and not lines_refuse(lines, words.files) else None)
     for line in lines:
         print(line)
-    return REFUSED if lines_refuse(lines) else 0
+    return REFUSED if lines_refuse(lines, [*words.files, words.plan or ""]) else 0
 
 
-def lines_refuse(lines: list[str]) -> bool:
-    """Whether a line tells of an error."""
-    return any(": error: " in line for line in lines)
+def lines_refuse(lines: list[str], files: list[str]) -> bool:
+    """Whether a line tells of an error; of these files it is known how long their names are, whatever stands in them."""
+    names = "|".join(re.escape(shown(file)) for file in sorted(files, key=len, reverse=True))
+    kinds = re.compile(rf"(?:{names}|.*?):\d+:\d+: (error|warning|note): ")
+    return any(found[1] == "error" for found in map(kinds.match, lines) if found)
 
 
 def plot_lot(words: argparse.Namespace) -> int:
@@ -328,7 +331,7 @@ def plot_grade(words: argparse.Namespace) -> int:
         every = list(faults)
     figure = drawing.grade_figure(every, faults.good, words.grade)
     if faults.good is not None:
-        say(f"{words.grade}: the good die fails from cycle {faults.good} on: its program, netlist and plan aren't of each other")
+        say(f"{shown(words.grade)}: the good die fails from cycle {faults.good} on: its program, netlist and plan aren't of each other")
     drawing.store(figure, words.out)
     return 0
 

@@ -6,7 +6,7 @@ import tempfile
 from dataclasses import dataclass
 
 from stilfloor import plans, records, saved, tester
-from stilfloor.faults import REFUSED, Fault, Faults
+from stilfloor.faults import REFUSED, Fault, Faults, shown
 from stilfloor.looks import MOST_CELLS, Look, compiled, replaced, spelled_out, trace, written
 from stilfloor.sentences import refusal
 
@@ -37,7 +37,7 @@ def learn(program: str, plan_file: str) -> Learnt:
     rounds = Rounds(text, program, plans.read_plan(plan_file), code, wanted)
     rounds.run()
     notes = [rounds.note(fail) for fail in rounds.others[:8]]
-    notes += [f"{program}:{look.line}:1: warning: no vector makes this look, so it stays L" for look in looks if not look.cells]
+    notes += [f"{shown(program)}:{look.line}:1: warning: no vector makes this look, so it stays L" for look in looks if not look.cells]
     letters = [rounds.letters.get(look.place, "L") for look in wanted]
     return Learnt(rounds.text(), {letter: letters.count(letter) for letter in "LHTX"}, rounds.count, notes)
 
@@ -181,4 +181,4 @@ class Rounds:
 
     def note(self, fail: records.Fail) -> str:
         """What is told of a fail that stays."""
-        return f"{self.file}: note: in cycle {fail.cycle} the good die shows {fail.seen} at {fail.signal}, where {fail.want} is written"
+        return f"{shown(self.file)}: note: in cycle {fail.cycle} the good die shows {fail.seen} at {shown(fail.signal)}, where {fail.want} is written"

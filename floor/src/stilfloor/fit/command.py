@@ -9,10 +9,11 @@ from collections.abc import Callable, Iterator
 from dataclasses import dataclass, field
 
 from stilfloor import saved, tester
-from stilfloor.faults import REFUSED, TOOL, UNREADABLE, Fault, Faults
+from stilfloor.faults import REFUSED, TOOL, UNREADABLE, Fault, Faults, shown
 from stilfloor.fit import blocks, bodies, bursts, data, data_rules, fixed, include, letters, scan, signals, tables, timing
 from stilfloor.fit.tokens import tokens_of
 from stilfloor.fit.work import Change, Work
+from stilfloor.names import replacing
 from stilfloor.plans import read_text
 from stilfloor.records import WORD, bare
 from stilfloor.sentences import refusal
@@ -108,7 +109,7 @@ def _room() -> Iterator[None]:
 def refused_kind(file: str) -> tuple[str, int, str]:
     """The kind of a text's refusal, the status and the line of `stil check`; no kind where it is accepted."""
     status, output = tester.run(["check", file])
-    told = output.decode("latin-1").split("\n", 1)[0]
+    told = output.decode("latin-1").removesuffix("\n")
     words = [bare(word) for word in WORD.findall(told)]
     return (words[2] if words[:2] == ["refused", "stil"] else ""), status, told
 
@@ -137,35 +138,24 @@ def fit_file(file: str, out: str, folders: list[str], unit: str) -> list[Change]
 
 def _write(file: str, out: str, text: str, lines: int) -> None:
     """Writes the text where `stil` accepts it."""
-    whole = os.path.realpath(out)
-    if os.path.exists(whole) and not os.path.isfile(whole):
+    if os.path.exists(out) and not os.path.isfile(out):
         raise Fault(UNREADABLE, "this is no plain file, which fit would put in its place", out)
-    try:
-        handle, path = tempfile.mkstemp(prefix=".fit-", suffix=".stil", dir=os.path.dirname(whole))
-    except OSError as error:
-        raise Fault(UNREADABLE, f"{error.strerror}", out) from error
-    try:
-        with os.fdopen(handle, "w", encoding="latin-1", newline="") as put:
-            put.write(text)
-        if text.count("\n") != lines:
-            raise Fault(TOOL, "fit would write another number of lines, which it must not", file)
+    if text.count("\n") != lines:
+        raise Fault(TOOL, "fit would write another number of lines, which it must not", file)
+    with tempfile.TemporaryDirectory() as room:
+        path = os.path.join(room, "fitted.stil")
+        with open(path, "w", encoding="latin-1", newline="") as asked:
+            asked.write(text)
         _ask(file, path)
-        mask = os.umask(0)
-        os.umask(mask)
-        os.chmod(path, 0o666 & ~mask)
-        os.replace(path, whole)
-    except OSError as error:
-        raise Fault(UNREADABLE, f"{error.strerror}", out) from error
-    finally:
-        if os.path.exists(path):
-            os.unlink(path)
+    with replacing(out, "latin-1") as put:
+        put.write(text)
 
 
 def _ask(file: str, path: str) -> None:
     """Asks `stil` of what would be written; its refusal becomes one of the text that was given, with both lines."""
     status, output = tester.run(["check", path])
     if status:
-        told = output.decode("latin-1").split("\n", 1)[0]
+        told = output.decode("latin-1").removesuffix("\n")
         fault = refusal(told, status, path)
         said = told.replace(path, file)
         text = f"what fit would write is still refused there: {fault.text}; stil says `{said}` of it"
@@ -179,13 +169,13 @@ def places(file: str) -> list[str]:
         return []
     made = fitted(file, read_text(file), [])
     edits = [change for change in made.changes if change.is_edit]
-    lines = [f"{change.file}:{change.line}:1: note: fit can take this away: {change.what}" for change in edits]
-    lines += [f"{stop.file}:{max(stop.line, 1)}:1: error: fit stops here: {stop.text}" for stop in made.stops]
-    lines.sort(key=lambda line: (line.rsplit(":1: ", 1)[0].rpartition(":")[0] != file, int(line.split(":1: ", 1)[0].rpartition(":")[2])))
+    found = [(change.file, change.line, f"note: fit can take this away: {change.what}") for change in edits]
+    found += [(stop.file, max(stop.line, 1), f"error: fit stops here: {stop.text}") for stop in made.stops]
+    found.sort(key=lambda each: (each[0] != file, each[1]))
     able, unable = len(edits), len(made.stops)
-    lines.append(f"{file}:1:1: note: {_count(able + unable, 'place')}, {able} that fit can take away, {unable} that "
-                 f"{'changes the test or has' if unable == 1 else 'change the test or have'} no rule")
-    return lines
+    found.append((file, 1, f"note: {_count(able + unable, 'place')}, {able} that fit can take away, {unable} that "
+                  f"{'changes the test or has' if unable == 1 else 'change the test or have'} no rule"))
+    return [f"{shown(name)}:{line}:1: {shown(text)}" for name, line, text in found]
 
 
 def _count(number: int, what: str) -> str:

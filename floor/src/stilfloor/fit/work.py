@@ -4,7 +4,7 @@ import bisect
 from dataclasses import dataclass, field
 from typing import NamedTuple
 
-from stilfloor.faults import REFUSED, Fault
+from stilfloor.faults import REFUSED, Fault, shown
 from stilfloor.fit.tokens import Tokens
 from stilfloor.fit.tree import Assignment, Statement, Tree, assignments, tree_of
 
@@ -23,7 +23,7 @@ class Change(NamedTuple):
 
     def told(self) -> str:
         """The line that is printed."""
-        return f"{self.file}:{self.line}: fitted: {self.what}: {self.why}"
+        return f"{shown(self.file)}:{self.line}: fitted: {shown(self.what)}: {shown(self.why)}"
 
 
 @dataclass(slots=True)

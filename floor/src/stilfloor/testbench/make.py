@@ -7,6 +7,7 @@ from dataclasses import dataclass, field
 
 from stilfloor import saved
 from stilfloor.faults import REFUSED, UNREADABLE, Fault
+from stilfloor.names import replacing
 from stilfloor.testbench import memory, simulator
 from stilfloor.testbench.bench import MARK, Job, write_bench
 from stilfloor.testbench.binding import Binding, bind_netlist, bind_ports, check_rows
@@ -135,7 +136,8 @@ def write(job: Job, folder: str) -> list[str]:
             with contextlib.suppress(FileNotFoundError):
                 os.unlink(os.path.join(folder, name))
         for name, pieces in texts.items():
-            _put(os.path.join(folder, name), pieces)
+            with replacing(os.path.join(folder, name), None) as out:
+                out.writelines(pieces)
     except OSError as error:
         raise Fault(UNREADABLE, f"{error.strerror}", str(error.filename or folder)) from error
     return [os.path.join(folder, name) for name in texts]
@@ -156,18 +158,6 @@ def _check_folder(folder: str, names: list[str]) -> None:
     if taken is not None:
         raise Fault(UNREADABLE, "this file is there already, and no testbench of this word lies beside it: choose another folder",
                     os.path.join(folder, taken))
-
-
-def _put(path: str, pieces: Iterable[bytes]) -> None:
-    """A file that is there whole or not at all."""
-    unfinished = path + ".unfinished"
-    try:
-        with open(unfinished, "wb") as out:
-            out.writelines(pieces)
-        os.replace(unfinished, path)
-    finally:
-        if os.path.lexists(unfinished):
-            os.unlink(unfinished)
 
 
 __all__ = ["Binding", "Wish", "job_of", "write"]

@@ -2,7 +2,7 @@
 
 from dataclasses import dataclass, field
 
-from stilfloor.faults import REFUSED
+from stilfloor.faults import REFUSED, shown
 from stilfloor.testbench import beside, make, simulator
 from stilfloor.testbench.bench import Job
 from stilfloor.testbench.waves import FILE
@@ -35,7 +35,8 @@ def answer(wish: make.Wish, folder: str, is_run: bool) -> Answer:
 
 def _notes(job: Job) -> list[str]:
     """What a design lacks."""
-    return [f"{job.lot.plan.file}:1:1: warning: the design has no port `{name}`, so what drives it is left out" for name in job.binding.lacking]
+    file = shown(job.lot.plan.file)
+    return [f"{file}:1:1: warning: the design has no port `{shown(name)}`, so what drives it is left out" for name in job.binding.lacking]
 
 
 def _of_design(job: Job, lines: list[str]) -> Answer:
